@@ -1,0 +1,4 @@
+pub mod CalendarLemmas
+pub mod NominalLemmas
+pub mod RateLemmas
+pub mod TimeLemmas
