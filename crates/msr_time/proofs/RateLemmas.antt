@@ -1,11 +1,11 @@
 -- Sums of products for the times of samples, over plain numbers.
-use Rattle.std.proofs.Common.{◌≡◌, ℕ, ◌+◌, ◌*◌, ◌/◌, ◌^◌, ◌<◌, ◌≤◌, refl, arith, ap, ◌∙◌, false, ℤ, pos, negsuc, ◌+ℤ◌, ◌-ℤ◌, ◌*ℤ◌, ◌<ℤ◌, FitsSigned, w64, to_z, of_z, to_z-of_z, unsigned_abs}
-use Rattle.std.proofs.Math.Nat.{mod-lt, div-add-mod', lt_of_mul-lt-mul_right}
+use Rattle.std.proofs.Common.{◌≡◌, ℕ, ◌+◌, ◌*◌, ◌/◌, ◌^◌, ◌<◌, ◌≤◌, refl, arith, ap, ◌∙◌, false, ℤ, pos, negsuc, ◌+ℤ◌, ◌-ℤ◌, ◌*ℤ◌, FitsSigned, w64, to_z, of_z, to_z-of_z, unsigned_abs}
+use Rattle.std.proofs.Math.Nat.{mod-lt, div-add-mod'}
 use Rattle.std.proofs.lemmas.Int.{ints}
 use Rattle.std.specs.Int.{w128}
 use Rattle.std.proofs.lemmas.Nat.{mul-lt}
 use Rattle.jiff_core.proofs.SignedLemmas.{signed_arith, product_within, one_part, back_small}
-use Rattle.msr_time.specs.SampleRate.{SampleRate, period, IsNominal}
+use Rattle.msr_time.specs.SampleRate.{SampleRate, period_of, IsRoundedNominal}
 use Rattle.msr_time.specs.Instant.{IsInstant}
 use lib.Signed.{lt_z}
 use borrow.Author.Differences.{up, down}
@@ -25,9 +25,9 @@ pub gap_bound : (t t0 : ℤ) (den : ℕ) → FitsSigned w64 t → FitsSigned w64
 gap_bound t t0 den f g h = product_within (t -ℤ t0) (pos den) (2 ^ 64) (2 ^ 30) (omega (arith, signed_arith, one_part (t -ℤ t0))) (omega arith)
 
 -- the half that is added rounds ties up
-pub nominal_is : (rate : SampleRate) (t0 : ℤ) (n q : ℕ) → q * (2 * (period rate).1) ≤ 2 * (n * (period rate).0) + (period rate).1 → 2 * (n * (period rate).0) + (period rate).1 < q * (2 * (period rate).1) + 2 * (period rate).1 → IsNominal rate t0 n (t0 +ℤ pos q)
+pub nominal_is : (rate : SampleRate) (t0 : ℤ) (n q : ℕ) → q * (2 * (period_of rate).1) ≤ 2 * (n * (period_of rate).0) + (period_of rate).1 → 2 * (n * (period_of rate).0) + (period_of rate).1 < q * (2 * (period_of rate).1) + 2 * (period_of rate).1 → IsRoundedNominal rate t0 n (t0 +ℤ pos q)
 nominal_is rate t0 n q low high =
-    let den = (period rate).1 in
+    let den = (period_of rate).1 in
     let base = scaled t0 (up t0) (down t0) den (omega arith) in
     let below = scaled (pos 2 *ℤ (t0 +ℤ pos q) -ℤ pos 1) (2 * (up t0 + q)) (2 * down t0 + 1) den (omega (arith, signed_arith)) in
     let above = scaled (pos 2 *ℤ (t0 +ℤ pos q) +ℤ pos 1) (2 * (up t0 + q) + 1) (2 * down t0) den (omega (arith, signed_arith)) in
@@ -36,7 +36,7 @@ nominal_is rate t0 n q low high =
       not_late = omega (arith, signed_arith);
     }
 
-pub nominal_at : (rate : SampleRate) (t0 : ℤ) (n q : ℕ) (fraction : ℕ × ℕ) → fraction ≡ period rate → (q * (2 * fraction.1) ≤ 2 * (n * fraction.0) + fraction.1) × (2 * (n * fraction.0) + fraction.1 < q * (2 * fraction.1) + 2 * fraction.1) → IsNominal rate t0 n (t0 +ℤ pos q)
+pub nominal_at : (rate : SampleRate) (t0 : ℤ) (n q : ℕ) (fraction : ℕ × ℕ) → fraction ≡ period_of rate → (q * (2 * fraction.1) ≤ 2 * (n * fraction.0) + fraction.1) × (2 * (n * fraction.0) + fraction.1 < q * (2 * fraction.1) + 2 * fraction.1) → IsRoundedNominal rate t0 n (t0 +ℤ pos q)
 nominal_at rate t0 n q fraction e h = let k = rw e at h in nominal_is rate t0 n q k.0 k.1
 
 -- a quotient lies below the numbers that it is a quotient of

@@ -1,14 +1,13 @@
 ghost use Rattle.std.specs.Prelude.{◌≡◌, ◌≢◌, ℕ, ℤ, ◌<◌, ◌≤◌, ◌^◌, ◌↔◌, IsSome, IsTrue, SomeIff, pos};
 ghost use Rattle.msr_time.specs.Instant.{IsInstant};
-ghost use Rattle.msr_time.specs.SampleRate.{SampleRate, period, IsNominal, IsNear};
+ghost use Rattle.msr_time.specs.SampleRate.{SampleRate, period_of, IsRoundedNominal, IsNear};
 
+use crate::instant::{FIRST_INSTANT, LAST_INSTANT};
 use std::marker::Model;
 
-const FIRST_INSTANT: i128 = -2_208_988_800_000_000;
-
-const LAST_INSTANT: i128 = 4_133_980_799_999_999;
-
-/// A sample rate as a record header has it, as a factor and a multiplier that are not 0.
+/// A sample rate as a record header has it (SEED 2.4, fixed section of data header, fields 10 and
+/// 11): a factor and a multiplier, neither of them 0. Above 0 a factor is in samples per second
+/// and a multiplier multiplies; below 0 a factor is in seconds per sample and a multiplier divides.
 #[derive(Clone, Copy, Debug, PartialEq, Eq)]
 pub struct Rate {
     factor: i16,
@@ -26,7 +25,7 @@ impl Model for Rate {
 }
 
 impl Rate {
-    /// The rate, unless a part of it is 0.
+    /// The rate, or `None` where a part of it is 0, which is how records without a rate are marked.
     pub fn new(factor: i16, multiplier: i16) -> Option<Rate>
         ensures { SomeIff result ((factor ≢ pos 0) × (multiplier ≢ pos 0))
             (record { factor = factor; multiplier = multiplier }) }
@@ -37,7 +36,7 @@ impl Rate {
         Some(Rate { factor, multiplier })
     }
 
-    /// The factor.
+    /// The sample rate factor, as it was given.
     pub fn factor(&self) -> i16
         ensures value { result ≡ self.now.factor }
         ensures not_zero { result ≢ pos 0 }
@@ -45,7 +44,7 @@ impl Rate {
         self.factor
     }
 
-    /// The multiplier.
+    /// The sample rate multiplier, as it was given.
     pub fn multiplier(&self) -> i16
         ensures value { result ≡ self.now.multiplier }
         ensures not_zero { result ≢ pos 0 }
@@ -55,7 +54,7 @@ impl Rate {
 
     /// The period in microseconds as a fraction, not reduced: the numerator and the denominator.
     pub fn period(&self) -> (u64, u64)
-        ensures value { result ≡ period self.now }
+        ensures value { result ≡ period_of self.now }
         ensures numerator { result.0 < 2 ^ 50 }
         ensures denominator { result.1 < 2 ^ 30 }
         ensures not_zero { (1 ≤ result.0) × (1 ≤ result.1) }
@@ -70,10 +69,9 @@ impl Rate {
         }
     }
 
-    /// The exact time of sample `n` counted from `t0`, rounded to the nearest microsecond, ties to
-    /// the later one.
+    /// The nominal instant of sample `n` counted from `t0`, rounded, in range or not.
     fn rounded(&self, t0: i64, n: u64) -> i128
-        ensures nominal { IsNominal self.now t0 n result }
+        ensures nominal { IsRoundedNominal self.now t0 n result }
         ensures few { IsInstant t0 → IsInstant result → n < 2 ^ 63 }
     {
         let (numerator, denominator) = self.period();
@@ -81,24 +79,24 @@ impl Rate {
         t0 as i128 + (doubled / (2 * denominator as u128)) as i128
     }
 
-    /// The instant of sample `n` counted from `t0`, rounded to the nearest microsecond, ties to the
-    /// later one, if it is an instant of the supported years.
+    /// The nominal instant of sample `n` counted from `t0`, rounded to the nearest microsecond,
+    /// ties to the later one. `None` where that is outside the years 1900 to 2100.
     pub fn nominal(&self, t0: i64, n: u64) -> Option<i64>
-        ensures found { (r : ℤ) × IsNominal self.now t0 n r × SomeIff result (IsInstant r) r }
-        ensures only { (r : ℤ) → IsNominal self.now t0 n r → SomeIff result (IsInstant r) r }
+        ensures found { (r : ℤ) × IsRoundedNominal self.now t0 n r × SomeIff result (IsInstant r) r }
+        ensures only { (r : ℤ) → IsRoundedNominal self.now t0 n r → SomeIff result (IsInstant r) r }
 
-        // Between two instants of the supported years lie fewer samples than a count can hold.
+        // No two instants of the supported years lie so many samples apart.
         ensures few { IsInstant t0 → IsSome result → n < 2 ^ 63 }
     {
         let instant = self.rounded(t0, n);
-        if instant < FIRST_INSTANT || instant > LAST_INSTANT {
+        if instant < FIRST_INSTANT as i128 || instant > LAST_INSTANT as i128 {
             return None;
         }
         Some(instant as i64)
     }
 
-    /// Whether `t` lies at most `tolerance` microseconds from the exact time of sample `n` counted
-    /// from `t0`.
+    /// Whether `t` lies at most `tolerance` microseconds from the nominal instant of sample `n`
+    /// counted from `t0`, which is not rounded first.
     pub fn near(&self, t0: i64, n: u64, t: i64, tolerance: u32) -> bool
         ensures { IsTrue result ↔ IsNear self.now t0 n t tolerance }
     {
