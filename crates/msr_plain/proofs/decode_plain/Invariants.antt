@@ -1,0 +1,10 @@
+-- The samples so far stand by place.
+use Rattle.std.proofs.Common.{◌≡◌, ◌<◌, ℕ, pos, get_or, length}
+use Rattle.msr_plain.specs.Plain.{sample_at}
+use Rattle.msr_plain.proofs.decode_plain.Given as goal
+
+abbrev pub invariant-loop-place : goal.invariant-loop-place
+invariant-loop-place l = record {
+  number : length l.samples ≡ l.place;
+  each : (k : ℕ) → k < l.place → get_or l.samples k (pos 0) ≡ sample_at l.width l.order l.area k;
+}

@@ -1,0 +1,25 @@
+//! What holds of every area of plain integers.
+
+ghost use Rattle.std.specs.Prelude.{◌≡◌, ◌<◌, ◌*◌, ◌++◌, ℕ, ℤ, All, List, length};
+ghost use Rattle.msr_header.specs.declared.header.Order.{Order};
+ghost use Rattle.msr_plain.specs.declared.Width.{Width};
+ghost use Rattle.msr_plain.specs.Plain.{Carries, FitsWidth, bytes_of_all, size_of};
+
+use msr_header::Order;
+
+/// The bytes of some samples carry these samples, whatever bytes follow.
+pub fn filled_area_carries()
+    ensures { (width : Width) (samples : List ℤ) (rest : List ℕ)
+        → All (FitsWidth width) samples
+        → Carries width Order.Big (bytes_of_all width samples ++ rest) samples }
+{}
+
+/// An area carries one list of so many samples, or it is too short for so many.
+pub fn one_outcome()
+    ensures samples { (width : Width) (order : Order) (area : List ℕ) (xs ys : List ℤ)
+        → Carries width order area xs → Carries width order area ys → length xs ≡ length ys
+        → xs ≡ ys }
+    ensures not_short { (width : Width) (order : Order) (area : List ℕ) (samples : List ℤ)
+        → Carries width order area samples → length area < size_of width * length samples
+        → ⊥ }
+{}

@@ -1,0 +1,113 @@
+ghost use Rattle.std.specs.Prelude.{◌≡◌, ◌↔◌, ◌++◌, ◌∷◌, [], length, IfOk, IsTrue, OnErr, OnOk};
+
+use std::alloc::{AllocError, Global};
+use std::marker::Model;
+
+/// The samples of an area, a row or a segment, in order. Contracts see the list of their values.
+#[derive(Debug, Drop)]
+pub struct Samples {
+    values: Vec<i32>,
+}
+
+impl Model for Samples {
+    ghost use Rattle.std.specs.Prelude.{List, ℤ};
+
+    ghost Value = { List ℤ };
+
+    ghost view = { λ samples. samples.values.items };
+}
+
+impl Samples {
+    /// No samples. Takes no memory.
+    pub fn new(alloc: Global) -> Samples
+        ensures { result ≡ [] }
+    {
+        Samples {
+            values: Vec::new(alloc),
+        }
+    }
+
+    /// No samples, with room for so many.
+    pub fn with_capacity(alloc: Global, capacity: usize) -> Result<Samples, AllocError>
+        ensures { IfOk result (λ samples. samples ≡ []) }
+    {
+        Ok(Samples {
+            values: Vec::with_capacity(alloc, capacity)?,
+        })
+    }
+
+    /// The samples of a vector, in the vector's memory.
+    pub fn from_vec(values: Vec<i32>) -> Samples
+        ensures { result ≡ values.items }
+    {
+        Samples { values }
+    }
+
+    /// The vector of these samples, in their memory.
+    pub fn into_vec(self) -> Vec<i32>
+        ensures { result.items ≡ self }
+    {
+        let Samples { values } = self;
+        values
+    }
+
+    /// A view of the samples.
+    pub fn as_slice(&self) -> &[i32]
+        ensures { result.now ≡ self.now }
+    {
+        self.values.as_slice()
+    }
+
+    /// The number of samples.
+    pub fn len(&self) -> usize
+        ensures { result ≡ length self.now }
+    {
+        self.values.len()
+    }
+
+    /// Whether there are none.
+    pub fn is_empty(&self) -> bool
+        ensures { IsTrue result ↔ (self.now ≡ []) }
+    {
+        self.values.is_empty()
+    }
+
+    /// Appends a sample.
+    pub fn push(&mut self, sample: i32) -> Result<(), AllocError>
+        ensures ok { OnOk result (self.new ≡ self.old ++ sample ∷ []) }
+        ensures err { OnErr result (self.new ≡ self.old) }
+    {
+        self.values.push(sample)?;
+        Ok(())
+    }
+
+    /// Appends these samples in order, all or none.
+    pub fn extend_from_slice(&mut self, samples: &[i32]) -> Result<(), AllocError>
+        ensures ok { OnOk result (self.new ≡ self.old ++ samples.now) }
+        ensures err { OnErr result (self.new ≡ self.old) }
+    {
+        self.values.extend_from_slice(samples)
+    }
+}
+
+impl PartialEq for Samples {
+    ghost use Rattle.std.specs.Cmp.Lexicographic.{pointwise};
+    ghost use Rattle.std.specs.Cmp.Rules.{comparing};
+    ghost use Rattle.std.specs.Ordering.{int_eq};
+    ghost use Rattle.std.proofs.Common.{rules};
+
+    ghost eq = { pointwise int_eq };
+
+    ghost laws = { Prim.search (comparing, rules) };
+
+    fn eq(&self, other: &Samples) -> bool {
+        self.as_slice() == other.as_slice()
+    }
+}
+
+impl Eq for Samples {
+    ghost use Rattle.std.specs.Cmp.Rules.{comparing};
+    ghost use Rattle.std.proofs.Common.{rules};
+
+    ghost laws = { Prim.search (comparing, rules) };
+}

@@ -1,0 +1,105 @@
+// Areas from outside, and what no clause says: that a call succeeds, and the text of a fault.
+use crate::{PlainFault, Samples, Width, decode_plain, fill_plain};
+use msr_header::Order;
+use std::test::Fail;
+
+#[test]
+fn areas_carry_samples(rt: HostRuntime) -> Result<(), Fail> {
+    let rows: [(Width, Order, [u8; 8], u16, &[i32]); 5] = [
+        (
+            Width::Two,
+            Order::Big,
+            [0x80, 0x00, 0x7f, 0xff, 9, 9, 9, 9],
+            2,
+            &[-32768, 32767],
+        ),
+        (
+            Width::Two,
+            Order::Little,
+            [0x00, 0x80, 0xff, 0x7f, 9, 9, 9, 9],
+            2,
+            &[-32768, 32767],
+        ),
+        (
+            Width::Four,
+            Order::Big,
+            [0x80, 0, 0, 0, 0x7f, 0xff, 0xff, 0xff],
+            2,
+            &[-2147483648, 2147483647],
+        ),
+        (
+            Width::Four,
+            Order::Little,
+            [0, 0, 0, 0x80, 0xff, 0xff, 0xff, 0x7f],
+            2,
+            &[-2147483648, 2147483647],
+        ),
+        (Width::Four, Order::Big, [9; 8], 0, &[]),
+    ];
+    for (width, order, area, count, samples) in rows {
+        let decoded = decode_plain(rt.alloc(), width, order, &area, count)?;
+        assert_eq!(rt; decoded.as_slice(), samples);
+    }
+    Ok(())
+}
+
+#[test]
+fn short_areas(rt: HostRuntime) {
+    let rows: [(Width, [u8; 4], u16); 3] = [
+        (Width::Four, [0, 0, 0, 1], 2),
+        (Width::Two, [0, 0, 0, 1], 3),
+        (Width::Two, [0; 4], 65535),
+    ];
+    for (width, area, count) in rows {
+        let decoded = decode_plain(rt.alloc(), width, Order::Big, &area, count);
+        assert_eq!(rt; decoded.err(), Some(PlainFault::DataShort));
+    }
+}
+
+#[test]
+fn filled_areas(rt: HostRuntime) {
+    let mut area = [9; 192];
+    fill_plain(Width::Four, &[-2147483648, 2147483647], &mut area);
+    assert!(rt; area[..8] == [0x80, 0, 0, 0, 0x7f, 0xff, 0xff, 0xff]);
+    assert!(rt; area[8..].iter().all(|byte| *byte == 0));
+    let mut area = [9; 6];
+    fill_plain(Width::Two, &[-32768, 32767], &mut area);
+    assert!(rt; area[..] == [0x80, 0, 0x7f, 0xff, 0, 0]);
+}
+
+#[test]
+fn samples_grow(rt: HostRuntime) -> Result<(), Fail> {
+    let mut samples = Samples::new(rt.alloc());
+    assert!(rt; samples.is_empty());
+    samples.push(-1)?;
+    samples.extend_from_slice(&[2, -3])?;
+    assert_eq!(rt; samples.len(), 3);
+    let mut others = Samples::with_capacity(rt.alloc(), 2)?;
+    others.push(-1)?;
+    assert!(rt; samples != others);
+    others.extend_from_slice(&[2, -3])?;
+    assert!(rt; samples == others);
+    assert_eq!(rt;
+        format!(in rt.alloc(); "{samples:?}")?.as_str(),
+        "Samples { values: [-1, 2, -3] }"
+    );
+    let values = samples.into_vec();
+    assert_eq!(rt; values.as_slice(), [-1, 2, -3].as_slice());
+    assert!(rt; Samples::from_vec(values) == others);
+    Ok(())
+}
+
+#[test]
+fn texts(rt: HostRuntime) -> Result<(), Fail> {
+    let rows = [
+        (
+            PlainFault::DataShort,
+            "the area is too short for its samples",
+        ),
+        (PlainFault::Memory, "out of memory"),
+    ];
+    for (fault, text) in rows {
+        assert_eq!(rt; format!(in rt.alloc(); "{fault}")?.as_str(), text);
+    }
+    Ok(())
+}

@@ -1,0 +1,15 @@
+//! The Steim codec (SEED Reference Manual 2.4, appendix B): the differences that a word holds, and the
+//! samples that frames of words carry.
+#![tactic(auto)]
+
+mod area;
+mod frames;
+mod group;
+#[cfg(test)]
+mod tests;
+mod word;
+
+pub use area::{Decoded, SteimFault, decode_steim, one_outcome};
+pub use frames::{fill_steim, filled_area_carries};
+pub use group::{group_width, is_group};
+pub use word::{BadCode, Group, Version, holds_one_list, read_word, write_word};

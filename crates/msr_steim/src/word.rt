@@ -1,0 +1,216 @@
+//! The differences that a 32-bit word holds.
+
+ghost use Rattle.std.specs.Prelude.{◌≡◌, ◌<◌, ◌≤◌, ℕ, ◌+◌, ◌*◌, ◌/◌, ◌%◌, ◌^◌, ◌↔◌, ℤ, List, IfOk, IsErr, IsSome, IfSome, MatchOption, Some, None, length};
+ghost use Rattle.msr_steim.specs.Word.{AreFields, FitsBits, HasNoOtherBits, Holds, IsGroup, IsRowFor, IsUndefinedWord, as_read, division_of, group_code, group_top, group_width, group_word, joined_fields, twos_complement};
+ghost use Rattle.msr_steim.specs.declared.word.Version.{Version};
+ghost use Rattle.std.specs.List.{AllByRecursion};
+
+use arrayvec::ArrayVec;
+use thiserror::Error;
+
+/// The version of the compression: SEED's encodings 10 (Steim-1) and 11 (Steim-2).
+#[derive(Clone, Copy, Debug, PartialEq, Eq)]
+pub enum Version {
+    One,
+    Two,
+}
+
+/// The differences of one word.
+pub type Group = ArrayVec<i32, 7>;
+
+/// How a word is divided: `count` fields of `width` bits each, in its lowest bits.
+#[derive(Clone, Copy, Debug, PartialEq, Eq)]
+pub(crate) struct Division {
+    pub count: u32,
+    pub width: u32,
+}
+
+/// How a group is written: its word's code and top two bits, the bits of each of its fields, and how
+/// many fields below them are left 0.
+#[derive(Clone, Copy, Debug, PartialEq, Eq)]
+pub(crate) struct Row {
+    pub code: u8,
+    pub top: u32,
+    pub width: u32,
+    pub padding: u32,
+}
+
+/// A word with this code is undefined.
+#[derive(Clone, Copy, Debug, PartialEq, Eq, Error)]
+#[error("the word is undefined")]
+pub struct BadCode;
+
+/// How a word with this code and these top two bits is divided.
+fn division_for(version: Version, code: u8, top: u32) -> Option<Division>
+    ensures { result ≡ division_of version code top }
+{
+    match (version, code, top) {
+        (_, 0, _) => Some(Division { count: 0, width: 0 }),
+        (_, 1, _) => Some(Division { count: 4, width: 8 }),
+        (Version::One, 2, _) => Some(Division {
+            count: 2,
+            width: 16,
+        }),
+        (Version::One, 3, _) => Some(Division {
+            count: 1,
+            width: 32,
+        }),
+        (Version::Two, 2, 1) => Some(Division {
+            count: 1,
+            width: 30,
+        }),
+        (Version::Two, 2, 2) => Some(Division {
+            count: 2,
+            width: 15,
+        }),
+        (Version::Two, 2, 3) => Some(Division {
+            count: 3,
+            width: 10,
+        }),
+        (Version::Two, 3, 0) => Some(Division { count: 5, width: 6 }),
+        (Version::Two, 3, 1) => Some(Division { count: 6, width: 5 }),
+        (Version::Two, 3, 2) => Some(Division { count: 7, width: 4 }),
+        _ => None,
+    }
+}
+
+/// The field of `width` bits with `below` fields below it.
+fn field_at(word: u32, below: u32, width: u32) -> u32
+    requires positive { 0 < width }
+    requires within { (below + 1) * width ≤ 32 }
+    ensures { result ≡ word / 2 ^ (below * width) % 2 ^ width }
+{
+    (word >> (below * width)) & (u32::MAX >> (32 - width))
+}
+
+/// The number that a field of `width` bits is in two's complement.
+fn signed(field: u32, width: u32) -> i32
+    requires positive { 0 < width }
+    requires small { width ≤ 32 }
+    requires within { field < 2 ^ width }
+    ensures fits { FitsBits width result }
+    ensures same { twos_complement width result ≡ field }
+{
+    let most = u32::MAX >> (32 - width);
+    if field <= most / 2 {
+        field as i32
+    } else {
+        !((most - field) as i32)
+    }
+}
+
+/// The numbers in the fields of a word.
+fn fields_of(word: u32, division: Division) -> Group
+    requires count { division.count ≤ 7 }
+    requires width { 0 < division.count → 0 < division.width }
+    requires within { division.count * division.width ≤ 32 }
+    ensures { AreFields word result.items division }
+{
+    let mut group = Group::new();
+    for below in (0..division.count).rev() {
+        group.push(signed(field_at(word, below, division.width), division.width));
+    }
+    group
+}
+
+/// The differences that a word with this code holds. The word is as a big-endian frame has it. Bits
+/// beside the top two and the fields are not looked at.
+pub fn read_word(version: Version, code: u8, word: u32) -> Result<Group, BadCode>
+    requires { code < 4 }
+    ensures ok { IfOk result (λ group. Holds version code word group.items) }
+    ensures err { IsErr result ↔ IsUndefinedWord version code word }
+{
+    let division = division_for(version, code, word >> 30).ok_or(BadCode)?;
+    Ok(fields_of(word, division))
+}
+
+/// How a group of so many differences is written.
+pub(crate) fn row_for(version: Version, count: usize) -> Option<Row>
+    ensures some { IsSome result ↔ IsSome (group_width version count) }
+    ensures width { IfSome result (λ row. group_width version count ≡ Some row.width) }
+    ensures row { IfSome result (IsRowFor version count) }
+    ensures code { MatchOption result
+        (group_code version count ≡ 0)
+        (λ row. group_code version count ≡ row.code) }
+    ensures top { IfSome result (λ row. group_top version count ≡ row.top) }
+{
+    let (code, top, width, padding) = match (version, count) {
+        (Version::One, 1) => (3, 0, 32, 0),
+        (Version::One, 2) => (2, 0, 16, 0),
+        (Version::One, 3) => (1, 0, 8, 1),
+        (_, 4) => (1, 0, 8, 0),
+        (Version::Two, 1) => (2, 1, 30, 0),
+        (Version::Two, 2) => (2, 2, 15, 0),
+        (Version::Two, 3) => (2, 3, 10, 0),
+        (Version::Two, 5) => (3, 0, 6, 0),
+        (Version::Two, 6) => (3, 1, 5, 0),
+        (Version::Two, 7) => (3, 2, 4, 0),
+        _ => return None,
+    };
+    Some(Row {
+        code,
+        top,
+        width,
+        padding,
+    })
+}
+
+/// The field of `width` bits that a number is in two's complement, where it fits.
+fn field_of(number: i32, width: u32) -> Option<u32>
+    requires positive { 0 < width }
+    requires small { width ≤ 32 }
+    ensures fits { IsSome result ↔ FitsBits width number }
+    ensures same { IfSome result (λ field. field ≡ twos_complement width number) }
+{
+    let most = u32::MAX >> (32 - width);
+    let bits = number.cast_unsigned();
+    if bits <= most / 2 {
+        Some(bits)
+    } else if !bits <= most / 2 {
+        Some(most - !bits)
+    } else {
+        None
+    }
+}
+
+/// The fields of some numbers side by side, where each number fits its field.
+fn fields_from(numbers: &[i32], width: u32) -> Option<u32>
+    requires positive { 0 < width }
+    requires within { length numbers.now * width ≤ 32 }
+    ensures fit { IsSome result ↔ AllByRecursion (FitsBits width) numbers.now }
+    ensures same { IfSome result (λ fields. fields ≡ joined_fields width numbers.now) }
+{
+    let mut fields: u64 = 0;
+    for number in numbers {
+        fields = (fields << width) | u64::from(field_of(*number, width)?);
+    }
+    Some(fields as u32)
+}
+
+/// The code and the word that hold these differences, where one word can; three of Steim-1 are
+/// followed by a 0. The word is as a big-endian frame has it, and all bits that are not used are 0.
+pub fn write_word(version: Version, differences: &[i32]) -> Option<(u8, u32)>
+    ensures group { IsSome result ↔ IsGroup version differences.now }
+    ensures code { IfSome result (λ written. written.0 < 4) }
+    ensures word { IfSome result (λ written.
+        Holds version written.0 written.1 (as_read version differences.now)) }
+    ensures zeros { IfSome result (λ written. HasNoOtherBits version written.0 written.1) }
+    ensures same { IfSome result (λ written. (written.0 ≡ group_code version (length differences.now))
+        × (written.1 ≡ group_word version differences.now)) }
+{
+    let row = row_for(version, differences.len())?;
+    let fields = fields_from(differences, row.width)?;
+    Some((
+        row.code,
+        (row.top << 30) + (fields << (row.padding * row.width)),
+    ))
+}
+
+/// No word holds two lists, and an undefined word holds none. So a group that was written is read back,
+/// followed by a 0 where it is three of Steim-1.
+pub fn holds_one_list()
+    ensures one { (version : Version) (code word : ℕ) (xs ys : List ℤ)
+        → Holds version code word xs → Holds version code word ys → xs ≡ ys }
+    ensures none { (version : Version) (code word : ℕ) (xs : List ℤ)
+        → IsUndefinedWord version code word → Holds version code word xs → ⊥ }
+{}
