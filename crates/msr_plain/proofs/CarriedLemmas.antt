@@ -8,7 +8,7 @@ use Rattle.std.proofs.lemmas.List.Elements.{All-head, All-tail}
 use Rattle.byteorder.specs.Numbers.{big_number-reads_back, length-bytes_high_first}
 use Rattle.msr_header.specs.declared.header.Order.{Order}
 use Rattle.msr_header.specs.declared.header.Order.TheVariants.{Big}
-use Rattle.msr_plain.specs.Plain.{Carries, FitsWidth, size_of, bytes_of, bytes_of_all, number_in, sample_at}
+use Rattle.msr_plain.specs.Plain.{CarriesPlain, FitsWidth, size_of, bytes_of, bytes_of_all, number_in, sample_at}
 use Rattle.msr_plain.specs.declared.Width.{Width}
 use Rattle.msr_plain.specs.declared.Width.TheVariants.{Two, Four}
 
@@ -49,17 +49,17 @@ length-bytes_of_all : (width : Width) (xs : List ℤ) → length (bytes_of_all w
 length-bytes_of_all width [] = omega arith
 length-bytes_of_all width (x ∷ xs) = omega (arith, length-append (bytes_of width x) (bytes_of_all width xs), length-bytes_of width x, length-bytes_of_all width xs)
 
-pub carried : (width : Width) (area : List ℕ) (xs : List ℤ) (rest : List ℕ) → All (FitsWidth width) xs → area ≡ bytes_of_all width xs ++ rest → Carries width Big area xs
+pub carried : (width : Width) (area : List ℕ) (xs : List ℤ) (rest : List ℕ) → All (FitsWidth width) xs → area ≡ bytes_of_all width xs ++ rest → CarriesPlain width Big area xs
 carried width area xs rest fit e = rw e (record {
   room = omega (arith, length-append (bytes_of_all width xs) rest, length-bytes_of_all width xs);
   each = λ place h. each_back width xs rest place fit h;
 })
 
 -- an area carries one list of so many samples
-pub carries_one : (width : Width) (order : Order) (area : List ℕ) (xs ys : List ℤ) → Carries width order area xs → Carries width order area ys → length xs ≡ length ys → xs ≡ ys
+pub carries_one : (width : Width) (order : Order) (area : List ℕ) (xs ys : List ℤ) → CarriesPlain width order area xs → CarriesPlain width order area ys → length xs ≡ length ys → xs ≡ ys
 carries_one width order area xs ys first second same =
     ext_get_or (pos 0) xs ys same (λ place within. first.each place within ∙ sym (second.each place (omega (arith, within, same))))
 
 -- an area that carries samples is long enough for them
-pub not_short : (width : Width) (order : Order) (area : List ℕ) (samples : List ℤ) → Carries width order area samples → length area < size_of width * length samples → ⊥
+pub not_short : (width : Width) (order : Order) (area : List ℕ) (samples : List ℤ) → CarriesPlain width order area samples → length area < size_of width * length samples → ⊥
 not_short width order area samples carries short = omega (arith, carries.room, short)

@@ -3,7 +3,7 @@
 ghost use Rattle.std.specs.Prelude.{◌≡◌, ◌<◌, ◌*◌, ◌++◌, ℕ, ℤ, All, List, length};
 ghost use Rattle.msr_header.specs.declared.header.Order.{Order};
 ghost use Rattle.msr_plain.specs.declared.Width.{Width};
-ghost use Rattle.msr_plain.specs.Plain.{Carries, FitsWidth, bytes_of_all, size_of};
+ghost use Rattle.msr_plain.specs.Plain.{CarriesPlain, FitsWidth, bytes_of_all, size_of};
 
 use msr_header::Order;
 
@@ -11,15 +11,15 @@ use msr_header::Order;
 pub fn filled_area_carries()
     ensures { (width : Width) (samples : List ℤ) (rest : List ℕ)
         → All (FitsWidth width) samples
-        → Carries width Order.Big (bytes_of_all width samples ++ rest) samples }
+        → CarriesPlain width Order.Big (bytes_of_all width samples ++ rest) samples }
 {}
 
 /// An area carries one list of so many samples, or it is too short for so many.
 pub fn one_outcome()
     ensures samples { (width : Width) (order : Order) (area : List ℕ) (xs ys : List ℤ)
-        → Carries width order area xs → Carries width order area ys → length xs ≡ length ys
+        → CarriesPlain width order area xs → CarriesPlain width order area ys → length xs ≡ length ys
         → xs ≡ ys }
     ensures not_short { (width : Width) (order : Order) (area : List ℕ) (samples : List ℤ)
-        → Carries width order area samples → length area < size_of width * length samples
+        → CarriesPlain width order area samples → length area < size_of width * length samples
         → ⊥ }
 {}

@@ -2,7 +2,7 @@
 #![tactic(auto)]
 
 ghost use Rattle.std.specs.Prelude.{◌≡◌, ◌<◌, ◌≤◌, ◌↔◌, ◌++◌, ◌-◌, ◌*◌, All, replicate, IfOk, IsErrOf, drop, length};
-ghost use Rattle.msr_plain.specs.Plain.{Carries, FitsWidth, bytes_of, bytes_of_all, number_in, size_of};
+ghost use Rattle.msr_plain.specs.Plain.{CarriesPlain, FitsWidth, bytes_of, bytes_of_all, number_in, size_of};
 
 mod laws;
 mod samples;
@@ -76,7 +76,7 @@ pub fn decode_plain(
     area: &[u8],
     count: u16,
 ) -> Result<Samples, PlainFault>
-    ensures samples { IfOk result (λ samples. Carries width order area.now samples) }
+    ensures samples { IfOk result (λ samples. CarriesPlain width order area.now samples) }
     ensures count { IfOk result (λ samples. length samples ≡ count) }
 
     // Want of memory comes only where the area is long enough.
@@ -111,7 +111,7 @@ pub fn fill_plain(width: Width, samples: &[i32], area: &mut [u8])
     requires room { size_of width * length samples.now ≤ length area.old }
     ensures bytes { area.new ≡ bytes_of_all width samples.now
         ++ replicate (length area.old - size_of width * length samples.now) 0 }
-    ensures carried { Carries width Order.Big area.new samples.now }
+    ensures carried { CarriesPlain width Order.Big area.new samples.now }
 {
     let size = width.bytes();
     for (place, sample) in samples.iter().enumerate() {

@@ -9,7 +9,7 @@ use Rattle.std.proofs.lemmas.Bool.{cases_lt}
 use Rattle.std.proofs.lemmas.Grind.{flat_map-append}
 use Rattle.msr_header.specs.declared.header.Order.{Order}
 use Rattle.msr_steim.specs.declared.word.Version.{Version}
-use Rattle.msr_steim.specs.Area.{Carries, FirstWordsHold, WordHolds, constant, differences, next_sample, samples_of, sums_after, word_count}
+use Rattle.msr_steim.specs.Area.{CarriesSteim, FirstWordsHold, WordHolds, constant, differences, next_sample, samples_of, sums_after, word_count}
 
 -- the sum of the last sample and the difference, as the code has it
 pub next_is : (samples : List ℤ) (first d : ℤ) → 1 ≤ length samples → SFits w32 (get_or samples (length samples - 1) (pos 0)) → SFits w32 d
@@ -145,7 +145,7 @@ read_more version order area count number first old new group read within here p
 pub read_enough : (version : Version) (order : Order) (area : List ℕ) (count number : ℕ) (old new group : List ℤ) → AreReadBelow version order area count number (constant order area 1) old
     → number < word_count area → WordHolds version order area number group
     → ((before : List ℤ) → old ≡ samples_of (constant order area 1) before → new ≡ take count (samples_of (constant order area 1) (before ++ group)))
-    → length new ≡ count → Carries version order area new
+    → length new ≡ count → CarriesSteim version order area new
 read_enough version order area count number old new group read within here pushed same =
     let first = constant order area 1 in
     let ds = differences read.groups ++ group in

@@ -22,7 +22,7 @@ use Rattle.msr_header.specs.declared.header.Order.TheVariants.{Big}
 use Rattle.msr_steim.specs.declared.word.Version.{Version}
 use Rattle.msr_steim.specs.declared.word.Version.TheVariants.{One, Two}
 use Rattle.msr_steim.specs.Word.{AreGroups, FitsBits, Holds, IsGroup, IsInnerGroup, IsWordOf, as_read, division_of, group_code, group_width, group_word, joined_fields, padding_of}
-use Rattle.msr_steim.specs.Area.{Carries, FirstWordsHold, ReverseAgrees, WordHolds, arranged_word, code_of, constant, differences, samples_of, sums_after, whole_word}
+use Rattle.msr_steim.specs.Area.{CarriesSteim, FirstWordsHold, ReverseAgrees, WordHolds, arranged_word, code_of, constant, differences, samples_of, sums_after, whole_word}
 use Rattle.msr_steim.specs.Frames.{code_in, codes_word, differences_after, frame_bytes, frame_word, frame_words, group_in}
 use Rattle.msr_steim.proofs.Fields.{joined_fields_lt, all_fit_zeros, pow_pow}
 use Rattle.msr_steim.proofs.OneList.{number_after}
@@ -445,7 +445,7 @@ pub filled_agrees : (version : Version) (first last : ℤ) (gs : List (List ℤ)
 filled_agrees version first last gs xs frames are some f g is = is ∙ ap Some (sym (filled_reverse version first last gs frames are some f g))
 
 pub filled_carries : (version : Version) (before last : ℤ) (gs : List (List ℤ)) (xs : List ℤ) (frames : ℕ) → AreGroups version gs → length gs + 2 ≤ 15 * frames → differences gs ≡ differences_after before xs
-    → All (SFits w32) xs → SFits w32 last → Carries version Big (frame_bytes version (get_or xs 0 (pos 0)) last gs frames) xs
+    → All (SFits w32) xs → SFits w32 last → CarriesSteim version Big (frame_bytes version (get_or xs 0 (pos 0)) last gs frames) xs
 filled_carries version before last gs xs frames are room join fit g =
     let all : AllByRecursion (SFits w32) xs = each_fits xs (λ i h. All-get_or (SFits w32) xs i (pos 0) h fit) in
     let first = get_or xs 0 (pos 0) in

@@ -7,7 +7,7 @@ use Rattle.std.proofs.lemmas.Grind.{flat_map-append}
 use Rattle.std.proofs.lemmas.List.{take-append-drop, take-append-le, length-take, get_or-take}
 use Rattle.msr_header.specs.declared.header.Order.{Order}
 use Rattle.msr_steim.specs.declared.word.Version.{Version}
-use Rattle.msr_steim.specs.Area.{Carries, EndsBefore, FirstWordsHold, IsUndefined, IsUndefinedBefore, arranged_word, code_of, constant, differences, samples_of, sums_after}
+use Rattle.msr_steim.specs.Area.{CarriesSteim, EndsBefore, FirstWordsHold, IsUndefined, IsUndefinedBefore, arranged_word, code_of, constant, differences, samples_of, sums_after}
 use Rattle.msr_steim.proofs.OneList.{holds_one, undefined_holds_none}
 use Rattle.msr_steim.proofs.Decoding.{length-samples_of}
 
@@ -44,12 +44,12 @@ undefined_not_held : (version : Version) (order : Order) (area : List ℕ) (hs :
 undefined_not_held version order area hs number undefined held within =
     undefined_holds_none version (code_of order area number) (arranged_word version order (code_of order area number) area number) (get_or hs number []) undefined (held.each number within)
 
-pub not_short : (version : Version) (order : Order) (area : List ℕ) (samples : List ℤ) → Carries version order area samples → EndsBefore version order area (length samples) → ⊥
+pub not_short : (version : Version) (order : Order) (area : List ℕ) (samples : List ℤ) → CarriesSteim version order area samples → EndsBefore version order area (length samples) → ⊥
 not_short version order area samples c e =
     let more = enough_after version order area e.groups c.groups (length samples) e.held c.held e.few c.enough in
     absurd (omega (arith, e.all, c.held.within))
 
-pub not_undefined : (version : Version) (order : Order) (area : List ℕ) (samples : List ℤ) (number : ℕ) → Carries version order area samples → IsUndefinedBefore version order area (length samples) number → ⊥
+pub not_undefined : (version : Version) (order : Order) (area : List ℕ) (samples : List ℤ) (number : ℕ) → CarriesSteim version order area samples → IsUndefinedBefore version order area (length samples) number → ⊥
 not_undefined version order area samples number c u =
     let more = enough_after version order area u.groups c.groups (length samples) u.held c.held u.few c.enough in
     undefined_not_held version order area c.groups number u.undefined c.held (omega (arith, u.first))
@@ -84,7 +84,7 @@ samples_more first (e ∷ es) more m few =
     let size : length (samples_of first (e ∷ es)) ≡ length (e ∷ es) = length-samples_of first (e ∷ es) in
     ap (λ s. take m (first ∷ s)) r.1 ∙ take-append-le m (first ∷ sums_after first es) r.0 (omega arith)
 
-samples_fewer : (version : Version) (order : Order) (area : List ℕ) (xs ys : List ℤ) (c : Carries version order area xs) (d : Carries version order area ys) → length xs ≡ length ys → length c.groups ≤ length d.groups → xs ≡ ys
+samples_fewer : (version : Version) (order : Order) (area : List ℕ) (xs ys : List ℤ) (c : CarriesSteim version order area xs) (d : CarriesSteim version order area ys) → length xs ≡ length ys → length c.groups ≤ length d.groups → xs ≡ ys
 samples_fewer version order area xs ys c d same few =
     let first = constant order area 1 in
     let ds = differences c.groups in
@@ -92,7 +92,7 @@ samples_fewer version order area xs ys c d same few =
     let e : differences d.groups ≡ ds ++ more = more_differences version order area c.groups d.groups c.held d.held few in
     c.sums ∙ sym (samples_more first ds more (length xs) c.enough) ∙ ap (λ z. take (length xs) (samples_of first z)) (sym e) ∙ ap (λ n. take n (samples_of first (differences d.groups))) same ∙ sym d.sums
 
-pub carries_one : (version : Version) (order : Order) (area : List ℕ) (xs ys : List ℤ) → Carries version order area xs → Carries version order area ys → length xs ≡ length ys → xs ≡ ys
+pub carries_one : (version : Version) (order : Order) (area : List ℕ) (xs ys : List ℤ) → CarriesSteim version order area xs → CarriesSteim version order area ys → length xs ≡ length ys → xs ≡ ys
 carries_one version order area xs ys c d same =
     ⊎_elim
     (λ (lt : length c.groups < length d.groups). samples_fewer version order area xs ys c d same (omega arith))

@@ -73,7 +73,7 @@ samples_of first (d ∷ ds) = first ∷ sums_after first ds
 -- The area carries these samples: its first words, as many as it takes, hold a difference for each, the
 -- first sample is the forward constant, and the others are sums. What the words hold beyond the last
 -- sample, and the words after them, are not looked at.
-pub record Carries (version : Version) (order : Order) (area : List ℕ) (samples : List ℤ) : Type 0 where
+pub record CarriesSteim (version : Version) (order : Order) (area : List ℕ) (samples : List ℤ) : Type 0 where
   pub groups : List (List ℤ)
   pub held : FirstWordsHold version order area groups
   pub enough : length samples ≤ length (differences groups)

@@ -3,7 +3,7 @@
 ghost use Rattle.std.specs.Prelude.{◌≡◌, ◌<◌, ◌≤◌, ◌↔◌, [], ◌∷◌, ◌++◌, ℕ, ℤ, List, ◌+◌, ◌-◌, ◌*◌, IfOk, IfSome, IsErrOf, IsNone, IsTrue, OnOk, Some, length, slice_get, take};
 ghost use Rattle.msr_header.specs.declared.header.Order.{Order};
 ghost use Rattle.msr_steim.specs.declared.word.Version.{Version};
-ghost use Rattle.msr_steim.specs.Area.{Carries, EndsBefore, IsUndefined, IsUndefinedBefore, ReverseAgrees, WordHolds, arranged_word, code_of, constant, next_sample, samples_of, whole_word};
+ghost use Rattle.msr_steim.specs.Area.{CarriesSteim, EndsBefore, IsUndefined, IsUndefinedBefore, ReverseAgrees, WordHolds, arranged_word, code_of, constant, next_sample, samples_of, whole_word};
 
 use crate::word::{Group, Version, read_word};
 use byteorder::{BigEndian, ByteOrder, LittleEndian};
@@ -168,7 +168,7 @@ pub fn decode_steim(
 ) -> Result<Decoded, SteimFault>
     requires some { 1 ≤ count }
     requires small { length area.now ≤ 1048576 }
-    ensures samples { IfOk result (λ d. Carries version order area.now d.samples) }
+    ensures samples { IfOk result (λ d. CarriesSteim version order area.now d.samples) }
     ensures count { IfOk result (λ d. length d.samples ≡ count) }
     ensures reverse { IfOk result (λ d. IsTrue d.reverse_agrees ↔ ReverseAgrees order area.now d.samples) }
     ensures short { IsErrOf result SteimFault.DataShort → EndsBefore version order area.now count }
@@ -202,13 +202,13 @@ pub fn decode_steim(
 /// first.
 pub fn one_outcome()
     ensures samples { (version : Version) (order : Order) (area : List ℕ) (xs ys : List ℤ)
-        → Carries version order area xs → Carries version order area ys → length xs ≡ length ys
+        → CarriesSteim version order area xs → CarriesSteim version order area ys → length xs ≡ length ys
         → xs ≡ ys }
     ensures not_short { (version : Version) (order : Order) (area : List ℕ) (samples : List ℤ)
-        → Carries version order area samples → EndsBefore version order area (length samples)
+        → CarriesSteim version order area samples → EndsBefore version order area (length samples)
         → ⊥ }
     ensures not_undefined { (version : Version) (order : Order) (area : List ℕ) (samples : List ℤ) (number : ℕ)
-        → Carries version order area samples → IsUndefinedBefore version order area (length samples) number
+        → CarriesSteim version order area samples → IsUndefinedBefore version order area (length samples) number
         → ⊥ }
     ensures short_or_undefined { (version : Version) (order : Order) (area : List ℕ) (count number : ℕ)
         → EndsBefore version order area count → IsUndefinedBefore version order area count number

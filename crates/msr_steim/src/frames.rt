@@ -4,7 +4,7 @@ ghost use Rattle.std.specs.Prelude.{◌≡◌, ◌<◌, ◌≤◌, ℕ, ℤ, Lis
 ghost use Rattle.std.specs.Int.{w32};
 ghost use Rattle.msr_header.specs.declared.header.Order.{Order};
 ghost use Rattle.msr_steim.specs.declared.word.Version.{Version};
-ghost use Rattle.msr_steim.specs.Area.{Carries, ReverseAgrees, constant, differences};
+ghost use Rattle.msr_steim.specs.Area.{CarriesSteim, ReverseAgrees, constant, differences};
 ghost use Rattle.msr_steim.specs.Word.{AreGroups, group_word};
 ghost use Rattle.msr_steim.specs.Frames.{code_in, codes_word, differences_after, frame_bytes, frame_word, group_in};
 
@@ -103,7 +103,7 @@ pub fn filled_area_carries()
         → AreGroups version groups → length groups + 2 ≤ 15 * frames
         → differences groups ≡ differences_after before samples
         → All (FitsSigned w32) samples → FitsSigned w32 last
-        → Carries version Order.Big (frame_bytes version (slice_index_or samples 0 (pos 0)) last groups frames) samples }
+        → CarriesSteim version Order.Big (frame_bytes version (slice_index_or samples 0 (pos 0)) last groups frames) samples }
     ensures reverse { (version : Version) (first last : ℤ) (groups : List (List ℤ)) (frames : ℕ)
         → AreGroups version groups → 0 < frames → FitsSigned w32 first → FitsSigned w32 last
         → constant Order.Big (frame_bytes version first last groups frames) 2 ≡ last }

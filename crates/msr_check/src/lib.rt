@@ -1,0 +1,110 @@
+//! Whether a packing and its separators show that the packing is least.
+#![tactic(auto)]
+
+ghost use Rattle.std.specs.Prelude.{◌≡◌, ℕ, ◌+◌, ◌<◌, ◌≤◌, ◌↔◌, length, IsTrue, slice_index, IsFalse};
+ghost use Rattle.msr_words.specs.Lengths.{bytes_of};
+ghost use Rattle.msr_words.specs.Fit.{Fits, IsRun};
+ghost use Rattle.msr_check.specs.Held.{Holds};
+ghost use Rattle.msr_words.specs.Packing.{NoneHolds, IsPacking, IsSeparating, IsLeast};
+
+use msr_words::{Kind, Length, Run, run_fits};
+
+/// Some run of that kind that fits holds both samples. It is enough to try the starts that the kind needs,
+/// at and before the first sample, and the end behind the second.
+fn holds_both(
+    kind: Kind,
+    samples: &[i32],
+    record_length: Length,
+    first: usize,
+    second: usize,
+) -> bool
+    requires order { first < second }
+    requires within { second < length samples.now }
+    ensures { IsTrue result ↔ Holds kind (bytes_of record_length) samples.now first second }
+{
+    let most = first.min(kind.look_back());
+    for back in 0..most + 1 {
+        if run_fits(kind, samples, first - back, second + 1, record_length) {
+            return true;
+        }
+    }
+    false
+}
+
+/// Some run of some kind that fits holds both samples.
+fn some_holds_both(samples: &[i32], record_length: Length, first: usize, second: usize) -> bool
+    requires order { first < second }
+    requires within { second < length samples.now }
+    ensures { IsFalse result ↔ NoneHolds (bytes_of record_length) samples.now first second }
+{
+    holds_both(Kind::Steim2, samples, record_length, first, second)
+        | holds_both(Kind::Steim1, samples, record_length, first, second)
+        | holds_both(Kind::Int16, samples, record_length, first, second)
+        | holds_both(Kind::Int32, samples, record_length, first, second)
+}
+
+/// The first sample stands before the second, and no run that fits holds both.
+fn none_between(samples: &[i32], record_length: Length, first: u64, second: u64) -> bool
+    requires { second < length samples.now }
+    ensures { IsTrue result ↔ (first < second) × NoneHolds (bytes_of record_length) samples.now first second }
+{
+    first < second && !some_holds_both(samples, record_length, first as usize, second as usize)
+}
+
+/// The list is strictly rising, of sample numbers of the segment, and no run that fits holds two of them.
+pub fn separates(samples: &[i32], record_length: Length, separators: &[u64]) -> bool
+    ensures { IsTrue result ↔ IsSeparating (bytes_of record_length) samples.now separators.now }
+{
+    for (i, separator) in separators.iter().enumerate() {
+        if *separator >= samples.len() as u64 {
+            return false;
+        }
+        if i > 0 && !none_between(samples, record_length, separators[i - 1], *separator) {
+            return false;
+        }
+    }
+    true
+}
+
+/// The runs join to the whole segment, none is empty, and each fits a record of the kind that it names.
+fn is_packing(samples: &[i32], record_length: Length, runs: &[Run]) -> bool
+    ensures { IsTrue result ↔ IsPacking (bytes_of record_length) samples.now runs.now }
+{
+    let mut at: u64 = 0;
+    for run in runs {
+        if run.start != at || !is_run(samples, record_length, run) {
+            return false;
+        }
+        at = run.end;
+    }
+    at == samples.len() as u64
+}
+
+/// The run is not empty, lies in the segment, and fits a record of its kind.
+fn is_run(samples: &[i32], record_length: Length, run: &Run) -> bool
+    ensures { IsTrue result ↔ (run.now.start < run.now.end) × IsRun (Fits run.now.kind (bytes_of record_length)) samples.now run.now.start run.now.end }
+{
+    run.start < run.end
+        && run.end <= samples.len() as u64
+        && run_fits(
+            run.kind,
+            samples,
+            run.start as usize,
+            run.end as usize,
+            record_length,
+        )
+}
+
+/// The runs are a packing, the list is separating, and both have the same size; so the packing is least.
+pub fn shows_least(samples: &[i32], record_length: Length, runs: &[Run], separators: &[u64]) -> bool
+    ensures exact { IsTrue result ↔ IsPacking (bytes_of record_length) samples.now runs.now × IsSeparating (bytes_of record_length) samples.now separators.now × (length runs.now ≡ length separators.now) }
+    ensures least { IsTrue result → IsLeast (bytes_of record_length) samples.now runs.now }
+{
+    if runs.len() != separators.len() {
+        return false;
+    }
+    is_packing(samples, record_length, runs) && separates(samples, record_length, separators)
+}
+
+#[cfg(test)]
+mod tests;

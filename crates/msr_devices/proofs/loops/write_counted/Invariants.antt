@@ -1,0 +1,13 @@
+use Rattle.std.proofs.Common.{◌-◌, ◌≤◌, length, take}
+use Rattle.msr_devices.specs.Device.{Takes, IsCalm}
+use Rattle.msr_devices.proofs.loops.write_counted.Given as goal
+
+abbrev pub invariant-loop-written : goal.invariant-loop-written
+invariant-loop-written g l = record {
+  within : l.written ≤ length l.buf;
+  calm : IsCalm (g.W.Sink.device l.fn.sink) (g.W.Sink.device l.sink);
+  bytes : Takes (g.W.Sink.device l.fn.sink) (g.W.Sink.device l.sink) (take l.written l.buf);
+}
+
+abbrev pub decreases-loop-written : goal.decreases-loop-written
+decreases-loop-written g l = length l.initial.buf - l.written

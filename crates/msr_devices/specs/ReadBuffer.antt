@@ -1,0 +1,33 @@
+-- What stands in a read buffer, and what filling it does.
+use Rattle.std.specs.Prelude.{◌≡◌, ℕ, ◌+◌, ◌^◌, ◌<◌, ◌≤◌, Bool, true, false, List, [], length}
+use Rattle.msr_devices.specs.Device.{Device, HasLeft, GivesOnto, HasFailed, IsCalm, IsSteady}
+use Rattle.msr_devices.specs.declared.read_buffer.FillFault.{FillFault}
+use Rattle.msr_devices.specs.declared.read_buffer.FillFault.TheVariants.{Read, Memory}
+
+-- the bytes that were read and not yet consumed; whether none are left behind them; and for how many bytes
+-- there is memory
+pub record Window : Type 0 where
+  pub bytes : List ℕ
+  pub ended : Bool
+  pub room : ℕ
+
+-- Some bytes came from the source and stand behind those that were there. Memory is never given back.
+pub record Fills (old new : Device) (before after : Window) : Type 0 where
+  pub onto : GivesOnto old new before.bytes after.bytes
+  pub short : length before.bytes < length after.bytes → new.moved < 2 ^ 64
+  pub keeps : before.room ≤ after.room
+
+-- As many bytes stand there as are wanted, or all that the source had.
+pub record IsFilled (want : ℕ) (old new : Device) (before after : Window) : Type 0 where
+  pub fills : Fills old new before after
+  pub enough : after.ended ≡ false → want ≤ length after.bytes
+  pub stays : before.ended ≡ true → after.ended ≡ true
+  pub end : (before.ended ≡ true → HasLeft old []) → after.ended ≡ true → HasLeft new []
+  pub calm : after.ended ≡ false → IsCalm old new
+  pub steady : IsSteady old new
+
+-- The source failed: what came before it did stands there. Or the memory was refused that the bytes wanted and
+-- a piece behind them take: then nothing was read.
+abbrev pub StopsFilling : ℕ → Device → Device → Window → Window → FillFault → Type 0
+StopsFilling want old new before after Read = HasFailed old new × Fills old new before after × (before.ended ≡ false) × (after.ended ≡ false)
+StopsFilling want old new before after Memory = (new ≡ old) × (after ≡ before) × (before.room < want + 65536)

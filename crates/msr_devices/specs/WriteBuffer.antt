@@ -1,0 +1,16 @@
+-- What a write buffer gives out.
+use Rattle.std.specs.Prelude.{◌≡◌, ℕ, List, ◌++◌}
+use Rattle.msr_devices.specs.Device.{Device, Takes, HasFailed}
+use Rattle.msr_devices.specs.declared.write_buffer.PushFault.{PushFault}
+use Rattle.msr_devices.specs.declared.write_buffer.PushFault.TheVariants.{Write, Memory}
+
+-- The sink accepted a front of what waited and was pushed, and the rest waits.
+pub record Passes (old new : Device) (waited pushed waits : List ℕ) : Type 0 where
+  pub taken : List ℕ
+  pub takes : Takes old new taken
+  pub whole : waited ++ pushed ≡ taken ++ waits
+
+-- The sink failed: all that was pushed was accepted or waits. Or memory was refused for it, and it was not pushed.
+abbrev pub StopsPushing : Device → Device → List ℕ → List ℕ → List ℕ → PushFault → Type 0
+StopsPushing old new waited pushed waits Write = HasFailed old new × Passes old new waited pushed waits
+StopsPushing old new waited pushed waits Memory = (new ≡ old) × (waits ≡ waited)

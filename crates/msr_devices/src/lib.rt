@@ -1,0 +1,24 @@
+//! Sources and sinks of bytes that count their failures, and the loops over them.
+//!
+//! A call that reads or writes through a loop ends after at most 64 interruptions in a row. It answers
+//! that the device failed exactly where the device did, so a failure is never taken for the end.
+#![tactic(auto)]
+
+mod adapters;
+mod device;
+mod failure;
+mod loops;
+mod memory;
+mod read_buffer;
+mod write_buffer;
+
+pub use adapters::{FromRead, FromWrite};
+pub use device::{Sink, Source};
+pub use failure::{SinkFailed, SourceFailed};
+pub use loops::{read_full, read_some, write_all, write_some};
+pub use memory::{Behavior, TestSink, TestSource};
+pub use read_buffer::{FillFault, ReadBuffer};
+pub use write_buffer::{PushFault, WriteBuffer};
+
+#[cfg(test)]
+mod tests;

@@ -1,0 +1,155 @@
+// The loops over a source and a sink: 64 interruptions in a row are a failure.
+ghost use Rattle.std.specs.Prelude.{◌≡◌, ◌+◌, ◌<◌, ◌≤◌, ◌^◌, ℕ, List, [], length, take, IfOk, IfErr, OnOk, OnErr, true, false};
+ghost use Rattle.msr_devices.specs.Device.{CanCountCall, HasLeft, Gives, GivesOnto, Takes, Moves, HasFailed, IsCalm, IsSteady, CountsFew};
+
+use crate::device::{Sink, Source};
+use crate::failure::{SinkFailed, SourceFailed};
+use std::io::ErrorKind;
+
+// A device that is interrupted so often in a row has failed.
+const MOST_INTERRUPTIONS: u32 = 64;
+
+/// Reads some bytes into the front of `buf`, again after an interruption. `Ok(0)` says that none are left, or
+/// that `buf` is empty.
+pub fn read_some<R: Source>(source: &mut R, buf: &mut [u8]) -> Result<usize, SourceFailed>
+    requires { CanCountCall (R.device source.old) }
+    ensures within { IfOk result (λ n. n ≤ length buf.new) }
+    ensures bytes { IfOk result (λ n. Gives (R.device source.old) (R.device source.new) (take n buf.new)) }
+    ensures end { IfOk result (λ n. n ≡ 0 → 0 < length buf.new → HasLeft (R.device source.new) []) }
+    ensures moves { IfOk result (Moves (R.device source.old) (R.device source.new)) }
+    ensures failed { OnErr result (HasFailed (R.device source.old) (R.device source.new)) }
+    ensures none { OnErr result (Gives (R.device source.old) (R.device source.new) []) }
+    ensures still { OnErr result ((R.device source.new).moved ≡ (R.device source.old).moved) }
+    ensures few { CountsFew (R.device source.old) (R.device source.new) }
+    ensures short { OnOk result ((R.device source.new).moved < 2 ^ 64) }
+{
+    for tried in 0..MOST_INTERRUPTIONS {
+        match source.read(buf) {
+            Ok(n) => return Ok(n),
+            Err(error) => {
+                if error.kind() != ErrorKind::Interrupted {
+                    return Err(SourceFailed);
+                }
+            }
+        }
+    }
+    Err(SourceFailed)
+}
+
+/// Reads until `buf` is full or no bytes are left, and says how many came. At an `Err` some may have come, and
+/// how many is lost.
+pub fn read_full<R: Source>(source: &mut R, buf: &mut [u8]) -> Result<usize, SourceFailed>
+    requires { CanCountCall (R.device source.old) }
+    ensures within { IfOk result (λ n. n ≤ length buf.new) }
+    ensures bytes { IfOk result (λ n. Gives (R.device source.old) (R.device source.new) (take n buf.new)) }
+    ensures end { IfOk result (λ n. n < length buf.new → HasLeft (R.device source.new) []) }
+    ensures calm { IfOk result (λ n. n ≡ length buf.new → IsCalm (R.device source.old) (R.device source.new)) }
+    ensures steady { OnOk result (IsSteady (R.device source.old) (R.device source.new)) }
+    ensures moved { IfOk result (λ n. (R.device source.new).moved ≡ (R.device source.old).moved + n) }
+    ensures short { IfOk result (λ n. 0 < n → (R.device source.new).moved < 2 ^ 64) }
+    ensures failed { OnErr result (HasFailed (R.device source.old) (R.device source.new)) }
+    ensures some { OnErr result ((bytes : List ℕ) × Gives (R.device source.old) (R.device source.new) bytes) }
+    ensures few { CountsFew (R.device source.old) (R.device source.new) }
+{
+    let mut filled = 0;
+    let want = buf.len();
+    read_until(source, buf, &mut filled, want)?;
+    Ok(filled)
+}
+
+// Reads behind the first `filled` bytes of `room` until `want` are filled, or no bytes are left: then true.
+pub(crate) fn read_until<R: Source>(
+    source: &mut R,
+    room: &mut [u8],
+    filled: &mut usize,
+    want: usize,
+) -> Result<bool, SourceFailed>
+    requires count { CanCountCall (R.device source.old) }
+    requires within { filled.old ≤ length room.old }
+    requires want { want ≤ length room.old }
+    ensures within { filled.new ≤ length room.new }
+    ensures onto { GivesOnto (R.device source.old) (R.device source.new) (take filled.old room.old) (take filled.new room.new) }
+    ensures short { filled.old < filled.new → (R.device source.new).moved < 2 ^ 64 }
+    ensures enough { IfOk result (λ ended. ended ≡ false → want ≤ filled.new) }
+    ensures lacking { IfOk result (λ ended. ended ≡ true → filled.new < want) }
+    ensures end { IfOk result (λ ended. ended ≡ true → HasLeft (R.device source.new) []) }
+    ensures calm { IfOk result (λ ended. ended ≡ false → IsCalm (R.device source.old) (R.device source.new)) }
+    ensures steady { OnOk result (IsSteady (R.device source.old) (R.device source.new)) }
+    ensures failed { OnErr result (HasFailed (R.device source.old) (R.device source.new)) }
+    ensures few { CountsFew (R.device source.old) (R.device source.new) }
+{
+    while *filled < want {
+        let n = read_some(source, &mut room[*filled..])?;
+        if n == 0 {
+            return Ok(true);
+        }
+        *filled += n;
+    }
+    Ok(false)
+}
+
+/// Writes some bytes from the front of `buf`, again after an interruption. A call that accepts none is a failure.
+pub fn write_some<W: Sink>(sink: &mut W, buf: &[u8]) -> Result<usize, SinkFailed>
+    requires count { CanCountCall (W.device sink.old) }
+    requires some { 0 < length buf.now }
+    ensures within { IfOk result (λ n. n ≤ length buf.now) }
+    ensures some { IfOk result (λ n. 0 < n) }
+    ensures bytes { IfOk result (λ n. Takes (W.device sink.old) (W.device sink.new) (take n buf.now)) }
+    ensures moves { IfOk result (Moves (W.device sink.old) (W.device sink.new)) }
+    ensures failed { OnErr result (HasFailed (W.device sink.old) (W.device sink.new)) }
+    ensures none { OnErr result (Takes (W.device sink.old) (W.device sink.new) []) }
+    ensures few { CountsFew (W.device sink.old) (W.device sink.new) }
+{
+    for tried in 0..MOST_INTERRUPTIONS {
+        match sink.write(buf) {
+            Ok(0) => return Err(SinkFailed),
+            Ok(n) => return Ok(n),
+            Err(error) => {
+                if error.kind() != ErrorKind::Interrupted {
+                    return Err(SinkFailed);
+                }
+            }
+        }
+    }
+    Err(SinkFailed)
+}
+
+/// Writes all of `buf`. At an `Err` a front of it was written, and how much is not told: `WriteBuffer` keeps
+/// what was not.
+pub fn write_all<W: Sink>(sink: &mut W, buf: &[u8]) -> Result<(), SinkFailed>
+    requires { CanCountCall (W.device sink.old) }
+    ensures all { OnOk result (Takes (W.device sink.old) (W.device sink.new) buf.now) }
+    ensures calm { OnOk result (IsCalm (W.device sink.old) (W.device sink.new)) }
+    ensures failed { OnErr result (HasFailed (W.device sink.old) (W.device sink.new)) }
+    ensures part { OnErr result ((n : ℕ) × Takes (W.device sink.old) (W.device sink.new) (take n buf.now)) }
+    ensures few { CountsFew (W.device sink.old) (W.device sink.new) }
+{
+    match write_counted(sink, buf) {
+        Ok(()) => Ok(()),
+        Err(FailedAfter { written: _ }) => Err(SinkFailed),
+    }
+}
+
+// The sink failed behind so many bytes.
+pub(crate) struct FailedAfter {
+    pub written: usize,
+}
+
+// Writes all of `buf`, and tells at an `Err` how much of it was written.
+pub(crate) fn write_counted<W: Sink>(sink: &mut W, buf: &[u8]) -> Result<(), FailedAfter>
+    requires { CanCountCall (W.device sink.old) }
+    ensures all { OnOk result (Takes (W.device sink.old) (W.device sink.new) buf.now) }
+    ensures calm { OnOk result (IsCalm (W.device sink.old) (W.device sink.new)) }
+    ensures failed { OnErr result (HasFailed (W.device sink.old) (W.device sink.new)) }
+    ensures part { IfErr result (λ e. (e.written ≤ length buf.now) × Takes (W.device sink.old) (W.device sink.new) (take e.written buf.now)) }
+    ensures few { CountsFew (W.device sink.old) (W.device sink.new) }
+{
+    let mut written = 0;
+    while written < buf.len() {
+        match write_some(sink, &buf[written..]) {
+            Ok(n) => written += n,
+            Err(SinkFailed) => return Err(FailedAfter { written }),
+        }
+    }
+    Ok(())
+}

@@ -1,0 +1,141 @@
+// Bytes that are read ahead of their use.
+ghost use Rattle.std.specs.Prelude.{◌≡◌, ◌⊎◌, ◌≤◌, ◌+◌, ◌-◌, [], length, take, drop, true, false, IsOk, OnOk, OnErr, MatchResult};
+ghost use Rattle.msr_devices.specs.Device.{CanCountCall, CountsFew};
+ghost use Rattle.msr_devices.specs.ReadBuffer.{IsFilled, StopsFilling};
+ghost use Rattle.msr_devices.specs.declared.read_buffer.FillFault.TheVariants.{Read, Memory};
+
+use crate::device::Source;
+use crate::failure::SourceFailed;
+use crate::loops::read_until;
+use std::alloc::{AllocError, Global};
+use std::error::Error;
+use std::fmt;
+use std::marker::Model;
+
+/// Why a read buffer was not filled.
+#[derive(Clone, Copy, Debug, PartialEq, Eq)]
+pub enum FillFault {
+    /// The source failed, or was interrupted 64 times in a row.
+    Read,
+    /// The buffer could not grow.
+    Memory,
+}
+
+impl fmt::Display for FillFault {
+    fn fmt<W: fmt::Write>(&self, f: &mut fmt::Formatter<W>) -> fmt::Result {
+        match self {
+            FillFault::Read => write!(f, "the source failed"),
+            FillFault::Memory => write!(f, "out of memory"),
+        }
+    }
+}
+
+impl Error for FillFault {}
+
+impl From<SourceFailed> for FillFault {
+    ghost from_gives = { λ _ e. e ≡ Read };
+
+    fn from(_: SourceFailed) -> FillFault {
+        FillFault::Read
+    }
+}
+
+impl From<AllocError> for FillFault {
+    ghost from_gives = { λ _ e. e ≡ Memory };
+
+    fn from(_: AllocError) -> FillFault {
+        FillFault::Memory
+    }
+}
+
+// How many bytes a read may bring at least.
+const PIECE: usize = 65_536;
+
+/// Bytes that were read from a source and are not yet consumed. All calls take the same source.
+#[derive(Drop)]
+pub struct ReadBuffer {
+    memory: Vec<u8>,
+    start: usize,
+    end: usize,
+    ended: bool,
+}
+
+impl Model for ReadBuffer {
+    ghost use Rattle.std.specs.Prelude.{◌≤◌, length, slice_range};
+    ghost use Rattle.msr_devices.specs.ReadBuffer.{Window};
+
+    ghost Value = { Window };
+
+    ghost view = { λ b. record { bytes = slice_range b.memory.items b.start b.end; ended = b.ended; room = length b.memory.items } };
+
+    ghost invariant = { λ b. (b.start ≤ b.end) × (b.end ≤ length b.memory.items) };
+}
+
+impl ReadBuffer {
+    /// A buffer before the first read. It takes no memory yet.
+    pub fn new(alloc: Global) -> ReadBuffer
+        ensures { result ≡ record { bytes = []; ended = false; room = 0 } }
+    {
+        ReadBuffer {
+            memory: Vec::new(alloc),
+            start: 0,
+            end: 0,
+            ended: false,
+        }
+    }
+
+    /// The bytes that were read and not yet consumed.
+    pub fn bytes(&self) -> &[u8]
+        ensures { result.now ≡ self.now.bytes }
+    {
+        &self.memory.as_slice()[self.start..self.end]
+    }
+
+    /// Whether the source has no bytes left behind them. Before the last byte was read this may still be false.
+    pub fn has_ended(&self) -> bool
+        ensures { result ≡ self.now.ended }
+    {
+        self.ended
+    }
+
+    /// Reads until at least `want` bytes stand there or no more are left, in pieces for which there is room
+    /// for 64 KiB at least. At an `Err` the bytes that came stand there, and a further call goes on.
+    pub fn fill<R: Source>(&mut self, source: &mut R, want: usize) -> Result<(), FillFault>
+        requires { CanCountCall (R.device source.old) }
+        ensures filled { MatchResult result (λ _. IsFilled want (R.device source.old) (R.device source.new) self.old self.new) (StopsFilling want (R.device source.old) (R.device source.new) self.old self.new) }
+        ensures ready { (want ≤ length self.old.bytes) ⊎ (self.old.ended ≡ true) → IsOk result × (R.device source.new ≡ R.device source.old) × (self.new ≡ self.old) }
+        ensures few { CountsFew (R.device source.old) (R.device source.new) }
+    {
+        if self.ended || want <= self.end - self.start {
+            return Ok(());
+        }
+        grow(&mut self.memory, want.saturating_add(PIECE))?;
+        self.memory.copy_within(self.start..self.end, 0);
+        self.end -= self.start;
+        self.start = 0;
+        self.ended = read_until(source, self.memory.as_mut_slice(), &mut self.end, want)?;
+        Ok(())
+    }
+
+    /// Takes `n` bytes from the front.
+    pub fn consume(&mut self, n: usize)
+        requires { n ≤ length self.old.bytes }
+        ensures { self.new ≡ record { bytes = drop n self.old.bytes; ended = self.old.ended; room = self.old.room } }
+    {
+        self.start += n;
+    }
+}
+
+// Makes the memory at least so long.
+fn grow(memory: &mut Vec<u8>, len: usize) -> Result<(), AllocError>
+    ensures keeps { take (length memory.old.items) memory.new.items ≡ memory.old.items }
+    ensures longer { OnOk result (len ≤ length memory.new.items) }
+    ensures least { length memory.old.items ≤ length memory.new.items }
+    ensures err { OnErr result (memory.new.items ≡ memory.old.items) }
+    ensures small { len ≤ length memory.old.items → IsOk result }
+{
+    if memory.len() < len {
+        memory.resize(len, 0)?;
+    }
+    Ok(())
+}

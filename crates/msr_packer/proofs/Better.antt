@@ -1,0 +1,110 @@
+-- Steps with records of one kind, of one kind more, and of all kinds.
+use Rattle.std.proofs.Common.{◌≡◌, ◌↔◌, ℕ, ◌-◌, ◌<◌, ◌≤◌, ◌⊎◌, ℤ, List, [], ◌∷◌, arith, refl, sym, subst, inl, inr}
+use Rattle.msr_words.specs.declared.kinds.Kind.{Kind}
+use Rattle.msr_words.specs.declared.kinds.Kind.TheVariants.{Int16, Int32, Steim1, Steim2}
+use Rattle.msr_words.specs.Segment.{run_points}
+use Rattle.msr_words.specs.Fit.{Fits, FitsAny, IsRun}
+use Rattle.msr_words.specs.Laws.{SizeLaw}
+use Rattle.msr_words.specs.Packing.{IsStep}
+use Rattle.msr_words.proofs.Runs.{length_run_points}
+use Rattle.msr_packer.specs.declared.step.Step.{Step}
+use Rattle.msr_packer.specs.Steps.{Among, IsStepAmong, NotLess}
+
+module _ (bytes : ℕ) (samples : List ℤ) (g : ℕ) where
+  -- what a codec takes is what fits a record of its kind
+  module _ (fits : List (ℤ × ℤ) → Type 0) (own kind : Kind) (same : (run : List (ℤ × ℤ)) → fits run ↔ Fits own bytes run) (is_own : own ≡ kind) where
+    taken : (s b : ℕ) (k : Kind) → k ≡ kind → IsRun (Fits k bytes) samples s b → IsRun fits samples s b
+    taken s b k e run = (run.0, run.1, (same (run_points samples s b)).1 (subst (λ x. Fits x bytes (run_points samples s b)) (sym is_own) (subst (λ x. Fits x bytes (run_points samples s b)) e run.2)))
+
+    fitting : (s b : ℕ) → IsRun fits samples s b → IsRun (Fits kind bytes) samples s b
+    fitting s b run = (run.0, run.1, subst (λ x. Fits x bytes (run_points samples s b)) is_own ((same (run_points samples s b)).0 run.2))
+
+    -- the step of a codec is the step with records of its kind
+    pub one_kind : (h a : ℕ) → g ≤ h → IsStep fits samples g h a → IsStepAmong (kind ∷ []) bytes samples g (record { start = a; end = h; kind = kind })
+    one_kind h a past step = record {
+      before = step.before;
+      past = past;
+      reached = fitting a h step.reached;
+      furthest = λ k among s b le run. elim among [
+        | inl e ↦ step.furthest s b le (taken s b k e run)
+        | inr none ↦ absurd none
+      ];
+      last = λ k among s le run. elim among [
+        | inl e ↦ step.last s le (taken s h k e run)
+        | inr none ↦ absurd none
+      ];
+    }
+
+    -- no run of the kind is long enough to reach as far as a step
+    pub none_longer : (most : ℕ) → SizeLaw most fits → (step : Step) → most < step.end - g → (tried : List Kind) → IsStepAmong tried bytes samples g step → IsStepAmong (kind ∷ tried) bytes samples g step
+    none_longer most law step less tried is = record {
+      before = is.before;
+      past = is.past;
+      reached = is.reached;
+      furthest = λ k among s b le run. elim among [
+        | inl e ↦ let f = few s b (taken s b k e run) in let up = run.0 in omega arith
+        | inr other ↦ is.furthest k other s b le run
+      ];
+      last = λ k among s le run. elim among [
+        | inl e ↦ let f = few s step.end (taken s step.end k e run) in let up = run.0 in absurd (omega arith)
+        | inr other ↦ is.last k other s le run
+      ];
+    }
+      where
+        few : (s b : ℕ) → IsRun fits samples s b → b - s ≤ most
+        few s b run = subst (λ n. n ≤ most) (length_run_points samples s b run.0 run.1) (law (run_points samples s b) run.2)
+
+  -- the better of a step and the step of one kind more
+  pub one_more : (kind : Kind) (tried : List Kind) (step other result : Step) → IsStepAmong tried bytes samples g step → IsStepAmong (kind ∷ []) bytes samples g other →
+      (result ≡ step) ⊎ (result ≡ other) → NotLess result step → NotLess result other → IsStepAmong (kind ∷ tried) bytes samples g result
+  one_more kind tried step other result is one either first second = record {
+    before = elim either [
+      | inl e ↦ subst (λ r. r.start ≤ g) (sym e) is.before
+      | inr e ↦ subst (λ r. r.start ≤ g) (sym e) one.before
+    ];
+    past = elim either [
+      | inl e ↦ subst (λ r. g ≤ r.end) (sym e) is.past
+      | inr e ↦ subst (λ r. g ≤ r.end) (sym e) one.past
+    ];
+    reached = elim either [
+      | inl e ↦ subst (λ r. IsRun (Fits r.kind bytes) samples r.start r.end) (sym e) is.reached
+      | inr e ↦ subst (λ r. IsRun (Fits r.kind bytes) samples r.start r.end) (sym e) one.reached
+    ];
+    furthest = λ k among s b le run. elim among [
+      | inl e ↦ no_less other second b (one.furthest k (inl e) s b le run)
+      | inr old ↦ no_less step first b (is.furthest k old s b le run)
+    ];
+    last = λ k among s le run. elim among [
+      | inl e ↦ no_later other second s (one.furthest k (inl e) s result.end le run)
+          (λ same. one.last k (inl e) s le (subst (λ b. IsRun (Fits k bytes) samples s b) same run))
+      | inr old ↦ no_later step first s (is.furthest k old s result.end le run)
+          (λ same. is.last k old s le (subst (λ b. IsRun (Fits k bytes) samples s b) same run))
+    ];
+  }
+    where
+      no_less : (than : Step) → NotLess result than → (b : ℕ) → b ≤ than.end → b ≤ result.end
+      no_less than not b le = elim not.further [
+        | inl more ↦ omega arith
+        | inr same ↦ let e = same.0 in omega arith
+      ]
+
+      no_later : (than : Step) → NotLess result than → (s : ℕ) → result.end ≤ than.end → (result.end ≡ than.end → s ≤ than.start) → s ≤ result.start
+      no_later than not s le late = elim not.further [
+        | inl more ↦ absurd (omega arith)
+        | inr same ↦ let l = late (sym same.0) in let up = same.1 in omega arith
+      ]
+
+  -- with records of all kinds
+  pub all_kinds : (step : Step) → IsStepAmong (Int32 ∷ Int16 ∷ Steim1 ∷ Steim2 ∷ []) bytes samples g step → IsStep (FitsAny bytes) samples g step.end step.start
+  all_kinds step is = record {
+    before = is.before;
+    reached = let run = is.reached in (run.0, run.1, (step.kind, run.2));
+    furthest = λ s b le run. is.furthest run.2.0 (each run.2.0) s b le (run.0, run.1, run.2.1);
+    last = λ s le run. is.last run.2.0 (each run.2.0) s le (run.0, run.1, run.2.1);
+  }
+    where
+      each : (kind : Kind) → Among (Int32 ∷ Int16 ∷ Steim1 ∷ Steim2 ∷ []) kind
+      each Int32 = inl refl
+      each Int16 = inr (inl refl)
+      each Steim1 = inr (inr (inl refl))
+      each Steim2 = inr (inr (inr (inl refl)))

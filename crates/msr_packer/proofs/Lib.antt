@@ -1,0 +1,4 @@
+pub mod Least
+pub mod Search
+pub mod Better
+pub mod Canonical

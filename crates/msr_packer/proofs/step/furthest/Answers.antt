@@ -1,0 +1,34 @@
+use Rattle.std.proofs.Common.{rules, ◌+◌, ◌<◌, length, slice_index_or, pos, w32, w64, SFits, arith, inl, inr}
+use Rattle.std.proofs.lemmas.Bool.{cases_lt}
+use Rattle.std.proofs.lemmas.Int.{to_z-of_z}
+use Rattle.msr_words.specs.Segment.{run_points}
+use Rattle.msr_words.proofs.Runs.{run_points_more, prefix_run}
+use Rattle.msr_packer.proofs.step.furthest.Goals as goal
+
+pub returns-then-not-push-clause-furthest : goal.returns-then-not-push-clause-furthest
+returns-then-not-push-clause-furthest g c end run =
+    let in' : c.loop-at.at < length c.args.samples.now = omega arith in
+    let more = run_points_more c.args.samples.now c.args.start c.loop-at.at (omega arith) in' in
+    let sample : SFits w32 (slice_index_or c.args.samples.now c.loop-at.at (pos 0)) = search rules in
+    let diff : SFits w64 c.difference.result = search rules in
+    let push = simp to_z-of_z at (c.push.ensures c.args.record_length.bytes (run_points c.args.samples.now c.args.start c.loop-at.at) c.loop-at.invariant.pushed) in
+    let pushed = rw (c.difference.ensures, ← more) at push in
+    elim (cases_lt c.loop-at.at end) [
+      | inl past ↦
+          let shorter = prefix_run (g.C.Tracker.fits c.args.record_length.bytes) (g.met.C.Tracker.prefix c.args.record_length.bytes)
+          c.args.samples.now c.args.start (c.loop-at.at + 1) end (omega arith) (omega arith) run in
+          let yes = pushed.1.1 shorter.2 in
+          let not = c.if-not-push.true in
+          cc
+      | inr within ↦ within
+    ]
+
+pub loop-at-preserved : goal.loop-at-preserved
+loop-at-preserved g c =
+    let in' : c.loop-at.at < length c.args.samples.now = omega arith in
+    let more = run_points_more c.args.samples.now c.args.start c.loop-at.at (omega arith) in' in
+    let sample : SFits w32 (slice_index_or c.args.samples.now c.loop-at.at (pos 0)) = search rules in
+    let diff : SFits w64 c.difference.result = search rules in
+    let push = simp to_z-of_z at (c.push.ensures c.args.record_length.bytes (run_points c.args.samples.now c.args.start c.loop-at.at) c.loop-at.invariant.pushed) in
+    let pushed = rw (c.difference.ensures, ← more) at push in
+    record { pushed = pushed.0; fits = pushed.1.0 c.if-not-push.false }

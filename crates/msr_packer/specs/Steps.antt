@@ -1,0 +1,22 @@
+-- Steps from a frontier with records of some kinds.
+use Rattle.std.specs.Prelude.{◌≡◌, ℕ, ◌<◌, ◌≤◌, ◌⊎◌, ℤ, List, [], ◌∷◌}
+use Rattle.msr_words.specs.declared.kinds.Kind.{Kind}
+use Rattle.msr_words.specs.Fit.{Fits, IsRun}
+use Rattle.msr_packer.specs.declared.step.Step.{Step}
+
+-- the kind is one of these
+abbrev pub Among : List Kind → Kind → Type 0
+Among [] kind = ⊥
+Among (first ∷ kinds) kind = (kind ≡ first) ⊎ Among kinds kind
+
+-- with records of these kinds the step reaches as far as any run that starts at or before the frontier g, from the last start that does
+pub record IsStepAmong (kinds : List Kind) (bytes : ℕ) (samples : List ℤ) (g : ℕ) (step : Step) : Type 0 where
+  pub before : step.start ≤ g
+  pub past : g ≤ step.end
+  pub reached : IsRun (Fits step.kind bytes) samples step.start step.end
+  pub furthest : (kind : Kind) → Among kinds kind → (s b : ℕ) → s ≤ g → IsRun (Fits kind bytes) samples s b → b ≤ step.end
+  pub last : (kind : Kind) → Among kinds kind → (s : ℕ) → s ≤ g → IsRun (Fits kind bytes) samples s step.end → s ≤ step.start
+
+-- a step reaches at least as far as another, and starts no earlier where it reaches as far
+pub record NotLess (step other : Step) : Type 0 where
+  pub further : (other.end < step.end) ⊎ ((other.end ≡ step.end) × (other.start ≤ step.start))

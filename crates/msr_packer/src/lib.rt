@@ -1,0 +1,81 @@
+//! The least packing of a segment, with the separators that show it.
+#![tactic(auto)]
+
+mod step;
+#[cfg(test)]
+mod tests;
+
+ghost use Rattle.std.specs.Prelude.{◌≡◌, ℕ, ◌+◌, ◌<◌, ◌≤◌, length, IfOk, List, ℤ};
+ghost use Rattle.msr_words.specs.declared.kinds.Run.{Run};
+ghost use Rattle.msr_words.specs.Lengths.{bytes_of};
+ghost use Rattle.msr_words.specs.Segment.{run_points};
+ghost use Rattle.msr_words.specs.Fit.{Fits, IsRun, IsFirstKind};
+ghost use Rattle.msr_words.specs.Packing.{IsPacking, IsSeparating, IsLeast, IsCanonical};
+
+use msr_words::{Kind, Length, Run, first_kind};
+use std::alloc::{AllocError, Global};
+use step::{Step, step_from};
+
+/// Runs that join to a segment, and samples that show that no packing has fewer.
+#[derive(Debug, Drop, PartialEq, Eq)]
+pub struct Packing {
+    pub runs: Vec<Run>,
+    pub separators: Vec<u64>,
+}
+
+/// The kind in which a run is written, of which one kind that it fits is known: the kind that is tried first needs no walk.
+fn kind_of(samples: &[i32], record_length: Length, start: usize, end: usize, known: Kind) -> Kind
+    requires { IsRun (Fits known (bytes_of record_length)) samples.now start end }
+    ensures { IsFirstKind (bytes_of record_length) (run_points samples.now start end) result }
+{
+    match known {
+        Kind::Steim2 => known,
+        _ => first_kind(samples, start, end, record_length),
+    }
+}
+
+/// The run of a step that is cut at `end`.
+fn run_of(samples: &[i32], record_length: Length, step: Step, end: usize) -> Run
+    requires { IsRun (Fits step.kind (bytes_of record_length)) samples.now step.start end }
+    ensures start { result.start ≡ step.start }
+    ensures end { result.end ≡ end }
+    ensures kind { IsFirstKind (bytes_of record_length) (run_points samples.now step.start end) result.kind }
+{
+    Run {
+        start: step.start as u64,
+        end: end as u64,
+        kind: kind_of(samples, record_length, step.start, end, step.kind),
+    }
+}
+
+/// The packing of the segment in the fewest records of that length.
+pub fn pack(alloc: Global, samples: &[i32], record_length: Length) -> Result<Packing, AllocError>
+    ensures packing { IfOk result (λ p. IsPacking (bytes_of record_length) samples.now p.runs.items) }
+    ensures least { IfOk result (λ p. IsLeast (bytes_of record_length) samples.now p.runs.items) }
+    ensures separating { IfOk result (λ p. IsSeparating (bytes_of record_length) samples.now p.separators.items) }
+    ensures as_many { IfOk result (λ p. length p.runs.items ≡ length p.separators.items) }
+    ensures canonical { IfOk result (λ p. IsCanonical (bytes_of record_length) samples.now p.runs.items p.separators.items) }
+{
+    let mut runs = Vec::new(alloc);
+    let mut separators = Vec::new(alloc);
+    if samples.is_empty() {
+        return Ok(Packing { runs, separators });
+    }
+    let mut frontier = 0;
+    let mut step = step_from(samples, record_length, 0);
+    while step.end < samples.len() {
+        let next = step_from(samples, record_length, step.end);
+        runs.push(run_of(samples, record_length, step, next.start))?;
+        separators.push(frontier as u64)?;
+        frontier = step.end;
+        step = next;
+    }
+    runs.push(run_of(samples, record_length, step, samples.len()))?;
+    separators.push(frontier as u64)?;
+    Ok(Packing { runs, separators })
+}
+
+/// For each segment and record length at most one packing with its separators is the canonical one.
+pub fn one_packing()
+    ensures { (bytes : ℕ) (samples : List ℤ) (runs others : List Run) (separators places : List ℕ) → IsCanonical bytes samples runs separators → IsCanonical bytes samples others places → (runs ≡ others) × (separators ≡ places) }
+{}

@@ -1,0 +1,13 @@
+pub mod HeaderFacts
+pub mod KeyLemmas
+pub mod FieldLemmas
+pub mod TimeLemmas
+pub mod RowLemmas
+pub mod OneAnswer
+pub mod DifferenceLemmas
+pub mod AreaLemmas
+pub mod WritingLemmas
+pub mod OneWritten
+pub mod FirstBytes
+pub mod Shown
+pub mod WritableRows

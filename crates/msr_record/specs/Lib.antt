@@ -1,0 +1,5 @@
+pub mod Kinds
+pub mod Correction
+pub mod Area
+pub mod Records
+pub mod Written

@@ -1,0 +1,99 @@
+-- The bytes of a written record (SEED 2.4, data record): a header of 64 bytes, then the data area.
+use Rattle.std.specs.Prelude.{◌≡◌, ℕ, ◌+◌, ◌-◌, ◌*◌, ◌/◌, ◌%◌, ◌^◌, ◌≤◌, nat_le, if◌then◌else◌, ℤ, pos, List, [], ◌∷◌, ◌++◌, length, map, replicate, slice_index_or, Option, Some, true}
+use Rattle.msr_time.specs.declared.btime.BTime.{BTime}
+use Rattle.msr_time.specs.Instant.{IsSplit}
+use Rattle.msr_header.specs.declared.header.Order.TheVariants.{Big}
+use Rattle.msr_header.specs.declared.header.Header.{Header}
+use Rattle.msr_header.specs.Writing.{header_bytes}
+use Rattle.msr_plain.specs.Plain.{bytes_of_all, size_of}
+use Rattle.msr_plain.specs.declared.Width.{Width}
+use Rattle.msr_plain.specs.declared.Width.TheVariants.{Two as TwoBytes, Four as FourBytes}
+use Rattle.msr_steim.specs.Frames.{frame_bytes}
+use Rattle.msr_steim.specs.declared.word.Version.{Version}
+use Rattle.msr_steim.specs.declared.word.Version.TheVariants.{One, Two}
+use Rattle.msr_words.specs.Canonical.{IsCanonicalDivision}
+use Rattle.msr_words.specs.Fit.{code_of}
+use Rattle.msr_words.specs.RecordLength.{IsRecordLength}
+use Rattle.msr_words.specs.Segment.{differences}
+use Rattle.msr_words.specs.declared.kinds.Kind.{Kind}
+use Rattle.msr_words.specs.declared.kinds.Kind.TheVariants.{Int16, Int32, Steim1, Steim2}
+use Rattle.msr_record.specs.Records.{IsRowOf, IsRecordOf, IsInTime}
+use Rattle.msr_record.specs.declared.row.Key.{Key}
+
+-- the six decimal digits of a sequence number, as text
+abbrev pub sequence_digits : ℕ → List ℕ
+sequence_digits n = map (λ unit. 48 + n / unit % 10) (100_000 ∷ 10_000 ∷ 1_000 ∷ 100 ∷ 10 ∷ 1 ∷ [])
+
+-- the header of a written record: big-endian, with its data from 64 on
+abbrev pub header_for : Key → BTime → ℕ → ℕ → ℕ → Kind → ℕ → ℕ → Header
+header_for key time micros sequence count kind exponent frames = record {
+  order = Big;
+  sequence = sequence_digits sequence;
+  quality = key.quality;
+  station = key.station;
+  location = key.location;
+  channel = key.channel;
+  network = key.network;
+  time = time;
+  samples = count;
+  factor = key.rate.factor;
+  multiplier = key.rate.multiplier;
+  activity = key.activity;
+  clock = key.clock;
+  data_quality = key.data_quality;
+  correction = key.correction;
+  data_at = 64;
+  encoding = code_of kind;
+  data_order = Big;
+  exponent = exponent;
+  timing = Some (record { quality = key.timing; micros = pos micros; frames = frames });
+  chain_end = 64;
+}
+
+-- The frame count of blockette 1001, for so many data words: the frames that these and the two constants
+-- need, of fifteen words each beside their codes, or 0 where a byte does not hold the number.
+abbrev pub frame_count : ℕ → ℕ
+frame_count words = let frames = (words + 2 + 14) / 15 in if nat_le frames 255 then frames else 0
+
+-- the data area of so many bytes is these samples as numbers, one after the other, then zeros
+pub record AreNumbers (width : Width) (samples : List ℤ) (size frames : ℕ) (area : List ℕ) : Type 0 where
+  pub bytes_are : area ≡ bytes_of_all width samples ++ replicate (size - size_of width * length samples) 0
+  pub frames_are : frames ≡ 0
+
+-- It is frames of the canonical groups of the samples' differences, without a gap. The constants are the first
+-- and the last sample.
+pub record AreFrames (version : Version) (before : Option ℤ) (samples : List ℤ) (size frames : ℕ) (area : List ℕ) : Type 0 where
+  pub groups : List (List ℤ)
+  pub canonical : IsCanonicalDivision version groups (differences before samples)
+  pub bytes_are : area ≡ frame_bytes version (slice_index_or samples 0 (pos 0)) (slice_index_or samples (length samples - 1) (pos 0)) groups (size / 64)
+  pub frames_are : frames ≡ frame_count (length groups)
+
+-- the data area of so many bytes that is written for these samples, with the frame count for it
+abbrev pub IsWrittenArea : Kind → Option ℤ → List ℤ → ℕ → ℕ → List ℕ → Type 0
+IsWrittenArea Int16 before samples size frames area = AreNumbers TwoBytes samples size frames area
+IsWrittenArea Int32 before samples size frames area = AreNumbers FourBytes samples size frames area
+IsWrittenArea Steim1 before samples size frames area = AreFrames One before samples size frames area
+IsWrittenArea Steim2 before samples size frames area = AreFrames Two before samples size frames area
+
+-- The bytes are those of the written record of these samples, the first difference being taken from the
+-- sample before them, if there is one.
+pub record IsWritten (bytes : List ℕ) (key : Key) (start : ℤ) (sequence : ℕ) (before : Option ℤ) (samples : List ℤ) (kind : Kind) (size : ℕ) : Type 0 where
+  pub time : BTime
+  pub micros : ℕ
+  pub frames : ℕ
+  pub area : List ℕ
+  pub power : IsRecordLength size
+  pub split : IsSplit start time micros
+  pub is_area : IsWrittenArea kind before samples (size - 64) frames area
+  pub bytes_are : bytes ≡ header_bytes (header_for key time micros sequence (length samples) kind power.exponent frames) ++ area
+
+-- After the old bytes the new ones have the written record of these samples. Whatever follows it, it is read
+-- as their row, and its reverse constant agrees.
+pub record AppendsRecord (old new : List ℕ) (key : Key) (start : ℤ) (sequence : ℕ) (before : Option ℤ) (samples : List ℤ) (kind : Kind) (size : ℕ) : Type 0 where
+  pub bytes : List ℕ
+  pub joined : new ≡ old ++ bytes
+  pub size_is : length bytes ≡ size
+  pub written : IsWritten bytes key start sequence before samples kind size
+  pub row : (rest : List ℕ) → IsRowOf (bytes ++ rest) (record { key = key; start = start; kind = kind; samples = samples })
+  pub found : (rest : List ℕ) → IsInTime key.rate start (length samples)
+      → IsRecordOf (bytes ++ rest) (record { length = size; row = Some (record { key = key; start = start; kind = kind; samples = samples }); reverse_agrees = true })

@@ -1,0 +1,47 @@
+//! What holds of rows, records and refusals of any bytes.
+ghost use Rattle.std.specs.Prelude.{◌≡◌, ◌≤◌, ◌^◌, ℕ, ℤ, List, Option, Ok, IsTrue, false, length, take};
+ghost use Rattle.msr_time.specs.Instant.{IsInstant};
+ghost use Rattle.msr_header.specs.declared.header.Header.{Header};
+ghost use Rattle.msr_header.specs.Reading.{header_of, is_quality};
+ghost use Rattle.msr_record.specs.Correction.{is_pending};
+ghost use Rattle.msr_record.specs.Records.{IsRowOf, IsRecordOf, IsRefused, RowIsInTime};
+ghost use Rattle.msr_record.specs.Written.{IsWritten};
+ghost use Rattle.msr_words.specs.declared.kinds.Kind.{Kind};
+ghost use Rattle.msr_record.specs.declared.row.Key.{Key};
+ghost use Rattle.msr_record.specs.declared.row.Row.{Row};
+ghost use Rattle.msr_record.specs.declared.row.Record.{Record};
+ghost use Rattle.msr_record.specs.declared.fault.FaultKind.{FaultKind};
+
+/// Bytes begin with a record of one row, or are refused with one fault, and never both.
+pub fn one_answer()
+    ensures row { (bytes : List ℕ) (row other : Row) → IsRowOf bytes row → IsRowOf bytes other → row ≡ other }
+    ensures whole { (bytes : List ℕ) (found other : Record) → IsRecordOf bytes found → IsRecordOf bytes other → found ≡ other }
+    ensures fault { (bytes : List ℕ) (fault other : FaultKind) → IsRefused bytes fault → IsRefused bytes other → fault ≡ other }
+    ensures not_both { (bytes : List ℕ) (found : Record) (fault : FaultKind) → IsRecordOf bytes found → IsRefused bytes fault → ⊥ }
+{}
+
+/// A record's own bytes decide: where as many bytes as it has are the same, all that is read of it is
+/// the same, whatever stands behind them and also where nothing does.
+pub fn own_bytes_decide()
+    ensures found { (bytes others : List ℕ) (found : Record) → IsRecordOf bytes found
+        → take found.length others ≡ take found.length bytes → IsRecordOf others found }
+    ensures row { (bytes others : List ℕ) (row : Row) → (is_row : IsRowOf bytes row)
+        → take (2 ^ is_row.header.exponent) others ≡ take (2 ^ is_row.header.exponent) bytes → IsRowOf others row }
+    ensures refused { (bytes others : List ℕ) (header : Header) (fault : FaultKind) → header_of bytes ≡ Ok header
+        → take (2 ^ header.exponent) others ≡ take (2 ^ header.exponent) bytes → IsRefused bytes fault → IsRefused others fault }
+{}
+
+/// A row that was read meets what `encode_record` asks of the key and of the number of samples, and
+/// one whose time is in range what it asks of the start.
+pub fn rows_are_writable()
+    ensures row { (bytes : List ℕ) (row : Row) → IsRowOf bytes row
+        → IsTrue (is_quality row.key.quality) × (is_pending row.key.activity row.key.correction ≡ false) × (1 ≤ length row.samples) }
+    ensures start { (row : Row) → RowIsInTime row → IsInstant row.start }
+{}
+
+/// What is written is determined: one text of bytes for a key, a start, a sequence number, a run with
+/// the sample before it, a kind and a length.
+pub fn one_written()
+    ensures { (bytes others : List ℕ) (key : Key) (start : ℤ) (sequence : ℕ) (before : Option ℤ) (samples : List ℤ) (kind : Kind) (size : ℕ)
+        → IsWritten bytes key start sequence before samples kind size → IsWritten others key start sequence before samples kind size → bytes ≡ others }
+{}

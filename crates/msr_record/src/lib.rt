@@ -1,0 +1,19 @@
+//! The records of miniSEED: a record's bytes to its row of samples, and a row to its record.
+#![tactic(auto)]
+
+mod area;
+mod fault;
+mod laws;
+mod reading;
+mod row;
+#[cfg(test)]
+mod tests;
+mod writing;
+mod written_area;
+
+pub use fault::FaultKind;
+pub use laws::{one_answer, one_written, own_bytes_decide, rows_are_writable};
+pub use msr_words::{Kind, Length};
+pub use reading::decode_record;
+pub use row::{Key, Record, Row};
+pub use writing::encode_record;

@@ -1,0 +1,139 @@
+//! Writing a record.
+ghost use Rattle.std.specs.Prelude.{◌≡◌, ◌≢◌, pos, ◌+◌, ◌-◌, ◌*◌, ◌/◌, ◌%◌, ◌^◌, ◌<◌, ◌≤◌, ◌++◌, IsTrue, OnOk, OnErr, false, length};
+ghost use Rattle.msr_time.specs.Instant.{IsInstant};
+ghost use Rattle.msr_header.specs.Reading.{is_quality};
+ghost use Rattle.msr_words.specs.Fit.{Fits};
+ghost use Rattle.msr_words.specs.Lengths.{bytes_of};
+ghost use Rattle.msr_words.specs.Segment.{points};
+ghost use Rattle.msr_record.specs.Correction.{is_pending};
+ghost use Rattle.msr_record.specs.Written.{sequence_digits, header_for, AppendsRecord};
+
+use crate::row::Key;
+use crate::written_area::written_area;
+use msr_header::{Header, Order, Timing, write_header};
+use msr_time::{BTime, split};
+use msr_words::{Kind, Length};
+use std::alloc::{AllocError, Global};
+
+/// The digit of a number at a power of ten.
+fn digit_at(number: u32, unit: u32) -> u8
+    requires { 1 ≤ unit }
+    ensures { result ≡ 48 + number / unit % 10 }
+{
+    b'0' + (number / unit % 10) as u8
+}
+
+/// The six digits of a sequence number.
+fn sequence_digits(sequence: u32) -> [u8; 6]
+    ensures { result ≡ sequence_digits sequence }
+{
+    [
+        digit_at(sequence, 100_000),
+        digit_at(sequence, 10_000),
+        digit_at(sequence, 1000),
+        digit_at(sequence, 100),
+        digit_at(sequence, 10),
+        digit_at(sequence, 1),
+    ]
+}
+
+/// The header of a written record.
+fn header_for(
+    key: &Key,
+    time: BTime,
+    micros: u8,
+    sequence: u32,
+    count: u16,
+    kind: Kind,
+    exponent: u8,
+    frames: u8,
+) -> Header
+    requires { micros < 100 }
+    ensures header { result ≡ header_for key.now time micros sequence count kind exponent frames }
+    ensures rate { (key.now.rate.factor ≢ pos 0) × (key.now.rate.multiplier ≢ pos 0) }
+{
+    Header {
+        order: Order::Big,
+        sequence: sequence_digits(sequence),
+        quality: key.quality,
+        station: key.station,
+        location: key.location,
+        channel: key.channel,
+        network: key.network,
+        time,
+        samples: count,
+        factor: key.rate.factor(),
+        multiplier: key.rate.multiplier(),
+        activity: key.activity,
+        clock: key.clock,
+        data_quality: key.data_quality,
+        correction: key.correction,
+        data_at: 64,
+        encoding: kind.code(),
+        data_order: Order::Big,
+        exponent,
+        timing: Some(Timing {
+            quality: key.timing,
+            micros: micros as i8,
+            frames,
+        }),
+        chain_end: 64,
+    }
+}
+
+/// Appends two parts, or nothing.
+fn append(out: &mut Vec<u8>, front: &[u8], area: &[u8]) -> Result<(), AllocError>
+    ensures appended { OnOk result (out.new.items ≡ out.old.items ++ (front.now ++ area.now)) }
+    ensures unchanged { OnErr result (out.new.items ≡ out.old.items) }
+{
+    let before = out.len();
+    out.extend_from_slice(front)?;
+    let appended = out.extend_from_slice(area);
+    if appended.is_err() {
+        out.truncate(before);
+    }
+    appended
+}
+
+/// Appends one record of that length with the samples of the run, which fit it: the row of the new
+/// bytes, whatever follows them, is the one that is asked for.
+///
+/// `start` is the instant of the first sample in microseconds from 1970-01-01 00:00:00, `before` is
+/// the sample before the run, or none at the start of a segment. The layout is that of SEED 2.4, with
+/// big-endian numbers, blockettes 1000 and 1001 and the data from byte 64 on.
+pub fn encode_record(
+    alloc: Global,
+    key: &Key,
+    start: i64,
+    sequence: u32,
+    before: Option<i32>,
+    run: &[i32],
+    kind: Kind,
+    record_length: Length,
+    out: &mut Vec<u8>,
+) -> Result<(), AllocError>
+    requires quality { IsTrue (is_quality key.now.quality) }
+    requires normal { is_pending key.now.activity key.now.correction ≡ false }
+    requires start { IsInstant start }
+    requires sequence { (1 ≤ sequence) × (sequence ≤ 999999) }
+    requires some { 1 ≤ length run.now }
+    requires fits { Fits kind (bytes_of record_length) (points before run.now) }
+    ensures appended { OnOk result (AppendsRecord out.old.items out.new.items key.now start sequence before run.now kind (bytes_of record_length)) }
+    ensures unchanged { OnErr result (out.new.items ≡ out.old.items) }
+{
+    let (time, micros) = split(start).unwrap();
+    let area = written_area(alloc, before, run, kind, record_length)?;
+    let count = run.len() as u16;
+    let exponent = record_length.exponent();
+    let header = header_for(
+        key,
+        time,
+        micros,
+        sequence,
+        count,
+        kind,
+        exponent,
+        area.frames,
+    );
+    append(out, &write_header(&header), &area.bytes)
+}

@@ -1,0 +1,4 @@
+pub mod Spans
+pub mod Segments
+pub mod Joining
+pub mod Cuts

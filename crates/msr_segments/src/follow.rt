@@ -1,0 +1,96 @@
+use crate::span::Span;
+use msr_record::Key;
+use std::marker::Model;
+
+/// What a row does: it begins a segment, or joins the one that was begun last.
+#[derive(Clone, Copy, Debug, PartialEq, Eq)]
+pub enum Step {
+    Begins,
+    Joins,
+}
+
+/// The row joins, and its last sample, counted from the segment's start, is outside the years 1900
+/// to 2100.
+#[derive(Clone, Copy, Debug, PartialEq, Eq)]
+pub struct OutOfRange;
+
+/// Says of each row in turn whether it begins a segment. It keeps no samples and takes no memory.
+#[derive(Clone, Copy, Debug)]
+pub struct Follow {
+    tolerance: u32,
+    current: Option<Span>,
+}
+
+impl Model for Follow {
+    ghost use Rattle.msr_segments.specs.Spans.{Following, IsInBounds};
+
+    ghost Value = { Following };
+
+    ghost view = { λ f. record { tolerance = f.tolerance; current = f.current } };
+
+    ghost inverse = { λ f. record { tolerance = f.tolerance; current = f.current } };
+
+    ghost invariant = { λ f. IsInBounds f.current };
+}
+
+impl Follow {
+    ghost use Rattle.std.specs.Prelude.{◌≡◌, ◌↔◌, ◌≤◌, List, [], ◌∷◌, ◌++◌, IsErr, IfOk, OnErr, None};
+    ghost use Rattle.msr_time.specs.Instant.{IsInstant};
+    ghost use Rattle.msr_record.specs.declared.row.Row.{Row};
+    ghost use Rattle.msr_segments.specs.declared.follow.Step.{Step as Answer};
+    ghost use Rattle.msr_segments.specs.Spans.{Overruns, IsStep, span_of};
+    ghost use Rattle.msr_segments.specs.Segments.{row_span};
+    ghost use Rattle.msr_segments.specs.Joining.{HasFollowed};
+
+    /// A follower that was given no row, for that tolerance in microseconds.
+    pub fn new(tolerance: u32) -> Follow
+        requires { (1 ≤ tolerance) × (tolerance ≤ 1_000_000) }
+        ensures value { result ≡ record { tolerance = tolerance; current = None } }
+        ensures history { HasFollowed result [] [] }
+    {
+        Follow {
+            tolerance,
+            current: None,
+        }
+    }
+
+    /// Where the segment lies that was begun last.
+    pub(crate) fn current(&self) -> Option<Span>
+        ensures { result ≡ self.now.current }
+    {
+        self.current
+    }
+
+    /// Says of the next row, which begins at that instant and has that many samples, whether it
+    /// begins a segment.
+    pub fn step(&mut self, key: &Key, start: i64, count: u16) -> Result<Step, OutOfRange>
+        requires count { 1 ≤ count }
+        requires start { IsInstant start }
+        ensures out_of_range { IsErr result ↔ Overruns self.old (span_of key.now start count) }
+        ensures step { IfOk result (λ answer. IsStep self.old (span_of key.now start count) answer self.new) }
+        ensures unchanged { OnErr result (self.new ≡ self.old) }
+
+        // The answers so far say which rows begin the segments of all rows so far.
+        ensures history { (rows : List Row) (answers : List Answer) (row : Row)
+            → row_span row ≡ span_of key.now start count
+            → HasFollowed self.old rows answers
+            → IfOk result (λ answer. HasFollowed self.new (rows ++ row ∷ []) (answers ++ answer ∷ [])) }
+    {
+        let row = Span {
+            key: *key,
+            start,
+            count: count as u64,
+        };
+        let current = self.current;
+        match current {
+            Some(segment) if segment.is_continued_by(&row, self.tolerance) => {
+                self.current = Some(segment.longer_by(&row).ok_or(OutOfRange)?);
+                Ok(Step::Joins)
+            }
+            _ => {
+                self.current = Some(row);
+                Ok(Step::Begins)
+            }
+        }
+    }
+}

@@ -1,0 +1,11 @@
+pub mod Certificate
+pub mod Choosing
+pub mod Parts
+pub mod Plain
+pub mod Pushes
+pub mod RecordLengths
+pub mod Runs
+pub mod Steim1Counts
+pub mod Steim1Pushes
+pub mod Steim2Groups
+pub mod Steim2Pushes

@@ -1,0 +1,157 @@
+-- The samples of a run, one more at the end, and a run that is cut.
+use Rattle.std.specs.Prelude.{◌≡◌, ℕ, zero, suc, ◌+◌, ◌-◌, ◌<◌, ◌≤◌, ℤ, pos, ◌-ℤ◌, List, [], ◌∷◌, ◌++◌, length, take, drop, Some, None, slice_range, slice_index_or, get_or, map, Option, ◌*◌, ◌↔◌, All}
+use Rattle.std.proofs.Common.{refl, arith, sym, ◌∙◌, ap, subst}
+use Rattle.std.proofs.lemmas.List.{take-append-drop, take-take, drop-take, drop-drop, take_more, get_or-drop, length-take, length-drop, take_all, drop_at, length-map}
+use Rattle.msr_words.specs.Segment.{points, points_after, run_points, difference_at, difference_from}
+use Rattle.msr_steim.specs.Word.{FitsBits}
+use Rattle.msr_words.specs.Fit.{IsRun, FitsInt16, FitsInt32}
+use Rattle.std.proofs.lemmas.List.Elements.{All-map}
+use Rattle.msr_words.specs.Laws.{PrefixLaw, BackStepLaw}
+
+pub length_points_after : (before : ℤ) (samples : List ℤ) → length (points_after before samples) ≡ length samples
+length_points_after before [] = refl
+length_points_after before (x ∷ xs) = ap suc (length_points_after x xs)
+
+pub length_points : (samples : List ℤ) → length (points None samples) ≡ length samples
+length_points [] = refl
+length_points (x ∷ xs) = ap suc (length_points_after x xs)
+
+pub length_points_before : (before : Option ℤ) (samples : List ℤ) → length (points before samples) ≡ length samples
+length_points_before None samples = length_points samples
+length_points_before (Some before) samples = length_points_after before samples
+
+points_after_at : (before : ℤ) (samples : List ℤ) (i : ℕ) (d : ℤ × ℤ) → i < length samples →
+    get_or (points_after before samples) i d ≡ (get_or samples i (pos 0), get_or samples i (pos 0) -ℤ get_or (before ∷ samples) i (pos 0))
+points_after_at before [] i d h = absurd (omega arith)
+points_after_at before (x ∷ xs) zero d h = refl
+points_after_at before (x ∷ xs) (suc i) d h = points_after_at x xs i d (omega arith)
+
+pub points_at : (samples : List ℤ) (i : ℕ) (d : ℤ × ℤ) → i < length samples →
+    get_or (points None samples) i d ≡ (get_or samples i (pos 0), difference_at samples i)
+points_at [] i d h = absurd (omega arith)
+points_at (x ∷ xs) zero d h = refl
+points_at (x ∷ xs) (suc i) d h = points_after_at x xs i d (omega arith)
+
+take_add : {X : Type 0} (m n : ℕ) (xs : List X) → take m xs ++ take n (drop m xs) ≡ take (m + n) xs
+take_add m n xs = let le : m ≤ m + n = omega arith in rw (← take-take m (m + n) xs le, ← drop-take m n xs) (take-append-drop m (take (m + n) xs))
+
+-- a run that is cut at c
+pub run_points_cut : (samples : List ℤ) (a c b : ℕ) → a ≤ c → c ≤ b → run_points samples a c ++ run_points samples c b ≡ run_points samples a b
+run_points_cut samples a c b h k =
+    let seam : drop c (points None samples) ≡ drop (c - a) (drop a (points None samples)) =
+    sym (drop-drop (c - a) a (points None samples) ∙ ap (λ n. drop n (points None samples)) (omega arith)) in
+    let width : b - a ≡ (c - a) + (b - c) = omega arith in
+    rw (seam, width) (take_add (c - a) (b - c) (drop a (points None samples)))
+
+pub run_points_none : (samples : List ℤ) (a : ℕ) → run_points samples a a ≡ []
+run_points_none samples a = let e : a - a ≡ 0 = omega arith in rw e refl
+
+pub run_points_more : (samples : List ℤ) (a i : ℕ) → a ≤ i → i < length samples →
+    run_points samples a (i + 1) ≡ run_points samples a i ++ (slice_index_or samples i (pos 0), difference_at samples i) ∷ []
+run_points_more samples a i h k =
+    let width : i + 1 - a ≡ (i - a) + 1 = omega arith in
+    let d : ℤ × ℤ = (pos 0, pos 0) in
+    let there : i - a < length (drop a (points None samples)) = simp (length-drop, length_points) (omega arith) in
+    let last : get_or (drop a (points None samples)) (i - a) d ≡ (get_or samples i (pos 0), difference_at samples i) =
+    get_or-drop a (points None samples) (i - a) d ∙ ap (λ n. get_or (points None samples) n d) (omega arith) ∙ points_at samples i d k in
+    rw width (take_more (drop a (points None samples)) (i - a) d there ∙ ap (λ p. run_points samples a i ++ p ∷ []) last)
+
+pub length_run_points : (samples : List ℤ) (a b : ℕ) → a ≤ b → b ≤ length samples → length (run_points samples a b) ≡ b - a
+length_run_points samples a b h k = simp (length-take, length-drop, length_points) (omega arith)
+
+run_points_drop : (samples : List ℤ) (a n g : ℕ) → a + n ≤ g → g ≤ length samples → drop n (run_points samples a g) ≡ run_points samples (a + n) g
+run_points_drop samples a n g h k =
+    let front : length (run_points samples a (a + n)) ≡ n = length_run_points samples a (a + n) (omega arith) (omega arith) ∙ omega arith in
+    rw (← run_points_cut samples a (a + n) g (omega arith) h) (drop_at (run_points samples a (a + n)) (run_points samples (a + n) g) n front)
+
+-- the two laws, for the runs of a segment
+pub prefix_run : (fits : List (ℤ × ℤ) → Type 0) → PrefixLaw fits → (samples : List ℤ) (a c b : ℕ) → a ≤ c → c ≤ b → IsRun fits samples a b → IsRun fits samples a c
+prefix_run fits law samples a c b h k run =
+    (h, omega arith, law (run_points samples a c) (run_points samples c b) (subst fits (sym (run_points_cut samples a c b h k)) run.2))
+
+pub back_step_run : (fits : List (ℤ × ℤ) → Type 0) (places : ℕ) → BackStepLaw places fits → (samples : List ℤ) (a g b : ℕ) → a ≤ g → g ≤ b → IsRun fits samples a b →
+    (s : ℕ) × (a ≤ s) × (s ≤ g) × (g ≤ s + places) × IsRun fits samples s b
+back_step_run fits places law samples a g b h k run =
+    let step = law (run_points samples a g) (run_points samples g b) (subst fits (sym (run_points_cut samples a g b h k)) run.2) in
+    let wide : length (run_points samples a g) ≡ g - a = length_run_points samples a g h (omega arith) in
+    let joined : drop step.0 (run_points samples a g) ++ run_points samples g b ≡ run_points samples (a + step.0) b =
+    ap (λ p. p ++ run_points samples g b) (run_points_drop samples a step.0 g (omega arith) (omega arith)) ∙ run_points_cut samples (a + step.0) g b (omega arith) k in
+    (a + step.0, omega arith, omega arith, omega arith, (omega arith, run.1, subst fits joined step.3))
+
+-- the samples of a run with the sample before it have the differences that they have in the segment
+points_after_drop : (before : ℤ) (samples : List ℤ) (a : ℕ) → drop a (points_after before samples) ≡ points_after (get_or (before ∷ samples) a (pos 0)) (drop a samples)
+points_after_drop before samples zero = refl
+points_after_drop before [] (suc a) = refl
+points_after_drop before (x ∷ xs) (suc a) = points_after_drop x xs a
+
+points_after_take : (before : ℤ) (samples : List ℤ) (n : ℕ) → take n (points_after before samples) ≡ points_after before (take n samples)
+points_after_take before samples zero = refl
+points_after_take before [] (suc n) = refl
+points_after_take before (x ∷ xs) (suc n) = ap (λ r. (x, x -ℤ before) ∷ r) (points_after_take x xs n)
+
+points_drop : (samples : List ℤ) (a : ℕ) → drop (suc a) (points None samples) ≡ points_after (get_or samples a (pos 0)) (drop (suc a) samples)
+points_drop [] a = refl
+points_drop (x ∷ xs) a = points_after_drop x xs a
+
+points_take : (samples : List ℤ) (b : ℕ) → take b (points None samples) ≡ points None (take b samples)
+points_take samples zero = refl
+points_take [] (suc b) = refl
+points_take (x ∷ xs) (suc b) = ap (λ r. (x, pos 0) ∷ r) (points_after_take x xs b)
+
+pub run_from_start : (samples : List ℤ) (b : ℕ) → points None (take b samples) ≡ run_points samples 0 b
+run_from_start samples b = let e : b - 0 ≡ b = omega arith in rw e (sym (points_take samples b))
+
+pub run_from : (samples : List ℤ) (a b : ℕ) → 0 < a → points (Some (slice_index_or samples (a - 1) (pos 0))) (slice_range samples a b) ≡ run_points samples a b
+run_from samples zero b h = absurd (omega arith)
+run_from samples (suc a) b h =
+    let e : suc a - 1 ≡ a = omega arith in
+    rw (points_drop samples a, points_after_take (get_or samples a (pos 0)) (drop (suc a) samples) (b - suc a), e) refl
+
+-- the samples of the points
+pub samples_of_points : (before : Option ℤ) (samples : List ℤ) → map (λ p. p.0) (points before samples) ≡ samples
+samples_of_points None [] = refl
+samples_of_points None (x ∷ xs) = ap (λ r. x ∷ r) (after x xs)
+  where
+    after : (before : ℤ) (samples : List ℤ) → map (λ (p : ℤ × ℤ). p.0) (points_after before samples) ≡ samples
+    after before [] = refl
+    after before (x ∷ xs) = ap (λ r. x ∷ r) (after x xs)
+samples_of_points (Some before) [] = refl
+samples_of_points (Some before) (x ∷ xs) = ap (λ r. x ∷ r) (samples_of_points (Some x) xs)
+
+get_or_first : (run : List (ℤ × ℤ)) (k : ℕ) (d : ℤ × ℤ) → get_or (map (λ p. p.0) run) k d.0 ≡ (get_or run k d).0
+get_or_first [] k d = refl
+get_or_first (p ∷ run) zero d = refl
+get_or_first (p ∷ run) (suc k) d = get_or_first run k d
+
+all_unmap : (run : List (ℤ × ℤ)) → All (FitsBits 16) (map (λ p. p.0) run) → All (λ p. FitsBits 16 p.0) run
+all_unmap run h k d in' =
+    let e : get_or (map (λ (p : ℤ × ℤ). p.0) run) k d.0 ≡ (get_or run k d).0 = get_or_first run k d in
+    subst (FitsBits 16) e (h k d.0 (rw length-map in'))
+
+-- so it depends on the samples alone whether 16-bit or 32-bit integers fit
+pub fits_int16_points : (bytes : ℕ) (before : Option ℤ) (run : List ℤ) → (All (FitsBits 16) run × (2 * length run + 64 ≤ bytes)) ↔ FitsInt16 bytes (points before run)
+fits_int16_points bytes before run =
+    let long = length_points_before before run in (
+      λ h. (all_unmap (points before run) (subst (All (FitsBits 16)) (sym (samples_of_points before run)) h.0), omega (arith, h.1)),
+      λ h. (subst (All (FitsBits 16)) (samples_of_points before run) (All-map (FitsBits 16) (λ (p : ℤ × ℤ). p.0) (points before run) h.0), omega (arith, h.1)),
+    )
+
+pub fits_int32_points : (bytes : ℕ) (before : Option ℤ) (run : List ℤ) → (4 * length run + 64 ≤ bytes) ↔ FitsInt32 bytes (points before run)
+fits_int32_points bytes before run = let long = length_points_before before run in (λ h. omega arith, λ h. omega arith)
+
+pub points_from_at : (before : Option ℤ) (samples : List ℤ) (i : ℕ) (d : ℤ × ℤ) → i < length samples →
+    get_or (points before samples) i d ≡ (get_or samples i (pos 0), difference_from before samples i)
+points_from_at None samples i d h = points_at samples i d h
+points_from_at (Some before) samples zero d h = points_after_at before samples zero d h
+points_from_at (Some before) samples (suc i) d h = points_after_at before samples (suc i) d h
+
+-- the points of a run up to one sample more
+pub points_more : (before : Option ℤ) (samples : List ℤ) (i : ℕ) → i < length samples →
+    take (i + 1) (points before samples) ≡ take i (points before samples) ++ (slice_index_or samples i (pos 0), difference_from before samples i) ∷ []
+points_more before samples i h =
+    let d : ℤ × ℤ = (pos 0, pos 0) in
+    let there : i < length (points before samples) = rw (length_points_before before samples) h in
+    take_more (points before samples) i d there ∙ ap (λ p. take i (points before samples) ++ p ∷ []) (points_from_at before samples i d h)
+
+pub points_all : (before : Option ℤ) (samples : List ℤ) (i : ℕ) → length samples ≤ i → take i (points before samples) ≡ points before samples
+points_all before samples i h = take_all i (points before samples) (rw (length_points_before before samples) h)

@@ -1,0 +1,55 @@
+-- Which runs fit a record of a kind (SEED 2.4, blockette 1000: encodings 1, 3, 10 and 11; appendix B).
+use Rattle.std.specs.Prelude.{ℕ, ◌+◌, ◌*◌, ◌<◌, ◌≤◌, ℤ, List, length, map, All}
+use Rattle.msr_steim.specs.declared.word.Version.{Version}
+use Rattle.msr_steim.specs.declared.word.Version.TheVariants.{One, Two}
+use Rattle.msr_steim.specs.Word.{FitsBits}
+use Rattle.msr_words.specs.declared.kinds.Kind.{Kind}
+use Rattle.msr_words.specs.declared.kinds.Kind.TheVariants.{Int16, Int32, Steim1, Steim2}
+use Rattle.msr_words.specs.Division.{CanDivide}
+use Rattle.msr_words.specs.RecordLength.{words_of}
+use Rattle.msr_words.specs.Segment.{run_points}
+
+-- 16-bit integers (encoding 1): two bytes a sample, behind the 64 bytes of the header
+abbrev pub FitsInt16 : ℕ → List (ℤ × ℤ) → Type 0
+FitsInt16 bytes run = All (λ p. FitsBits 16 p.0) run × (2 * length run + 64 ≤ bytes)
+
+-- 32-bit integers (encoding 3): four bytes a sample
+abbrev pub FitsInt32 : ℕ → List (ℤ × ℤ) → Type 0
+FitsInt32 bytes run = 4 * length run + 64 ≤ bytes
+
+-- Steim-1 and Steim-2 (encodings 10 and 11): a group of differences in each data word
+abbrev pub FitsSteim : Version → ℕ → List (ℤ × ℤ) → Type 0
+FitsSteim version bytes run = CanDivide version (words_of bytes) (map (λ p. p.1) run)
+
+-- the run fits a record of that many bytes and that kind
+abbrev pub Fits : Kind → ℕ → List (ℤ × ℤ) → Type 0
+Fits Int16 bytes run = FitsInt16 bytes run
+Fits Int32 bytes run = FitsInt32 bytes run
+Fits Steim1 bytes run = FitsSteim One bytes run
+Fits Steim2 bytes run = FitsSteim Two bytes run
+
+-- it fits a record of some kind
+abbrev pub FitsAny : ℕ → List (ℤ × ℤ) → Type 0
+FitsAny bytes run = (kind : Kind) × Fits kind bytes run
+
+-- the samples a to b-1 of a segment are a run that fits
+abbrev pub IsRun : (List (ℤ × ℤ) → Type 0) → List ℤ → ℕ → ℕ → Type 0
+IsRun fits samples a b = (a ≤ b) × (b ≤ length samples) × fits (run_points samples a b)
+
+-- the place of a kind in the order in which kinds are tried
+abbrev pub rank : Kind → ℕ
+rank Steim2 = 0
+rank Steim1 = 1
+rank Int16 = 2
+rank Int32 = 3
+
+-- of the kinds that the run fits, the one that is tried first
+abbrev pub IsFirstKind : ℕ → List (ℤ × ℤ) → Kind → Type 0
+IsFirstKind bytes run kind = Fits kind bytes run × ((other : Kind) → rank other < rank kind → Fits other bytes run → ⊥)
+
+-- the number of its encoding
+abbrev pub code_of : Kind → ℕ
+code_of Int16 = 1
+code_of Int32 = 3
+code_of Steim1 = 10
+code_of Steim2 = 11

@@ -1,0 +1,20 @@
+-- How many differences share one Steim-2 word (SEED 2.4, appendix B).
+use Rattle.std.specs.Prelude.{◌≡◌, ℕ, ◌+◌, ◌<◌, ◌≤◌, ◌↔◌, ℤ, List, length, take, Some}
+use Rattle.msr_steim.specs.declared.word.Version.TheVariants.{Two}
+use Rattle.msr_steim.specs.Word.{FitsBits, IsGroup, group_width}
+
+-- of differences that are each of the size of this one, so many have room in one Steim-2 word
+pub record IsCapacity (d : ℤ) (capacity : ℕ) : Type 0 where
+  pub most : capacity ≤ 7
+  pub exact : (n width : ℕ) → group_width Two n ≡ Some width → (FitsBits width d ↔ n ≤ capacity)
+
+-- as many of the differences, from the first on, as stand together in one Steim-2 word
+pub record IsLongestGroup (ds : List ℤ) (count : ℕ) : Type 0 where
+  pub within : count ≤ length ds
+  pub group : 0 < count → IsGroup Two (take count ds)
+  pub no_more : count < length ds → IsGroup Two (take (count + 1) ds) → ⊥
+
+-- r is 1 where the size is below the limit, else 0
+pub record IsOneBelow (size limit r : ℕ) : Type 0 where
+  pub most : r ≤ 1
+  pub below : 1 ≤ r ↔ size < limit

@@ -1,0 +1,50 @@
+-- The laws of a tracker. They hold for lists of any whole numbers.
+use Rattle.std.specs.Prelude.{ℕ, ◌+◌, ◌-◌, ◌*◌, ◌/◌, ◌≤◌, max, ℤ, List, [], ◌++◌, length, drop}
+use Rattle.msr_words.specs.declared.kinds.Kind.{Kind}
+use Rattle.msr_words.specs.declared.kinds.Kind.TheVariants.{Int16, Int32, Steim1, Steim2}
+use Rattle.msr_words.specs.RecordLength.{words_of}
+
+-- what a run begins with fits where the run does
+abbrev pub PrefixLaw : (List (ℤ × ℤ) → Type 0) → Type 0
+PrefixLaw fits = (front back : List (ℤ × ℤ)) → fits (front ++ back) → fits front
+
+-- where a run is cut, the part behind the cut fits with at most so many of the samples before it
+abbrev pub BackStepLaw : ℕ → (List (ℤ × ℤ) → Type 0) → Type 0
+BackStepLaw places fits =
+    (front back : List (ℤ × ℤ)) → fits (front ++ back) →
+    (k : ℕ) × (k ≤ length front) × (length front ≤ k + places) × fits (drop k front ++ back)
+
+-- where a run is cut, the part behind the cut fits by itself
+abbrev pub SuffixLaw : (List (ℤ × ℤ) → Type 0) → Type 0
+SuffixLaw fits = (front back : List (ℤ × ℤ)) → fits (front ++ back) → fits back
+
+-- no run that fits has more samples
+abbrev pub SizeLaw : ℕ → (List (ℤ × ℤ) → Type 0) → Type 0
+SizeLaw most fits = (run : List (ℤ × ℤ)) → fits run → length run ≤ most
+
+-- where there is room for a header, no samples fit
+abbrev pub EmptyLaw : (ℕ → List (ℤ × ℤ) → Type 0) → Type 0
+EmptyLaw fits = (bytes : ℕ) → 64 ≤ bytes → fits bytes []
+
+-- a few samples fit
+abbrev pub FitsShort : (List (ℤ × ℤ) → Type 0) → Type 0
+FitsShort fits = (run : List (ℤ × ℤ)) → length run ≤ 4 → fits run
+
+-- how many of the samples before a cut a run of each kind may need: a Steim-1 group of four that is cut
+-- behind its first leaves three, which no group may follow
+abbrev pub look_back_of : Kind → ℕ
+look_back_of Int16 = 0
+look_back_of Int32 = 0
+look_back_of Steim1 = 1
+look_back_of Steim2 = 0
+
+-- how many samples a record of each kind has at most: two bytes each, four, a quarter of a word, a seventh
+abbrev pub most_of : Kind → ℕ → ℕ
+most_of Int16 bytes = (bytes - 64) / 2
+most_of Int32 bytes = (bytes - 64) / 4
+most_of Steim1 bytes = 4 * words_of bytes
+most_of Steim2 bytes = 7 * words_of bytes
+
+-- as many as a record of some kind has at most
+abbrev pub most_any : ℕ → ℕ
+most_any bytes = max (max (most_of Steim2 bytes) (most_of Steim1 bytes)) (max (most_of Int16 bytes) (most_of Int32 bytes))

@@ -1,0 +1,176 @@
+-- The laws of each kind: what a run begins with fits, and a part behind a cut fits with a few of the samples before it.
+use Rattle.std.specs.Prelude.{◌≡◌, ℕ, ◌+◌, ◌*◌, ◌≤◌, ◌⊎◌, ℤ, List, [], ◌∷◌, ◌++◌, length, drop, map, All}
+use Rattle.std.proofs.Common.{arith, length-append, subst, refl, sym, ap, ◌∙◌, inl, inr}
+use Rattle.std.proofs.lemmas.List.{take_at, drop_at, drop_all, map-append, length-map, drop-map}
+use Rattle.std.proofs.lemmas.List.Elements.{All-nil, All-take, All-drop}
+use Rattle.msr_words.specs.declared.kinds.Kind.{Kind}
+use Rattle.msr_words.specs.declared.kinds.Kind.TheVariants.{Int16, Int32, Steim1, Steim2}
+use Rattle.msr_steim.specs.declared.word.Version.{Version}
+use Rattle.msr_steim.specs.declared.word.Version.TheVariants.{One, Two}
+use Rattle.msr_steim.specs.Word.{FitsBits}
+use Rattle.msr_words.specs.Division.{CanDivide}
+use Rattle.msr_words.specs.Laws.{PrefixLaw, BackStepLaw, SuffixLaw, SizeLaw, EmptyLaw, FitsShort, look_back_of, most_of, most_any}
+use Rattle.msr_words.specs.Lemmas.SteimLaws.{places_of, largest_of, prefix_law, back_step_law, size_law, none_divides}
+use Rattle.msr_words.specs.Fit.{FitsInt16, FitsInt32, FitsSteim, Fits, FitsAny}
+use Rattle.msr_words.specs.RecordLength.{words_of}
+
+-- where each part behind a cut fits by itself, none of the samples before it is needed; and the other way round
+pub back_step_by_suffix : (fits : List (ℤ × ℤ) → Type 0) → SuffixLaw fits → BackStepLaw 0 fits
+back_step_by_suffix fits suffix front back h =
+    let none : drop (length front) front ≡ [] = drop_all (length front) front (omega arith) in
+    (length front, omega arith, omega arith, rw none (suffix front back h))
+
+pub suffix_by_back_step : (fits : List (ℤ × ℤ) → Type 0) → BackStepLaw 0 fits → SuffixLaw fits
+suffix_by_back_step fits law front back h =
+    let r = law front back h in
+    let high = r.2 in
+    subst (λ part. fits (part ++ back)) (drop_all r.0 front (omega arith)) r.3
+
+-- a look-back of more places serves too
+pub back_step_more : (fits : List (ℤ × ℤ) → Type 0) (places more : ℕ) → places ≤ more → BackStepLaw places fits → BackStepLaw more fits
+back_step_more fits places more le law front back h =
+    let r = law front back h in
+    let high = r.2 in
+    (r.0, r.1, omega arith, r.3)
+
+pub prefix_int32 : (bytes : ℕ) → PrefixLaw (FitsInt32 bytes)
+prefix_int32 bytes front back h = omega (arith, length-append front back)
+
+pub back_step_int32 : (bytes : ℕ) → BackStepLaw 0 (FitsInt32 bytes)
+back_step_int32 bytes = back_step_by_suffix (FitsInt32 bytes) (λ front back h. omega (arith, length-append front back))
+
+pub prefix_int16 : (bytes : ℕ) → PrefixLaw (FitsInt16 bytes)
+prefix_int16 bytes front back h = (
+  subst (All (λ p. FitsBits 16 p.0)) (take_at front back (length front) refl) (All-take (λ p. FitsBits 16 p.0) (length front) (front ++ back) h.0),
+  omega (arith, length-append front back),
+)
+
+pub back_step_int16 : (bytes : ℕ) → BackStepLaw 0 (FitsInt16 bytes)
+back_step_int16 bytes = back_step_by_suffix (FitsInt16 bytes) (λ front back h. (
+  subst (All (λ p. FitsBits 16 p.0)) (drop_at front back (length front) refl) (All-drop (λ p. FitsBits 16 p.0) (length front) (front ++ back) h.0),
+  omega (arith, length-append front back),
+))
+
+-- a list is empty or has a last member
+abbrev pub LastOf : List ℤ → Type 0
+LastOf xs = (xs ≡ []) ⊎ ((ys : List ℤ) × (y : ℤ) × (xs ≡ ys ++ y ∷ []))
+
+pub last_of : (xs : List ℤ) → LastOf xs
+last_of [] = inl refl
+last_of (x ∷ xs) = elim (last_of xs) [
+  | inl e ↦ inr ([], x, ap (λ r. x ∷ r) e)
+  | inr e ↦ inr (x ∷ e.0, e.1, ap (λ r. x ∷ r) e.2)
+]
+
+pub front_divides : (version : Version) (n : ℕ) (front back : List ℤ) → CanDivide version n (front ++ back) → CanDivide version n front
+front_divides version n front back can = elim (last_of front) [
+  | inl e ↦ subst (CanDivide version n) (sym e) (none_divides version n)
+  | inr e ↦ subst (CanDivide version n) (sym e.2) (prefix_law version n e.0 back e.1 (subst (λ f. CanDivide version n (f ++ back)) e.2 can))
+]
+
+-- the two laws of divisions, by how many differences stay behind
+BackPart : Version → ℕ → List ℤ → List ℤ → Type 0
+BackPart version n front back = (k : ℕ) × (k ≤ length front) × (length front ≤ k + places_of version) × CanDivide version n (drop k front ++ back)
+
+back_part : (version : Version) (n : ℕ) (front back : List ℤ) → CanDivide version n (front ++ back) → BackPart version n front back
+unfolding BackPart
+back_part version n front [] can =
+    let none : drop (length front) front ≡ [] = drop_all (length front) front (omega arith) in
+    (length front, omega arith, omega arith, subst (λ r. CanDivide version n (r ++ [])) (sym none) (none_divides version n))
+back_part version n front (x ∷ xs) can =
+    let step = back_step_law version n front (x ∷ xs) can (omega arith) in
+    let long : length front ≡ length step.before + length step.near = ap length step.join ∙ length-append step.before step.near in
+    let near : drop (length step.before) front ≡ step.near = ap (drop (length step.before)) step.join ∙ drop_at step.before step.near (length step.before) refl in
+    let few = step.few in
+    (length step.before, omega arith, omega arith, subst (λ r. CanDivide version n (r ++ x ∷ xs)) (sym near) step.can)
+
+pub prefix_steim : (version : Version) (bytes : ℕ) → PrefixLaw (FitsSteim version bytes)
+prefix_steim version bytes front back h =
+    front_divides version (words_of bytes) (map (λ p. p.1) front) (map (λ p. p.1) back)
+    (subst (CanDivide version (words_of bytes)) (map-append (λ (p : ℤ × ℤ). p.1) front back) h)
+
+pub back_step_steim : (version : Version) (bytes : ℕ) → BackStepLaw (places_of version) (FitsSteim version bytes)
+unfolding BackPart
+back_step_steim version bytes front back h =
+    let r = back_part version (words_of bytes) (map (λ p. p.1) front) (map (λ p. p.1) back)
+    (subst (CanDivide version (words_of bytes)) (map-append (λ (p : ℤ × ℤ). p.1) front back) h) in
+    let long = length-map front (λ (p : ℤ × ℤ). p.1) in
+    let same : drop r.0 (map (λ p. p.1) front) ++ map (λ p. p.1) back ≡ map (λ p. p.1) (drop r.0 front ++ back) =
+    ap (λ l. l ++ map (λ (p : ℤ × ℤ). p.1) back) (drop-map (λ (p : ℤ × ℤ). p.1) r.0 front) ∙ sym (map-append (λ (p : ℤ × ℤ). p.1) (drop r.0 front) back) in
+    let low = r.1 in
+    let high = r.2 in
+    (r.0, omega arith, omega arith, subst (CanDivide version (words_of bytes)) same r.3)
+
+pub size_int16 : (bytes : ℕ) → SizeLaw (most_of Int16 bytes) (FitsInt16 bytes)
+size_int16 bytes run h = omega (arith, h.1)
+
+pub size_int32 : (bytes : ℕ) → SizeLaw (most_of Int32 bytes) (FitsInt32 bytes)
+size_int32 bytes run h = omega (arith, h)
+
+pub size_steim : (version : Version) (bytes : ℕ) → SizeLaw (largest_of version * words_of bytes) (FitsSteim version bytes)
+size_steim version bytes run h =
+    let size = size_law version (words_of bytes) (map (λ p. p.1) run) h in
+    let same = length-map run (λ (p : ℤ × ℤ). p.1) in
+    subst (λ l. l ≤ largest_of version * words_of bytes) same size
+
+pub empty_int16 : EmptyLaw FitsInt16
+empty_int16 bytes h = (All-nil (λ p. FitsBits 16 p.0), omega arith)
+
+pub empty_int32 : EmptyLaw FitsInt32
+empty_int32 bytes h = omega arith
+
+pub empty_steim : (version : Version) → EmptyLaw (FitsSteim version)
+empty_steim version bytes h = none_divides version (words_of bytes)
+
+-- the laws, for each kind
+pub prefix_kind : (kind : Kind) (bytes : ℕ) → PrefixLaw (Fits kind bytes)
+prefix_kind Int16 bytes = prefix_int16 bytes
+prefix_kind Int32 bytes = prefix_int32 bytes
+prefix_kind Steim1 bytes = prefix_steim One bytes
+prefix_kind Steim2 bytes = prefix_steim Two bytes
+
+pub back_step_kind : (kind : Kind) (bytes : ℕ) → BackStepLaw (look_back_of kind) (Fits kind bytes)
+back_step_kind Int16 bytes = back_step_int16 bytes
+back_step_kind Int32 bytes = back_step_int32 bytes
+back_step_kind Steim1 bytes = back_step_steim One bytes
+back_step_kind Steim2 bytes = back_step_steim Two bytes
+
+pub size_kind : (kind : Kind) (bytes : ℕ) → SizeLaw (most_of kind bytes) (Fits kind bytes)
+size_kind Int16 bytes = size_int16 bytes
+size_kind Int32 bytes = size_int32 bytes
+size_kind Steim1 bytes = size_steim One bytes
+size_kind Steim2 bytes = size_steim Two bytes
+
+few_places : (kind : Kind) → look_back_of kind ≤ 1
+few_places Int16 = omega arith
+few_places Int32 = omega arith
+few_places Steim1 = omega arith
+few_places Steim2 = omega arith
+
+-- and so for a record of any kind
+pub prefix_any : (bytes : ℕ) → PrefixLaw (FitsAny bytes)
+prefix_any bytes front back h = (h.0, prefix_kind h.0 bytes front back h.1)
+
+pub back_step_any : (bytes : ℕ) → BackStepLaw 1 (FitsAny bytes)
+back_step_any bytes front back h =
+    let r = back_step_more (Fits h.0 bytes) (look_back_of h.0) 1 (few_places h.0) (back_step_kind h.0 bytes) front back h.1 in
+    (r.0, r.1, r.2, (h.0, r.3))
+
+pub empty_any : EmptyLaw FitsAny
+empty_any bytes h = (Int32, empty_int32 bytes h)
+
+within_any : (kind : Kind) (bytes : ℕ) → most_of kind bytes ≤ most_any bytes
+within_any Int16 bytes = omega arith
+within_any Int32 bytes = omega arith
+within_any Steim1 bytes = omega arith
+within_any Steim2 bytes = omega arith
+
+pub size_any : (bytes : ℕ) → SizeLaw (most_any bytes) (FitsAny bytes)
+size_any bytes run h =
+    let size = size_kind h.0 bytes run h.1 in
+    let more = within_any h.0 bytes in
+    omega arith
+
+-- a few samples fit a record of any length, as 32-bit integers
+pub short_any : (bytes : ℕ) → 256 ≤ bytes → FitsShort (FitsAny bytes)
+short_any bytes h run short = (Int32, omega arith)

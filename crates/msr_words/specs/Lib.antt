@@ -1,0 +1,13 @@
+pub mod Segment
+pub mod RecordLength
+pub mod Lengths
+pub mod Division
+pub mod Fit
+pub mod Laws
+pub mod Packing
+pub mod Canonical
+pub mod Counts
+pub mod AreCounts
+pub mod Groups
+pub mod Trackers
+pub mod Lemmas

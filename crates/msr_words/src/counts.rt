@@ -1,0 +1,156 @@
+//! How many differences share a word, and the least number of Steim-1 groups, as differences come.
+
+ghost use Rattle.std.specs.Prelude.{◌≡◌, ◌<◌, ◌≤◌, ◌↔◌, ◌∷◌, [], ℕ, ℤ, List, ◌+◌, ◌-◌, ◌^◌, IsTrue, true, length};
+ghost use Rattle.msr_steim.specs.declared.word.Version.TheVariants.{One};
+ghost use Rattle.msr_steim.specs.Word.{FitsBits};
+ghost use Rattle.msr_words.specs.Counts.{EndsIn, IsStretch};
+ghost use Rattle.msr_words.specs.Groups.{IsCapacity, IsOneBelow};
+
+/// Whether a number is one of `width` bits.
+pub fn fits_bits(number: i64, width: u32) -> bool
+    requires positive { 0 < width }
+    requires small { width ≤ 32 }
+    ensures { IsTrue result ↔ FitsBits width number }
+{
+    let half = i64::from(1u32 << (width - 1));
+    -half <= number && number < half
+}
+
+/// One more than so many groups, where a group ends here; else, or past `words`, more than `words`.
+fn with_group(count: u32, ends: bool, words: u32) -> u32
+    requires { words < 2 ^ 31 }
+    ensures { (n : ℕ) → n ≤ words → (result ≤ n ↔ IsTrue ends × (count < n)) }
+{
+    if ends && has_word_left(count, words) {
+        count + 1
+    } else {
+        words + 1
+    }
+}
+
+/// Whether there are so many.
+fn has(number: u8, wanted: u8) -> bool
+    ensures { IsTrue result ↔ wanted ≤ number }
+{
+    wanted <= number
+}
+
+/// Whether there is room for one more group.
+fn has_word_left(count: u32, words: u32) -> bool
+    ensures { IsTrue result ↔ count < words }
+{
+    count < words
+}
+
+/// How many of the newest differences in a row are of `width` bits, up to `most`, with one more.
+fn stretch(so_far: u8, difference: i64, width: u32, most: u8) -> u8
+    requires positive { 0 < width }
+    requires small { width ≤ 32 }
+    requires few { most ≤ 4 }
+    requires below { so_far ≤ most }
+    ensures most { result ≤ most }
+    ensures stretch { (past : List ℤ) → IsStretch width most so_far past → IsStretch width most result (difference ∷ past) }
+{
+    if fits_bits(difference, width) {
+        most.min(so_far + 1)
+    } else {
+        0
+    }
+}
+
+/// What is left of a run that grows: the least numbers of groups that others may follow, each exact up to
+/// the number of words and greater where there is none so small, and how many of its newest differences are small.
+#[derive(Clone, Copy, Debug, PartialEq, Eq)]
+pub struct LeastCounts {
+    /// Of all differences.
+    now: u32,
+    /// Of all but the newest.
+    one: u32,
+    /// Of all but the newest two.
+    two: u32,
+    /// Of all but the newest three.
+    three: u32,
+    /// How many of the newest differences in a row are of 8 bits, up to four.
+    eight: u8,
+    /// How many are of 16 bits, up to two.
+    sixteen: u8,
+    ghost four: { eight ≤ 4 },
+    ghost pair: { sixteen ≤ 2 },
+}
+
+impl LeastCounts {
+    ghost use Rattle.msr_words.specs.AreCounts.{AreCounts};
+
+    /// Of no differences.
+    pub fn none() -> LeastCounts
+        ensures { (words : ℕ) → AreCounts words [] result }
+    {
+        LeastCounts {
+            now: 0,
+            one: 0,
+            two: 0,
+            three: 0,
+            eight: 0,
+            sixteen: 0,
+        }
+    }
+
+    /// With one difference more.
+    pub fn with(self, difference: i64, words: u32) -> LeastCounts
+        requires { words < 2 ^ 31 }
+        ensures { (past : List ℤ) → AreCounts words past self → AreCounts words (difference ∷ past) result }
+    {
+        let eight = stretch(self.eight, difference, 8, 4);
+        let sixteen = stretch(self.sixteen, difference, 16, 2);
+        let single = with_group(self.now, fits_bits(difference, 32), words);
+        let pair = with_group(self.one, has(sixteen, 2), words);
+        let four = with_group(self.three, has(eight, 4), words);
+        LeastCounts {
+            now: single.min(pair).min(four),
+            one: self.now,
+            two: self.one,
+            three: self.two,
+            eight,
+            sixteen,
+        }
+    }
+
+    /// Whether the words hold the run, which may end in a group of three.
+    pub fn within(self, words: u32) -> bool
+        ensures { (past : List ℤ) → 0 < length past → AreCounts words past self → (IsTrue result ↔ EndsIn One true words past) }
+    {
+        if self.now <= words {
+            return true;
+        }
+        has(self.eight, 3) && has_word_left(self.three, words)
+    }
+}
+
+/// How far a number is from 0, or from -1 where it is negative.
+fn magnitude(number: i64) -> u64
+    ensures { (width : ℕ) → (FitsBits width number ↔ result < 2 ^ (width - 1)) }
+{
+    if number < 0 {
+        (-(number + 1)) as u64
+    } else {
+        number as u64
+    }
+}
+
+/// One where the size is below the limit, else none.
+fn one_below(size: u64, limit: u64) -> u8
+    ensures { IsOneBelow size limit result }
+{
+    u8::from(size < limit)
+}
+
+/// The greatest number of differences, each of the size of this one, that one Steim-2 word holds.
+/// It counts the widths that are enough, from 30 bits for one to 4 bits for seven, with no branch.
+pub fn steim2_capacity(diff: i64) -> u8
+    ensures { IsCapacity diff result }
+{
+    let size = magnitude(diff);
+    let wide = one_below(size, 536_870_912) + one_below(size, 16_384) + one_below(size, 512);
+    let narrow = one_below(size, 32) + one_below(size, 16) + one_below(size, 8);
+    wide + one_below(size, 128) + narrow
+}

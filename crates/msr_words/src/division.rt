@@ -1,0 +1,157 @@
+//! The division of differences that is written.
+
+ghost use Rattle.std.specs.Prelude.{◌≡◌, ◌<◌, ◌≤◌, ◌==◌, ◌+◌, ◌-◌, ◌*◌, ◌^◌, ℕ, ℤ, List, IfOk, IfSome, IsNone, length, map};
+ghost use Rattle.msr_steim.specs.declared.word.Version.{Version};
+ghost use Rattle.std.specs.List.{AllByRecursion};
+ghost use Rattle.msr_steim.specs.Word.{FitsBits, IsGroupAt};
+ghost use Rattle.msr_words.specs.Lengths.{bytes_of};
+ghost use Rattle.msr_words.specs.RecordLength.{words_of};
+ghost use Rattle.msr_words.specs.Division.{CanDivide};
+ghost use Rattle.msr_words.specs.Counts.{IsLeastUpTo};
+ghost use Rattle.msr_words.specs.Canonical.{AreSuffixCounts, IsChoice, IsCanonicalDivision};
+
+use crate::lengths::Length;
+use msr_steim::{Group, Version, is_group};
+use std::alloc::{AllocError, Global};
+
+/// The most differences that a group has.
+const LARGEST_GROUP: usize = 7;
+
+/// One more than the least number of groups after this one, or more than `words`.
+fn count_with(version: Version, last: bool, group: &[i64], after: u32, words: u32) -> u32
+    requires { words < 2 ^ 31 }
+    ensures bound { result ≤ words + 1 }
+    ensures least { (n : ℕ) → n ≤ words → ((result ≤ n → IsGroupAt version last group.now × after < n) × (IsGroupAt version last group.now → after < n → result ≤ n)) }
+{
+    if after < words && is_group(version, last, group) {
+        after + 1
+    } else {
+        words + 1
+    }
+}
+
+/// The size of a first group, and the number of groups with it.
+#[derive(Clone, Copy, Debug)]
+struct Choice {
+    size: usize,
+    count: u32,
+}
+
+/// This choice, or the next size where there are no more groups with it.
+fn better(choice: Choice, size: usize, count: u32) -> Choice
+    ensures taken { count ≤ choice.count → (result.size ≡ size) × (result.count ≡ count) }
+    ensures kept { choice.count < count → (result.size ≡ choice.size) × (result.count ≡ choice.count) }
+{
+    if count <= choice.count {
+        Choice { size, count }
+    } else {
+        choice
+    }
+}
+
+/// The largest size of the first group of these differences with which there are fewest groups, and
+/// their number, or more than `words`.
+fn first_choice(version: Version, words: u32, rest: &[i64], counts: &[u32]) -> Choice
+    requires bound { words < 2 ^ 31 }
+    requires some { 0 < length rest.now }
+    requires counts { AreSuffixCounts version words rest.now counts.now (length rest.now) }
+    ensures { IsChoice version words rest.now result.size result.count }
+{
+    let mut choice = Choice {
+        size: 0,
+        count: words + 1,
+    };
+    for size in 1..rest.len().min(LARGEST_GROUP) + 1 {
+        let left = rest.len() - size;
+        let count = count_with(
+            version,
+            size == rest.len(),
+            &rest[..size],
+            counts[left],
+            words,
+        );
+        choice = better(choice, size, count);
+    }
+    choice
+}
+
+/// For each number of last differences the least number of their groups, or more than `words`.
+fn counts_of(
+    alloc: Global,
+    version: Version,
+    words: u32,
+    differences: &[i64],
+) -> Result<Vec<u32>, AllocError>
+    requires { words < 2 ^ 31 }
+    ensures { IfOk result (λ counts. AreSuffixCounts version words differences.now counts.items (length differences.now + 1)) }
+{
+    let mut counts = Vec::new(alloc);
+    counts.push(0)?;
+    for place in (0..differences.len()).rev() {
+        let choice = first_choice(version, words, &differences[place..], &counts);
+        counts.push(choice.count)?;
+    }
+    Ok(counts)
+}
+
+/// A group of these differences.
+fn group_of(differences: &[i64]) -> Group
+    requires few { length differences.now ≤ 7 }
+    requires fit { AllByRecursion (FitsBits 32) differences.now }
+    ensures { result.items ≡ differences.now }
+{
+    let mut group = Group::new();
+    for difference in differences {
+        group.push(*difference as i32);
+    }
+    group
+}
+
+/// The groups, each in turn the longest with which there are no more.
+fn divide(
+    alloc: Global,
+    version: Version,
+    words: u32,
+    differences: &[i64],
+    counts: &[u32],
+) -> Result<Vec<Group>, AllocError>
+    requires bound { words < 2 ^ 31 }
+    requires counts { AreSuffixCounts version words differences.now counts.now (length differences.now + 1) }
+    requires can { CanDivide version words differences.now }
+    ensures { IfOk result (λ groups. IsCanonicalDivision version (map (λ g. g.items) groups.items) differences.now) }
+{
+    let mut groups = Vec::new(alloc);
+    let mut place = 0;
+    while place < differences.len() {
+        let rest = &differences[place..];
+        let size = first_choice(version, words, rest, counts).size;
+        groups.push(group_of(&rest[..size]))?;
+        place += size;
+    }
+    Ok(groups)
+}
+
+/// The groups in which a record of this length has these differences, where it has room: no division has
+/// fewer groups, and each group in turn is the longest with which there are no more.
+pub fn groups(
+    alloc: Global,
+    version: Version,
+    differences: &[i64],
+    record_length: Length,
+) -> Result<Option<Vec<Group>>, AllocError>
+    ensures chosen { IfOk result (λ o. IfSome o (λ groups. IsCanonicalDivision version (map (λ g. g.items) groups.items) differences.now)) }
+    ensures few { IfOk result (λ o. IfSome o (λ groups. length groups.items ≤ words_of (bytes_of record_length))) }
+    ensures none { IfOk result (λ o. IsNone o → CanDivide version (words_of (bytes_of record_length)) differences.now → ⊥) }
+{
+    let words = record_length.data_words();
+    let counts = counts_of(alloc, version, words, differences)?;
+    if counts[differences.len()] > words {
+        return Ok(None);
+    }
+    Ok(Some(divide(alloc, version, words, differences, &counts)?))
+}
+
+/// One division of some differences is chosen.
+pub fn one_division()
+    ensures { (version : Version) (groups others : List (List ℤ)) (ds : List ℤ) → IsCanonicalDivision version groups ds → IsCanonicalDivision version others ds → groups ≡ others }
+{}

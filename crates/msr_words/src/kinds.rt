@@ -1,0 +1,228 @@
+//! The kinds of records, and which runs fit them.
+
+ghost use Rattle.std.specs.Prelude.{◌≡◌, All, ℕ, ◌+◌, ◌*◌, ◌^◌, ◌<◌, ◌≤◌, ◌↔◌, [], IsTrue, IsSome, IfSome, Some, drop, length};
+ghost use Rattle.msr_steim.specs.Word.{FitsBits};
+ghost use Rattle.msr_words.specs.Lengths.{bytes_of};
+ghost use Rattle.msr_steim.specs.declared.word.Version.TheVariants.{One, Two};
+ghost use Rattle.msr_words.specs.Segment.{points, run_points, differences, difference_at, difference_from};
+ghost use Rattle.msr_words.specs.Division.{CanDivide};
+ghost use Rattle.msr_words.specs.Groups.{IsLongestGroup};
+ghost use Rattle.msr_words.specs.Laws.{look_back_of, most_of};
+ghost use Rattle.msr_words.specs.Fit.{Fits, FitsAny, IsRun, IsFirstKind, code_of};
+ghost use Rattle.msr_words.specs.RecordLength.{words_of};
+
+use crate::counts::{LeastCounts, steim2_capacity};
+use crate::lengths::Length;
+
+/// What a record holds.
+#[derive(Clone, Copy, Debug, PartialEq, Eq)]
+pub enum Kind {
+    Int16,
+    Int32,
+    Steim1,
+    Steim2,
+}
+
+impl Kind {
+    ghost use Rattle.msr_words.specs.declared.kinds.Kind.{Kind};
+
+    /// The number of its encoding.
+    pub fn code(self) -> u8
+        ensures { result ≡ code_of self }
+    {
+        match self {
+            Kind::Int16 => 1,
+            Kind::Int32 => 3,
+            Kind::Steim1 => 10,
+            Kind::Steim2 => 11,
+        }
+    }
+
+    /// The kind with that encoding.
+    pub fn of_code(code: u8) -> Option<Kind>
+        ensures { (kind : Kind) → (result ≡ Some kind ↔ code_of kind ≡ code) }
+    {
+        match code {
+            1 => Some(Kind::Int16),
+            3 => Some(Kind::Int32),
+            10 => Some(Kind::Steim1),
+            11 => Some(Kind::Steim2),
+            _ => None,
+        }
+    }
+
+    /// How many starts before a cut may be needed where a run of this kind is cut.
+    pub fn look_back(self) -> usize
+        ensures { result ≡ look_back_of self }
+    {
+        match self {
+            Kind::Steim1 => 1,
+            Kind::Int16 | Kind::Int32 | Kind::Steim2 => 0,
+        }
+    }
+
+    /// How many samples one record of this kind has at most.
+    pub fn most(self, record_length: Length) -> usize
+        ensures { result ≡ most_of self (bytes_of record_length) }
+    {
+        match self {
+            Kind::Int16 => ((record_length.bytes() - 64) / 2) as usize,
+            Kind::Int32 => ((record_length.bytes() - 64) / 4) as usize,
+            Kind::Steim1 => 4 * record_length.data_words() as usize,
+            Kind::Steim2 => 7 * record_length.data_words() as usize,
+        }
+    }
+
+    /// The run fits one record of this kind; `before` is the sample before it, none at a segment's start.
+    pub fn fits(self, before: Option<i32>, run: &[i32], record_length: Length) -> bool
+        ensures { IsTrue result ↔ Fits self (bytes_of record_length) (points before run.now) }
+    {
+        if run.len() > self.most(record_length) {
+            return false;
+        }
+        match self {
+            Kind::Int16 => all_16_bit(run),
+            Kind::Int32 => true,
+            Kind::Steim1 => fits_steim1(before, run, record_length.data_words()),
+            Kind::Steim2 => fits_steim2(before, run, record_length.data_words()),
+        }
+    }
+}
+
+/// The differences of the run, the first of them from `before`, can be divided into so many Steim-1 groups.
+/// It stops where the differences up to one cannot.
+fn fits_steim1(before: Option<i32>, run: &[i32], words: u32) -> bool
+    requires { words < 2 ^ 31 }
+    ensures { IsTrue result ↔ CanDivide One words (differences before run.now) }
+{
+    let mut counts = LeastCounts::none();
+    for at in 0..run.len() {
+        counts = counts.with(difference_after(before, run, at), words);
+        if !counts.within(words) {
+            return false;
+        }
+    }
+    true
+}
+
+/// How many differences of the run, from this one on, stand together in a Steim-2 word, as many as can.
+fn longest_group(before: Option<i32>, run: &[i32], at: usize) -> usize
+    requires { at ≤ length run.now }
+    ensures { IsLongestGroup (drop at (differences before run.now)) result }
+{
+    let mut most = 7;
+    for next in at..run.len() {
+        most = steim2_capacity(difference_after(before, run, next)).min(most);
+        if next - at >= usize::from(most) {
+            return next - at;
+        }
+    }
+    run.len() - at
+}
+
+/// The differences of the run can be divided into so many Steim-2 groups. Each part of a group is a group,
+/// so it is enough to take the longest one from the front on.
+fn fits_steim2(before: Option<i32>, run: &[i32], words: u32) -> bool
+    ensures { IsTrue result ↔ CanDivide Two words (differences before run.now) }
+{
+    let mut at = 0;
+    for _used in 0..words {
+        let count = longest_group(before, run, at);
+        if count == 0 {
+            return at == run.len();
+        }
+        at += count;
+    }
+    at == run.len()
+}
+
+/// The difference of a sample of a run from the one before it.
+fn difference_after(before: Option<i32>, run: &[i32], at: usize) -> i64
+    requires { at < length run.now }
+    ensures { result ≡ difference_from before run.now at }
+{
+    if at > 0 {
+        return difference(run, at);
+    }
+    match before {
+        Some(before) => run[0] as i64 - before as i64,
+        None => 0,
+    }
+}
+
+fn all_16_bit(run: &[i32]) -> bool
+    ensures { IsTrue result ↔ All (FitsBits 16) run.now }
+{
+    run.iter().all(|x| -32768 <= *x && *x <= 32767)
+}
+
+/// The samples `start` to `end - 1` of a segment fit one record of that kind.
+pub fn run_fits(
+    kind: Kind,
+    samples: &[i32],
+    start: usize,
+    end: usize,
+    record_length: Length,
+) -> bool
+    requires order { start ≤ end }
+    requires within { end ≤ length samples.now }
+    ensures { IsTrue result ↔ Fits kind (bytes_of record_length) (run_points samples.now start end) }
+{
+    if start == 0 {
+        kind.fits(None, &samples[..end], record_length)
+    } else {
+        kind.fits(
+            Some(samples[start - 1]),
+            &samples[start..end],
+            record_length,
+        )
+    }
+}
+
+/// The samples `start` to `end - 1` of a segment fit one record of some kind.
+pub fn any_fits(samples: &[i32], record_length: Length, start: usize, end: usize) -> bool
+    requires order { start ≤ end }
+    requires within { end ≤ length samples.now }
+    ensures { IsTrue result ↔ FitsAny (bytes_of record_length) (run_points samples.now start end) }
+{
+    run_fits(Kind::Int16, samples, start, end, record_length)
+        | run_fits(Kind::Int32, samples, start, end, record_length)
+        | run_fits(Kind::Steim1, samples, start, end, record_length)
+        | run_fits(Kind::Steim2, samples, start, end, record_length)
+}
+
+/// The first kind, in the order in which they are tried, that the samples `start` to `end - 1` of the segment fit.
+pub fn first_kind(samples: &[i32], start: usize, end: usize, record_length: Length) -> Kind
+    requires { IsRun (FitsAny (bytes_of record_length)) samples.now start end }
+    ensures { IsFirstKind (bytes_of record_length) (run_points samples.now start end) result }
+{
+    if run_fits(Kind::Steim2, samples, start, end, record_length) {
+        Kind::Steim2
+    } else if run_fits(Kind::Steim1, samples, start, end, record_length) {
+        Kind::Steim1
+    } else if run_fits(Kind::Int16, samples, start, end, record_length) {
+        Kind::Int16
+    } else {
+        Kind::Int32
+    }
+}
+
+/// The samples `start` to `end - 1` of a segment, in one record of that kind.
+#[derive(Clone, Copy, Debug, PartialEq, Eq)]
+pub struct Run {
+    pub start: u64,
+    pub end: u64,
+    pub kind: Kind,
+}
+
+/// The difference of a sample of a segment from the one before it; that of the first is 0.
+pub fn difference(samples: &[i32], at: usize) -> i64
+    requires { at < length samples.now }
+    ensures { result ≡ difference_at samples.now at }
+{
+    if at == 0 {
+        0
+    } else {
+        samples[at] as i64 - samples[at - 1] as i64
+    }
+}

@@ -1,0 +1,17 @@
+//! Which runs of samples fit a record, for each kind of record, with a tracker for each kind.
+#![tactic(auto)]
+
+mod any_kind;
+mod codecs;
+mod counts;
+mod division;
+mod kinds;
+mod lengths;
+#[cfg(test)]
+mod tests;
+
+pub use any_kind::AnyKind;
+pub use codecs::{Codec, Int16, Int32, Steim1, Steim2, Tracker};
+pub use division::{groups, one_division};
+pub use kinds::{Kind, Run, any_fits, difference, first_kind, run_fits};
+pub use lengths::Length;

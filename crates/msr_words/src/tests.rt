@@ -1,0 +1,284 @@
+//! Runs worked out by hand, by the trackers, by `Kind::fits` and by `groups`.
+
+use crate::{
+    AnyKind, Codec, Int16, Int32, Kind, Length, Run, Steim1, Steim2, Tracker, any_fits, difference,
+    first_kind, groups, one_division, run_fits,
+};
+use msr_steim::Version;
+use std::alloc::{AllocError, Global};
+use std::test::Fail;
+
+fn shortest() -> Result<Length, Fail> {
+    Ok(Length::new(256).ok_or("a length")?)
+}
+
+/// How many samples of these differences, all alike, the tracker takes, of four hundred.
+fn taken<T: Tracker + Drop>(record_length: Length, sample: i32, difference: i64) -> usize {
+    let mut tracker = T::start(record_length);
+    for count in 0..400 {
+        if !tracker.push(sample, difference) {
+            return count;
+        }
+    }
+    400
+}
+
+#[test]
+fn how_many_samples_a_record_holds(rt: HostRuntime) -> Result<(), Fail> {
+    let length = shortest()?;
+    for (sample, int16) in [
+        (0, 96),
+        (32_767, 96),
+        (-32_768, 96),
+        (32_768, 0),
+        (-32_769, 0),
+    ] {
+        assert_eq!(rt; taken::<Int16>(length, sample, 0), int16);
+    }
+    for (difference, steim1, steim2) in [
+        (0, 172, 301),
+        (7, 172, 301),
+        (-8, 172, 301),
+        (8, 172, 258),
+        (-16, 172, 258),
+        (16, 172, 215),
+        (-32, 172, 215),
+        (32, 172, 172),
+        (-128, 172, 172),
+        (128, 86, 129),
+        (-512, 86, 129),
+        (512, 86, 86),
+        (-16_384, 86, 86),
+        (16_384, 86, 43),
+        (32_768, 43, 43),
+        (-536_870_912, 43, 43),
+        (536_870_912, 43, 0),
+        (-2_147_483_648, 43, 0),
+        (2_147_483_648, 0, 0),
+        (4_294_967_295, 0, 0),
+    ] {
+        assert_eq!(rt; taken::<Int32>(length, 0, difference), 48);
+        assert_eq!(rt; taken::<Steim1>(length, 0, difference), steim1);
+        assert_eq!(rt; taken::<Steim2>(length, 0, difference), steim2);
+        let most = steim1.max(steim2).max(96);
+        assert_eq!(rt; taken::<AnyKind>(length, 0, difference), most);
+    }
+    Ok(())
+}
+
+/// Forty differences of 70000 fill forty words. 200, then four zeros, then 70000 fill three more, but four
+/// where the largest group is taken first.
+#[test]
+fn steim1_takes_the_least_number_of_words(rt: HostRuntime) -> Result<(), Fail> {
+    let mut tracker = Steim1::start(shortest()?);
+    for _ in 0..40 {
+        assert!(rt; tracker.push(0, 70_000));
+    }
+    for difference in [200, 0, 0, 0, 0, 70_000] {
+        assert!(rt; tracker.push(0, difference));
+    }
+    assert!(rt; !tracker.push(0, 70_000));
+    assert!(rt; !tracker.push(0, 0));
+    Ok(())
+}
+
+/// A tracker that answered false answers false for ever after, whatever comes.
+#[test]
+fn false_for_ever(rt: HostRuntime) -> Result<(), Fail> {
+    let length = shortest()?;
+    let mut int16 = Int16::start(length);
+    let mut steim1 = Steim1::start(length);
+    let mut steim2 = Steim2::start(length);
+    assert!(rt; !int16.push(40_000, 0));
+    assert!(rt; !steim1.push(0, 4_294_967_295));
+    assert!(rt; !steim2.push(0, 536_870_912));
+    assert!(rt; !int16.push(0, 0));
+    assert!(rt; !steim1.push(0, 0));
+    assert!(rt; !steim2.push(0, 0));
+    Ok(())
+}
+
+fn codec<C: Codec + Drop>(record_length: Length) -> (u8, usize, usize) {
+    (
+        C::start(record_length).code(),
+        C::LOOK_BACK,
+        C::most(record_length),
+    )
+}
+
+#[test]
+fn the_kinds(rt: HostRuntime) -> Result<(), Fail> {
+    let length = shortest()?;
+    for (kind, code, back, most, found) in [
+        (Kind::Int16, 1, 0, 96, codec::<Int16>(length)),
+        (Kind::Int32, 3, 0, 48, codec::<Int32>(length)),
+        (Kind::Steim1, 10, 1, 172, codec::<Steim1>(length)),
+        (Kind::Steim2, 11, 0, 301, codec::<Steim2>(length)),
+    ] {
+        assert_eq!(rt; kind.code(), code);
+        assert_eq!(rt; Kind::of_code(code), Some(kind));
+        assert_eq!(rt; kind.look_back(), back);
+        assert_eq!(rt; kind.most(length), most);
+        assert_eq!(rt; found, (code, back, most));
+    }
+    for code in [0, 2, 4, 12, 255] {
+        assert_eq!(rt; Kind::of_code(code), None);
+    }
+    assert_eq!(rt; AnyKind::LOOK_BACK, 1);
+    assert_eq!(rt; AnyKind::most(length), 301);
+    Ok(())
+}
+
+#[test]
+fn the_record_lengths(rt: HostRuntime) -> Result<(), Fail> {
+    for (bytes, exponent, frames, words) in [
+        (256, 8, 3, 43),
+        (512, 9, 7, 103),
+        (1024, 10, 15, 223),
+        (2048, 11, 31, 463),
+        (4096, 12, 63, 943),
+        (8192, 13, 127, 1903),
+        (16_384, 14, 255, 3823),
+        (32_768, 15, 511, 7663),
+    ] {
+        let length = Length::new(bytes).ok_or("a length")?;
+        assert_eq!(rt; length.bytes(), bytes);
+        assert_eq!(rt; length.exponent(), exponent);
+        assert_eq!(rt; length.frames(), frames);
+        assert_eq!(rt; length.data_words(), words);
+    }
+    for bytes in [0, 64, 128, 255, 257, 768, 32_767, 65_536] {
+        assert_eq!(rt; Length::new(bytes), None);
+    }
+    Ok(())
+}
+
+#[test]
+fn which_kinds_a_run_fits(rt: HostRuntime) -> Result<(), Fail> {
+    let length = shortest()?;
+    let swing = [-2_147_483_648, 2_147_483_647];
+    let high = [2_147_483_647];
+    let wide = [30_000, -30_000, 30_000];
+    for (kind, whole, after_zero, after_less, far, none) in [
+        (Kind::Int16, false, false, false, true, true),
+        (Kind::Int32, true, true, true, true, true),
+        (Kind::Steim1, false, true, false, true, true),
+        (Kind::Steim2, false, false, false, true, true),
+    ] {
+        assert_eq!(rt; kind.fits(None, &swing, length), whole);
+        assert_eq!(rt; kind.fits(Some(0), &high, length), after_zero);
+        assert_eq!(rt; kind.fits(Some(-1), &high, length), after_less);
+        assert_eq!(rt; kind.fits(None, &wide, length), far);
+        assert_eq!(rt; kind.fits(None, &[], length), none);
+    }
+    Ok(())
+}
+
+/// 87 samples, 1000000 and 1020000 in turn up to sample 83, then 1020000; and 1040000 as one more.
+fn zigzag(alloc: Global) -> Result<Vec<i32>, AllocError> {
+    let mut samples = Vec::new(alloc);
+    for i in 0..87 {
+        let low = i % 2 == 0 && i < 84;
+        samples.push(if low { 1_000_000 } else { 1_020_000 })?;
+    }
+    samples.push(1_040_000)?;
+    Ok(samples)
+}
+
+#[test]
+fn runs_of_a_segment(rt: HostRuntime) -> Result<(), Fail> {
+    let length = shortest()?;
+    let samples = zigzag(rt.alloc())?;
+    assert_eq!(rt; samples.len(), 88);
+    for (at, expected) in [(0, 0), (1, 20_000), (2, -20_000), (84, 0), (87, 20_000)] {
+        assert_eq!(rt; difference(&samples, at), expected);
+    }
+    for (kind, start, end, expected) in [
+        (Kind::Steim1, 0, 87, true),
+        (Kind::Steim1, 0, 88, false),
+        (Kind::Steim1, 1, 88, false),
+        (Kind::Steim1, 2, 88, true),
+        (Kind::Steim2, 0, 43, true),
+        (Kind::Steim2, 0, 44, false),
+        (Kind::Steim2, 48, 87, true),
+        (Kind::Int32, 0, 48, true),
+        (Kind::Int32, 0, 49, false),
+        (Kind::Int16, 0, 1, false),
+        (Kind::Int16, 3, 3, true),
+    ] {
+        assert!(rt; start <= end);
+        assert!(rt; end <= samples.len());
+        let fits = run_fits(kind, &samples, start, end, length);
+        assert_eq!(rt; fits, expected, "{kind:?} {start} {end}");
+    }
+    assert!(rt; any_fits(&samples, length, 0, 87));
+    assert!(rt; !any_fits(&samples, length, 0, 88));
+    Ok(())
+}
+
+#[test]
+fn the_first_kind_of_a_run(rt: HostRuntime) -> Result<(), Fail> {
+    let length = shortest()?;
+    assert_eq!(rt; first_kind(&[0, 1, 2], 0, 3, length), Kind::Steim2);
+    let run = Run {
+        start: 0,
+        end: 3,
+        kind: Kind::Steim2,
+    };
+    assert_eq!(rt; run.end - run.start, 3);
+    Ok(())
+}
+
+/// The groups of some differences in a record of 256 bytes, none where there is no room.
+fn divided(
+    alloc: Global,
+    version: Version,
+    differences: &[i64],
+) -> Result<Option<Vec<msr_steim::Group>>, Fail> {
+    let length = shortest()?;
+    Ok(groups(alloc, version, differences, length).map_err(|_| "memory")?)
+}
+
+#[test]
+fn the_canonical_groups(rt: HostRuntime) -> Result<(), Fail> {
+    one_division();
+    let differences = [200, 0, 0, 0, 0, 70_000];
+    let found = divided(rt.alloc(), Version::One, &differences)?.ok_or("no division")?;
+    assert_eq!(rt; found.len(), 3);
+    assert!(rt; found[0].as_slice() == [200].as_slice());
+    assert!(rt; found[1].as_slice() == [0, 0, 0, 0].as_slice());
+    assert!(rt; found[2].as_slice() == [70_000].as_slice());
+    let none = divided(rt.alloc(), Version::Two, &[])?.ok_or("no division")?;
+    assert!(rt; none.is_empty());
+    assert!(rt; divided(rt.alloc(), Version::Two, &[536_870_912])?.is_none());
+    Ok(())
+}
+
+/// The differences of 87 samples fill 43 words: 42 of two 16-bit ones, and a last one of three.
+#[test]
+fn a_last_group_of_three(rt: HostRuntime) -> Result<(), Fail> {
+    let samples = zigzag(rt.alloc())?;
+    let mut differences = Vec::new(rt.alloc());
+    for at in 0..samples.len() {
+        differences.push(difference(&samples, at))?;
+    }
+    assert!(rt; divided(rt.alloc(), Version::One, &differences)?.is_none());
+    assert_eq!(rt; differences.pop(), Some(20_000));
+    let found = divided(rt.alloc(), Version::One, &differences)?.ok_or("no division")?;
+    assert_eq!(rt; found.len(), 43);
+    let last = found.last().ok_or("no group")?;
+    assert!(rt; last.as_slice() == [0, 0, 0].as_slice());
+    Ok(())
+}
+
+#[test]
+fn sevens_fill_a_record(rt: HostRuntime) -> Result<(), Fail> {
+    let zeros = [0; 302];
+    let length = shortest()?;
+    assert!(rt; Kind::Steim2.fits(None, &[0; 301], length));
+    assert!(rt; !Kind::Steim2.fits(None, &[0; 302], length));
+    let found = divided(rt.alloc(), Version::Two, &zeros[..301])?.ok_or("no division")?;
+    assert_eq!(rt; found.len(), 43);
+    assert!(rt; divided(rt.alloc(), Version::Two, &zeros)?.is_none());
+    Ok(())
+}
