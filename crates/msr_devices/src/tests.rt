@@ -164,6 +164,7 @@ fn pieces_are_large(rt: HostRuntime) {
         let mut source = FromRead::new(&mut noted);
         let mut buffer = ReadBuffer::new(rt.alloc());
         assert_eq!(rt; buffer.fill(&mut source, want), Ok(()));
+        assert!(rt; want <= buffer.bytes().len());
         buffer.consume(want);
         assert_eq!(rt; buffer.fill(&mut source, 100_000), Ok(()));
         assert!(rt; noted.least >= 65_536, "at {want}");
