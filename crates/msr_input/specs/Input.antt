@@ -1,0 +1,114 @@
+-- An input: miniSEED records one after another (SEED Reference Manual 2.4, data records), and the first one that
+-- is refused. Each record is judged by all bytes that are left from its first one on.
+use Rattle.std.specs.Prelude.{◌≡◌, ◌≢◌, ℕ, ◌+◌, ◌<◌, Bool, if◌then◌else◌, List, [], ◌∷◌, ◌++◌, length, drop, is_some, Option}
+use Rattle.std.specs.Option.{option_to_list}
+use Rattle.msr_record.specs.Records.{IsRecordOf, IsRefused}
+use Rattle.msr_record.specs.declared.row.Record.{Record}
+use Rattle.msr_record.specs.declared.row.Row.{Row}
+use Rattle.msr_record.specs.declared.fault.FaultKind.{FaultKind}
+use Rattle.msr_record.specs.declared.fault.FaultKind.TheVariants.{TimeRange}
+use Rattle.msr_segments.specs.Segments.{AreSegments, LastEndsOutOfRange}
+use Rattle.msr_segments.specs.declared.joiner.Segment.{Segment}
+use Rattle.msr_report.specs.declared.report.Counts.{Counts}
+use Rattle.msr_input.specs.declared.fault.Fault.{Fault}
+
+-- the input begins with these records, one after another, and this is left behind them
+abbrev pub BeginsWith : List Record → List ℕ → List ℕ → Type 0
+BeginsWith [] input rest = input ≡ rest
+BeginsWith (found ∷ others) input rest = IsRecordOf input found × BeginsWith others (drop found.length input) rest
+
+-- how many bytes the records have in all
+abbrev pub bytes_of_records : List Record → ℕ
+bytes_of_records [] = 0
+bytes_of_records (found ∷ others) = found.length + bytes_of_records others
+
+-- the rows of the records that have samples
+abbrev pub rows_of_records : List Record → List Row
+rows_of_records [] = []
+rows_of_records (found ∷ others) = option_to_list found.row ++ rows_of_records others
+
+-- how many records have no samples, and in how many the reverse constant is not the last sample
+abbrev pub empty_count : List Record → ℕ
+empty_count [] = 0
+empty_count (found ∷ others) = (if is_some found.row then 0 else 1) + empty_count others
+
+abbrev pub mismatch_count : List Record → ℕ
+mismatch_count [] = 0
+mismatch_count (found ∷ others) = (if found.reverse_agrees then 0 else 1) + mismatch_count others
+
+-- all counts of the records
+abbrev pub counts_of : List Record → Counts
+counts_of records = record {
+  read = length records;
+  empty = empty_count records;
+  mismatched = mismatch_count records;
+}
+
+-- No row of the records ends its segment outside the supported years, when it joins.
+abbrev pub NoneOverruns : ℕ → List Record → Type 0
+NoneOverruns tolerance records =
+    (before after : List Record) (found : Record) (row : Row) → records ≡ before ++ found ∷ after
+    → found.row ≡ Option.Some row
+    → LastEndsOutOfRange tolerance (rows_of_records (before ++ found ∷ [])) → ⊥
+
+-- The input begins with these records, none of which is refused, and this is left behind them.
+pub record AreRead (tolerance : ℕ) (input : List ℕ) (records : List Record) (rest : List ℕ) : Type 0 where
+  pub begins : BeginsWith records input rest
+  pub in_range : NoneOverruns tolerance records
+
+-- A readable input: these records, none of which is refused, and nothing behind them; and these are the segments
+-- of their rows.
+pub record IsReadable (tolerance : ℕ) (input : List ℕ) (records : List Record) (segments : List Segment) : Type 0 where
+  pub are_read : AreRead tolerance input records []
+  pub are_segments : AreSegments tolerance (rows_of_records records) segments
+
+-- The record that the bytes begin with ends its segment outside the supported years, behind these records.
+pub record OverrunsBehind (tolerance : ℕ) (records : List Record) (rest : List ℕ) : Type 0 where
+  pub found : Record
+  pub row : Row
+  pub has_row : found.row ≡ Option.Some row
+  pub is_record : IsRecordOf rest found
+  pub out_of_range : LastEndsOutOfRange tolerance (rows_of_records (records ++ found ∷ []))
+
+-- Behind these records the one that the bytes begin with is refused so: by itself, or since it ends its segment
+-- out of range.
+abbrev pub IsRefusedBehind : ℕ → List Record → List ℕ → FaultKind → Type 0
+IsRefusedBehind tolerance records rest kind = IsRefused rest kind ⊎ ((kind ≡ TimeRange) × OverrunsBehind tolerance records rest)
+
+-- The first fault of an input: these records are read before it, and the next one is refused. The offset is that
+-- of its first byte.
+pub record IsFirstFault (tolerance : ℕ) (input : List ℕ) (records : List Record) (fault : Fault) : Type 0 where
+  pub rest : List ℕ
+  pub are_read : AreRead tolerance input records rest
+  pub some_left : 0 < length rest
+  pub refused : IsRefusedBehind tolerance records rest fault.kind
+  pub offset_is : fault.offset ≡ bytes_of_records records
+
+-- some first records of the input are read; these are first segments of their rows, and what follows them
+pub record HaveBegun (tolerance : ℕ) (records : List Record) (segments : List Segment) : Type 0 where
+  pub others : List Segment
+  pub are_segments : AreSegments tolerance (rows_of_records records) (segments ++ others)
+
+-- an input begins with one list of records, up to where no record is read any more
+abbrev pub OneListOfRecords : Type 0
+OneListOfRecords =
+    (tolerance : ℕ) (input : List ℕ) (records others : List Record) (segments more : List Segment)
+    → IsReadable tolerance input records segments
+    → IsReadable tolerance input others more
+    → (records ≡ others) × (segments ≡ more)
+
+-- an input has at most one first fault, with one list of records before it
+abbrev pub OneFirstFault : Type 0
+OneFirstFault =
+    (tolerance : ℕ) (input : List ℕ) (records others : List Record) (fault other : Fault)
+    → IsFirstFault tolerance input records fault
+    → IsFirstFault tolerance input others other
+    → (records ≡ others) × (fault ≡ other)
+
+-- and a readable input has none
+abbrev pub ReadableHasNoFault : Type 0
+ReadableHasNoFault =
+    (tolerance : ℕ) (input : List ℕ) (records others : List Record) (segments : List Segment) (fault : Fault)
+    → IsReadable tolerance input records segments
+    → IsFirstFault tolerance input others fault
+    → ⊥

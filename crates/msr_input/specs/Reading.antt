@@ -1,0 +1,75 @@
+-- What a reader of segments shows, and what reading does.
+use Rattle.std.specs.Prelude.{◌≡◌, ℕ, ◌+◌, ◌<◌, ◌≤◌, ◌^◌, Bool, true, false, List, [], ◌∷◌, ◌++◌, length, All, IsTrue}
+use Rattle.std.specs.Option.{option_to_list}
+use Rattle.msr_header.specs.Reading.{is_quality}
+use Rattle.msr_record.specs.Correction.{is_pending}
+use Rattle.msr_record.specs.declared.row.Record.{Record}
+use Rattle.msr_devices.specs.Device.{Device, HasLeft, Gives, HasFailed, IsCalm, IsSteady}
+use Rattle.msr_segments.specs.Segments.{SegmentIsInTime}
+use Rattle.msr_segments.specs.Joining.{Joining, HasJoined}
+use Rattle.msr_segments.specs.declared.joiner.Segment.{Segment}
+use Rattle.msr_report.specs.declared.report.Counts.{Counts}
+use Rattle.msr_input.specs.Input.{AreRead, IsFirstFault, HaveBegun, BeginsWith, NoneOverruns, rows_of_records, bytes_of_records, counts_of}
+use Rattle.msr_input.specs.declared.fault.Fault.{Fault}
+use Rattle.msr_input.specs.declared.fault.ReadFault.{ReadFault}
+use Rattle.msr_input.specs.declared.fault.ReadFault.TheVariants.{Input, Read, Memory}
+
+-- what a reader shows: the bytes that came and are not yet used, whether the source has ended behind them, its
+-- joiner, and the counts of the records so far
+pub record Reading : Type 0 where
+  pub waiting : List ℕ
+  pub ended : Bool
+  pub joining : Joining
+  pub counts : Counts
+  pub offset : ℕ
+
+-- the segment can be written: its quality is D, R, Q or M, its correction in normal form, its samples are of
+-- the supported years, and it has some
+pub record IsWritable (segment : Segment) : Type 0 where
+  pub quality : IsTrue (is_quality segment.key.quality)
+  pub normal : is_pending segment.key.activity segment.key.correction ≡ false
+  pub in_time : SegmentIsInTime segment
+  pub some : 1 ≤ length segment.samples
+
+-- From the one state of the source to the other these records came, none refused; the rest waits. They ended
+-- these segments.
+pub record HasRead (start now : Device) (reading : Reading) (records : List Record) (given : List Segment) : Type 0 where
+  pub came : (rest : List ℕ) → HasLeft now rest → (input : List ℕ) × HasLeft start input × BeginsWith records input (reading.waiting ++ rest)
+  pub in_range : NoneOverruns reading.joining.tolerance records
+  pub joined : HasJoined reading.joining (rows_of_records records) given
+  pub writable : All IsWritable (given ++ option_to_list reading.joining.current)
+  pub counts : reading.counts ≡ counts_of records
+  pub offset : reading.offset ≡ bytes_of_records records
+  pub end : reading.ended ≡ true → HasLeft now []
+  pub calm : reading.ended ≡ false → IsCalm start now
+  pub steady : IsSteady start now
+
+-- all records came, and their last segment is still with the reader
+pub record HasReadAll (start now : Device) (reading : Reading) (given : List Segment) : Type 0 where
+  pub records : List Record
+  pub read : HasRead start now reading records given
+  pub none_wait : reading.waiting ≡ []
+  pub ended : reading.ended ≡ true
+
+-- Some first records of the input are read; the segments given are the first ones of theirs.
+pub record StopsAfter (tolerance : ℕ) (start : Device) (given : List Segment) : Type 0 where
+  pub input : List ℕ
+  pub records : List Record
+  pub rest : List ℕ
+  pub left : HasLeft start input
+  pub are_read : AreRead tolerance input records rest
+  pub begun : HaveBegun tolerance records given
+
+-- The next record is the input's first fault; the segments given are the first ones of the rows before it.
+pub record StopsAtFault (tolerance : ℕ) (start : Device) (given : List Segment) (fault : Fault) : Type 0 where
+  pub input : List ℕ
+  pub records : List Record
+  pub left : HasLeft start input
+  pub first : IsFirstFault tolerance input records fault
+  pub begun : HaveBegun tolerance records given
+
+-- why no segment was given
+abbrev pub StopsReading : ℕ → Device → Device → List Segment → ReadFault → Type 0
+StopsReading tolerance start now given (Input fault) = StopsAtFault tolerance start given fault × IsSteady start now
+StopsReading tolerance start now given Read = StopsAfter tolerance start given × HasFailed start now
+StopsReading tolerance start now given Memory = StopsAfter tolerance start given × IsSteady start now

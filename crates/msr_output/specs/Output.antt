@@ -1,0 +1,126 @@
+-- The output: the written records of segments, one after another (SEED Reference Manual 2.4, data record). Each
+-- segment is cut into the runs of its one canonical packing; each run is a record.
+use Rattle.std.specs.Prelude.{◌≡◌, ℕ, zero, suc, ◌+◌, ◌*◌, ◌≤◌, ◌==◌, if◌then◌else◌, ℤ, List, [], ◌∷◌, ◌++◌, length, All, map, slice_range, slice_get, Option, Some, None, true}
+use Rattle.std.specs.List.{flat_map}
+use Rattle.msr_time.specs.SampleRate.{IsRoundedNominal}
+use Rattle.msr_words.specs.Packing.{IsPacking, IsLeast, IsSeparating, IsCanonical}
+use Rattle.msr_words.specs.declared.kinds.Run.{Run}
+use Rattle.msr_record.specs.Records.{IsRowOf, IsRecordOf, RowIsInTime}
+use Rattle.msr_record.specs.Written.{IsWritten}
+use Rattle.msr_record.specs.declared.row.Row.{Row}
+use Rattle.msr_segments.specs.Segments.{AreSegments}
+use Rattle.msr_segments.specs.declared.joiner.Segment.{Segment}
+
+-- a segment, the runs that it is cut into, and the samples that show that fewer do not suffice
+pub record Packed : Type 0 where
+  pub segment : Segment
+  pub runs : List Run
+  pub separators : List ℕ
+
+abbrev pub segment_of_packed : Packed → Segment
+segment_of_packed packed = packed.segment
+
+-- The runs are a packing of the segment into records of so many bytes, and no packing has fewer. No two of the
+-- separators, which are as many as the runs, fit one record. Both are the one canonical choice.
+pub record IsPacked (size : ℕ) (packed : Packed) : Type 0 where
+  pub packing : IsPacking size packed.segment.samples packed.runs
+  pub least : IsLeast size packed.segment.samples packed.runs
+  pub separating : IsSeparating size packed.segment.samples packed.separators
+  pub as_many : length packed.runs ≡ length packed.separators
+  pub canonical : IsCanonical size packed.segment.samples packed.runs packed.separators
+
+-- the sample before a run of a segment, if there is one
+abbrev pub sample_before : List ℤ → ℕ → Option ℤ
+sample_before samples zero = None
+sample_before samples (suc i) = slice_get samples i
+
+-- The row of a run: the segment's key, the rounded nominal instant of its first sample, counted from the
+-- segment's start, and its samples.
+pub record IsRowOfRun (segment : Segment) (run : Run) (row : Row) : Type 0 where
+  pub key : row.key ≡ segment.key
+  pub start : IsRoundedNominal segment.key.rate segment.start run.start row.start
+  pub kind : row.kind ≡ run.kind
+  pub samples : row.samples ≡ slice_range segment.samples run.start run.end
+
+-- The bytes are the record of the run with that sequence number, of so many bytes. Whatever follows, they have
+-- that row; and where its own times are of the supported years, they are a record without a fault, whose reverse
+-- constant agrees.
+pub record IsRecordOfRun (size number : ℕ) (segment : Segment) (run : Run) (row : Row) (bytes : List ℕ) : Type 0 where
+  pub of_run : IsRowOfRun segment run row
+  pub size_is : length bytes ≡ size
+  pub written : IsWritten bytes segment.key row.start number (sample_before segment.samples run.start) row.samples run.kind size
+  pub decodes : (rest : List ℕ) → IsRowOf (bytes ++ rest) row
+  pub reads : (rest : List ℕ) → RowIsInTime row → IsRecordOf (bytes ++ rest) (record { length = size; row = Some row; reverse_agrees = true })
+
+-- sequence numbers run from 1 to 999999, and then again from 1
+abbrev pub next_number : ℕ → ℕ
+next_number number = if number == 999_999 then 1 else number + 1
+
+-- a segment and one of its runs
+pub record Cut : Type 0 where
+  pub segment : Segment
+  pub run : Run
+
+abbrev pub cuts_of : Packed → List Cut
+cuts_of packed = map (λ run. record { segment = packed.segment; run = run }) packed.runs
+
+-- the sequence number behind those of these cuts
+abbrev pub number_after : ℕ → List Cut → ℕ
+number_after number [] = number
+number_after number (cut ∷ cuts) = number_after (next_number number) cuts
+
+-- The first of these cuts is a record.
+pub record WritesFirst (size number : ℕ) (cut : Cut) (rows : List Row) (bytes : List ℕ) (other_rows : List Row) (rest : List ℕ) : Type 0 where
+  pub row : Row
+  pub first : List ℕ
+  pub is_record : IsRecordOfRun size number cut.segment cut.run row first
+  pub all_rows : rows ≡ row ∷ other_rows
+  pub all_bytes : bytes ≡ first ++ rest
+
+-- the bytes are the records of these cuts, one after another, from this sequence number on; these are their rows
+abbrev pub AreWritten : ℕ → ℕ → List Cut → List Row → List ℕ → Type 0
+AreWritten size number [] rows bytes = (rows ≡ []) × (bytes ≡ [])
+AreWritten size number (cut ∷ cuts) rows bytes = (other_rows : List Row) × (rest : List ℕ) × WritesFirst size number cut rows bytes other_rows rest × AreWritten size (next_number number) cuts other_rows rest
+
+-- The output of these segments, each packed so, in records of so many bytes; these are the rows of the records.
+pub record IsOutput (size : ℕ) (packed : List Packed) (rows : List Row) (bytes : List ℕ) : Type 0 where
+  pub packings : All (IsPacked size) packed
+  pub records : AreWritten size 1 (flat_map cuts_of packed) rows bytes
+
+-- the front of the output of some first ones of these segments
+pub record IsFrontOfOutput (size : ℕ) (segments : List Segment) (bytes : List ℕ) : Type 0 where
+  pub packed : List Packed
+  pub others : List Segment
+  pub rows : List Row
+  pub tail : List ℕ
+  pub some_first : segments ≡ map segment_of_packed packed ++ others
+  pub output : IsOutput size packed rows (bytes ++ tail)
+
+-- segments have at most one output
+abbrev pub OneOutput : Type 0
+OneOutput =
+    (size : ℕ) (packed others : List Packed) (rows more : List Row) (bytes text : List ℕ)
+    → map segment_of_packed packed ≡ map segment_of_packed others
+    → IsOutput size packed rows bytes
+    → IsOutput size others more text
+    → (packed ≡ others) × (rows ≡ more) × (bytes ≡ text)
+
+-- The rows of an output of the segments of some rows have the same segments, for every tolerance of at least a
+-- microsecond.
+abbrev pub OutputKeepsSegments : Type 0
+OutputKeepsSegments =
+    (size tolerance : ℕ) (rows written : List Row) (packed : List Packed) (bytes : List ℕ) → 1 ≤ tolerance
+    → AreSegments tolerance rows (map segment_of_packed packed)
+    → All (λ (p : Packed). 1 ≤ length p.segment.samples) packed
+    → IsOutput size packed written bytes
+    → AreSegments tolerance written (map segment_of_packed packed)
+
+-- an output has as many bytes as its records have in all
+abbrev pub count_of_runs : List Packed → ℕ
+count_of_runs [] = 0
+count_of_runs (packed ∷ others) = length packed.runs + count_of_runs others
+
+abbrev pub OutputHasSize : Type 0
+OutputHasSize =
+    (size : ℕ) (packed : List Packed) (rows : List Row) (bytes : List ℕ) → IsOutput size packed rows bytes
+    → length bytes ≡ size * count_of_runs packed

@@ -1,0 +1,63 @@
+-- What a writer of segments shows, and what writing does.
+use Rattle.std.specs.Prelude.{◌≡◌, ℕ, ◌+◌, ◌<◌, ◌≤◌, ◌^◌, List, [], ◌∷◌, ◌++◌, length, map}
+use Rattle.std.specs.List.{flat_map}
+use Rattle.msr_devices.specs.Device.{Device, Takes, HasFailed, IsCalm, IsSteady}
+use Rattle.msr_record.specs.declared.row.Row.{Row}
+use Rattle.msr_segments.specs.declared.joiner.Segment.{Segment}
+use Rattle.msr_report.specs.declared.report.SegmentLine.{SegmentLine}
+use Rattle.msr_output.specs.Output.{Packed, IsOutput, IsFrontOfOutput, number_after, cuts_of, segment_of_packed}
+use Rattle.msr_output.specs.declared.fault.WriteFault.{WriteFault}
+use Rattle.msr_output.specs.declared.fault.WriteFault.TheVariants.{Write, Memory}
+
+-- what a writer shows: the length of its records, the next sequence number, and the bytes that wait
+pub record Writing : Type 0 where
+  pub size : ℕ
+  pub number : ℕ
+  pub waiting : List ℕ
+
+-- the line of a segment that is packed so
+pub record IsLineOf (packed : Packed) (line : SegmentLine) : Type 0 where
+  pub key : line.key ≡ packed.segment.key
+  pub start : line.start ≡ packed.segment.start
+  pub samples : line.samples ≡ length packed.segment.samples
+  pub records : line.records ≡ length packed.runs
+  pub separators : line.separators.items ≡ packed.separators
+
+-- From the one state of the sink to the other a front of the output of these segments was written; the rest waits.
+pub record HasWritten (start now : Device) (writing : Writing) (packed : List Packed) (rows : List Row) : Type 0 where
+  pub bytes : List ℕ
+  pub taken : List ℕ
+  pub output : IsOutput writing.size packed rows bytes
+  pub next : writing.number ≡ number_after 1 (flat_map cuts_of packed)
+  pub takes : Takes start now taken
+  pub whole : bytes ≡ taken ++ writing.waiting
+  pub moved : now.moved ≡ start.moved + length taken
+  pub short : 0 < length taken → now.moved < 2 ^ 64
+  pub calm : IsCalm start now
+
+-- all of it was written, and fewer bytes than a sink accepts at most
+pub record HasWrittenAll (start now : Device) (writing : Writing) (packed : List Packed) (rows : List Row) : Type 0 where
+  pub bytes : List ℕ
+  pub output : IsOutput writing.size packed rows bytes
+  pub takes : Takes start now bytes
+  pub short : length bytes < 2 ^ 64
+  pub calm : IsCalm start now
+
+-- the segment was packed and stands behind the others, and this is its line
+pub record WritesSegment (start now : Device) (writing : Writing) (packed : List Packed) (segment : Segment) (line : SegmentLine) : Type 0 where
+  pub more : Packed
+  pub rows : List Row
+  pub same : more.segment ≡ segment
+  pub written : HasWritten start now writing (packed ++ more ∷ []) rows
+  pub is_line : IsLineOf more line
+
+-- a front of the output of some first ones of these segments was written
+pub record HasWrittenFront (size : ℕ) (start now : Device) (segments : List Segment) : Type 0 where
+  pub taken : List ℕ
+  pub takes : Takes start now taken
+  pub front : IsFrontOfOutput size segments taken
+
+-- The sink failed; or memory was refused, and the sink did not fail.
+abbrev pub StopsWriting : ℕ → Device → Device → List Segment → WriteFault → Type 0
+StopsWriting size start now segments Write = HasWrittenFront size start now segments × HasFailed start now
+StopsWriting size start now segments Memory = HasWrittenFront size start now segments × IsSteady start now

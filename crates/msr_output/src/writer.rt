@@ -1,0 +1,65 @@
+// The contracts are those that the layers above stand on; fields, bodies and helpers are still to be written.
+use crate::fault::WriteFault;
+use msr_devices::{Sink, WriteBuffer};
+use msr_report::SegmentLine;
+use msr_segments::Segment;
+use msr_words::Length;
+use std::alloc::Global;
+use std::marker::Model;
+
+/// Writes segments as records of one length, and numbers these. All calls take the same sink.
+#[derive(Drop)]
+pub struct SegmentWriter {
+    alloc: Global,
+    length: Length,
+    number: u32,
+    buffer: WriteBuffer,
+}
+
+impl Model for SegmentWriter {
+    ghost use Rattle.msr_words.specs.Lengths.{bytes_of};
+    ghost use Rattle.msr_output.specs.Writing.{Writing};
+
+    ghost Value = { Writing };
+
+    ghost view = { λ w. record { size = bytes_of w.length; number = w.number; waiting = w.buffer.bytes.items } };
+}
+
+impl SegmentWriter {
+    ghost use Rattle.std.specs.Prelude.{◌≡◌, ◌≤◌, List, [], ◌∷◌, ◌++◌, length, map, MatchResult, false, IsTrue};
+    ghost use Rattle.msr_words.specs.Lengths.{bytes_of};
+    ghost use Rattle.msr_header.specs.Reading.{is_quality};
+    ghost use Rattle.msr_record.specs.Correction.{is_pending};
+    ghost use Rattle.msr_record.specs.declared.row.Row.{Row};
+    ghost use Rattle.msr_devices.specs.Device.{Device, CanCountCall, CountsFew};
+    ghost use Rattle.msr_segments.specs.Segments.{SegmentIsInTime};
+    ghost use Rattle.msr_output.specs.Output.{Packed, segment_of_packed};
+    ghost use Rattle.msr_output.specs.Writing.{HasWritten, HasWrittenAll, WritesSegment, StopsWriting};
+
+    /// A writer before the first record. It takes no memory yet.
+    pub fn new(alloc: Global, length: Length) -> SegmentWriter
+        ensures size { result.size ≡ bytes_of length }
+        ensures none { (start : Device) → HasWritten start start result [] [] }
+
+    /// Packs the segment, puts its records behind those that wait, and writes in pieces of 64 KiB.
+    pub fn write_segment<W: Sink>(&mut self, sink: &mut W, segment: &Segment) -> Result<SegmentLine, WriteFault>
+        requires count { CanCountCall (W.device sink.old) }
+        requires quality { IsTrue (is_quality segment.now.key.quality) }
+        requires normal { is_pending segment.now.key.activity segment.now.key.correction ≡ false }
+        requires in_time { SegmentIsInTime segment.now }
+        ensures written { (start : Device) (packed : List Packed) (rows : List Row) → HasWritten start (W.device sink.old) self.old packed rows
+            → MatchResult result
+                (WritesSegment start (W.device sink.new) self.new packed segment.now)
+                (StopsWriting self.old.size start (W.device sink.new) (map segment_of_packed packed ++ segment.now ∷ [])) }
+        ensures size { self.new.size ≡ self.old.size }
+        ensures few { CountsFew (W.device sink.old) (W.device sink.new) }
+
+    /// Writes all that waits.
+    pub fn finish<W: Sink>(self, sink: &mut W) -> Result<(), WriteFault>
+        requires { CanCountCall (W.device sink.old) }
+        ensures written { (start : Device) (packed : List Packed) (rows : List Row) → HasWritten start (W.device sink.old) self packed rows
+            → MatchResult result
+                (λ _. HasWrittenAll start (W.device sink.new) self packed rows)
+                (StopsWriting self.size start (W.device sink.new) (map segment_of_packed packed)) }
+        ensures few { CountsFew (W.device sink.old) (W.device sink.new) }
+}
