@@ -1,1 +1,4 @@
-
+pub mod Words
+pub mod Days
+pub mod OneText
+pub mod Written

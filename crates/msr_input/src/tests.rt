@@ -1,0 +1,274 @@
+//! What readers do, which no clause says: printed faults, sources that play, and each call once.
+use crate::{Fault, ReadFault, SegmentReader};
+use msr_devices::{Behavior, FillFault, TestSource};
+use msr_header::HeaderFault;
+use msr_record::FaultKind;
+use msr_report::Counts;
+use msr_segments::Segment;
+use std::alloc::Global;
+use std::process::Abort;
+use std::test::Fail;
+
+// 48 samples of 0 from 2020-01-01 00:00:00 at 20 per second, as numbers of 32 bits, in a record of 256 bytes.
+const HEADER: [u8; 64] = [
+    0x30, 0x30, 0x30, 0x30, 0x30, 0x31, 0x44, 0x20, 0x54, 0x45, 0x53, 0x54, 0x20, 0x30, 0x30, 0x42,
+    0x48, 0x5a, 0x58, 0x58, 0x07, 0xe4, 0x00, 0x01, 0x00, 0x00, 0x00, 0x00, 0x00, 0x00, 0x00, 0x30,
+    0x00, 0x14, 0x00, 0x01, 0x00, 0x00, 0x00, 0x02, 0x00, 0x00, 0x00, 0x00, 0x00, 0x40, 0x00, 0x30,
+    0x03, 0xe8, 0x00, 0x38, 0x03, 0x01, 0x08, 0x00, 0x03, 0xe9, 0x00, 0x00, 0x00, 0x00, 0x00, 0x00,
+];
+
+const START: i64 = 1_577_836_800_000_000;
+
+// Edits of the record, each with its place: without samples,
+const EMPTY: &[(usize, &[u8])] = &[(30, &[0x00, 0x00])];
+
+// where those samples end, 2.4 seconds later, and a second after that;
+const NEXT: &[(usize, &[u8])] = &[(26, &[0x02, 0x00, 0x0f, 0xa0])];
+
+const LATER: &[(usize, &[u8])] = &[(26, &[0x03, 0x00, 0x0f, 0xa0])];
+
+// at the end of 2100, and where those samples end but for 6 milliseconds;
+const NEAR_THE_END: &[(usize, &[u8])] = &[(
+    20,
+    &[0x08, 0x34, 0x01, 0x6d, 0x17, 0x3b, 0x37, 0x00, 0x09, 0xce],
+)];
+
+const AT_THE_END: &[(usize, &[u8])] = &[(
+    20,
+    &[0x08, 0x34, 0x01, 0x6d, 0x17, 0x3b, 0x39, 0x00, 0x19, 0x32],
+)];
+
+// one sample of 0 as Steim-2, whose reverse constant is 1.
+const MISMATCHED: &[(usize, &[u8])] = &[
+    (26, &[0x0a, 0x00, 0x00, 0x00]),
+    (30, &[0x00, 0x01]),
+    (52, &[0x0b]),
+    (63, &[0x03]),
+    (64, &[0x01, 0x00, 0x00, 0x00]),
+    (75, &[0x01]),
+];
+
+const WHOLE: Behavior = Behavior {
+    most: 65_536,
+    interruptions: 0,
+    fails_at: None,
+};
+
+// The record after some edits.
+fn record(rt: &impl Abort, edits: &[(usize, &[u8])]) -> [u8; 256] {
+    let mut bytes = [0; 256];
+    bytes[..64].copy_from_slice(&HEADER);
+    for (at, values) in edits {
+        for (place, value) in values.iter().enumerate() {
+            match bytes.get_mut(at.saturating_add(place)) {
+                Some(byte) => *byte = *value,
+                None => panic!(rt; "no byte {at}"),
+            }
+        }
+    }
+    bytes
+}
+
+// Records one after another.
+fn two(first: &[u8; 256], second: &[u8; 256]) -> [u8; 512] {
+    let mut bytes = [0; 512];
+    bytes[..256].copy_from_slice(first);
+    bytes[256..].copy_from_slice(second);
+    bytes
+}
+
+fn three(first: &[u8; 256], second: &[u8; 256], third: &[u8; 256]) -> [u8; 768] {
+    let mut bytes = [0; 768];
+    bytes[..512].copy_from_slice(&two(first, second));
+    bytes[512..].copy_from_slice(third);
+    bytes
+}
+
+// Two records that join, and an empty one between them.
+fn joining(rt: &impl Abort) -> [u8; 768] {
+    three(&record(rt, &[]), &record(rt, EMPTY), &record(rt, NEXT))
+}
+
+// Where a segment begins, and how many samples it has.
+type Place = (i64, usize);
+
+// The place of the segment that was given, where one was.
+fn given(rt: &impl Abort, next: Result<Option<Segment>, ReadFault>) -> Option<Place> {
+    match next {
+        Ok(Some(segment)) => Some((segment.start, segment.samples.len())),
+        Ok(None) => None,
+        Err(fault) => panic!(rt; "{fault}"),
+    }
+}
+
+// The first two segments that end before the last one of these bytes, the last one, and the counts.
+fn segments_of(
+    rt: &impl Abort,
+    alloc: Global,
+    bytes: &[u8],
+    behavior: Behavior,
+) -> (Option<Place>, Option<Place>, Option<Place>, Counts) {
+    let mut source = TestSource::new(bytes, behavior);
+    let mut reader = SegmentReader::new(alloc, 10_000);
+    let first = given(rt, reader.next_segment(&mut source));
+    let second = given(rt, reader.next_segment(&mut source));
+    let third = given(rt, reader.next_segment(&mut source));
+    assert_eq!(rt; third, None);
+    let counts = reader.counts();
+    let last = reader
+        .finish()
+        .map(|segment| (segment.start, segment.samples.len()));
+    (first, second, last, counts)
+}
+
+// How many segments were given before the bytes were refused, and why they are; the second call tells it again.
+fn fault_of(rt: &impl Abort, alloc: Global, bytes: &[u8]) -> (u32, ReadFault) {
+    let mut source = TestSource::new(bytes, WHOLE);
+    let mut reader = SegmentReader::new(alloc, 10_000);
+    let first = reader.next_segment(&mut source);
+    let second = reader.next_segment(&mut source);
+    match (first, second) {
+        (Err(fault), Err(again)) => {
+            assert_eq!(rt; fault, again);
+            (0, fault)
+        }
+        (Ok(Some(_)), Err(fault)) => (1, fault),
+        _ => panic!(rt; "no fault"),
+    }
+}
+
+#[test]
+fn an_empty_record_between_two_that_join(rt: HostRuntime) {
+    let found = segments_of(&rt, rt.alloc(), &joining(&rt), WHOLE);
+    let counts = Counts {
+        read: 3,
+        empty: 1,
+        mismatched: 0,
+    };
+    assert_eq!(rt; found, (None, None, Some((START, 96)), counts));
+}
+
+#[test]
+fn segments_end_at_a_gap(rt: HostRuntime) {
+    let bytes = three(
+        &record(&rt, &[]),
+        &record(&rt, LATER),
+        &record(&rt, MISMATCHED),
+    );
+    let counts = Counts {
+        read: 3,
+        empty: 0,
+        mismatched: 1,
+    };
+    let want = (
+        Some((START, 48)),
+        Some((START + 3_400_000, 48)),
+        Some((START + 10_000_000, 1)),
+        counts,
+    );
+    assert_eq!(rt; segments_of(&rt, rt.alloc(), &bytes, WHOLE), want);
+}
+
+#[test]
+fn no_bytes(rt: HostRuntime) {
+    let counts = Counts {
+        read: 0,
+        empty: 0,
+        mismatched: 0,
+    };
+    assert_eq!(rt;
+        segments_of(&rt, rt.alloc(), &[], WHOLE),
+        (None, None, None, counts)
+    );
+}
+
+#[test]
+fn one_byte_for_each_read_between_interruptions(rt: HostRuntime) {
+    let slow = Behavior {
+        most: 1,
+        interruptions: 63,
+        fails_at: None,
+    };
+    let (first, second, last, counts) = segments_of(&rt, rt.alloc(), &joining(&rt), slow);
+    assert_eq!(rt; (first, second, last), (None, None, Some((START, 96))));
+    assert_eq!(rt; counts.read, 3);
+}
+
+// What the first call answers where the source plays so.
+fn failure_of(rt: &impl Abort, alloc: Global, bytes: &[u8], behavior: Behavior) -> ReadFault {
+    let mut source = TestSource::new(bytes, behavior);
+    let mut reader = SegmentReader::new(alloc, 10_000);
+    match reader.next_segment(&mut source) {
+        Ok(_) => panic!(rt; "no failure"),
+        Err(fault) => fault,
+    }
+}
+
+// A source that fails is neither taken for one that has ended, nor for one with a fault.
+#[test]
+fn failures(rt: HostRuntime) {
+    let bytes = joining(&rt);
+    for fails_at in 0u64..=9 {
+        let behavior = Behavior {
+            most: 90,
+            interruptions: 1,
+            fails_at: Some(fails_at),
+        };
+        let fault = failure_of(&rt, rt.alloc(), &bytes, behavior);
+        assert_eq!(rt; fault, ReadFault::Read, "at {fails_at}");
+    }
+    let interrupted = Behavior {
+        most: 90,
+        interruptions: 64,
+        fails_at: None,
+    };
+    assert_eq!(rt;
+        failure_of(&rt, rt.alloc(), &bytes, interrupted),
+        ReadFault::Read
+    );
+}
+
+#[test]
+fn faults_stand_at_their_records(rt: HostRuntime) -> Result<(), Fail> {
+    let joined = joining(&rt);
+    let refused = record(&rt, &[(56, &[0x01, 0xf4])]);
+    let gaps = three(&record(&rt, &[]), &record(&rt, LATER), &refused);
+
+    // the second row joins some milliseconds before its nominal start, so its last sample counts as of 2101
+    let end = three(
+        &record(&rt, NEAR_THE_END),
+        &record(&rt, AT_THE_END),
+        &refused,
+    );
+    let rows: [(&[u8], u32, &str); 6] = [
+        (&joined[..300], 0, "offset 256: 1 Truncated"),
+        (&joined[..511], 0, "offset 256: 10 RecordCut"),
+        (&joined[..513], 0, "offset 512: 1 Truncated"),
+        (&joined[1..], 0, "offset 0: 2 NotARecord"),
+        (&gaps, 1, "offset 512: 5 OtherBlockette 500"),
+        (&end, 0, "offset 256: 17 TimeRange"),
+    ];
+    for (bytes, segments, want) in rows {
+        let (given, fault) = fault_of(&rt, rt.alloc(), bytes);
+        assert_eq!(rt; given, segments, "{want}");
+        assert_eq!(rt; format!(in rt.alloc(); "{fault}")?.as_str(), want);
+    }
+    Ok(())
+}
+
+#[test]
+fn texts(rt: HostRuntime) -> Result<(), Fail> {
+    let kind = FaultKind::Header(HeaderFault::OtherBlockette(500));
+    let fault = Fault { offset: 0, kind };
+    let text = format!(in rt.alloc(); "{fault}")?;
+    assert_eq!(rt; text.as_str(), "offset 0: 5 OtherBlockette 500");
+    let rows: [(ReadFault, &str); 3] = [
+        (ReadFault::Input(fault), "offset 0: 5 OtherBlockette 500"),
+        (FillFault::Read.into(), "read fault"),
+        (FillFault::Memory.into(), "out of memory"),
+    ];
+    for (fault, want) in rows {
+        assert_eq!(rt; format!(in rt.alloc(); "{fault}")?.as_str(), want);
+    }
+    Ok(())
+}
