@@ -1,9 +1,9 @@
 -- What a reader has read, step by step, and why it stops.
-use Rattle.std.proofs.Common.{◌≡◌, ◌≢◌, ℕ, ◌+◌, ◌^◌, ◌<◌, ◌≤◌, ◌-◌, suc, ◌⊎◌, inl, inr, Bool, true, false, List, [], ◌∷◌, ◌++◌, length, drop, refl, sym, ap, subst, ◌∙◌, arith, append_assoc, length-append, length-drop, Option, Some, None, All, get_or, IfSome}
+use Rattle.std.proofs.Common.{◌≡◌, ◌≢◌, ℕ, ◌+◌, ◌^◌, ◌<◌, ◌≤◌, ◌-◌, suc, ◌⊎◌, inl, inr, Bool, true, false, List, [], ◌∷◌, ◌++◌, length, drop, refl, sym, ap, subst, ◌∙◌, arith, append_assoc, length-append, length-drop, Option, Some, None, All, get_or, IfSome, IsSome}
 use Rattle.std.specs.Option.{option_to_list}
 use Rattle.std.proofs.lemmas.List.{append-nil, get_or_append_left, drop-append-le}
 use Rattle.std.proofs.lemmas.List.Elements.{All-append}
-use Rattle.msr_record.specs.Records.{IsRecordOf, IsRowOf, IsRefused, RowIsInTime}
+use Rattle.msr_record.specs.Records.{IsRecordOf, IsRowOf, IsRefused, RowIsInTime, TakesMemory}
 use Rattle.msr_record.specs.declared.row.Record.{Record}
 use Rattle.msr_record.specs.declared.row.Row.{Row}
 use Rattle.msr_record.specs.declared.fault.FaultKind.{FaultKind}
@@ -32,6 +32,7 @@ abbrev pub at_window : Window → Joining → Counts → ℕ → Reading
 at_window window joining counts offset = record {
   waiting = window.bytes;
   ended = window.ended;
+  room = window.room;
   joining = joining;
   counts = counts;
   offset = offset;
@@ -268,7 +269,7 @@ in-range-more old records given found none joined in_time no_overrun before afte
     ]
 
 -- after a record was taken
-pub read-taken : (s a : Device) (reading : Reading) (new : Joining) (counts : Counts) (offset : ℕ) (records : List Record) (given : List Segment) (found : Record) (ended : Option Segment) → HasRead s a reading records given → IsRecordOf reading.waiting found → JoinsRecord reading.joining found.row ended new → counts ≡ counts_of (records ++ found ∷ []) → offset ≡ reading.offset + found.length → HasRead s a (record { waiting = drop found.length reading.waiting; ended = reading.ended; joining = new; counts = counts; offset = offset }) (records ++ found ∷ []) (given ++ option_to_list ended)
+pub read-taken : (s a : Device) (reading : Reading) (new : Joining) (counts : Counts) (offset : ℕ) (records : List Record) (given : List Segment) (found : Record) (ended : Option Segment) → HasRead s a reading records given → IsRecordOf reading.waiting found → JoinsRecord reading.joining found.row ended new → counts ≡ counts_of (records ++ found ∷ []) → offset ≡ reading.offset + found.length → HasRead s a (record { waiting = drop found.length reading.waiting; ended = reading.ended; room = reading.room; joining = new; counts = counts; offset = offset }) (records ++ found ∷ []) (given ++ option_to_list ended)
 read-taken s a reading new counts offset records given found ended has is joins counts_are offset_is =
     let old = reading.joining in
     let fits = record_fits reading.waiting found is in
@@ -342,3 +343,12 @@ given-writable s a reading records given segment has =
 pub last-writable : (s a : Device) (reading : Reading) (records : List Record) (given : List Segment) (segment : Segment) → HasRead s a reading records given → reading.joining.current ≡ Some segment → IsWritable segment
 last-writable s a reading records given segment has current =
     all-last IsWritable given segment (subst (λ (last : Option Segment). All IsWritable (given ++ option_to_list last)) current has.writable)
+
+row-takes : (bytes : List ℕ) (row : Option Row) → IsSome row → IfSome row (IsRowOf bytes) → TakesMemory bytes
+row-takes bytes None some is = absurd cc
+row-takes bytes (Some row) some is = record { header = is.header; kind = row.kind; has_area = is.has_area }
+
+-- want of memory for a row comes only where there is one
+pub join-memory : (bytes : List ℕ) (old : Joining) (found : Record) (offset : ℕ) (why : ReadFault) → IsRecordOf bytes found → StopsJoining old found.row offset why → why ≡ fault.Memory → TakesMemory bytes
+join-memory bytes old found offset why is stop e =
+    row-takes bytes found.row (subst (λ (w : ReadFault). StopsJoining old found.row offset w) e stop) is.row

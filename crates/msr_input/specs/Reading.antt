@@ -1,8 +1,9 @@
 -- What a reader of segments shows, and what reading does.
-use Rattle.std.specs.Prelude.{◌≡◌, ℕ, ◌+◌, ◌-◌, ◌<◌, ◌≤◌, ◌^◌, Bool, true, false, List, [], ◌++◌, length, All, IsTrue}
+use Rattle.std.specs.Prelude.{◌≡◌, ◌⊎◌, ℕ, ◌+◌, ◌-◌, ◌<◌, ◌≤◌, ◌^◌, Bool, true, false, List, [], ◌++◌, length, All, IsTrue}
 use Rattle.std.specs.Option.{option_to_list}
 use Rattle.msr_header.specs.Reading.{is_quality}
 use Rattle.msr_record.specs.Correction.{is_pending}
+use Rattle.msr_record.specs.Records.{TakesMemory}
 use Rattle.msr_record.specs.declared.row.Record.{Record}
 use Rattle.msr_devices.specs.Device.{Device, HasLeft, HasFailed, IsCalm, IsSteady}
 use Rattle.msr_segments.specs.Segments.{SegmentIsInTime}
@@ -14,11 +15,12 @@ use Rattle.msr_input.specs.declared.fault.Fault.{Fault}
 use Rattle.msr_input.specs.declared.fault.ReadFault.{ReadFault}
 use Rattle.msr_input.specs.declared.fault.ReadFault.TheVariants.{Input, Read, Memory}
 
--- what a reader shows: the bytes that came and are not yet used, whether the source has ended behind them, its
--- joiner, the counts of the records so far, and how many bytes these have
+-- what a reader shows: the bytes that came and are not yet used, whether the source has ended behind them, for
+-- how many bytes it has memory, its joiner, the counts of the records so far, and how many bytes these have
 pub record Reading : Type 0 where
   pub waiting : List ℕ
   pub ended : Bool
+  pub room : ℕ
   pub joining : Joining
   pub counts : Counts
   pub offset : ℕ
@@ -26,6 +28,10 @@ pub record Reading : Type 0 where
 -- how many bytes are left to read at most, of a source that gives fewer than 2^64
 abbrev pub left_to_read : Device → Reading → ℕ
 left_to_read source reading = (2 ^ 64 - source.moved) + length reading.waiting
+
+-- Memory is taken: once for the bytes that are read ahead, and for the samples of the next record.
+abbrev pub TakesMemoryNext : Reading → Type 0
+TakesMemoryNext reading = (reading.room < 2_162_688) ⊎ TakesMemory reading.waiting
 
 -- the segment can be written: its quality is D, R, Q or M, its correction in normal form, its samples are of
 -- the supported years, and it has some

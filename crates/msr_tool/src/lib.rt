@@ -18,3 +18,6 @@ pub use msr_devices::{FromRead, FromWrite, Sink, Source, TestSink, TestSource};
 pub use msr_input::Fault;
 pub use msr_report::{Counts, Report, SegmentLine, TextFault};
 pub use options::Options;
+
+#[cfg(test)]
+mod tests;
