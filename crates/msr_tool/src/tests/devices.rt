@@ -1,5 +1,7 @@
 //! Devices that move few bytes at a time, are interrupted, and fail at each of their calls in turn.
-use crate::tests::fixtures::{Edits, Outcome, PLAIN, choice, edited, repacked, repacked_through, steim};
+use crate::tests::fixtures::{
+    Edits, Outcome, PLAIN, choice, edited, repacked, repacked_through, steim,
+};
 use crate::{FromRead, FromWrite, Options, TestSink, TestSource, ToolFault, repack};
 use msr_devices::Behavior;
 use std::alloc::Global;
@@ -21,8 +23,16 @@ fn a_byte_at_a_time(rt: HostRuntime) -> Result<(), Fail> {
     for (reading, writing, answer) in [
         (in_pieces(1, 0, None), in_pieces(1, 0, None), None),
         (in_pieces(1, 63, None), in_pieces(1, 63, None), None),
-        (in_pieces(1, 64, None), in_pieces(1, 63, None), Some(ToolFault::Read)),
-        (in_pieces(1, 63, None), in_pieces(1, 64, None), Some(ToolFault::Write)),
+        (
+            in_pieces(1, 64, None),
+            in_pieces(1, 63, None),
+            Some(ToolFault::Read),
+        ),
+        (
+            in_pieces(1, 63, None),
+            in_pieces(1, 64, None),
+            Some(ToolFault::Write),
+        ),
     ] {
         let Outcome {
             answer: found,
@@ -63,7 +73,9 @@ fn accepting_nothing(
     let mut sink = TestSink::accepting_nothing(Vec::new(alloc), writing);
     let answer = repack(alloc, &mut source, &mut sink, options);
     let bytes = sink.bytes();
-    usual.starts_with(bytes).then_some((answer.err(), bytes.len()))
+    usual
+        .starts_with(bytes)
+        .then_some((answer.err(), bytes.len()))
 }
 
 #[test]

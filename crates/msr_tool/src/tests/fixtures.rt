@@ -1,5 +1,6 @@
 //! Records worked out by hand, inputs made of samples, and one call of the engine.
-ghost use Rattle.std.specs.Prelude.{◌<◌};
+ghost use Rattle.std.specs.Prelude.{◌<◌, IfOk};
+ghost use Rattle.msr_report.specs.Proper.{IsProper};
 
 use crate::{Options, Report, TestSink, TestSource, ToolFault, repack};
 use msr_devices::Behavior;
@@ -88,11 +89,7 @@ pub fn joined(alloc: Global, records: &[[u8; 256]]) -> Result<Vec<u8>, AllocErro
 }
 
 /// The records of 301 samples of 0, each after its edits.
-pub fn edited(
-    rt: &impl Abort,
-    alloc: Global,
-    records: &[Edits],
-) -> Result<Vec<u8>, AllocError> {
+pub fn edited(rt: &impl Abort, alloc: Global, records: &[Edits]) -> Result<Vec<u8>, AllocError> {
     let mut bytes = Vec::new(alloc);
     for edits in records {
         bytes.extend_from_slice(&steim(rt, edits))?;
@@ -172,7 +169,9 @@ pub fn repacked_through(
     options: Options,
     reading: Behavior,
     writing: Behavior,
-) -> Outcome {
+) -> Outcome
+    ensures proper { IfOk result.answer IsProper }
+{
     let mut source = TestSource::new(input, reading);
     let mut sink = TestSink::new(Vec::new(alloc), writing);
     let answer = repack(alloc, &mut source, &mut sink, options);
@@ -180,7 +179,9 @@ pub fn repacked_through(
 }
 
 /// The input repacked.
-pub fn repacked(alloc: Global, input: &[u8], options: Options) -> Outcome {
+pub fn repacked(alloc: Global, input: &[u8], options: Options) -> Outcome
+    ensures proper { IfOk result.answer IsProper }
+{
     repacked_through(alloc, input, options, PLAIN, PLAIN)
 }
 
@@ -190,7 +191,11 @@ pub fn shapes(alloc: Global, bytes: &[u8], size: usize) -> Result<Vec<(u16, u8)>
 {
     let mut shapes = Vec::new(alloc);
     for record in bytes.chunks(size) {
-        if let (Some(high), Some(low), Some(encoding)) = (record.get(30), record.get(31), record.get(52)) {
+        if let (Some(high), Some(low), Some(encoding)) = (
+            record.get(30),
+            record.get(31),
+            record.get(52),
+        ) {
             shapes.push((u16::from_be_bytes([*high, *low]), *encoding))?;
         }
     }

@@ -131,8 +131,7 @@ fn joins(rt: HostRuntime) -> Result<(), Fail> {
         records,
         counts,
         segments,
-    } in JOINED
-    {
+    } in JOINED {
         let input = edited(&rt, alloc, records)?;
         let Outcome { answer, sink } = repacked(alloc, &input, choice(&rt, 256, tolerance));
         let Ok(report) = answer else {
@@ -207,7 +206,10 @@ const TAKEN_OVER: [TakenOver; 10] = [
         name: "microseconds below 0",
         read: &[&[(61, &[0xce])]],
         written: &[&[
-            (20, &[0x07, 0xe3, 0x01, 0x6d, 0x17, 0x3b, 0x3b, 0x00, 0x27, 0x0f]),
+            (
+                20,
+                &[0x07, 0xe3, 0x01, 0x6d, 0x17, 0x3b, 0x3b, 0x00, 0x27, 0x0f],
+            ),
             (61, &[0x32]),
         ]],
         ..CORRECTED
@@ -238,17 +240,29 @@ const TAKEN_OVER: [TakenOver; 10] = [
     TakenOver {
         name: "the last seconds of the last year, the second record late by a microsecond",
         read: &[
-            &[(20, &[0x08, 0x34, 0x01, 0x6d, 0x17, 0x3b, 0x1d, 0x00, 0x23, 0x28])],
+            &[(
+                20,
+                &[0x08, 0x34, 0x01, 0x6d, 0x17, 0x3b, 0x1d, 0x00, 0x23, 0x28],
+            )],
             &[
-                (20, &[0x08, 0x34, 0x01, 0x6d, 0x17, 0x3b, 0x2c, 0x00, 0x25, 0x1c]),
+                (
+                    20,
+                    &[0x08, 0x34, 0x01, 0x6d, 0x17, 0x3b, 0x2c, 0x00, 0x25, 0x1c],
+                ),
                 (61, &[0x01]),
             ],
         ],
         written: &[
-            &[(20, &[0x08, 0x34, 0x01, 0x6d, 0x17, 0x3b, 0x1d, 0x00, 0x23, 0x28])],
+            &[(
+                20,
+                &[0x08, 0x34, 0x01, 0x6d, 0x17, 0x3b, 0x1d, 0x00, 0x23, 0x28],
+            )],
             &[
                 (5, &[0x32]),
-                (20, &[0x08, 0x34, 0x01, 0x6d, 0x17, 0x3b, 0x2c, 0x00, 0x25, 0x1c]),
+                (
+                    20,
+                    &[0x08, 0x34, 0x01, 0x6d, 0x17, 0x3b, 0x2c, 0x00, 0x25, 0x1c],
+                ),
             ],
         ],
         segments: &[602],
@@ -265,8 +279,7 @@ fn written_headers(rt: HostRuntime) -> Result<(), Fail> {
         written,
         counts,
         segments,
-    } in TAKEN_OVER
-    {
+    } in TAKEN_OVER {
         let input = edited(&rt, alloc, read)?;
         let Outcome { answer, sink } = repacked(alloc, &input, choice(&rt, 256, 1000));
         let Ok(report) = answer else {

@@ -57,12 +57,18 @@ fn records_that_are_refused(rt: HostRuntime) -> Result<(), Fail> {
         (256, &[(30, &[0x01, 0x2e])], "12 DataShort"),
         (
             256,
-            &[(64, &[0x02, 0xff, 0xff, 0xff]), (76, &[0x00, 0x00, 0x00, 0x00])],
+            &[
+                (64, &[0x02, 0xff, 0xff, 0xff]),
+                (76, &[0x00, 0x00, 0x00, 0x00]),
+            ],
             "13 BadCode 3",
         ),
         (
             256,
-            &[(20, &[0x08, 0x34, 0x01, 0x6d, 0x17, 0x3b, 0x3b, 0x00, 0x00, 0x00])],
+            &[(
+                20,
+                &[0x08, 0x34, 0x01, 0x6d, 0x17, 0x3b, 0x3b, 0x00, 0x00, 0x00],
+            )],
             "17 TimeRange",
         ),
         (256, &[(32, &[0x00, 0x00]), (52, &[0x04])], "14 NoRate"),
@@ -73,11 +79,23 @@ fn records_that_are_refused(rt: HostRuntime) -> Result<(), Fail> {
             panic!(rt; "no {length} bytes")
         };
         let first = format!(in alloc; "offset 0: {kind}")?;
-        refused(&rt, alloc, repacked(alloc, shown, options), first.as_str(), &[])?;
+        refused(
+            &rt,
+            alloc,
+            repacked(alloc, shown, options),
+            first.as_str(),
+            &[],
+        )?;
         let mut behind = good.to_vec(alloc)?;
         behind.extend_from_slice(shown)?;
         let second = format!(in alloc; "offset 256: {kind}")?;
-        refused(&rt, alloc, repacked(alloc, &behind, options), second.as_str(), &good)?;
+        refused(
+            &rt,
+            alloc,
+            repacked(alloc, &behind, options),
+            second.as_str(),
+            &good,
+        )?;
     }
     Ok(())
 }
@@ -110,14 +128,26 @@ fn inputs_that_are_refused(rt: HostRuntime) -> Result<(), Fail> {
 
     // The second begins 15.05 seconds after the first. Alone it ends in the year behind the last one.
     let late: [Edits; 2] = [
-        &[(20, &[0x08, 0x34, 0x01, 0x6d, 0x17, 0x3b, 0x1d, 0x00, 0x25, 0x1c])],
-        &[(20, &[0x08, 0x34, 0x01, 0x6d, 0x17, 0x3b, 0x2d, 0x00, 0x00, 0x00])],
+        &[(
+            20,
+            &[0x08, 0x34, 0x01, 0x6d, 0x17, 0x3b, 0x1d, 0x00, 0x25, 0x1c],
+        )],
+        &[(
+            20,
+            &[0x08, 0x34, 0x01, 0x6d, 0x17, 0x3b, 0x2d, 0x00, 0x00, 0x00],
+        )],
     ];
     // One microsecond earlier it ends in time, but not where it is counted from the first.
     let late_when_joined: [Edits; 2] = [
-        &[(20, &[0x08, 0x34, 0x01, 0x6d, 0x17, 0x3b, 0x1d, 0x00, 0x25, 0x1c])],
+        &[(
+            20,
+            &[0x08, 0x34, 0x01, 0x6d, 0x17, 0x3b, 0x1d, 0x00, 0x25, 0x1c],
+        )],
         &[
-            (20, &[0x08, 0x34, 0x01, 0x6d, 0x17, 0x3b, 0x2c, 0x00, 0x27, 0x0f]),
+            (
+                20,
+                &[0x08, 0x34, 0x01, 0x6d, 0x17, 0x3b, 0x2c, 0x00, 0x27, 0x0f],
+            ),
             (61, &[0x63]),
         ],
     ];

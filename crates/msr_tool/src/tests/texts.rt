@@ -35,8 +35,10 @@ end 1 segments 2 records
 fn reports(rt: HostRuntime) -> Result<(), Fail> {
     let alloc = rt.alloc();
     let rate = Rate::new(20, 1).ok_or("no rate")?;
-    let rows: [(&[i32], u32, usize, &str); 2] =
-        [(&[], 512, 0, NO_SEGMENTS), (&[0; 302], 256, 512, ONE_SEGMENT)];
+    let rows: [(&[i32], u32, usize, &str); 2] = [
+        (&[], 512, 0, NO_SEGMENTS),
+        (&[0; 302], 256, 512, ONE_SEGMENT),
+    ];
     for (samples, bytes, written, text) in rows {
         let input = input_of(&rt, alloc, rate, samples)?;
         let Outcome { answer, sink } = repacked(alloc, &input, choice(&rt, bytes, 1000));
@@ -135,7 +137,10 @@ fn choices(rt: HostRuntime) -> Result<(), Fail> {
             let options = Options::new(length, tolerance);
             assert_eq!(rt; options.is_some(), taken, "at {tolerance}");
             if let Some(options) = options {
-                assert_eq!(rt; (options.length(), options.tolerance()), (length, tolerance));
+                assert_eq!(rt;
+                    (options.length(), options.tolerance()),
+                    (length, tolerance)
+                );
             }
         }
     }
@@ -147,9 +152,18 @@ fn faults(rt: HostRuntime) -> Result<(), Fail> {
     let alloc = rt.alloc();
     let other = FaultKind::Header(HeaderFault::OtherBlockette(500));
     for (fault, text) in [
-        (ToolFault::Input(Fault { offset: 0, kind: other }), "offset 0: 5 OtherBlockette 500"),
         (
-            ToolFault::Input(Fault { offset: u64::MAX, kind: FaultKind::BadCode(3) }),
+            ToolFault::Input(Fault {
+                offset: 0,
+                kind: other,
+            }),
+            "offset 0: 5 OtherBlockette 500",
+        ),
+        (
+            ToolFault::Input(Fault {
+                offset: u64::MAX,
+                kind: FaultKind::BadCode(3),
+            }),
             "offset 18446744073709551615: 13 BadCode 3",
         ),
         (ToolFault::Read, "read fault"),

@@ -1,5 +1,4 @@
 use Rattle.std.proofs.Common.{arith, refl}
-use Rattle.msr_words.specs.RecordLength.{IsRecordLength}
 use Rattle.msr_program.proofs.words.default_length.Goals as goal
 
 pub unwrap-requires : goal.unwrap-requires
