@@ -1,6 +1,8 @@
 //! The program `msrepack`: reads its words, opens the input, then creates the output, and does what the words ask for.
 #![tactic(auto)]
 
+ghost use Rattle.std.specs.Prelude.{◌≡◌, ◌≤◌, ◌⊎◌};
+
 mod commands;
 mod devices;
 mod stop;
@@ -18,13 +20,18 @@ use std::process::ExitCode;
 use std::{env, io};
 
 // One line on standard error. Where that cannot be written nothing else can be told.
-fn complain(rt: &HostRuntime, status: u8, text: &str) -> u8 {
+fn complain(rt: &HostRuntime, status: u8, text: &str) -> u8
+    ensures { result ≡ status }
+{
     eprintln!(rt; "msrepack: {text}").ok();
     status
 }
 
 // Prints the text to end with, help and the version on standard output.
-fn end(rt: &HostRuntime, ending: &Ending) -> u8 {
+fn end(rt: &HostRuntime, ending: &Ending) -> u8
+    requires { (ending.now.status ≡ 0) ⊎ (ending.now.status ≡ 2) }
+    ensures { result ≤ 2 }
+{
     let text = ending.text.as_str();
     if ending.status != 0 {
         eprint!(rt; "{text}").ok();
@@ -35,7 +42,9 @@ fn end(rt: &HostRuntime, ending: &Ending) -> u8 {
 }
 
 // Does what the words ask for, and gives the status.
-fn obey(rt: &HostRuntime, alloc: Global, words: &[&str]) -> u8 {
+fn obey(rt: &HostRuntime, alloc: Global, words: &[&str]) -> u8
+    ensures { result ≤ 2 }
+{
     match read_words(alloc, words) {
         Ok(task) => match do_task(rt, alloc, task) {
             Ok(()) => 0,
