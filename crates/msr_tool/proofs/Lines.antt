@@ -11,7 +11,8 @@ use Rattle.msr_output.specs.Writing.{Writing, IsLineOf, HasWritten, HasWrittenFr
 use Rattle.msr_output.specs.declared.fault.WriteFault.{WriteFault}
 use Rattle.msr_output.specs.declared.fault.WriteFault.TheVariants as write
 use Rattle.msr_tool.specs.Fault.{fault_of_writing}
-use Rattle.msr_tool.specs.Writing.{Lined, AreLinesOf, HasLined, LinesMore, StopsLining}
+use Rattle.msr_tool.specs.Writing.{Lined, HasLined, LinesMore, StopsLining}
+use Rattle.msr_tool.specs.Answer.{AreLinesOf}
 use Rattle.msr_tool.specs.declared.fault.ToolFault.TheVariants.{Memory}
 
 pub lines-snoc : (packed : List Packed) (lines : List SegmentLine) (more : Packed) (line : SegmentLine) → AreLinesOf packed lines → IsLineOf more line → AreLinesOf (packed ++ more ∷ []) (lines ++ line ∷ [])

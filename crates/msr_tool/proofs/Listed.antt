@@ -1,5 +1,5 @@
 -- Lines written one behind another.
-use Rattle.std.proofs.Common.{◌≡◌, ◌⊎◌, inl, inr, ℕ, ◌+◌, ◌-◌, ◌^◌, ◌<◌, ◌≤◌, List, [], ◌∷◌, ◌++◌, ◌∙◌, length, refl, sym, ap, arith, append_assoc, length-append}
+use Rattle.std.proofs.Common.{◌≡◌, ◌⊎◌, inl, inr, ℕ, ◌+◌, ◌-◌, ◌^◌, ◌<◌, ◌≤◌, List, [], ◌∷◌, ◌++◌, ◌∙◌, length, codes, refl, sym, ap, arith, append_assoc, length-append}
 use Rattle.std.proofs.lemmas.List.{append-nil}
 use Rattle.std.proofs.lemmas.Bool.{cases_lt}
 use Rattle.msr_segments.specs.declared.joiner.Segment.{Segment}
@@ -8,7 +8,8 @@ use Rattle.msr_devices.specs.WriteBuffer.{Passes}
 use Rattle.msr_devices.proofs.Chaining.{takes-append, calm-calm}
 use Rattle.msr_report.specs.Text.{IsListLine, counts_line}
 use Rattle.msr_report.specs.declared.report.Counts.{Counts}
-use Rattle.msr_tool.specs.Listing.{AreListLines, HasListed, HasListedAll, HasListedFront, HasListedCut}
+use Rattle.msr_tool.specs.Listing.{AreListLines}
+use Rattle.msr_tool.specs.ListWriting.{HasListed, HasListedAll, HasListedFront, HasListedCut}
 
 pub lists-snoc : (segments : List Segment) (text line : List ℕ) (segment : Segment) → AreListLines segments text → IsListLine segment.key segment.start (length segment.samples) line → AreListLines (segments ++ segment ∷ []) (text ++ line)
 lists-snoc [] text line segment are is = rw are ([], record { line = line; is_line = is; whole = sym (append-nil line) }, refl)
@@ -20,7 +21,7 @@ lists-snoc (one ∷ segments) text line segment are is = (
 
 -- a line is not empty
 line-some : (segment : Segment) (line : List ℕ) → IsListLine segment.key segment.start (length segment.samples) line → 1 ≤ length line
-line-some segment line is = rw (is.is, length-append) (omega arith)
+line-some segment line is = rw (is.is, length-append (codes "segment ")) (omega arith)
 
 -- a further text behind the lines so far, some of which the sink accepts
 pub record Flows (start now : Device) (waiting : List ℕ) (text : List ℕ) : Type 0 where

@@ -5,6 +5,7 @@ use Rattle.msr_record.specs.declared.row.Record.{Record}
 use Rattle.msr_segments.specs.declared.joiner.Segment.{Segment}
 use Rattle.msr_devices.specs.Device.{Device, HasLeft, Takes, HasFailed, IsSteady, CountsFew, CanCountCall}
 use Rattle.msr_devices.proofs.Chaining.{left-of, steady-sound}
+use Rattle.msr_report.specs.declared.report.Counts.{Counts}
 use Rattle.msr_report.specs.declared.report.Report.{Report}
 use Rattle.msr_input.specs.Reading.{Reading, HasRead, StopsAfter, StopsReading}
 use Rattle.msr_input.specs.declared.fault.ReadFault.{ReadFault}
@@ -13,6 +14,7 @@ use Rattle.msr_output.specs.Writing.{HasWrittenFront}
 use Rattle.msr_tool.specs.Choice.{Choice, size_of}
 use Rattle.msr_tool.specs.Fault.{fault_of_reading}
 use Rattle.msr_tool.specs.Writing.{StopsSink, StopsLining}
+use Rattle.msr_tool.specs.ListWriting.{HasListedCut, HasListedFront, StopsListing, StopsListingAll}
 use Rattle.msr_tool.specs.Answer.{IsStopped, Answers}
 use Rattle.msr_tool.specs.declared.fault.ToolFault.{ToolFault}
 use Rattle.msr_tool.specs.declared.fault.ToolFault.TheVariants as fault
@@ -111,18 +113,38 @@ read-tells_sink sink0 sink read.Read steady = ((λ e. absurd cc), (λ has_failed
 read-tells_sink sink0 sink read.Memory steady = ((λ e. absurd cc), (λ has_failed. absurd (steady-sound sink0 sink steady has_failed)))
 
 -- the sink failed where writing says so
-pub write-tells_sink : {T : Type 0} (failed refused : Type 0) (sink0 sink : Device) (found : ToolFault) → StopsSink failed refused sink0 sink found → IsErrOf {T = T} (Err found) fault.Write ↔ HasFailed sink0 sink
+write-tells_sink : {T : Type 0} (failed refused : Type 0) (sink0 sink : Device) (found : ToolFault) → StopsSink failed refused sink0 sink found → IsErrOf {T = T} (Err found) fault.Write ↔ HasFailed sink0 sink
 write-tells_sink failed refused sink0 sink (fault.Input other) h = absurd h
 write-tells_sink failed refused sink0 sink fault.Read h = absurd h
 write-tells_sink failed refused sink0 sink fault.Write h = ((λ e. h.1), (λ has_failed. refl))
 write-tells_sink failed refused sink0 sink fault.Memory h = ((λ e. absurd cc), (λ has_failed. absurd (steady-sound sink0 sink h.1 has_failed)))
 
 -- and the source did not
-pub write-tells_source : {T : Type 0} (failed refused : Type 0) (source0 source sink0 sink : Device) (found : ToolFault) → IsSteady source0 source → StopsSink failed refused sink0 sink found → IsErrOf {T = T} (Err found) fault.Read ↔ HasFailed source0 source
+write-tells_source : {T : Type 0} (failed refused : Type 0) (source0 source sink0 sink : Device) (found : ToolFault) → IsSteady source0 source → StopsSink failed refused sink0 sink found → IsErrOf {T = T} (Err found) fault.Read ↔ HasFailed source0 source
 write-tells_source failed refused source0 source sink0 sink (fault.Input other) steady h = absurd h
 write-tells_source failed refused source0 source sink0 sink fault.Read steady h = absurd h
 write-tells_source failed refused source0 source sink0 sink fault.Write steady h = ((λ e. absurd cc), (λ has_failed. absurd (steady-sound source0 source steady has_failed)))
 write-tells_source failed refused source0 source sink0 sink fault.Memory steady h = ((λ e. absurd cc), (λ has_failed. absurd (steady-sound source0 source steady has_failed)))
+
+-- the same of writing segments
+pub lined-tells_sink : {T : Type 0} (size : ℕ) (sink0 sink : Device) (given : List Segment) (found : ToolFault) → StopsLining size sink0 sink given found → IsErrOf {T = T} (Err found) fault.Write ↔ HasFailed sink0 sink
+lined-tells_sink size sink0 sink given found h = write-tells_sink (HasWrittenFront size sink0 sink given) (HasWrittenFront size sink0 sink given) sink0 sink found h
+
+pub lined-tells_source : {T : Type 0} (size : ℕ) (source0 source sink0 sink : Device) (given : List Segment) (found : ToolFault) → IsSteady source0 source → StopsLining size sink0 sink given found → IsErrOf {T = T} (Err found) fault.Read ↔ HasFailed source0 source
+lined-tells_source size source0 source sink0 sink given found steady h = write-tells_source (HasWrittenFront size sink0 sink given) (HasWrittenFront size sink0 sink given) source0 source sink0 sink found steady h
+
+-- and of lines
+pub listing-tells_sink : {T : Type 0} (sink0 sink : Device) (given : List Segment) (found : ToolFault) → StopsListing sink0 sink given found → IsErrOf {T = T} (Err found) fault.Write ↔ HasFailed sink0 sink
+listing-tells_sink sink0 sink given found h = write-tells_sink (HasListedFront sink0 sink given) (HasListedFront sink0 sink given) sink0 sink found h
+
+pub listing-tells_source : {T : Type 0} (source0 source sink0 sink : Device) (given : List Segment) (found : ToolFault) → IsSteady source0 source → StopsListing sink0 sink given found → IsErrOf {T = T} (Err found) fault.Read ↔ HasFailed source0 source
+listing-tells_source source0 source sink0 sink given found steady h = write-tells_source (HasListedFront sink0 sink given) (HasListedFront sink0 sink given) source0 source sink0 sink found steady h
+
+pub listed-tells_sink : {T : Type 0} (sink0 sink : Device) (given : List Segment) (counts : Counts) (found : ToolFault) → StopsListingAll sink0 sink given counts found → IsErrOf {T = T} (Err found) fault.Write ↔ HasFailed sink0 sink
+listed-tells_sink sink0 sink given counts found h = write-tells_sink (HasListedCut sink0 sink given counts) (HasListedFront sink0 sink given) sink0 sink found h
+
+pub listed-tells_source : {T : Type 0} (source0 source sink0 sink : Device) (given : List Segment) (counts : Counts) (found : ToolFault) → IsSteady source0 source → StopsListingAll sink0 sink given counts found → IsErrOf {T = T} (Err found) fault.Read ↔ HasFailed source0 source
+listed-tells_source source0 source sink0 sink given counts found steady h = write-tells_source (HasListedCut sink0 sink given counts) (HasListedFront sink0 sink given) source0 source sink0 sink found steady h
 
 -- no device failed
 pub ok-tells : {T : Type 0} (old new : Device) (value : T) (found : ToolFault) → IsSteady old new → IsErrOf (Ok value) found ↔ HasFailed old new

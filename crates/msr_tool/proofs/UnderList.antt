@@ -11,7 +11,8 @@ use Rattle.msr_input.specs.Reading.{Reading, HasRead, HasReadAll, StopsAfter, St
 use Rattle.msr_input.specs.declared.fault.ReadFault.{ReadFault}
 use Rattle.msr_input.specs.declared.fault.ReadFault.TheVariants as read
 use Rattle.msr_tool.specs.Fault.{fault_of_reading}
-use Rattle.msr_tool.specs.Listing.{IsListStopped, ListAnswers, HasListed, HasListedAll, HasListedFront, StopsListing, StopsListingAll}
+use Rattle.msr_tool.specs.Listing.{IsListStopped, ListAnswers}
+use Rattle.msr_tool.specs.ListWriting.{HasListed, HasListedAll, HasListedFront, StopsListing, StopsListingAll}
 use Rattle.msr_tool.specs.declared.fault.ToolFault.{ToolFault}
 use Rattle.msr_tool.specs.declared.fault.ToolFault.TheVariants as fault
 use Rattle.msr_tool.proofs.Listed.{front-wider}

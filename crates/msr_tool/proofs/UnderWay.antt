@@ -15,7 +15,8 @@ use Rattle.msr_input.specs.Reading.{Reading, IsWritable, HasRead, HasReadAll, St
 use Rattle.msr_output.specs.Output.{Packed, OutputKeepsSegments, OutputHasSize, segment_of_packed, count_of_runs}
 use Rattle.msr_output.specs.Writing.{Writing}
 use Rattle.msr_tool.specs.Choice.{Choice, size_of}
-use Rattle.msr_tool.specs.Writing.{Lined, AreLinesOf, HasLined, LinesMore, LinesAll}
+use Rattle.msr_tool.specs.Writing.{Lined, HasLined, LinesMore, LinesAll}
+use Rattle.msr_tool.specs.Answer.{AreLinesOf}
 use Rattle.msr_tool.proofs.Lines.{records-of_lines}
 use Rattle.msr_tool.proofs.Stops.{IsAnswered, stops-with}
 

@@ -9,8 +9,7 @@ use Rattle.msr_input.specs.Input.{IsReadable}
 use Rattle.msr_input.specs.declared.fault.Fault.{Fault}
 use Rattle.msr_output.specs.Output.{Packed}
 use Rattle.msr_tool.specs.Choice.{Choice}
-use Rattle.msr_tool.specs.Writing.{AreLinesOf}
-use Rattle.msr_tool.specs.Answer.{IsRepacked, IsRefusedAt, Answers}
+use Rattle.msr_tool.specs.Answer.{AreLinesOf, IsRepacked, IsRefusedAt, Answers}
 use Rattle.msr_tool.specs.Listing.{ListAnswers}
 use Rattle.msr_tool.specs.declared.fault.ToolFault.{ToolFault}
 use Rattle.msr_tool.specs.declared.fault.ToolFault.TheVariants.{Read, Write, Memory}

@@ -1,19 +1,14 @@
 -- What writing the segments with their lines does.
-use Rattle.std.specs.Prelude.{◌≡◌, ℕ, List, [], ◌∷◌, ◌++◌, map}
+use Rattle.std.specs.Prelude.{◌≡◌, ℕ, List, ◌++◌, map}
 use Rattle.msr_devices.specs.Device.{Device, HasFailed, IsSteady}
 use Rattle.msr_record.specs.declared.row.Row.{Row}
 use Rattle.msr_segments.specs.declared.joiner.Segment.{Segment}
 use Rattle.msr_report.specs.declared.report.SegmentLine.{SegmentLine}
 use Rattle.msr_output.specs.Output.{Packed, segment_of_packed}
-use Rattle.msr_output.specs.Writing.{Writing, IsLineOf, HasWritten, HasWrittenAll, HasWrittenFront}
+use Rattle.msr_output.specs.Writing.{Writing, HasWritten, HasWrittenAll, HasWrittenFront}
+use Rattle.msr_tool.specs.Answer.{AreLinesOf}
 use Rattle.msr_tool.specs.declared.fault.ToolFault.{ToolFault}
 use Rattle.msr_tool.specs.declared.fault.ToolFault.TheVariants.{Input, Read, Write, Memory}
-
--- each line is that of the packed segment at its place
-abbrev pub AreLinesOf : List Packed → List SegmentLine → Type 0
-AreLinesOf [] lines = lines ≡ []
-AreLinesOf (packed ∷ others) [] = ⊥
-AreLinesOf (packed ∷ others) (line ∷ lines) = IsLineOf packed line × AreLinesOf others lines
 
 -- what a writer with the lines so far shows
 pub record Lined : Type 0 where

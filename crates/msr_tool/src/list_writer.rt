@@ -27,7 +27,7 @@ impl ListWriter {
     ghost use Rattle.msr_devices.specs.Device.{Device, CanCountCall, CountsFew};
     ghost use Rattle.msr_segments.specs.declared.joiner.Segment.{Segment as Joined};
     ghost use Rattle.msr_input.specs.Reading.{IsWritable};
-    ghost use Rattle.msr_tool.specs.Listing.{HasListed, HasListedAll, StopsListing, StopsListingAll};
+    ghost use Rattle.msr_tool.specs.ListWriting.{HasListed, HasListedAll, StopsListing, StopsListingAll};
 
     /// A writer before the first line.
     pub fn new(alloc: Global) -> ListWriter

@@ -3,7 +3,7 @@ use Rattle.std.proofs.lemmas.List.{append-nil}
 use Rattle.std.proofs.lemmas.Result.{err_from_is_err_and}
 use Rattle.std.specs.Option.{option_to_list}
 use Rattle.msr_tool.proofs.Listed.{front-listed}
-use Rattle.msr_tool.proofs.Stops.{stops-after, read-tells_source, write-tells_source, write-tells_sink, ok-tells, steady-can_count, steady-then_few}
+use Rattle.msr_tool.proofs.Stops.{stops-after, read-tells_source, listing-tells_source, listing-tells_sink, listed-tells_source, listed-tells_sink, ok-tells, steady-can_count, steady-then_few}
 use Rattle.msr_tool.proofs.UnderWay.{last-writable, rest-writable, stops-at_end}
 use Rattle.msr_tool.proofs.UnderList.{list-read_failed, list-write_failed, list-all_failed, list-done}
 use Rattle.msr_tool.proofs.list.list_segments.Goals as goal
@@ -51,13 +51,13 @@ returns-in_err-write-clause-read g c =
     let p = err_from_is_err_and c.from_residual-in_err-write.result c.from_residual-in_err-write.ensures.1 in
     let u = c.segments.invariant in
     let r = rw c.in-Some.is at (c.in_ok-segment.ensures.read (g.R.Source.device c.args.source.now) u.records u.given u.has_read) in
-    rw (p.1, p.2) (write-tells_source _ _ (g.R.Source.device c.args.source.now) (g.R.Source.device c.next_segment.new.source) (g.W.Sink.device c.args.sink.now) (g.W.Sink.device c.write.new.sink) c.in_err-write.field-0.0 r.1.steady (c.in_err-write.ensures.written (g.W.Sink.device c.args.sink.now) u.given u.listed))
+    rw (p.1, p.2) (listing-tells_source (g.R.Source.device c.args.source.now) (g.R.Source.device c.next_segment.new.source) (g.W.Sink.device c.args.sink.now) (g.W.Sink.device c.write.new.sink) _ c.in_err-write.field-0.0 r.1.steady (c.in_err-write.ensures.written (g.W.Sink.device c.args.sink.now) u.given u.listed))
 
 pub returns-in_err-write-clause-write : goal.returns-in_err-write-clause-write
 returns-in_err-write-clause-write g c =
     let p = err_from_is_err_and c.from_residual-in_err-write.result c.from_residual-in_err-write.ensures.1 in
     let u = c.segments.invariant in
-    rw (p.1, p.2) (write-tells_sink _ _ (g.W.Sink.device c.args.sink.now) (g.W.Sink.device c.write.new.sink) c.in_err-write.field-0.0 (c.in_err-write.ensures.written (g.W.Sink.device c.args.sink.now) u.given u.listed))
+    rw (p.1, p.2) (listing-tells_sink (g.W.Sink.device c.args.sink.now) (g.W.Sink.device c.write.new.sink) _ c.in_err-write.field-0.0 (c.in_err-write.ensures.written (g.W.Sink.device c.args.sink.now) u.given u.listed))
 
 pub segments-preserved : goal.segments-preserved
 segments-preserved g c =
@@ -91,13 +91,13 @@ returns-in_err-write_last-clause-read g c =
     let p = err_from_is_err_and c.from_residual-in_err-write_last.result c.from_residual-in_err-write_last.ensures.1 in
     let u = c.segments.invariant in
     let end = rw c.in_default.is at (c.in_ok-segment.ensures.read (g.R.Source.device c.args.source.now) u.records u.given u.has_read) in
-    rw (p.1, p.2) (write-tells_source _ _ (g.R.Source.device c.args.source.now) (g.R.Source.device c.next_segment.new.source) (g.W.Sink.device c.args.sink.now) (g.W.Sink.device c.write_last.new.sink) c.in_err-write_last.field-0.0 end.read.steady (c.in_err-write_last.ensures.written (g.W.Sink.device c.args.sink.now) u.given u.listed))
+    rw (p.1, p.2) (listing-tells_source (g.R.Source.device c.args.source.now) (g.R.Source.device c.next_segment.new.source) (g.W.Sink.device c.args.sink.now) (g.W.Sink.device c.write_last.new.sink) _ c.in_err-write_last.field-0.0 end.read.steady (c.in_err-write_last.ensures.written (g.W.Sink.device c.args.sink.now) u.given u.listed))
 
 pub returns-in_err-write_last-clause-write : goal.returns-in_err-write_last-clause-write
 returns-in_err-write_last-clause-write g c =
     let p = err_from_is_err_and c.from_residual-in_err-write_last.result c.from_residual-in_err-write_last.ensures.1 in
     let u = c.segments.invariant in
-    rw (p.1, p.2) (write-tells_sink _ _ (g.W.Sink.device c.args.sink.now) (g.W.Sink.device c.write_last.new.sink) c.in_err-write_last.field-0.0 (c.in_err-write_last.ensures.written (g.W.Sink.device c.args.sink.now) u.given u.listed))
+    rw (p.1, p.2) (listing-tells_sink (g.W.Sink.device c.args.sink.now) (g.W.Sink.device c.write_last.new.sink) _ c.in_err-write_last.field-0.0 (c.in_err-write_last.ensures.written (g.W.Sink.device c.args.sink.now) u.given u.listed))
 
 pub finish-requires-2 : goal.finish-requires-2
 finish-requires-2 g c =
@@ -121,14 +121,14 @@ returns-in_err-finish-clause-read g c =
     let u = c.segments.invariant in
     let end = rw c.in_default.is at (c.in_ok-segment.ensures.read (g.R.Source.device c.args.source.now) u.records u.given u.has_read) in
     let listed = c.in_ok-write_last.ensures.written (g.W.Sink.device c.args.sink.now) u.given u.listed in
-    rw (p.1, p.2) (write-tells_source _ _ (g.R.Source.device c.args.source.now) (g.R.Source.device c.next_segment.new.source) (g.W.Sink.device c.args.sink.now) (g.W.Sink.device c.finish-2.new.sink) c.in_err-finish.field-0.0 end.read.steady (c.in_err-finish.ensures.written (g.W.Sink.device c.args.sink.now) _ listed))
+    rw (p.1, p.2) (listed-tells_source (g.R.Source.device c.args.source.now) (g.R.Source.device c.next_segment.new.source) (g.W.Sink.device c.args.sink.now) (g.W.Sink.device c.finish-2.new.sink) _ _ c.in_err-finish.field-0.0 end.read.steady (c.in_err-finish.ensures.written (g.W.Sink.device c.args.sink.now) _ listed))
 
 pub returns-in_err-finish-clause-write : goal.returns-in_err-finish-clause-write
 returns-in_err-finish-clause-write g c =
     let p = err_from_is_err_and c.from_residual-in_err-finish.result c.from_residual-in_err-finish.ensures.1 in
     let u = c.segments.invariant in
     let listed = c.in_ok-write_last.ensures.written (g.W.Sink.device c.args.sink.now) u.given u.listed in
-    rw (p.1, p.2) (write-tells_sink _ _ (g.W.Sink.device c.args.sink.now) (g.W.Sink.device c.finish-2.new.sink) c.in_err-finish.field-0.0 (c.in_err-finish.ensures.written (g.W.Sink.device c.args.sink.now) _ listed))
+    rw (p.1, p.2) (listed-tells_sink (g.W.Sink.device c.args.sink.now) (g.W.Sink.device c.finish-2.new.sink) _ _ c.in_err-finish.field-0.0 (c.in_err-finish.ensures.written (g.W.Sink.device c.args.sink.now) _ listed))
 
 pub returns-in_err-finish-clause-few_sink : goal.returns-in_err-finish-clause-few_sink
 returns-in_err-finish-clause-few_sink g c =
