@@ -4,7 +4,7 @@ use crate::tests::fixtures::{
     Outcome, START, choice, edit, input_of, joined, of_words, plain, repacked, shapes, steim,
 };
 use msr_time::Rate;
-use std::alloc::Global;
+use std::alloc::{AllocError, Global};
 use std::process::Abort;
 use std::test::Fail;
 
@@ -115,6 +115,32 @@ fn with_a_pause() -> [i32; 173] {
     samples
 }
 
+// 96 of the swinging samples as numbers, and the last one with its difference of -40000 from the one before.
+fn swinging_written(rt: &impl Abort, alloc: Global) -> Result<Vec<u8>, AllocError> {
+    let numbers = of_words(
+        rt,
+        [0xb1, 0xe0, 0x4e, 0x20],
+        &[
+            (30, &[0x00, 0x60]),
+            (52, &[0x01]),
+            (63, &[0x00]),
+            (64, &[0xb1, 0xe0, 0x4e, 0x20, 0xb1, 0xe0, 0x4e, 0x20]),
+            (72, &[0xb1, 0xe0, 0x4e, 0x20]),
+        ],
+    );
+    let difference = plain(
+        rt,
+        &[
+            (5, &[0x32]),
+            (26, &[0x04, 0x00, 0x1f, 0x40, 0x00, 0x01]),
+            (63, &[0x01]),
+            (64, &[0x02, 0x00, 0x00, 0x00, 0xff, 0xff, 0xb1, 0xe0]),
+            (72, &[0xff, 0xff, 0xb1, 0xe0, 0x7f, 0xff, 0x63, 0xc0]),
+        ],
+    );
+    joined(alloc, &[numbers, difference])
+}
+
 #[test]
 fn fewest_records(rt: HostRuntime) -> Result<(), Fail> {
     let alloc = rt.alloc();
@@ -150,7 +176,8 @@ fn fewest_records(rt: HostRuntime) -> Result<(), Fail> {
         Some(0),
         "more frames than a byte counts"
     );
-    packed(&rt, alloc, mixed, &swinging)?;
+    let written = packed(&rt, alloc, mixed, &swinging)?;
+    assert!(rt; written.as_slice() == swinging_written(&rt, alloc)?.as_slice());
     packed(&rt, alloc, cut_early, &with_a_pause)?;
     Ok(())
 }
@@ -313,6 +340,6 @@ fn rising(
 #[test]
 fn samples_that_rise(rt: HostRuntime) -> Result<(), Fail> {
     let alloc = rt.alloc();
-    let samples = (0..864_000).collect::<Vec<i32>>(alloc)?;
-    rising(&rt, alloc, &samples, 858, 1199, 242)
+    let samples = (0..8_640_000).collect::<Vec<i32>>(alloc)?;
+    rising(&rt, alloc, &samples, 8572, 11_984, 257)
 }
