@@ -1,34 +1,23 @@
 -- What repacking answers and leaves in the sink.
-use Rattle.std.specs.Prelude.{◌≡◌, ◌×◌, ℕ, ◌+◌, ◌<◌, List, [], ◌∷◌, ◌++◌, length, map, All, Result, Ok, Err}
+use Rattle.std.specs.Prelude.{◌≡◌, ℕ, List, map, Result, Ok, Err}
 use Rattle.msr_words.specs.Lengths.{bytes_of}
 use Rattle.msr_record.specs.declared.row.Row.{Row}
 use Rattle.msr_record.specs.declared.row.Record.{Record}
 use Rattle.msr_segments.specs.Segments.{AreSegments}
 use Rattle.msr_segments.specs.declared.joiner.Segment.{Segment}
 use Rattle.msr_report.specs.Proper.{IsProper}
-use Rattle.msr_report.specs.declared.report.SegmentLine.{SegmentLine}
 use Rattle.msr_report.specs.declared.report.Report.{Report}
 use Rattle.msr_input.specs.declared.fault.Fault.{Fault}
-use Rattle.msr_input.specs.Input.{AreRead, IsReadable, IsFirstFault, HaveBegun, rows_of_records, counts_of}
+use Rattle.msr_input.specs.Input.{AreRead, IsReadable, IsFirstFault, rows_of_records, counts_of}
 use Rattle.msr_output.specs.Output.{Packed, IsOutput, IsFrontOfOutput, segment_of_packed}
-use Rattle.msr_output.specs.Writing.{IsLineOf}
+use Rattle.msr_tool.specs.Choice.{Choice, size_of}
+use Rattle.msr_tool.specs.Writing.{AreLinesOf}
 use Rattle.msr_tool.specs.declared.fault.ToolFault.{ToolFault}
 use Rattle.msr_tool.specs.declared.fault.ToolFault.TheVariants.{Input, Read, Write, Memory}
 
--- how an input is repacked: the length of the records that are written, and the tolerance in microseconds
-pub record Choice : Type 0 where
-  pub size : ℕ
-  pub tolerance : ℕ
-
--- each line is that of the packed segment at its place
-abbrev pub AreLinesOf : List Packed → List SegmentLine → Type 0
-AreLinesOf [] lines = lines ≡ []
-AreLinesOf (packed ∷ others) [] = ⊥
-AreLinesOf (packed ∷ others) (line ∷ lines) = IsLineOf packed line × AreLinesOf others lines
-
 -- The report of an input: the choice, the counts of its records, and a line for each segment as it was packed.
 pub record IsReportOf (choice : Choice) (records : List Record) (packed : List Packed) (report : Report) : Type 0 where
-  pub size : bytes_of report.length ≡ choice.size
+  pub size : bytes_of report.length ≡ size_of choice
   pub tolerance : report.tolerance ≡ choice.tolerance
   pub counts : report.counts ≡ counts_of records
   pub lines : AreLinesOf packed report.segments.items
@@ -42,7 +31,7 @@ pub record IsRepacked (choice : Choice) (input written : List ℕ) (report : Rep
   pub packed : List Packed
   pub rows : List Row
   pub readable : IsReadable choice.tolerance input records (map segment_of_packed packed)
-  pub output : IsOutput choice.size packed rows written
+  pub output : IsOutput (size_of choice) packed rows written
   pub same_segments : AreSegments choice.tolerance rows (map segment_of_packed packed)
   pub is_report : IsReportOf choice records packed report
 
@@ -52,7 +41,7 @@ pub record IsRefusedAt (choice : Choice) (input written : List ℕ) (fault : Fau
   pub segments : List Segment
   pub first : IsFirstFault choice.tolerance input records fault
   pub are_segments : AreSegments choice.tolerance (rows_of_records records) segments
-  pub front : IsFrontOfOutput choice.size segments written
+  pub front : IsFrontOfOutput (size_of choice) segments written
 
 -- Some first records of the input are read, none of them refused. What was written is a front of the output of the
 -- segments of their rows.
@@ -62,7 +51,7 @@ pub record IsStopped (choice : Choice) (input written : List ℕ) : Type 0 where
   pub segments : List Segment
   pub are_read : AreRead choice.tolerance input records rest
   pub are_segments : AreSegments choice.tolerance (rows_of_records records) segments
-  pub front : IsFrontOfOutput choice.size segments written
+  pub front : IsFrontOfOutput (size_of choice) segments written
 
 -- what an answer says of the input and of what was written
 abbrev pub Answers : Choice → List ℕ → List ℕ → Result Report ToolFault → Type 0

@@ -1,1 +1,4 @@
+pub mod Choice
+pub mod Fault
+pub mod Writing
 pub mod Answer

@@ -1,16 +1,19 @@
-// A sketch of the contract and the body; helpers, invariants and proofs are still to be written.
-ghost use Rattle.std.specs.Prelude.{◌≡◌, ◌↔◌, ◌×◌, List, ℕ, IsErrOf};
+// Repacking an input.
+ghost use Rattle.std.specs.Prelude.{◌≡◌, ◌↔◌, List, ℕ, IsErrOf};
 ghost use Rattle.msr_devices.specs.Device.{CanCountCall, CountsFew, HasFailed, HasLeft, Takes};
 ghost use Rattle.msr_tool.specs.Answer.{Answers};
 
 use crate::fault::ToolFault;
 use crate::options::Options;
+use crate::output::LinedWriter;
 use msr_devices::{Sink, Source};
 use msr_input::SegmentReader;
-use msr_output::SegmentWriter;
+use msr_output::{output_has_size, output_keeps_segments};
 use msr_report::Report;
 use std::alloc::Global;
 
+/// Reads all records of the source, joins their rows into segments, and writes each segment again in the fewest
+/// records of the length that is asked for.
 pub fn repack<R: Source, W: Sink>(
     alloc: Global,
     source: &mut R,
@@ -19,24 +22,32 @@ pub fn repack<R: Source, W: Sink>(
 ) -> Result<Report, ToolFault>
     requires source { CanCountCall (R.device source.old) }
     requires sink { CanCountCall (W.device sink.old) }
+
+    // What was written and what is answered, for the bytes that the source has.
     ensures answer { (input : List ℕ) × (written : List ℕ) × HasLeft (R.device source.old) input × Takes (W.device sink.old) (W.device sink.new) written × Answers options input written result }
+
+    // A failure of a device is answered as such, and nothing else is.
     ensures read { IsErrOf result ToolFault.Read ↔ HasFailed (R.device source.old) (R.device source.new) }
     ensures write { IsErrOf result ToolFault.Write ↔ HasFailed (W.device sink.old) (W.device sink.new) }
     ensures few_source { CountsFew (R.device source.old) (R.device source.new) }
     ensures few_sink { CountsFew (W.device sink.old) (W.device sink.new) }
 {
     let mut reader = SegmentReader::new(alloc, options.tolerance());
-    let mut writer = SegmentWriter::new(alloc, options.length());
-    let mut lines = Vec::new(alloc);
-    while let Some(segment) = reader.next_segment(source)? {
-        let line = writer.write_segment(sink, &segment)?;
-        lines.push(line)?;
+    let mut writer = LinedWriter::new(alloc, options.length());
+    'segments: while let Some(segment) = reader.next_segment(source)? {
+        writer.write(sink, &segment)?;
     }
     let counts = reader.counts();
     if let Some(segment) = reader.finish() {
-        let line = writer.write_segment(sink, &segment)?;
-        lines.push(line)?;
+        writer.write(sink, &segment)?;
     }
-    writer.finish(sink)?;
-    Ok(Report { length: options.length(), tolerance: options.tolerance(), counts, segments: lines })
+    let segments = writer.finish(sink)?;
+    output_keeps_segments();
+    output_has_size();
+    Ok(Report {
+        length: options.length(),
+        tolerance: options.tolerance(),
+        counts,
+        segments,
+    })
 }

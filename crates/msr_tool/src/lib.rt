@@ -5,6 +5,7 @@
 mod engine;
 mod fault;
 mod options;
+mod output;
 
 pub use engine::repack;
 pub use fault::ToolFault;

@@ -1,0 +1,132 @@
+-- What is answered where repacking stops.
+use Rattle.std.proofs.Common.{◌≡◌, ◌≢◌, ◌↔◌, ℕ, ◌+◌, ◌<◌, ◌≤◌, List, [], ◌∷◌, ◌++◌, map, refl, sym, ap, Result, Ok, Err, IsErrOf, arith, append_assoc}
+use Rattle.std.specs.Option.{option_to_list}
+use Rattle.msr_record.specs.declared.row.Record.{Record}
+use Rattle.msr_segments.specs.declared.joiner.Segment.{Segment}
+use Rattle.msr_devices.specs.Device.{Device, HasLeft, Takes, HasFailed, IsSteady, IsCalm, CountsFew, CanCountCall}
+use Rattle.msr_devices.proofs.Chaining.{left-of, steady-sound, steady-few}
+use Rattle.msr_report.specs.declared.report.Report.{Report}
+use Rattle.msr_input.specs.Reading.{Reading, HasRead, StopsAfter, StopsReading}
+use Rattle.msr_input.specs.declared.fault.ReadFault.{ReadFault}
+use Rattle.msr_input.specs.declared.fault.ReadFault.TheVariants as read
+use Rattle.msr_output.specs.Writing.{HasWrittenFront}
+use Rattle.msr_tool.specs.Choice.{Choice, size_of}
+use Rattle.msr_tool.specs.Fault.{fault_of_reading}
+use Rattle.msr_tool.specs.Writing.{StopsLining}
+use Rattle.msr_tool.specs.Answer.{IsStopped, Answers}
+use Rattle.msr_tool.specs.declared.fault.ToolFault.{ToolFault}
+use Rattle.msr_tool.specs.declared.fault.ToolFault.TheVariants as fault
+use Rattle.msr_tool.proofs.Lines.{front-more}
+
+-- what is answered, for some input and some bytes written
+pub record IsAnswered (choice : Choice) (source0 sink0 sink : Device) (result : Result Report ToolFault) : Type 0 where
+  pub input : List ℕ
+  pub written : List ℕ
+  pub left : HasLeft source0 input
+  pub takes : Takes sink0 sink written
+  pub answers : Answers choice input written result
+
+pub stops-after : (start now : Device) (reading : Reading) (records : List Record) (given : List Segment) → HasRead start now reading records given → StopsAfter reading.joining.tolerance start given
+stops-after start now reading records given h =
+    let p = h.came (left-of now).0 (left-of now).1 in
+    record {
+      input = p.0;
+      records = records;
+      rest = reading.waiting ++ (left-of now).0;
+      left = p.1;
+      are_read = record { begins = p.2; in_range = h.in_range };
+      begun = record { others = option_to_list reading.joining.current; are_segments = h.joined.segments };
+    }
+
+record Stopped (choice : Choice) (source0 sink0 sink : Device) : Type 0 where
+  pub input : List ℕ
+  pub written : List ℕ
+  pub left : HasLeft source0 input
+  pub takes : Takes sink0 sink written
+  pub stopped : IsStopped choice input written
+
+stopped : (choice : Choice) (source0 sink0 sink : Device) (given : List Segment) → StopsAfter choice.tolerance source0 given → HasWrittenFront (size_of choice) sink0 sink given → Stopped choice source0 sink0 sink
+stopped choice source0 sink0 sink given h front =
+    let all : List Segment = given ++ h.begun.others in
+    let wide = front-more (size_of choice) sink0 sink given h.begun.others all front refl in
+    record {
+      input = h.input;
+      written = wide.taken;
+      left = h.left;
+      takes = wide.takes;
+      stopped = record {
+        records = h.records;
+        rest = h.rest;
+        segments = all;
+        are_read = h.are_read;
+        are_segments = h.begun.are_segments;
+        front = wide.front;
+      };
+    }
+
+-- no further segment is read
+pub read-failed : (choice : Choice) (source0 source sink0 sink : Device) (given : List Segment) (why : ReadFault) → StopsReading choice.tolerance source0 source given why → HasWrittenFront (size_of choice) sink0 sink given → IsAnswered choice source0 sink0 sink (Err (fault_of_reading why))
+read-failed choice source0 source sink0 sink given (read.Input other) h front =
+    let all : List Segment = given ++ h.0.begun.others in
+    let wide = front-more (size_of choice) sink0 sink given h.0.begun.others all front refl in
+    record {
+      input = h.0.input;
+      written = wide.taken;
+      left = h.0.left;
+      takes = wide.takes;
+      answers = record { records = h.0.records; segments = all; first = h.0.first; are_segments = h.0.begun.are_segments; front = wide.front };
+    }
+read-failed choice source0 source sink0 sink given read.Read h front =
+    let s = stopped choice source0 sink0 sink given h.0 front in
+    record { input = s.input; written = s.written; left = s.left; takes = s.takes; answers = s.stopped }
+read-failed choice source0 source sink0 sink given read.Memory h front =
+    let s = stopped choice source0 sink0 sink given h.0 front in
+    record { input = s.input; written = s.written; left = s.left; takes = s.takes; answers = s.stopped }
+
+-- a segment is not written
+pub write-failed : (choice : Choice) (source0 sink0 sink : Device) (given : List Segment) (found : ToolFault) → StopsAfter choice.tolerance source0 given → StopsLining (size_of choice) sink0 sink given found → IsAnswered choice source0 sink0 sink (Err found)
+write-failed choice source0 sink0 sink given (fault.Input other) after h = absurd h
+write-failed choice source0 sink0 sink given fault.Read after h = absurd h
+write-failed choice source0 sink0 sink given fault.Write after h =
+    let s = stopped choice source0 sink0 sink given after h.0 in
+    record { input = s.input; written = s.written; left = s.left; takes = s.takes; answers = s.stopped }
+write-failed choice source0 sink0 sink given fault.Memory after h =
+    let s = stopped choice source0 sink0 sink given after h.0 in
+    record { input = s.input; written = s.written; left = s.left; takes = s.takes; answers = s.stopped }
+
+-- the source failed where reading says so
+pub read-tells_source : (tolerance : ℕ) (source0 source : Device) (given : List Segment) (why : ReadFault) → StopsReading tolerance source0 source given why → IsErrOf {T = Report} (Err (fault_of_reading why)) fault.Read ↔ HasFailed source0 source
+read-tells_source tolerance source0 source given (read.Input other) h = ((λ e. absurd cc), (λ failed. absurd (steady-sound source0 source h.1 failed)))
+read-tells_source tolerance source0 source given read.Read h = ((λ e. h.1), (λ failed. refl))
+read-tells_source tolerance source0 source given read.Memory h = ((λ e. absurd cc), (λ failed. absurd (steady-sound source0 source h.1 failed)))
+
+-- and the sink did not
+pub read-tells_sink : (sink0 sink : Device) (why : ReadFault) → IsSteady sink0 sink → IsErrOf {T = Report} (Err (fault_of_reading why)) fault.Write ↔ HasFailed sink0 sink
+read-tells_sink sink0 sink (read.Input other) steady = ((λ e. absurd cc), (λ failed. absurd (steady-sound sink0 sink steady failed)))
+read-tells_sink sink0 sink read.Read steady = ((λ e. absurd cc), (λ failed. absurd (steady-sound sink0 sink steady failed)))
+read-tells_sink sink0 sink read.Memory steady = ((λ e. absurd cc), (λ failed. absurd (steady-sound sink0 sink steady failed)))
+
+-- the sink failed where writing says so
+pub write-tells_sink : (size : ℕ) (sink0 sink : Device) (given : List Segment) (found : ToolFault) → StopsLining size sink0 sink given found → IsErrOf {T = Report} (Err found) fault.Write ↔ HasFailed sink0 sink
+write-tells_sink size sink0 sink given (fault.Input other) h = absurd h
+write-tells_sink size sink0 sink given fault.Read h = absurd h
+write-tells_sink size sink0 sink given fault.Write h = ((λ e. h.1), (λ failed. refl))
+write-tells_sink size sink0 sink given fault.Memory h = ((λ e. absurd cc), (λ failed. absurd (steady-sound sink0 sink h.1 failed)))
+
+-- and the source did not
+pub write-tells_source : (size : ℕ) (source0 source sink0 sink : Device) (given : List Segment) (found : ToolFault) → IsSteady source0 source → StopsLining size sink0 sink given found → IsErrOf {T = Report} (Err found) fault.Read ↔ HasFailed source0 source
+write-tells_source size source0 source sink0 sink given (fault.Input other) steady h = absurd h
+write-tells_source size source0 source sink0 sink given fault.Read steady h = absurd h
+write-tells_source size source0 source sink0 sink given fault.Write steady h = ((λ e. absurd cc), (λ failed. absurd (steady-sound source0 source steady failed)))
+write-tells_source size source0 source sink0 sink given fault.Memory steady h = ((λ e. absurd cc), (λ failed. absurd (steady-sound source0 source steady failed)))
+
+-- no device failed
+pub ok-tells : (old new : Device) (report : Report) (found : ToolFault) → IsSteady old new → IsErrOf (Ok report) found ↔ HasFailed old new
+ok-tells old new report found steady = ((λ e. absurd cc), (λ failed. absurd (steady-sound old new steady failed)))
+
+-- a device that was steady can count the next call, and few calls are counted with it
+pub steady-can_count : (a b : Device) → IsSteady a b → CanCountCall a → CanCountCall b
+steady-can_count a b steady can = (omega arith, grind arith)
+
+pub steady-then_few : (a b c : Device) → IsSteady a b → CountsFew b c → CountsFew a c
+steady-then_few a b c steady few = record { failures = omega arith; interruptions = grind arith }
