@@ -11,7 +11,7 @@ use Rattle.msr_output.specs.Writing.{Writing, IsLineOf, HasWritten, HasWrittenFr
 use Rattle.msr_output.specs.declared.fault.WriteFault.{WriteFault}
 use Rattle.msr_output.specs.declared.fault.WriteFault.TheVariants as write
 use Rattle.msr_tool.specs.Fault.{fault_of_writing}
-use Rattle.msr_tool.specs.Writing.{Lined, AreLinesOf, HasLined, LinesSegment, LinesAll, StopsLining}
+use Rattle.msr_tool.specs.Writing.{Lined, AreLinesOf, HasLined, LinesMore, LinesAll, StopsLining}
 use Rattle.msr_tool.specs.declared.fault.ToolFault.TheVariants.{Memory}
 
 pub lines-snoc : (packed : List Packed) (lines : List SegmentLine) (more : Packed) (line : SegmentLine) → AreLinesOf packed lines → IsLineOf more line → AreLinesOf (packed ++ more ∷ []) (lines ++ line ∷ [])
@@ -69,9 +69,12 @@ stops-pushing start now writing packed segment line size same_size h = (
   h.written.calm.steady,
 )
 
-pub lines-segment : (start now : Device) (writing : Writing) (old new : List SegmentLine) (packed : List Packed) (segment : Segment) (line : SegmentLine) → AreLinesOf packed old → WritesSegment start now writing packed segment line → new ≡ old ++ line ∷ [] → LinesSegment start now (record { writing = writing; lines = new }) packed segment
-lines-segment start now writing old new packed segment line are h pushed = record {
-  more = h.more;
-  same = h.same;
+pub lines-more : (start now : Device) (writing : Writing) (old new : List SegmentLine) (packed : List Packed) (segment : Segment) (line : SegmentLine) → AreLinesOf packed old → WritesSegment start now writing packed segment line → new ≡ old ++ line ∷ [] → LinesMore start now (record { writing = writing; lines = new }) packed (segment ∷ [])
+lines-more start now writing old new packed segment line are h pushed = record {
+  all = packed ++ h.more ∷ [];
+  same = same-more packed h.more segment h.same;
   after = record { rows = h.rows; written = h.written; are_lines = rw pushed (lines-snoc packed old h.more line are h.is_line) };
 }
+
+pub no-more : (start now : Device) (lined : Lined) (packed : List Packed) → HasLined start now lined packed → LinesMore start now lined packed []
+no-more start now lined packed h = record { all = packed; same = sym (append-nil (map segment_of_packed packed)); after = h }

@@ -26,8 +26,9 @@ pub record IsAnswered (choice : Choice) (source0 sink0 sink : Device) (result : 
   pub takes : Takes sink0 sink written
   pub answers : Answers choice input written result
 
-pub stops-after : (start now : Device) (reading : Reading) (records : List Record) (given : List Segment) → HasRead start now reading records given → StopsAfter reading.joining.tolerance start given
-stops-after start now reading records given h =
+-- some first segments of the records that were read
+pub stops-with : (start now : Device) (reading : Reading) (records : List Record) (given first others : List Segment) → HasRead start now reading records given → given ++ option_to_list reading.joining.current ≡ first ++ others → StopsAfter reading.joining.tolerance start first
+stops-with start now reading records given first others h same =
     let p = h.came (left-of now).0 (left-of now).1 in
     record {
       input = p.0;
@@ -35,8 +36,11 @@ stops-after start now reading records given h =
       rest = reading.waiting ++ (left-of now).0;
       left = p.1;
       are_read = record { begins = p.2; in_range = h.in_range };
-      begun = record { others = option_to_list reading.joining.current; are_segments = h.joined.segments };
+      begun = record { others = others; are_segments = rw (← same) h.joined.segments };
     }
+
+pub stops-after : (start now : Device) (reading : Reading) (records : List Record) (given : List Segment) → HasRead start now reading records given → StopsAfter reading.joining.tolerance start given
+stops-after start now reading records given h = stops-with start now reading records given given (option_to_list reading.joining.current) h refl
 
 record Stopped (choice : Choice) (source0 sink0 sink : Device) : Type 0 where
   pub input : List ℕ
@@ -130,3 +134,6 @@ steady-can_count a b steady can = (omega arith, grind arith)
 
 pub steady-then_few : (a b c : Device) → IsSteady a b → CountsFew b c → CountsFew a c
 steady-then_few a b c steady few = record { failures = omega arith; interruptions = grind arith }
+
+pub as-answer : (choice : Choice) (source0 sink0 sink : Device) (result : Result Report ToolFault) → IsAnswered choice source0 sink0 sink result → (input : List ℕ) × (written : List ℕ) × HasLeft source0 input × Takes sink0 sink written × Answers choice input written result
+as-answer choice source0 sink0 sink result a = (a.input, a.written, a.left, a.takes, a.answers)

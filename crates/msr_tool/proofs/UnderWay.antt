@@ -11,13 +11,13 @@ use Rattle.msr_report.specs.declared.report.Report.{Report}
 use Rattle.msr_report.specs.declared.report.SegmentLine.{SegmentLine}
 use Rattle.msr_report.specs.Proper.{IsProperLine, records_of}
 use Rattle.msr_input.specs.Input.{rows_of_records, counts_of}
-use Rattle.msr_input.specs.Reading.{Reading, IsWritable, HasRead, HasReadAll}
+use Rattle.msr_input.specs.Reading.{Reading, IsWritable, HasRead, HasReadAll, StopsAfter}
 use Rattle.msr_output.specs.Output.{Packed, OutputKeepsSegments, OutputHasSize, segment_of_packed, count_of_runs}
 use Rattle.msr_output.specs.Writing.{Writing, IsLineOf}
 use Rattle.msr_tool.specs.Choice.{Choice, size_of}
-use Rattle.msr_tool.specs.Writing.{Lined, AreLinesOf, HasLined, LinesSegment, LinesAll}
-use Rattle.msr_tool.proofs.Lines.{same-more, records-of_lines}
-use Rattle.msr_tool.proofs.Stops.{IsAnswered}
+use Rattle.msr_tool.specs.Writing.{Lined, AreLinesOf, HasLined, LinesMore, LinesAll}
+use Rattle.msr_tool.proofs.Lines.{records-of_lines}
+use Rattle.msr_tool.proofs.Stops.{IsAnswered, stops-with}
 
 pub record UnderWay (choice : Choice) (source0 source sink0 sink : Device) (reading : Reading) (so_far : Lined) : Type 0 where
   pub records : List Record
@@ -29,11 +29,11 @@ pub record UnderWay (choice : Choice) (source0 source sink0 sink : Device) (read
 
 -- one more segment is read and written
 pub more : (choice : Choice) (source0 source sink0 sink : Device) (reading : Reading) (so_far : Lined) (packed : List Packed) (records : List Record) (segment : Segment) →
-    HasRead source0 source reading records (map segment_of_packed packed ++ segment ∷ []) → LinesSegment sink0 sink so_far packed segment → reading.joining.tolerance ≡ choice.tolerance → so_far.writing.size ≡ size_of choice → UnderWay choice source0 source sink0 sink reading so_far
+    HasRead source0 source reading records (map segment_of_packed packed ++ segment ∷ []) → LinesMore sink0 sink so_far packed (segment ∷ []) → reading.joining.tolerance ≡ choice.tolerance → so_far.writing.size ≡ size_of choice → UnderWay choice source0 source sink0 sink reading so_far
 more choice source0 source sink0 sink reading so_far packed records segment read wrote tolerance size = record {
   records = records;
-  packed = packed ++ wrote.more ∷ [];
-  read = rw (same-more packed wrote.more segment wrote.same) read;
+  packed = wrote.all;
+  read = rw wrote.same read;
   lined = wrote.after;
   tolerance = tolerance;
   size = size;
@@ -110,3 +110,21 @@ done choice source0 source sink0 sink reading writing packed all lines report en
         };
       };
     }
+
+all-right : {X : Type 0} (P : X → Type 0) (xs ys : List X) → All P (xs ++ ys) → All P ys
+all-right P [] ys all = all
+all-right P (x ∷ xs) ys all = all-right P xs ys (all-tail P x (xs ++ ys) all)
+
+-- the segment that was given last can be written
+pub last-writable : (given others : List Segment) (segment : Segment) → All IsWritable ((given ++ segment ∷ []) ++ others) → IsWritable segment
+last-writable [] others segment all = all-head IsWritable segment others all
+last-writable (x ∷ given) others segment all = last-writable given others segment (all-tail IsWritable x ((given ++ segment ∷ []) ++ others) all)
+
+-- and so can the one that is still with the reader
+pub rest-writable : (source0 source : Device) (reading : Reading) (given : List Segment) (last : Option Segment) → HasReadAll source0 source reading given → last ≡ reading.joining.current → All IsWritable (option_to_list last)
+rest-writable source0 source reading given last end same = rw same (all-right IsWritable given (option_to_list reading.joining.current) end.read.writable)
+
+-- all records are read
+pub stops-at_end : (source0 source : Device) (reading : Reading) (given : List Segment) (last : Option Segment) → HasReadAll source0 source reading given → last ≡ reading.joining.current → StopsAfter reading.joining.tolerance source0 (given ++ option_to_list last)
+stops-at_end source0 source reading given last end same =
+    stops-with source0 source reading end.records given (given ++ option_to_list last) [] end.read (rw (same, append-nil) refl)

@@ -1,10 +1,10 @@
 -- What writing the segments with their lines does.
-use Rattle.std.specs.Prelude.{◌≡◌, List, [], ◌∷◌, ◌++◌, ℕ}
+use Rattle.std.specs.Prelude.{◌≡◌, ℕ, List, [], ◌∷◌, ◌++◌, map}
 use Rattle.msr_devices.specs.Device.{Device, HasFailed, IsSteady}
 use Rattle.msr_record.specs.declared.row.Row.{Row}
 use Rattle.msr_segments.specs.declared.joiner.Segment.{Segment}
 use Rattle.msr_report.specs.declared.report.SegmentLine.{SegmentLine}
-use Rattle.msr_output.specs.Output.{Packed}
+use Rattle.msr_output.specs.Output.{Packed, segment_of_packed}
 use Rattle.msr_output.specs.Writing.{Writing, IsLineOf, HasWritten, HasWrittenAll, HasWrittenFront}
 use Rattle.msr_tool.specs.declared.fault.ToolFault.{ToolFault}
 use Rattle.msr_tool.specs.declared.fault.ToolFault.TheVariants.{Input, Read, Write, Memory}
@@ -27,11 +27,11 @@ pub record HasLined (start now : Device) (lined : Lined) (packed : List Packed) 
   pub written : HasWritten start now lined.writing packed rows
   pub are_lines : AreLinesOf packed lined.lines
 
--- the segment stands behind the others, with its line
-pub record LinesSegment (start now : Device) (lined : Lined) (packed : List Packed) (segment : Segment) : Type 0 where
-  pub more : Packed
-  pub same : more.segment ≡ segment
-  pub after : HasLined start now lined (packed ++ more ∷ [])
+-- these segments stand behind the others, each with its line
+pub record LinesMore (start now : Device) (lined : Lined) (packed : List Packed) (more : List Segment) : Type 0 where
+  pub all : List Packed
+  pub same : map segment_of_packed all ≡ map segment_of_packed packed ++ more
+  pub after : HasLined start now lined all
 
 -- all of it was written, and each has its line
 pub record LinesAll (start now : Device) (writing : Writing) (packed : List Packed) (lines : List SegmentLine) : Type 0 where

@@ -38,9 +38,7 @@ pub fn repack<R: Source, W: Sink>(
         writer.write(sink, &segment)?;
     }
     let counts = reader.counts();
-    if let Some(segment) = reader.finish() {
-        writer.write(sink, &segment)?;
-    }
+    writer.write_last(sink, reader.finish())?;
     let segments = writer.finish(sink)?;
     output_keeps_segments();
     output_has_size();

@@ -24,12 +24,13 @@ impl Model for LinedWriter {
 }
 
 impl LinedWriter {
-    ghost use Rattle.std.specs.Prelude.{◌≡◌, ◌+◌, List, [], ◌∷◌, ◌++◌, map, length, MatchResult, OnOk};
+    ghost use Rattle.std.specs.Prelude.{◌≡◌, ◌+◌, List, [], ◌∷◌, ◌++◌, All, map, length, MatchResult, OnOk};
+    ghost use Rattle.std.specs.Option.{option_to_list};
     ghost use Rattle.msr_words.specs.Lengths.{bytes_of};
     ghost use Rattle.msr_devices.specs.Device.{Device, CanCountCall, CountsFew};
     ghost use Rattle.msr_input.specs.Reading.{IsWritable};
     ghost use Rattle.msr_output.specs.Output.{Packed, segment_of_packed};
-    ghost use Rattle.msr_tool.specs.Writing.{HasLined, LinesSegment, LinesAll, StopsLining};
+    ghost use Rattle.msr_tool.specs.Writing.{HasLined, LinesMore, LinesAll, StopsLining};
 
     /// A writer before the first segment.
     pub fn new(alloc: Global, length: Length) -> LinedWriter
@@ -48,7 +49,7 @@ impl LinedWriter {
         requires writable { IsWritable segment.now }
         ensures written { (start : Device) (packed : List Packed) → HasLined start (W.device sink.old) self.old packed
             → MatchResult result
-                (λ _. LinesSegment start (W.device sink.new) self.new packed segment.now)
+                (λ _. LinesMore start (W.device sink.new) self.new packed (segment.now ∷ []))
                 (StopsLining self.old.writing.size start (W.device sink.new) (map segment_of_packed packed ++ segment.now ∷ [])) }
         ensures size { self.new.writing.size ≡ self.old.writing.size }
         ensures one_more { OnOk result (length self.new.lines ≡ length self.old.lines + 1) }
@@ -57,6 +58,27 @@ impl LinedWriter {
         let line = self.writer.write_segment(sink, segment)?;
         self.lines.push(line)?;
         Ok(())
+    }
+
+    /// Writes the last segment, if there is one.
+    pub fn write_last<W: Sink>(
+        &mut self,
+        sink: &mut W,
+        last: Option<Segment>,
+    ) -> Result<(), ToolFault>
+        requires count { CanCountCall (W.device sink.old) }
+        requires writable { All IsWritable (option_to_list last) }
+        ensures written { (start : Device) (packed : List Packed) → HasLined start (W.device sink.old) self.old packed
+            → MatchResult result
+                (λ _. LinesMore start (W.device sink.new) self.new packed (option_to_list last))
+                (StopsLining self.old.writing.size start (W.device sink.new) (map segment_of_packed packed ++ option_to_list last)) }
+        ensures size { self.new.writing.size ≡ self.old.writing.size }
+        ensures few { CountsFew (W.device sink.old) (W.device sink.new) }
+    {
+        match last {
+            Some(segment) => self.write(sink, &segment),
+            None => Ok(()),
+        }
     }
 
     /// Writes all that waits, and gives the lines.

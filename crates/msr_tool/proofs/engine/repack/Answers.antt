@@ -1,89 +1,166 @@
-use Rattle.std.proofs.Common.{rules, ◌≡◌, ◌↔◌, List, ℕ, IsErrOf, ◌+◌, ◌-◌, ◌*◌, ◌<◌, ◌≤◌, length, ◌/◌, ◌%◌, Bool, true, false, nat_eq, nat_lt, [], ◌∷◌, ◌++◌, slice_index_or, slice_set, bit_and, bit_or, Fits, w8, w32, w64, Bor, MutBor}
-use Rattle.msr_devices.specs.Device.{CanCountCall, CountsFew, HasFailed, HasLeft, Takes}
-use Rattle.msr_tool.specs.Answer.{Answers}
+use Rattle.std.proofs.Common.{◌≡◌, ◌<◌, ◌≤◌, ◌∷◌, ◌++◌, [], All, map, refl, sym, arith}
+use Rattle.std.proofs.lemmas.Result.{err_from_is_err_and}
+use Rattle.std.specs.Option.{option_to_list}
+use Rattle.msr_record.specs.declared.row.Record.{Record}
+use Rattle.msr_input.specs.Reading.{HasRead, HasReadAll, StopsReading, IsWritable}
+use Rattle.msr_output.specs.Output.{segment_of_packed}
+use Rattle.msr_tool.proofs.Lines.{front-of}
+use Rattle.msr_tool.proofs.Stops.{stops-after, read-failed, write-failed, read-tells_source, read-tells_sink, write-tells_source, write-tells_sink, ok-tells, steady-can_count, steady-then_few, as-answer}
+use Rattle.msr_tool.proofs.UnderWay.{UnderWay, more, done, last-writable, rest-writable, stops-at_end}
 use Rattle.msr_tool.proofs.engine.repack.Goals as goal
 
--- src/engine.rt:37:5
 pub segments-init : goal.segments-init
-segments-init g c = ?
+segments-init g c = record {
+  records = [];
+  packed = [];
+  read = c.new-reader.ensures.none (g.R.Source.device c.args.source.now);
+  lined = c.new-writer.ensures.none (g.W.Sink.device c.args.sink.now);
+  tolerance = rw c.new-reader.ensures.tolerance c.tolerance.ensures.same;
+  size = rw (c.new-writer.ensures.size, c.length.ensures.same) refl;
+}
 
--- src/engine.rt:37:42
 pub returns-in_err-segment-clause-answer : goal.returns-in_err-segment-clause-answer
-returns-in_err-segment-clause-answer g c = ?
+returns-in_err-segment-clause-answer g c =
+    let p = err_from_is_err_and c.from_residual.result c.from_residual.ensures.1 in
+    let u = c.segments.invariant in
+    let stops = rw u.tolerance at (c.in_err-segment.ensures.read (g.R.Source.device c.args.source.now) u.records (map segment_of_packed u.packed) u.read) in
+    let front = rw u.size at (front-of _ (g.W.Sink.device c.segments.sink) c.segments.writer.writing u.packed u.lined.rows u.lined.written) in
+    rw (p.1, p.2) (as-answer _ _ _ _ _ (read-failed c.args.options (g.R.Source.device c.args.source.now) (g.R.Source.device c.next_segment.new.source) _ (g.W.Sink.device c.segments.sink) _ c.in_err-segment.field-0.0 stops front))
 
--- src/engine.rt:37:42
 pub returns-in_err-segment-clause-read : goal.returns-in_err-segment-clause-read
-returns-in_err-segment-clause-read g c = ?
+returns-in_err-segment-clause-read g c =
+    let p = err_from_is_err_and c.from_residual.result c.from_residual.ensures.1 in
+    let u = c.segments.invariant in
+    rw (p.1, p.2) (read-tells_source _ (g.R.Source.device c.args.source.now) (g.R.Source.device c.next_segment.new.source) _ c.in_err-segment.field-0.0 (c.in_err-segment.ensures.read (g.R.Source.device c.args.source.now) u.records (map segment_of_packed u.packed) u.read))
 
--- src/engine.rt:38:9
 pub write-requires-clause-writable : goal.write-requires-clause-writable
-write-requires-clause-writable g c = ?
+write-requires-clause-writable g c =
+    let u = c.segments.invariant in
+    let r = rw c.in-Some.is at (c.in_ok-segment.ensures.read (g.R.Source.device c.args.source.now) u.records (map segment_of_packed u.packed) u.read) in
+    last-writable (map segment_of_packed u.packed) (option_to_list c.next_segment.new.self.joining.current) c.in-Some.segment r.1.writable
 
--- src/engine.rt:38:9
 pub returns-in_err-write-clause-answer : goal.returns-in_err-write-clause-answer
-returns-in_err-write-clause-answer g c = ?
+returns-in_err-write-clause-answer g c =
+    let p = err_from_is_err_and c.from_residual-in_err-write.result c.from_residual-in_err-write.ensures.1 in
+    let u = c.segments.invariant in
+    let r = rw c.in-Some.is at (c.in_ok-segment.ensures.read (g.R.Source.device c.args.source.now) u.records (map segment_of_packed u.packed) u.read) in
+    let after = rw (c.in_ok-segment.ensures.tolerance, u.tolerance) at (stops-after _ (g.R.Source.device c.next_segment.new.source) c.next_segment.new.self r.0 (map segment_of_packed u.packed ++ c.in-Some.segment ∷ []) r.1) in
+    let stops = rw u.size at (c.in_err-write.ensures.written (g.W.Sink.device c.args.sink.now) u.packed u.lined) in
+    rw (p.1, p.2) (as-answer _ _ _ _ _ (write-failed c.args.options (g.R.Source.device c.args.source.now) (g.W.Sink.device c.args.sink.now) (g.W.Sink.device c.write.new.sink) _ c.in_err-write.field-0.0 after stops))
 
--- src/engine.rt:38:9
 pub returns-in_err-write-clause-read : goal.returns-in_err-write-clause-read
-returns-in_err-write-clause-read g c = ?
+returns-in_err-write-clause-read g c =
+    let p = err_from_is_err_and c.from_residual-in_err-write.result c.from_residual-in_err-write.ensures.1 in
+    let u = c.segments.invariant in
+    let r = rw c.in-Some.is at (c.in_ok-segment.ensures.read (g.R.Source.device c.args.source.now) u.records (map segment_of_packed u.packed) u.read) in
+    let stops = c.in_err-write.ensures.written (g.W.Sink.device c.args.sink.now) u.packed u.lined in
+    rw (p.1, p.2) (write-tells_source _ (g.R.Source.device c.args.source.now) (g.R.Source.device c.next_segment.new.source) (g.W.Sink.device c.args.sink.now) (g.W.Sink.device c.write.new.sink) _ c.in_err-write.field-0.0 r.1.steady stops)
 
--- src/engine.rt:38:9
 pub returns-in_err-write-clause-write : goal.returns-in_err-write-clause-write
-returns-in_err-write-clause-write g c = ?
+returns-in_err-write-clause-write g c =
+    let p = err_from_is_err_and c.from_residual-in_err-write.result c.from_residual-in_err-write.ensures.1 in
+    let u = c.segments.invariant in
+    rw (p.1, p.2) (write-tells_sink _ (g.W.Sink.device c.args.sink.now) (g.W.Sink.device c.write.new.sink) _ c.in_err-write.field-0.0 (c.in_err-write.ensures.written (g.W.Sink.device c.args.sink.now) u.packed u.lined))
 
--- src/engine.rt:37:5
 pub segments-preserved : goal.segments-preserved
-segments-preserved g c = ?
+segments-preserved g c =
+    let u = c.segments.invariant in
+    let r = rw c.in-Some.is at (c.in_ok-segment.ensures.read (g.R.Source.device c.args.source.now) u.records (map segment_of_packed u.packed) u.read) in
+    more _ _ (g.R.Source.device c.next_segment.new.source) _ (g.W.Sink.device c.write.new.sink) c.next_segment.new.self c.write.new.self u.packed r.0 c.in-Some.segment r.1 (c.in_ok-write.ensures.written (g.W.Sink.device c.args.sink.now) u.packed u.lined) (rw c.in_ok-segment.ensures.tolerance u.tolerance) (rw c.in_ok-write.ensures.size u.size)
 
--- src/engine.rt:42:9
-pub write-requires-in-Some-finish-clause-writable :
-    goal.write-requires-in-Some-finish-clause-writable
-write-requires-in-Some-finish-clause-writable g c = ?
+pub write_last-requires-clause-writable : goal.write_last-requires-clause-writable
+write_last-requires-clause-writable g c =
+    let u = c.segments.invariant in
+    let end = rw c.in_default.is at (c.in_ok-segment.ensures.read (g.R.Source.device c.args.source.now) u.records (map segment_of_packed u.packed) u.read) in
+    rest-writable (g.R.Source.device c.args.source.now) (g.R.Source.device c.next_segment.new.source) c.next_segment.new.self _ c.finish.result end c.finish.ensures
 
--- src/engine.rt:42:9
-pub returns-in_err-write-2-clause-answer : goal.returns-in_err-write-2-clause-answer
-returns-in_err-write-2-clause-answer g c = ?
+pub returns-in_err-write_last-clause-answer : goal.returns-in_err-write_last-clause-answer
+returns-in_err-write_last-clause-answer g c =
+    let p = err_from_is_err_and c.from_residual-in_err-write_last.result c.from_residual-in_err-write_last.ensures.1 in
+    let u = c.segments.invariant in
+    let end = rw c.in_default.is at (c.in_ok-segment.ensures.read (g.R.Source.device c.args.source.now) u.records (map segment_of_packed u.packed) u.read) in
+    let after = rw (c.in_ok-segment.ensures.tolerance, u.tolerance) at (stops-at_end (g.R.Source.device c.args.source.now) (g.R.Source.device c.next_segment.new.source) c.next_segment.new.self (map segment_of_packed u.packed) c.finish.result end c.finish.ensures) in
+    let stops = rw u.size at (c.in_err-write_last.ensures.written (g.W.Sink.device c.args.sink.now) u.packed u.lined) in
+    rw (p.1, p.2) (as-answer _ _ _ _ _ (write-failed c.args.options (g.R.Source.device c.args.source.now) (g.W.Sink.device c.args.sink.now) (g.W.Sink.device c.write_last.new.sink) _ c.in_err-write_last.field-0.0 after stops))
 
--- src/engine.rt:42:9
-pub returns-in_err-write-2-clause-read : goal.returns-in_err-write-2-clause-read
-returns-in_err-write-2-clause-read g c = ?
+pub returns-in_err-write_last-clause-read : goal.returns-in_err-write_last-clause-read
+returns-in_err-write_last-clause-read g c =
+    let p = err_from_is_err_and c.from_residual-in_err-write_last.result c.from_residual-in_err-write_last.ensures.1 in
+    let u = c.segments.invariant in
+    let end = rw c.in_default.is at (c.in_ok-segment.ensures.read (g.R.Source.device c.args.source.now) u.records (map segment_of_packed u.packed) u.read) in
+    rw (p.1, p.2) (write-tells_source _ (g.R.Source.device c.args.source.now) (g.R.Source.device c.next_segment.new.source) (g.W.Sink.device c.args.sink.now) (g.W.Sink.device c.write_last.new.sink) _ c.in_err-write_last.field-0.0 end.read.steady (c.in_err-write_last.ensures.written (g.W.Sink.device c.args.sink.now) u.packed u.lined))
 
--- src/engine.rt:42:9
-pub returns-in_err-write-2-clause-write : goal.returns-in_err-write-2-clause-write
-returns-in_err-write-2-clause-write g c = ?
+pub returns-in_err-write_last-clause-write : goal.returns-in_err-write_last-clause-write
+returns-in_err-write_last-clause-write g c =
+    let p = err_from_is_err_and c.from_residual-in_err-write_last.result c.from_residual-in_err-write_last.ensures.1 in
+    let u = c.segments.invariant in
+    rw (p.1, p.2) (write-tells_sink _ (g.W.Sink.device c.args.sink.now) (g.W.Sink.device c.write_last.new.sink) _ c.in_err-write_last.field-0.0 (c.in_err-write_last.ensures.written (g.W.Sink.device c.args.sink.now) u.packed u.lined))
 
--- src/engine.rt:44:20
 pub finish-requires-2 : goal.finish-requires-2
-finish-requires-2 g c = ?
+finish-requires-2 g c =
+    let u = c.segments.invariant in
+    let wrote = c.in_ok-write_last.ensures.written (g.W.Sink.device c.args.sink.now) u.packed u.lined in
+    record { count = steady-can_count (g.W.Sink.device c.args.sink.now) (g.W.Sink.device c.write_last.new.sink) wrote.after.written.calm.steady c.requires.sink }
 
--- src/engine.rt:44:20
 pub returns-in_err-segments-clause-answer : goal.returns-in_err-segments-clause-answer
-returns-in_err-segments-clause-answer g c = ?
+returns-in_err-segments-clause-answer g c =
+    let p = err_from_is_err_and c.from_residual-in_err-segments.result c.from_residual-in_err-segments.ensures.1 in
+    let u = c.segments.invariant in
+    let end = rw c.in_default.is at (c.in_ok-segment.ensures.read (g.R.Source.device c.args.source.now) u.records (map segment_of_packed u.packed) u.read) in
+    let wrote = c.in_ok-write_last.ensures.written (g.W.Sink.device c.args.sink.now) u.packed u.lined in
+    let after = rw (c.in_ok-segment.ensures.tolerance, u.tolerance, ← wrote.same) at (stops-at_end (g.R.Source.device c.args.source.now) (g.R.Source.device c.next_segment.new.source) c.next_segment.new.self (map segment_of_packed u.packed) c.finish.result end c.finish.ensures) in
+    let stops = rw (c.in_ok-write_last.ensures.size, u.size) at (c.in_err-segments.ensures.written (g.W.Sink.device c.args.sink.now) wrote.all wrote.after) in
+    rw (p.1, p.2) (as-answer _ _ _ _ _ (write-failed c.args.options (g.R.Source.device c.args.source.now) (g.W.Sink.device c.args.sink.now) (g.W.Sink.device c.finish-2.new.sink) _ c.in_err-segments.field-0.0 after stops))
 
--- src/engine.rt:44:20
 pub returns-in_err-segments-clause-read : goal.returns-in_err-segments-clause-read
-returns-in_err-segments-clause-read g c = ?
+returns-in_err-segments-clause-read g c =
+    let p = err_from_is_err_and c.from_residual-in_err-segments.result c.from_residual-in_err-segments.ensures.1 in
+    let u = c.segments.invariant in
+    let end = rw c.in_default.is at (c.in_ok-segment.ensures.read (g.R.Source.device c.args.source.now) u.records (map segment_of_packed u.packed) u.read) in
+    let wrote = c.in_ok-write_last.ensures.written (g.W.Sink.device c.args.sink.now) u.packed u.lined in
+    rw (p.1, p.2) (write-tells_source _ (g.R.Source.device c.args.source.now) (g.R.Source.device c.next_segment.new.source) (g.W.Sink.device c.args.sink.now) (g.W.Sink.device c.finish-2.new.sink) _ c.in_err-segments.field-0.0 end.read.steady (c.in_err-segments.ensures.written (g.W.Sink.device c.args.sink.now) wrote.all wrote.after))
 
--- src/engine.rt:44:20
 pub returns-in_err-segments-clause-write : goal.returns-in_err-segments-clause-write
-returns-in_err-segments-clause-write g c = ?
+returns-in_err-segments-clause-write g c =
+    let p = err_from_is_err_and c.from_residual-in_err-segments.result c.from_residual-in_err-segments.ensures.1 in
+    let u = c.segments.invariant in
+    let wrote = c.in_ok-write_last.ensures.written (g.W.Sink.device c.args.sink.now) u.packed u.lined in
+    rw (p.1, p.2) (write-tells_sink _ (g.W.Sink.device c.args.sink.now) (g.W.Sink.device c.finish-2.new.sink) _ c.in_err-segments.field-0.0 (c.in_err-segments.ensures.written (g.W.Sink.device c.args.sink.now) wrote.all wrote.after))
 
--- src/engine.rt:44:20
 pub returns-in_err-segments-clause-few_sink : goal.returns-in_err-segments-clause-few_sink
-returns-in_err-segments-clause-few_sink g c = ?
+returns-in_err-segments-clause-few_sink g c =
+    let u = c.segments.invariant in
+    let wrote = c.in_ok-write_last.ensures.written (g.W.Sink.device c.args.sink.now) u.packed u.lined in
+    steady-then_few (g.W.Sink.device c.args.sink.now) (g.W.Sink.device c.write_last.new.sink) (g.W.Sink.device c.finish-2.new.sink) wrote.after.written.calm.steady c.finish-2.ensures.few
 
--- src/engine.rt:17:1
 pub returns-clause-answer : goal.returns-clause-answer
-returns-clause-answer g c = ?
+returns-clause-answer g c =
+    let u = c.segments.invariant in
+    let end = rw c.in_default.is at (c.in_ok-segment.ensures.read (g.R.Source.device c.args.source.now) u.records (map segment_of_packed u.packed) u.read) in
+    let wrote = c.in_ok-write_last.ensures.written (g.W.Sink.device c.args.sink.now) u.packed u.lined in
+    let all_written = c.in_ok-segments.ensures.written (g.W.Sink.device c.args.sink.now) wrote.all wrote.after in
+    as-answer _ _ _ _ _ (done c.args.options (g.R.Source.device c.args.source.now) (g.R.Source.device c.next_segment.new.source) (g.W.Sink.device c.args.sink.now) (g.W.Sink.device c.finish-2.new.sink) c.next_segment.new.self c.write_last.new.self.writing u.packed wrote.all _ _
+        end (rw (← c.finish.ensures) wrote.same) all_written
+        (rw c.in_ok-segment.ensures.tolerance u.tolerance) (rw c.in_ok-write_last.ensures.size u.size)
+        (rw c.tolerance.ensures.same at c.tolerance.ensures.in_range.0) (rw c.tolerance.ensures.same at c.tolerance.ensures.in_range.1) (omega arith)
+        c.output_keeps_segments.ensures c.output_has_size.ensures
+        c.length-2.ensures.same c.tolerance-2.ensures.same c.counts-counts.ensures refl)
 
--- src/engine.rt:17:1
 pub returns-clause-read : goal.returns-clause-read
-returns-clause-read g c = ?
+returns-clause-read g c =
+    let u = c.segments.invariant in
+    let end = rw c.in_default.is at (c.in_ok-segment.ensures.read (g.R.Source.device c.args.source.now) u.records (map segment_of_packed u.packed) u.read) in
+    ok-tells (g.R.Source.device c.args.source.now) (g.R.Source.device c.next_segment.new.source) _ _ end.read.steady
 
--- src/engine.rt:17:1
 pub returns-clause-write : goal.returns-clause-write
-returns-clause-write g c = ?
+returns-clause-write g c =
+    let u = c.segments.invariant in
+    let wrote = c.in_ok-write_last.ensures.written (g.W.Sink.device c.args.sink.now) u.packed u.lined in
+    let all_written = c.in_ok-segments.ensures.written (g.W.Sink.device c.args.sink.now) wrote.all wrote.after in
+    ok-tells (g.W.Sink.device c.args.sink.now) (g.W.Sink.device c.finish-2.new.sink) _ _ all_written.written.calm.steady
 
--- src/engine.rt:17:1
 pub returns-clause-few_sink : goal.returns-clause-few_sink
-returns-clause-few_sink g c = ?
+returns-clause-few_sink g c =
+    let u = c.segments.invariant in
+    let wrote = c.in_ok-write_last.ensures.written (g.W.Sink.device c.args.sink.now) u.packed u.lined in
+    steady-then_few (g.W.Sink.device c.args.sink.now) (g.W.Sink.device c.write_last.new.sink) (g.W.Sink.device c.finish-2.new.sink) wrote.after.written.calm.steady c.finish-2.ensures.few
