@@ -1,7 +1,7 @@
 -- What the steps of reading do: bytes are read ahead, a record is decoded, and its row is joined.
-use Rattle.std.specs.Prelude.{◌≡◌, ℕ, ◌≤◌, List, length, Option, None, Some, Bool, false}
+use Rattle.std.specs.Prelude.{◌≡◌, ℕ, ◌≤◌, List, ◌++◌, length, Option, None, Some, Bool, false}
 use Rattle.msr_time.specs.Instant.{IsInstant}
-use Rattle.msr_record.specs.Records.{IsRefused, first_bytes}
+use Rattle.msr_record.specs.Records.{IsRefused}
 use Rattle.msr_record.specs.declared.row.Row.{Row}
 use Rattle.msr_record.specs.declared.fault.FaultKind.{FaultKind}
 use Rattle.msr_record.specs.declared.fault.FaultKind.TheVariants as refusal
@@ -31,9 +31,11 @@ StopsBefore old new ended (fault.Input f) = ⊥
 StopsBefore old new ended fault.Read = HasFailed old new × (ended ≡ false)
 StopsBefore old new ended fault.Memory = new ≡ old
 
--- why no record was decoded: the one at that offset is refused, and the first bytes decide so; or there was no memory
+-- why no record was decoded: the one at that offset is refused, also with more behind as many bytes as the longest
+-- record has; or there was no memory
 abbrev pub StopsDecoding : List ℕ → ℕ → ReadFault → Type 0
-StopsDecoding bytes offset (fault.Input f) = (f.offset ≡ offset) × IsRefused bytes f.kind × IsRefused (first_bytes bytes) f.kind
+StopsDecoding bytes offset (fault.Input f) =
+    (f.offset ≡ offset) × IsRefused bytes f.kind × ((rest : List ℕ) → 1_048_576 ≤ length bytes → IsRefused (bytes ++ rest) f.kind)
 StopsDecoding bytes offset fault.Read = ⊥
 StopsDecoding bytes offset fault.Memory = Unit {0}
 

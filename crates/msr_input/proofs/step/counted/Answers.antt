@@ -1,0 +1,4 @@
+use Rattle.msr_input.proofs.step.counted.Goals as goal
+
+pub returns : goal.returns
+returns c = ?
