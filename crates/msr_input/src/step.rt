@@ -1,5 +1,5 @@
 // The steps of reading: bytes ahead, a record, its row, its counts.
-ghost use Rattle.std.specs.Prelude.{◌≡◌, ◌+◌, ◌<◌, ◌≤◌, ◌-◌, ◌^◌, ℕ, List, [], ◌∷◌, ◌++◌, length, IfOk, IfErr, IfSome, OnErr, MatchResult};
+ghost use Rattle.std.specs.Prelude.{◌≡◌, ◌+◌, ◌<◌, ◌≤◌, ◌-◌, ◌^◌, ℕ, List, [], ◌∷◌, ◌++◌, length, IfOk, IfErr, IfSome, OnErr, MatchResult, if◌then◌else◌};
 ghost use Rattle.msr_record.specs.Records.{IsRecordOf};
 ghost use Rattle.msr_record.specs.declared.row.Record.{Record as Found};
 ghost use Rattle.msr_devices.specs.Device.{CanCountCall, CountsFew};
@@ -70,12 +70,19 @@ pub fn join(
     }
 }
 
-// The counts with those of one record more. There are fewer than 2^64 records, so none saturates.
+// One to count where that does not hold.
+fn one_unless(holds: bool) -> u64
+    ensures { result ≡ (if holds then 0 else 1) }
+{
+    if holds { 0 } else { 1 }
+}
+
+// The counts with those of one record more. A source has fewer than 2^64 bytes, so none saturates.
 pub fn counted(counts: Counts, found: &Record) -> Counts
     ensures { (records : List Found) → counts ≡ counts_of records → length records < 2 ^ 64 - 1 → result ≡ counts_of (records ++ found.now ∷ []) }
 {
-    let empty = if found.row.is_some() { 0 } else { 1 };
-    let mismatched = if found.reverse_agrees { 0 } else { 1 };
+    let empty = one_unless(found.row.is_some());
+    let mismatched = one_unless(found.reverse_agrees);
     Counts {
         read: counts.read.saturating_add(1),
         empty: counts.empty.saturating_add(empty),
