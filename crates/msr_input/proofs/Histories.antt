@@ -173,13 +173,16 @@ join-stops s a reading records given found (fault.Input f) has is stop =
         rest = reading.waiting ++ left.0;
         are_read = record { begins = came.2; in_range = has.in_range };
         some_left = omega (arith, fits.0, fits.1, length-append reading.waiting left.0);
-        refused = inr (stop.1, record {
-          found = found;
-          row = o.the_row;
-          has_row = o.has_row;
-          is_record = shown_record reading.waiting left.0 found is;
-          out_of_range = subst (λ (rows : List Row). LastEndsOutOfRange reading.joining.tolerance rows) (sym (rows-with records found o.the_row o.has_row)) out;
-        });
+        refused = inr (
+          stop.1,
+          record {
+            found = found;
+            row = o.the_row;
+            has_row = o.has_row;
+            is_record = shown_record reading.waiting left.0 found is;
+            out_of_range = subst (λ (rows : List Row). LastEndsOutOfRange reading.joining.tolerance rows) (sym (rows-with records found o.the_row o.has_row)) out;
+          },
+        );
         offset_is = stop.0 ∙ has.offset;
       };
       begun = record { others = option_to_list reading.joining.current; are_segments = has.joined.segments };

@@ -21,8 +21,8 @@ returns-in_err-found-clause-read g c =
     let some : 0 < length c.fill_ahead.new.buffer.bytes = search rules in
     let stop = rw c.bytes-bytes.ensures at c.in_err-found.ensures.refused in
     rw (p.1, p.2, ← c.self.view_is) (λ start records given has.
-      let filled = read-filled start (g.R.Source.device c.args.source.now) (g.R.Source.device c.fill_ahead.new.source) c.self.inside.buffer c.fill_ahead.new.buffer c.self.inside.joiner c.self.inside.counts c.self.inside.offset 1_048_576 records given has c.in_ok-fill_ahead.ensures.filled in
-      decode-stops start (g.R.Source.device c.fill_ahead.new.source) new records given c.in_err-found.field-0.0 filled c.in_ok-fill_ahead.ensures.filled.enough some stop)
+    let filled = read-filled start (g.R.Source.device c.args.source.now) (g.R.Source.device c.fill_ahead.new.source) c.self.inside.buffer c.fill_ahead.new.buffer c.self.inside.joiner c.self.inside.counts c.self.inside.offset 1_048_576 records given has c.in_ok-fill_ahead.ensures.filled in
+    decode-stops start (g.R.Source.device c.fill_ahead.new.source) new records given c.in_err-found.field-0.0 filled c.in_ok-fill_ahead.ensures.filled.enough some stop)
 
 pub returns-clause-read : goal.returns-clause-read
 returns-clause-read g c =

@@ -11,19 +11,19 @@ pub returns-in_err-found-clause-read : goal.returns-in_err-found-clause-read
 returns-in_err-found-clause-read g c =
     let p = err_from_is_err_and c.from_residual.result c.from_residual.ensures.1 in
     rw (p.1, p.2) (λ start records given has.
-      let now = c.records.invariant.read start records given has in
-      let stop = c.in_err-found.ensures.read start now.0 given now.1 in
-      subst (λ (tolerance : ℕ). StopsReading tolerance start (g.R.Source.device c.next_record.new.source) given c.in_err-found.field-0.0) c.records.invariant.tolerance stop)
+    let now = c.records.invariant.read start records given has in
+    let stop = c.in_err-found.ensures.read start now.0 given now.1 in
+    subst (λ (tolerance : ℕ). StopsReading tolerance start (g.R.Source.device c.next_record.new.source) given c.in_err-found.field-0.0) c.records.invariant.tolerance stop)
 
 pub returns-in_err-segment-clause-read : goal.returns-in_err-segment-clause-read
 returns-in_err-segment-clause-read g c =
     let p = err_from_is_err_and c.from_residual-in_err-segment.result c.from_residual-in_err-segment.ensures.1 in
     let same = ap (λ (joining : Joining). joining.tolerance) c.next_record.ensures.joining ∙ c.records.invariant.tolerance in
     rw (p.1, p.2) (λ start records given has.
-      let now = c.records.invariant.read start records given has in
-      let filled = c.in_ok-found.ensures.read start now.0 given now.1 in
-      let stop = c.in_err-segment.ensures.read start (g.R.Source.device c.next_record.new.source) now.0 given filled in
-      subst (λ (tolerance : ℕ). StopsReading tolerance start (g.R.Source.device c.next_record.new.source) given c.in_err-segment.field-0.0) same stop)
+    let now = c.records.invariant.read start records given has in
+    let filled = c.in_ok-found.ensures.read start now.0 given now.1 in
+    let stop = c.in_err-segment.ensures.read start (g.R.Source.device c.next_record.new.source) now.0 given filled in
+    subst (λ (tolerance : ℕ). StopsReading tolerance start (g.R.Source.device c.next_record.new.source) given c.in_err-segment.field-0.0) same stop)
 
 pub returns-in-Some-2-clause-read : goal.returns-in-Some-2-clause-read
 returns-in-Some-2-clause-read g c = λ start records given has.

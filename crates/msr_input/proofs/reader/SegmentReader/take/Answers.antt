@@ -24,10 +24,10 @@ returns-clause-read c =
     let old : Reading = at_window c.self.inside.buffer c.self.inside.joiner c.self.inside.counts c.self.inside.offset in
     let is : IsRecordOf old.waiting c.args.found = rw (← c.self.view_is) at c.requires.is_record in
     rw (← c.self.view_is, c.consume.ensures) (λ start now records given has.
-      let bounds = in-bounds start now old records given c.args.found has is in
-      let counts : c.counted-counts.result ≡ counts_of (records ++ c.args.found ∷ []) = c.counted-counts.ensures records has.counts bounds.records_few in
-      let offset : c.saturating_add-self-inside.result ≡ c.self.inside.offset + c.args.found.length = grind (arith, c.saturating_add-self-inside.ensures, bounds.offset_small) in
-      read-taken start now old c.join.new.joiner c.counted-counts.result c.saturating_add-self-inside.result records given c.args.found c.in_ok-ended.ended has is c.in_ok-ended.ensures.joined counts offset)
+    let bounds = in-bounds start now old records given c.args.found has is in
+    let counts : c.counted-counts.result ≡ counts_of (records ++ c.args.found ∷ []) = c.counted-counts.ensures records has.counts bounds.records_few in
+    let offset : c.saturating_add-self-inside.result ≡ c.self.inside.offset + c.args.found.length = grind (arith, c.saturating_add-self-inside.ensures, bounds.offset_small) in
+    read-taken start now old c.join.new.joiner c.counted-counts.result c.saturating_add-self-inside.result records given c.args.found c.in_ok-ended.ended has is c.in_ok-ended.ensures.joined counts offset)
 
 pub returns-clause-fewer : goal.returns-clause-fewer
 returns-clause-fewer c =
