@@ -1,5 +1,5 @@
 -- What a reader has read, step by step, and why it stops.
-use Rattle.std.proofs.Common.{◌≡◌, ℕ, ◌+◌, ◌^◌, ◌<◌, ◌≤◌, ◌-◌, suc, ◌⊎◌, inl, inr, Bool, true, false, List, [], ◌∷◌, ◌++◌, length, drop, refl, sym, ap, subst, ◌∙◌, arith, append_assoc, length-append, length-drop, Option, Some, None, All, get_or, IfSome}
+use Rattle.std.proofs.Common.{◌≡◌, ◌≢◌, ℕ, ◌+◌, ◌^◌, ◌<◌, ◌≤◌, ◌-◌, suc, ◌⊎◌, inl, inr, Bool, true, false, List, [], ◌∷◌, ◌++◌, length, drop, refl, sym, ap, subst, ◌∙◌, arith, append_assoc, length-append, length-drop, Option, Some, None, All, get_or, IfSome}
 use Rattle.std.specs.Option.{option_to_list}
 use Rattle.std.proofs.lemmas.List.{append-nil, get_or_append_left, drop-append-le}
 use Rattle.std.proofs.lemmas.List.Elements.{All-append}
@@ -103,11 +103,20 @@ stops-after s a reading records given has =
     }
 
 -- no more bytes came
-pub fill-stops : (s a b : Device) (reading : Reading) (records : List Record) (given : List Segment) (why : ReadFault) → HasRead s a reading records given → StopsBefore a b reading.ended why → StopsReading reading.joining.tolerance s b given why
-fill-stops s a b reading records given (fault.Input f) has stop = absurd stop
-fill-stops s a b reading records given fault.Read has stop = (stops-after s a reading records given has, calm-failed s a b (has.calm stop.1) stop.0)
-fill-stops s a b reading records given fault.Memory has stop =
-    (stops-after s a reading records given has, subst (λ (device : Device). IsSteady s device) (sym stop) has.steady)
+pub fill-stops : (s a b : Device) (w w' : Window) (joining : Joining) (counts : Counts) (offset : ℕ) (records : List Record) (given : List Segment) (why : ReadFault) → HasRead s a (at_window w joining counts offset) records given → StopsBefore a b w w' why → StopsReading joining.tolerance s b given why
+fill-stops s a b w w' joining counts offset records given (fault.Input f) has stop = absurd stop
+fill-stops s a b w w' joining counts offset records given fault.Read has stop =
+    (stops-after s a (at_window w joining counts offset) records given has, calm-failed s a b (has.calm stop.1) stop.0)
+fill-stops s a b w w' joining counts offset records given fault.Memory has stop =
+    (stops-after s a (at_window w joining counts offset) records given has, subst (λ (device : Device). IsSteady s device) (sym stop.0) has.steady)
+
+-- unless the source failed, the reader stands where it stood
+pub fill-keeps : (s a b : Device) (w w' : Window) (joining : Joining) (counts : Counts) (offset : ℕ) (records : List Record) (given : List Segment) (why : ReadFault) → HasRead s a (at_window w joining counts offset) records given → StopsBefore a b w w' why → why ≢ fault.Read → HasRead s b (at_window w' joining counts offset) records given
+fill-keeps s a b w w' joining counts offset records given (fault.Input f) has stop other = absurd stop
+fill-keeps s a b w w' joining counts offset records given fault.Read has stop other = absurd (other refl)
+fill-keeps s a b w w' joining counts offset records given fault.Memory has stop other =
+    let window = subst (λ (window : Window). HasRead s a (at_window window joining counts offset) records given) (sym stop.1) has in
+    subst (λ (device : Device). HasRead s device (at_window w' joining counts offset) records given) (sym stop.0) window
 
 -- what is refused with all that is left behind it
 record RefusedWithRest (a : Device) (bytes : List ℕ) (kind : FaultKind) : Type 0 where

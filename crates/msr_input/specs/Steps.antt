@@ -1,11 +1,12 @@
 -- What the steps of reading do: bytes are read ahead, a record is decoded, and its row is joined.
-use Rattle.std.specs.Prelude.{◌≡◌, ℕ, ◌≤◌, List, ◌++◌, length, Option, None, Some, Bool, false}
+use Rattle.std.specs.Prelude.{◌≡◌, ℕ, ◌≤◌, List, ◌++◌, length, Option, None, Some, false}
 use Rattle.msr_time.specs.Instant.{IsInstant}
 use Rattle.msr_record.specs.Records.{IsRefused}
 use Rattle.msr_record.specs.declared.row.Row.{Row}
 use Rattle.msr_record.specs.declared.fault.FaultKind.{FaultKind}
 use Rattle.msr_record.specs.declared.fault.FaultKind.TheVariants as refusal
 use Rattle.msr_devices.specs.Device.{Device, HasFailed}
+use Rattle.msr_devices.specs.ReadBuffer.{Window}
 use Rattle.msr_devices.specs.declared.read_buffer.FillFault.{FillFault}
 use Rattle.msr_devices.specs.declared.read_buffer.FillFault.TheVariants as filling
 use Rattle.msr_segments.specs.Spans.{Overruns}
@@ -25,11 +26,11 @@ abbrev pub fault_at : ℕ → FaultKind → ReadFault
 fault_at offset refusal.Memory = fault.Memory
 fault_at offset kind = fault.Input (record { offset = offset; kind = kind })
 
--- why a source gave no more bytes: it failed, where it had not ended, or nothing was read for want of memory
-abbrev pub StopsBefore : Device → Device → Bool → ReadFault → Type 0
-StopsBefore old new ended (fault.Input f) = ⊥
-StopsBefore old new ended fault.Read = HasFailed old new × (ended ≡ false)
-StopsBefore old new ended fault.Memory = new ≡ old
+-- why a source gave no more bytes: it failed, and had not ended, or nothing was read for want of memory
+abbrev pub StopsBefore : Device → Device → Window → Window → ReadFault → Type 0
+StopsBefore old new before after (fault.Input f) = ⊥
+StopsBefore old new before after fault.Read = HasFailed old new × (before.ended ≡ false)
+StopsBefore old new before after fault.Memory = (new ≡ old) × (after ≡ before)
 
 -- why no record was decoded: the one at that offset is refused, also with more behind as many bytes as the longest
 -- record has; or there was no memory

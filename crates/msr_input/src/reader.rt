@@ -28,7 +28,7 @@ impl Model for SegmentReader {
 }
 
 impl SegmentReader {
-    ghost use Rattle.std.specs.Prelude.{◌≡◌, ◌≤◌, ◌<◌, ◌+◌, ◌-◌, ◌^◌, List, [], ◌∷◌, ◌++◌, length, true, OnOk, IfOk, IfSome, MatchResult, MatchOption, None};
+    ghost use Rattle.std.specs.Prelude.{◌≡◌, ◌≢◌, ◌≤◌, ◌<◌, ◌+◌, ◌-◌, ◌^◌, List, [], ◌∷◌, ◌++◌, length, true, OnOk, OnErr, IfOk, IfErr, IfSome, MatchResult, MatchOption, None};
     ghost use Rattle.std.specs.Option.{option_to_list};
     ghost use Rattle.msr_devices.specs.Device.{Device, CanCountCall, CountsFew, IsSteady};
     ghost use Rattle.msr_record.specs.Records.{IsRecordOf};
@@ -64,6 +64,8 @@ impl SegmentReader {
         ensures next { IfOk result (λ next. MatchOption next
             ((self.new.waiting ≡ []) × (self.new.ended ≡ true))
             (λ found. IsRecordOf self.new.waiting found × IfSome found.row CanJoin)) }
+        ensures kept { (start : Device) (records : List Found) (given : List Joined) → HasRead start (R.device source.old) self.old records given
+            → IfErr result (λ fault. fault ≢ ReadFault.Read → HasRead start (R.device source.new) self.new records given) }
         ensures joining { self.new.joining ≡ self.old.joining }
         ensures steady { OnOk result (IsSteady (R.device source.old) (R.device source.new)) }
         ensures few { CountsFew (R.device source.old) (R.device source.new) }
@@ -87,6 +89,7 @@ impl SegmentReader {
         ensures read { (start now : Device) (records : List Found) (given : List Joined) → HasRead start now self.old records given
             → MatchResult result (λ ended. HasRead start now self.new (records ++ found ∷ []) (given ++ option_to_list ended)) (StopsReading self.old.joining.tolerance start now given) }
         ensures tolerance { self.new.joining.tolerance ≡ self.old.joining.tolerance }
+        ensures unchanged { OnErr result (self.new ≡ self.old) }
         ensures fewer { OnOk result (length self.new.waiting < length self.old.waiting) }
     {
         let counts = counted(self.counts, &found);
@@ -97,7 +100,9 @@ impl SegmentReader {
         Ok(ended)
     }
 
-    /// Reads records until one ends a segment, and gives that; `None` where the input has ended.
+    /// Reads records until one ends a segment, and gives that; `None` where the input has ended. At an
+    /// `Err` but `Read` the reader stands before the record that it did not take: a further call gives
+    /// the same fault again, or tries again to get memory.
     pub fn next_segment<R: Source>(&mut self, source: &mut R) -> Result<Option<Segment>, ReadFault>
         requires { CanCountCall (R.device source.old) }
         ensures read { (start : Device) (records : List Found) (given : List Joined) → HasRead start (R.device source.old) self.old records given
@@ -106,6 +111,8 @@ impl SegmentReader {
             (HasReadAll start (R.device source.new) self.new given)
             (λ segment. (now : List Found) × HasRead start (R.device source.new) self.new now (given ++ segment ∷ [])))
             (StopsReading self.old.joining.tolerance start (R.device source.new) given) }
+        ensures kept { (start : Device) (records : List Found) (given : List Joined) → HasRead start (R.device source.old) self.old records given
+            → IfErr result (λ fault. fault ≢ ReadFault.Read → (now : List Found) × HasRead start (R.device source.new) self.new now given) }
         ensures tolerance { self.new.joining.tolerance ≡ self.old.joining.tolerance }
         ensures few { CountsFew (R.device source.old) (R.device source.new) }
     {

@@ -23,7 +23,7 @@ const AHEAD: usize = 2_097_152;
 // Reads until the bytes of the longest record stand in the buffer, or no more are left.
 pub fn fill_ahead<R: Source>(buffer: &mut ReadBuffer, source: &mut R) -> Result<(), ReadFault>
     requires { CanCountCall (R.device source.old) }
-    ensures filled { MatchResult result (λ _. IsFilled 1_048_576 (R.device source.old) (R.device source.new) buffer.old buffer.new) (StopsBefore (R.device source.old) (R.device source.new) buffer.old.ended) }
+    ensures filled { MatchResult result (λ _. IsFilled 1_048_576 (R.device source.old) (R.device source.new) buffer.old buffer.new) (StopsBefore (R.device source.old) (R.device source.new) buffer.old buffer.new) }
     ensures few { CountsFew (R.device source.old) (R.device source.new) }
 {
     if buffer.bytes().len() < LONGEST {

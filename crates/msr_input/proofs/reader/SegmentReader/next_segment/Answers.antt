@@ -49,3 +49,17 @@ returns-clause-read g c = λ start records given has.
     let filled = c.in_ok-found.ensures.read start now.0 given now.1 in
     let end = rw c.in_default.is at c.in_ok-found.ensures.next in
     read-all start (g.R.Source.device c.next_record.new.source) c.next_record.new.self now.0 given filled end.0 end.1
+
+pub returns-in_err-found-clause-kept : goal.returns-in_err-found-clause-kept
+returns-in_err-found-clause-kept g c =
+    let p = err_from_is_err_and c.from_residual.result c.from_residual.ensures.1 in
+    rw (p.1, p.2) (λ start records given has other.
+    let now = c.records.invariant.read start records given has in
+    (now.0, c.in_err-found.ensures.kept start now.0 given now.1 other))
+
+pub returns-in_err-segment-clause-kept : goal.returns-in_err-segment-clause-kept
+returns-in_err-segment-clause-kept g c =
+    let p = err_from_is_err_and c.from_residual-in_err-segment.result c.from_residual-in_err-segment.ensures.1 in
+    rw (p.1, p.2, c.in_err-segment.ensures.unchanged) (λ start records given has other.
+    let now = c.records.invariant.read start records given has in
+    (now.0, c.in_ok-found.ensures.read start now.0 given now.1))
