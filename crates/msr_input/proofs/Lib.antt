@@ -1,1 +1,4 @@
-
+pub mod Records
+pub mod Seen
+pub mod OneReading
+pub mod Histories

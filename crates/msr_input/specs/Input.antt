@@ -1,6 +1,6 @@
 -- An input: miniSEED records one after another (SEED Reference Manual 2.4, data records), and the first one that
 -- is refused. Each record is judged by all bytes that are left from its first one on.
-use Rattle.std.specs.Prelude.{◌≡◌, ◌≢◌, ℕ, ◌+◌, ◌<◌, Bool, if◌then◌else◌, List, [], ◌∷◌, ◌++◌, length, drop, is_some, Option}
+use Rattle.std.specs.Prelude.{◌≡◌, ◌⊎◌, ℕ, ◌+◌, ◌<◌, if◌then◌else◌, List, [], ◌∷◌, ◌++◌, length, drop, is_some, Some}
 use Rattle.std.specs.Option.{option_to_list}
 use Rattle.msr_record.specs.Records.{IsRecordOf, IsRefused}
 use Rattle.msr_record.specs.declared.row.Record.{Record}
@@ -48,7 +48,7 @@ counts_of records = record {
 abbrev pub NoneOverruns : ℕ → List Record → Type 0
 NoneOverruns tolerance records =
     (before after : List Record) (found : Record) (row : Row) → records ≡ before ++ found ∷ after
-    → found.row ≡ Option.Some row
+    → found.row ≡ Some row
     → LastEndsOutOfRange tolerance (rows_of_records (before ++ found ∷ [])) → ⊥
 
 -- The input begins with these records, none of which is refused, and this is left behind them.
@@ -66,7 +66,7 @@ pub record IsReadable (tolerance : ℕ) (input : List ℕ) (records : List Recor
 pub record OverrunsBehind (tolerance : ℕ) (records : List Record) (rest : List ℕ) : Type 0 where
   pub found : Record
   pub row : Row
-  pub has_row : found.row ≡ Option.Some row
+  pub has_row : found.row ≡ Some row
   pub is_record : IsRecordOf rest found
   pub out_of_range : LastEndsOutOfRange tolerance (rows_of_records (records ++ found ∷ []))
 

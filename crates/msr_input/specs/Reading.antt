@@ -40,6 +40,8 @@ pub record HasRead (start now : Device) (reading : Reading) (records : List Reco
   pub writable : All IsWritable (given ++ option_to_list reading.joining.current)
   pub counts : reading.counts ≡ counts_of records
   pub offset : reading.offset ≡ bytes_of_records records
+  pub moved : now.moved ≡ start.moved + (bytes_of_records records + length reading.waiting)
+  pub short : 0 < bytes_of_records records + length reading.waiting → now.moved < 2 ^ 64
   pub end : reading.ended ≡ true → HasLeft now []
   pub calm : reading.ended ≡ false → IsCalm start now
   pub steady : IsSteady start now

@@ -1,7 +1,9 @@
 // Why reading stops.
-use msr_devices::{FillFault, SourceFailed};
+ghost use Rattle.std.specs.Prelude.{◌≡◌};
+ghost use Rattle.msr_input.specs.Steps.{fault_of_fill, fault_at};
+
+use msr_devices::FillFault;
 use msr_record::FaultKind;
-use std::alloc::AllocError;
 use thiserror::Error;
 
 /// A refusal of the record that begins at the offset.
@@ -26,4 +28,25 @@ pub enum ReadFault {
     /// There is no memory for the bytes of a record, or for samples.
     #[error("out of memory")]
     Memory,
+}
+
+impl From<FillFault> for ReadFault {
+    ghost from_gives = { λ fill fault. fault ≡ fault_of_fill fill };
+
+    fn from(fault: FillFault) -> ReadFault {
+        match fault {
+            FillFault::Read => ReadFault::Read,
+            FillFault::Memory => ReadFault::Memory,
+        }
+    }
+}
+
+/// The fault of a record that begins at the offset.
+pub(crate) fn fault_at(offset: u64, kind: FaultKind) -> ReadFault
+    ensures { result ≡ fault_at offset kind }
+{
+    match kind {
+        FaultKind::Memory => ReadFault::Memory,
+        kind => ReadFault::Input(Fault { offset, kind }),
+    }
 }

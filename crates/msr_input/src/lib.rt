@@ -4,6 +4,9 @@
 mod fault;
 mod laws;
 mod reader;
+mod step;
+#[cfg(test)]
+mod tests;
 
 pub use fault::{Fault, ReadFault};
 pub use laws::{one_first_fault, one_list_of_records, readable_has_no_fault};

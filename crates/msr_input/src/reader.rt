@@ -1,5 +1,6 @@
-// The contracts are those that the layers above stand on; fields, bodies and helpers are still to be written.
+// Reading records, and joining their rows.
 use crate::fault::ReadFault;
+use crate::step::{counted, decode_at, fill_ahead, join};
 use msr_devices::{ReadBuffer, Source};
 use msr_record::Record;
 use msr_report::Counts;
@@ -14,6 +15,7 @@ pub struct SegmentReader {
     buffer: ReadBuffer,
     joiner: Joiner,
     counts: Counts,
+    // how many bytes the records had so far
     offset: u64,
 }
 
@@ -26,36 +28,113 @@ impl Model for SegmentReader {
 }
 
 impl SegmentReader {
-    ghost use Rattle.std.specs.Prelude.{◌≡◌, ◌≤◌, List, [], ◌∷◌, ◌++◌, MatchResult, MatchOption, None};
+    ghost use Rattle.std.specs.Prelude.{◌≡◌, ◌≢◌, ◌≤◌, ◌<◌, ◌+◌, ◌-◌, ◌^◌, List, [], ◌∷◌, ◌++◌, length, true, OnOk, OnErr, IfOk, IfErr, IfSome, MatchResult, MatchOption, None};
     ghost use Rattle.std.specs.Option.{option_to_list};
-    ghost use Rattle.msr_devices.specs.Device.{Device, CanCountCall, CountsFew};
+    ghost use Rattle.msr_devices.specs.Device.{Device, CanCountCall, CountsFew, IsSteady};
+    ghost use Rattle.msr_record.specs.Records.{IsRecordOf};
     ghost use Rattle.msr_record.specs.declared.row.Record.{Record as Found};
     ghost use Rattle.msr_segments.specs.declared.joiner.Segment.{Segment as Joined};
     ghost use Rattle.msr_input.specs.Reading.{HasRead, HasReadAll, StopsReading};
+    ghost use Rattle.msr_input.specs.Steps.{CanJoin};
 
     /// A reader before the first record, for that tolerance in microseconds. It takes no memory yet.
     pub fn new(alloc: Global, tolerance: u32) -> SegmentReader
         requires { (1 ≤ tolerance) × (tolerance ≤ 1_000_000) }
         ensures tolerance { result.joining.tolerance ≡ tolerance }
         ensures none { (start : Device) → HasRead start start result [] [] }
+    {
+        SegmentReader {
+            alloc,
+            buffer: ReadBuffer::new(alloc),
+            joiner: Joiner::new(alloc, tolerance),
+            counts: Counts {
+                read: 0,
+                empty: 0,
+                mismatched: 0,
+            },
+            offset: 0,
+        }
+    }
 
-    /// Reads records until one ends a segment, and gives that; `None` where the input has ended.
+    // The next record, whose bytes still wait; `None` where the input has ended.
+    fn next_record<R: Source>(&mut self, source: &mut R) -> Result<Option<Record>, ReadFault>
+        requires { CanCountCall (R.device source.old) }
+        ensures read { (start : Device) (records : List Found) (given : List Joined) → HasRead start (R.device source.old) self.old records given
+            → MatchResult result (λ _. HasRead start (R.device source.new) self.new records given) (StopsReading self.old.joining.tolerance start (R.device source.new) given) }
+        ensures next { IfOk result (λ next. MatchOption next
+            ((self.new.waiting ≡ []) × (self.new.ended ≡ true))
+            (λ found. IsRecordOf self.new.waiting found × IfSome found.row CanJoin)) }
+        ensures kept { (start : Device) (records : List Found) (given : List Joined) → HasRead start (R.device source.old) self.old records given
+            → IfErr result (λ fault. fault ≢ ReadFault.Read → HasRead start (R.device source.new) self.new records given) }
+        ensures joining { self.new.joining ≡ self.old.joining }
+        ensures steady { OnOk result (IsSteady (R.device source.old) (R.device source.new)) }
+        ensures few { CountsFew (R.device source.old) (R.device source.new) }
+
+        // What is left to read does not grow.
+        ensures left { OnOk result ((2 ^ 64 - (R.device source.new).moved) + length self.new.waiting ≤ (2 ^ 64 - (R.device source.old).moved) + length self.old.waiting) }
+    {
+        fill_ahead(&mut self.buffer, source)?;
+        let bytes = self.buffer.bytes();
+        if bytes.is_empty() {
+            return Ok(None);
+        }
+        let found = decode_at(self.alloc, bytes, self.offset)?;
+        Ok(Some(found))
+    }
+
+    // Takes the record that the waiting bytes begin with, and gives the segment that it ended.
+    fn take(&mut self, found: Record) -> Result<Option<Segment>, ReadFault>
+        requires is_record { IsRecordOf self.old.waiting found }
+        requires can_join { IfSome found.row CanJoin }
+        ensures read { (start now : Device) (records : List Found) (given : List Joined) → HasRead start now self.old records given
+            → MatchResult result (λ ended. HasRead start now self.new (records ++ found ∷ []) (given ++ option_to_list ended)) (StopsReading self.old.joining.tolerance start now given) }
+        ensures tolerance { self.new.joining.tolerance ≡ self.old.joining.tolerance }
+        ensures unchanged { OnErr result (self.new ≡ self.old) }
+        ensures fewer { OnOk result (length self.new.waiting < length self.old.waiting) }
+    {
+        let counts = counted(self.counts, &found);
+        let ended = join(&mut self.joiner, found.row, self.offset)?;
+        self.buffer.consume(found.length as usize);
+        self.counts = counts;
+        self.offset = self.offset.saturating_add(found.length as u64);
+        Ok(ended)
+    }
+
+    /// Reads records until one ends a segment, and gives that; `None` where the input has ended. At an
+    /// `Err` but `Read` the reader stands before the record that it did not take: a further call gives
+    /// the same fault again, or tries again to get memory.
     pub fn next_segment<R: Source>(&mut self, source: &mut R) -> Result<Option<Segment>, ReadFault>
         requires { CanCountCall (R.device source.old) }
         ensures read { (start : Device) (records : List Found) (given : List Joined) → HasRead start (R.device source.old) self.old records given
             → MatchResult result
-                (λ next. MatchOption next
-                    (HasReadAll start (R.device source.new) self.new given)
-                    (λ segment. (now : List Found) × HasRead start (R.device source.new) self.new now (given ++ segment ∷ [])))
-                (StopsReading self.old.joining.tolerance start (R.device source.new) given) }
+            (λ next. MatchOption next
+            (HasReadAll start (R.device source.new) self.new given)
+            (λ segment. (now : List Found) × HasRead start (R.device source.new) self.new now (given ++ segment ∷ [])))
+            (StopsReading self.old.joining.tolerance start (R.device source.new) given) }
+        ensures kept { (start : Device) (records : List Found) (given : List Joined) → HasRead start (R.device source.old) self.old records given
+            → IfErr result (λ fault. fault ≢ ReadFault.Read → (now : List Found) × HasRead start (R.device source.new) self.new now given) }
         ensures tolerance { self.new.joining.tolerance ≡ self.old.joining.tolerance }
         ensures few { CountsFew (R.device source.old) (R.device source.new) }
+    {
+        'records: while let Some(found) = self.next_record(source)? {
+            if let Some(segment) = self.take(found)? {
+                return Ok(Some(segment));
+            }
+        }
+        Ok(None)
+    }
 
     /// The counts of the records so far.
     pub fn counts(&self) -> Counts
         ensures { result ≡ self.now.counts }
+    {
+        self.counts
+    }
 
     /// The last segment, where a record with samples was read.
     pub fn finish(self) -> Option<Segment>
         ensures { result ≡ self.joining.current }
+    {
+        self.joiner.finish()
+    }
 }

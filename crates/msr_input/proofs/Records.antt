@@ -1,0 +1,80 @@
+-- One record more at the end of a list of records, and what two lists of one input have in common.
+use Rattle.std.proofs.Common.{◌≡◌, ℕ, ◌+◌, ◌<◌, ◌≤◌, ◌⊎◌, inl, inr, Bool, true, false, List, [], ◌∷◌, ◌++◌, length, drop, refl, sym, ap, subst, ◌∙◌, arith, append_assoc, length-append, Option, Some, None}
+use Rattle.std.specs.Prelude.{is_some, if◌then◌else◌}
+use Rattle.std.specs.Option.{option_to_list}
+use Rattle.std.proofs.lemmas.List.{append-nil}
+use Rattle.msr_record.specs.Records.{IsRecordOf}
+use Rattle.msr_record.specs.declared.row.Record.{Record}
+use Rattle.msr_record.specs.declared.row.Row.{Row}
+use Rattle.msr_record.proofs.Shown.{record_fits}
+use Rattle.msr_record.proofs.OneAnswer.{one_record}
+use Rattle.msr_input.specs.Input.{BeginsWith, bytes_of_records, rows_of_records, empty_count, mismatch_count}
+
+pub begins-snoc : (records : List Record) (found : Record) (input rest : List ℕ) → BeginsWith records input rest → IsRecordOf rest found → BeginsWith (records ++ found ∷ []) input (drop found.length rest)
+begins-snoc [] found input rest e is =
+    (subst (λ (bytes : List ℕ). IsRecordOf bytes found) (sym e) is, ap (λ (bytes : List ℕ). drop found.length bytes) e)
+begins-snoc (x ∷ xs) found input rest b is = (b.0, begins-snoc xs found (drop x.length input) rest b.1 is)
+
+pub bytes-snoc : (records : List Record) (found : Record) → bytes_of_records (records ++ found ∷ []) ≡ bytes_of_records records + found.length
+bytes-snoc [] found = omega arith
+bytes-snoc (x ∷ xs) found = omega (arith, bytes-snoc xs found)
+
+pub rows-snoc : (records : List Record) (found : Record) → rows_of_records (records ++ found ∷ []) ≡ rows_of_records records ++ option_to_list found.row
+rows-snoc [] found = append-nil (option_to_list found.row)
+rows-snoc (x ∷ xs) found =
+    ap (λ (rows : List Row). option_to_list x.row ++ rows) (rows-snoc xs found) ∙ sym (append_assoc (option_to_list x.row) (rows_of_records xs) (option_to_list found.row))
+
+pub empty-snoc : (records : List Record) (found : Record) → empty_count (records ++ found ∷ []) ≡ empty_count records + (if is_some found.row then 0 else 1)
+empty-snoc [] found = omega arith
+empty-snoc (x ∷ xs) found = omega (arith, empty-snoc xs found)
+
+pub mismatch-snoc : (records : List Record) (found : Record) → mismatch_count (records ++ found ∷ []) ≡ mismatch_count records + (if found.reverse_agrees then 0 else 1)
+mismatch-snoc [] found = omega arith
+mismatch-snoc (x ∷ xs) found = omega (arith, mismatch-snoc xs found)
+
+pub one-most : (b : Bool) → (if b then 0 else 1) ≤ 1
+one-most true = omega arith
+one-most false = omega arith
+
+pub empty-most : (records : List Record) → empty_count records ≤ length records
+empty-most [] = omega arith
+empty-most (x ∷ xs) = omega (arith, empty-most xs, one-most (is_some x.row))
+
+pub mismatch-most : (records : List Record) → mismatch_count records ≤ length records
+mismatch-most [] = omega arith
+mismatch-most (x ∷ xs) = omega (arith, mismatch-most xs, one-most x.reverse_agrees)
+
+-- each record has some bytes
+pub records-few : (records : List Record) (input rest : List ℕ) → BeginsWith records input rest → length records ≤ bytes_of_records records
+records-few [] input rest b = omega arith
+records-few (x ∷ xs) input rest b = omega (arith, (record_fits input x b.0).0, records-few xs (drop x.length input) rest b.1)
+
+-- the one of two lists of an input's records goes on where the other stops
+pub record GoesOn (records others : List Record) (from to : List ℕ) : Type 0 where
+  pub more : List Record
+  pub whole : others ≡ records ++ more
+  pub begins : BeginsWith more from to
+
+goes-on-cons : (x : Record) (records others : List Record) (from to : List ℕ) → GoesOn records others from to → GoesOn (x ∷ records) (x ∷ others) from to
+goes-on-cons x records others from to g = record {
+  more = g.more;
+  whole = ap (λ (xs : List Record). x ∷ xs) g.whole;
+  begins = g.begins;
+}
+
+pub compare-begins : (records others : List Record) (input r s : List ℕ) → BeginsWith records input r → BeginsWith others input s → GoesOn records others r s ⊎ GoesOn others records s r
+compare-begins [] others input r s b c =
+    inl (record { more = others; whole = refl; begins = subst (λ (bytes : List ℕ). BeginsWith others bytes s) b c })
+compare-begins (x ∷ xs) [] input r s b c =
+    inr (record { more = x ∷ xs; whole = refl; begins = subst (λ (bytes : List ℕ). BeginsWith (x ∷ xs) bytes r) c b })
+compare-begins (x ∷ xs) (y ∷ ys) input r s b c =
+    let same : y ≡ x = one_record input y x c.0 b.0 in
+    let c1 = subst (λ (found : Record). BeginsWith ys (drop found.length input) s) same c.1 in
+    elim (compare-begins xs ys (drop x.length input) r s b.1 c1) [
+      | inl g ↦ inl (subst (λ (found : Record). GoesOn (x ∷ xs) (found ∷ ys) r s) (sym same) (goes-on-cons x xs ys r s g))
+      | inr g ↦ inr (subst (λ (found : Record). GoesOn (found ∷ ys) (x ∷ xs) s r) (sym same) (goes-on-cons x ys xs s r g))
+    ]
+
+-- no record begins where no bytes are
+pub nothing-begins : (found : Record) → IsRecordOf [] found → ⊥
+nothing-begins found is = let fits = record_fits [] found is in omega (arith, fits.0, fits.1)

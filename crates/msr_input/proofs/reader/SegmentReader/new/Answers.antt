@@ -1,0 +1,5 @@
+use Rattle.msr_input.proofs.Histories.{read-none}
+use Rattle.msr_input.proofs.reader.SegmentReader.new.Goals as goal
+
+pub returns-clause-none : goal.returns-clause-none
+returns-clause-none c = rw (c.new.ensures, c.new-2.ensures.value) (λ start. read-none start 0 c.args.tolerance)

@@ -1,0 +1,65 @@
+use Rattle.std.proofs.Common.{ℕ, ◌∷◌, ◌++◌, [], ap, subst, ◌∙◌}
+use Rattle.std.proofs.lemmas.List.{append-nil}
+use Rattle.std.proofs.lemmas.Result.{err_from_is_err_and}
+use Rattle.msr_devices.proofs.Chaining.{steady-steady}
+use Rattle.msr_segments.specs.Joining.{Joining}
+use Rattle.msr_input.specs.Reading.{StopsReading}
+use Rattle.msr_input.proofs.Histories.{read-all}
+use Rattle.msr_input.proofs.reader.SegmentReader.next_segment.Goals as goal
+
+pub returns-in_err-found-clause-read : goal.returns-in_err-found-clause-read
+returns-in_err-found-clause-read g c =
+    let p = err_from_is_err_and c.from_residual.result c.from_residual.ensures.1 in
+    rw (p.1, p.2) (λ start records given has.
+    let now = c.records.invariant.read start records given has in
+    let stop = c.in_err-found.ensures.read start now.0 given now.1 in
+    subst (λ (tolerance : ℕ). StopsReading tolerance start (g.R.Source.device c.next_record.new.source) given c.in_err-found.field-0.0) c.records.invariant.tolerance stop)
+
+pub returns-in_err-segment-clause-read : goal.returns-in_err-segment-clause-read
+returns-in_err-segment-clause-read g c =
+    let p = err_from_is_err_and c.from_residual-in_err-segment.result c.from_residual-in_err-segment.ensures.1 in
+    let same = ap (λ (joining : Joining). joining.tolerance) c.next_record.ensures.joining ∙ c.records.invariant.tolerance in
+    rw (p.1, p.2) (λ start records given has.
+    let now = c.records.invariant.read start records given has in
+    let filled = c.in_ok-found.ensures.read start now.0 given now.1 in
+    let stop = c.in_err-segment.ensures.read start (g.R.Source.device c.next_record.new.source) now.0 given filled in
+    subst (λ (tolerance : ℕ). StopsReading tolerance start (g.R.Source.device c.next_record.new.source) given c.in_err-segment.field-0.0) same stop)
+
+pub returns-in-Some-2-clause-read : goal.returns-in-Some-2-clause-read
+returns-in-Some-2-clause-read g c = λ start records given has.
+    let now = c.records.invariant.read start records given has in
+    let filled = c.in_ok-found.ensures.read start now.0 given now.1 in
+    let taken = c.in_ok-segment.ensures.read start (g.R.Source.device c.next_record.new.source) now.0 given filled in
+    (now.0 ++ c.in-Some.found ∷ [], rw c.in-Some-2.is at taken)
+
+pub records-preserved : goal.records-preserved
+records-preserved g c = record {
+  read = λ start records given has.
+      let now = c.records.invariant.read start records given has in
+      let filled = c.in_ok-found.ensures.read start now.0 given now.1 in
+      let taken = c.in_ok-segment.ensures.read start (g.R.Source.device c.next_record.new.source) now.0 given filled in
+      (now.0 ++ c.in-Some.found ∷ [], rw (c.in_default-2.is, append-nil given) at taken);
+  tolerance = c.take.ensures.tolerance ∙ ap (λ (joining : Joining). joining.tolerance) c.next_record.ensures.joining ∙ c.records.invariant.tolerance;
+  steady = steady-steady _ _ _ c.records.invariant.steady c.in_ok-found.ensures.steady;
+}
+
+pub returns-clause-read : goal.returns-clause-read
+returns-clause-read g c = λ start records given has.
+    let now = c.records.invariant.read start records given has in
+    let filled = c.in_ok-found.ensures.read start now.0 given now.1 in
+    let end = rw c.in_default.is at c.in_ok-found.ensures.next in
+    read-all start (g.R.Source.device c.next_record.new.source) c.next_record.new.self now.0 given filled end.0 end.1
+
+pub returns-in_err-found-clause-kept : goal.returns-in_err-found-clause-kept
+returns-in_err-found-clause-kept g c =
+    let p = err_from_is_err_and c.from_residual.result c.from_residual.ensures.1 in
+    rw (p.1, p.2) (λ start records given has other.
+    let now = c.records.invariant.read start records given has in
+    (now.0, c.in_err-found.ensures.kept start now.0 given now.1 other))
+
+pub returns-in_err-segment-clause-kept : goal.returns-in_err-segment-clause-kept
+returns-in_err-segment-clause-kept g c =
+    let p = err_from_is_err_and c.from_residual-in_err-segment.result c.from_residual-in_err-segment.ensures.1 in
+    rw (p.1, p.2, c.in_err-segment.ensures.unchanged) (λ start records given has other.
+    let now = c.records.invariant.read start records given has in
+    (now.0, c.in_ok-found.ensures.read start now.0 given now.1))

@@ -1,0 +1,64 @@
+-- What the steps of reading do: bytes are read ahead, a record is decoded, and its row is joined.
+use Rattle.std.specs.Prelude.{◌≡◌, ℕ, ◌≤◌, List, ◌++◌, length, Option, None, Some, false}
+use Rattle.msr_time.specs.Instant.{IsInstant}
+use Rattle.msr_record.specs.Records.{IsRefused}
+use Rattle.msr_record.specs.declared.row.Row.{Row}
+use Rattle.msr_record.specs.declared.fault.FaultKind.{FaultKind}
+use Rattle.msr_record.specs.declared.fault.FaultKind.TheVariants as refusal
+use Rattle.msr_devices.specs.Device.{Device, HasFailed}
+use Rattle.msr_devices.specs.ReadBuffer.{Window}
+use Rattle.msr_devices.specs.declared.read_buffer.FillFault.{FillFault}
+use Rattle.msr_devices.specs.declared.read_buffer.FillFault.TheVariants as filling
+use Rattle.msr_segments.specs.Spans.{Overruns}
+use Rattle.msr_segments.specs.Segments.{row_span}
+use Rattle.msr_segments.specs.Joining.{Joining, following_of, IsPush}
+use Rattle.msr_segments.specs.declared.joiner.Segment.{Segment}
+use Rattle.msr_input.specs.declared.fault.ReadFault.{ReadFault}
+use Rattle.msr_input.specs.declared.fault.ReadFault.TheVariants as fault
+
+-- why reading stops where the bytes of a record did not come
+abbrev pub fault_of_fill : FillFault → ReadFault
+fault_of_fill filling.Read = fault.Read
+fault_of_fill filling.Memory = fault.Memory
+
+-- Want of memory is a fault of its own; every other refusal is one of the input.
+abbrev pub fault_at : ℕ → FaultKind → ReadFault
+fault_at offset refusal.Memory = fault.Memory
+fault_at offset kind = fault.Input (record { offset = offset; kind = kind })
+
+-- why a source gave no more bytes: it failed, and had not ended, or nothing was read for want of memory
+abbrev pub StopsBefore : Device → Device → Window → Window → ReadFault → Type 0
+StopsBefore old new before after (fault.Input f) = ⊥
+StopsBefore old new before after fault.Read = HasFailed old new × (before.ended ≡ false)
+StopsBefore old new before after fault.Memory = (new ≡ old) × (after ≡ before)
+
+-- why no record was decoded: the one at that offset is refused, also with more behind as many bytes as the longest
+-- record has; or there was no memory
+abbrev pub StopsDecoding : List ℕ → ℕ → ReadFault → Type 0
+StopsDecoding bytes offset (fault.Input f) =
+    (f.offset ≡ offset) × IsRefused bytes f.kind × ((rest : List ℕ) → 1_048_576 ≤ length bytes → IsRefused (bytes ++ rest) f.kind)
+StopsDecoding bytes offset fault.Read = ⊥
+StopsDecoding bytes offset fault.Memory = Unit {0}
+
+-- a joiner takes such rows
+pub record CanJoin (row : Row) : Type 0 where
+  pub some : 1 ≤ length row.samples
+  pub few : length row.samples ≤ 65_535
+  pub start : IsInstant row.start
+
+-- what a record's row does with a joiner: nothing, where there is none
+abbrev pub JoinsRecord : Joining → Option Row → Option Segment → Joining → Type 0
+JoinsRecord old None ended new = (ended ≡ None) × (new ≡ old)
+JoinsRecord old (Some row) ended new = IsPush old row ended new × (Overruns (following_of old) (row_span row) → ⊥)
+
+-- the row ends the joiner's segment out of range
+pub record OverrunsWith (old : Joining) (row : Option Row) : Type 0 where
+  pub the_row : Row
+  pub has_row : row ≡ Some the_row
+  pub overruns : Overruns (following_of old) (row_span the_row)
+
+-- why a row was not joined
+abbrev pub StopsJoining : Joining → Option Row → ℕ → ReadFault → Type 0
+StopsJoining old row offset (fault.Input f) = (f.offset ≡ offset) × (f.kind ≡ refusal.TimeRange) × OverrunsWith old row
+StopsJoining old row offset fault.Read = ⊥
+StopsJoining old row offset fault.Memory = Unit {0}
