@@ -1,2 +1,4 @@
 pub mod Times
 pub mod Runs
+pub mod Appending
+pub mod Progress
