@@ -43,6 +43,20 @@ nominal_between rate t0 r last n m later h k first end =
     let b : up last + down r < up r + down last → ⊥ = not_after rate t0 n m r last later h k in
     (omega (arith, signed_arith), omega (arith, signed_arith))
 
+-- the first sample has the start
+not_after_start : (rate : SampleRate) (t0 r : ℤ) → IsRoundedNominal rate t0 0 r → up t0 + down r < up r + down t0 → ⊥
+not_after_start rate t0 r h before =
+    let den = (period_of rate).1 in
+    let a = rounded_parts rate t0 0 r h in
+    let step : (up t0 + down r + 1) * den ≤ (up r + down t0) * den = mul-le-mul_right den (omega arith) in
+    omega arith
+
+pub nominal_first : (rate : SampleRate) (t0 r : ℤ) → IsRoundedNominal rate t0 0 r → r ≡ t0
+nominal_first rate t0 r h =
+    let a : up r + down t0 < up t0 + down r → ⊥ = not_before_start rate t0 0 r h in
+    let b : up t0 + down r < up r + down t0 → ⊥ = not_after_start rate t0 r h in
+    omega (arith, signed_arith)
+
 pub some_where : (found : Option ℤ) (P : Type 0) (v : ℤ) → SomeIff found P v → P → IsSome found
 some_where None P v h p = absurd (h p)
 some_where (Some x) P v h p = refl
