@@ -1,5 +1,6 @@
 -- A sink that is written through a write buffer, over many calls.
-use Rattle.std.proofs.Common.{List, ℕ, [], ◌++◌, ◌∙◌, sym, ap, append_assoc}
+use Rattle.std.proofs.Common.{List, ℕ, ◌+◌, ◌<◌, ◌≤◌, [], ◌++◌, ◌∙◌, ◌⊎◌, inl, inr, length, arith, sym, ap, append_assoc, length-append}
+use Rattle.std.proofs.lemmas.Bool.{cases_lt}
 use Rattle.std.proofs.lemmas.List.{append-nil}
 use Rattle.msr_devices.specs.Device.{Device, Takes}
 use Rattle.msr_devices.specs.WriteBuffer.{Passes}
@@ -10,7 +11,7 @@ takes-none a = record { back = λ before h. rw append-nil h }
 
 -- nothing was done
 pub passes-none : (a : Device) (waits : List ℕ) → Passes a a waits [] waits
-passes-none a waits = record { taken = []; takes = takes-none a; whole = append-nil waits }
+passes-none a waits = record { taken = []; takes = takes-none a; whole = append-nil waits; moved = omega arith; short = λ h. absurd (omega arith) }
 
 pub passes-append : (a b c : Device) (x y z pushed more : List ℕ) → Passes a b x pushed y → Passes b c y more z → Passes a c x (pushed ++ more) z
 passes-append a b c x y z pushed more first second = record {
@@ -22,6 +23,8 @@ passes-append a b c x y z pushed more first second = record {
       ∙ append_assoc first.taken y more
       ∙ ap (λ (l : List ℕ). first.taken ++ l) second.whole
       ∙ sym (append_assoc first.taken second.taken z);
+  moved = omega (arith, first.moved, second.moved, length-append first.taken second.taken);
+  short = λ h. grind (arith, first.short, second.short, first.moved, second.moved, length-append first.taken second.taken);
 }
 
 -- bytes were put behind those that wait
@@ -30,6 +33,8 @@ passes-put a b x y pushed more passes = record {
   taken = passes.taken;
   takes = passes.takes;
   whole = sym (append_assoc x pushed more) ∙ ap (λ (l : List ℕ). l ++ more) passes.whole ∙ append_assoc passes.taken y more;
+  moved = passes.moved;
+  short = passes.short;
 }
 
 -- where nothing waits all that was pushed was accepted

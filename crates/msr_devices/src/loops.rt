@@ -1,5 +1,5 @@
 // The loops over a source and a sink: 64 interruptions in a row are a failure.
-ghost use Rattle.std.specs.Prelude.{◌≡◌, ◌+◌, ◌<◌, ◌≤◌, ◌^◌, ℕ, List, [], length, take, IfOk, IfErr, OnOk, OnErr, true, false};
+ghost use Rattle.std.specs.Prelude.{◌≡◌, ◌+◌, ◌<◌, ◌≤◌, ◌^◌, ℕ, List, [], length, take, IfOk, IfErr, OnOk, OnErr, MatchResult, true, false};
 ghost use Rattle.msr_devices.specs.Device.{CanCountCall, HasLeft, Gives, GivesOnto, Takes, Moves, HasFailed, IsCalm, IsSteady, CountsFew};
 
 use crate::device::{Sink, Source};
@@ -98,7 +98,9 @@ pub fn write_some<W: Sink>(sink: &mut W, buf: &[u8]) -> Result<usize, SinkFailed
     ensures moves { IfOk result (Moves (W.device sink.old) (W.device sink.new)) }
     ensures failed { OnErr result (HasFailed (W.device sink.old) (W.device sink.new)) }
     ensures none { OnErr result (Takes (W.device sink.old) (W.device sink.new) []) }
+    ensures still { OnErr result ((W.device sink.new).moved ≡ (W.device sink.old).moved) }
     ensures few { CountsFew (W.device sink.old) (W.device sink.new) }
+    ensures short { OnOk result ((W.device sink.new).moved < 2 ^ 64) }
 {
     for tried in 0..MOST_INTERRUPTIONS {
         match sink.write(buf) {
@@ -142,6 +144,8 @@ pub(crate) fn write_counted<W: Sink>(sink: &mut W, buf: &[u8]) -> Result<(), Fai
     ensures calm { OnOk result (IsCalm (W.device sink.old) (W.device sink.new)) }
     ensures failed { OnErr result (HasFailed (W.device sink.old) (W.device sink.new)) }
     ensures part { IfErr result (λ e. (e.written ≤ length buf.now) × Takes (W.device sink.old) (W.device sink.new) (take e.written buf.now)) }
+    ensures moved { MatchResult result (λ _. (W.device sink.new).moved ≡ (W.device sink.old).moved + length buf.now) (λ e. (W.device sink.new).moved ≡ (W.device sink.old).moved + e.written) }
+    ensures short { MatchResult result (λ _. 0 < length buf.now → (W.device sink.new).moved < 2 ^ 64) (λ e. 0 < e.written → (W.device sink.new).moved < 2 ^ 64) }
     ensures few { CountsFew (W.device sink.old) (W.device sink.new) }
 {
     let mut written = 0;

@@ -1,1 +1,7 @@
-
+pub mod Times
+pub mod Runs
+pub mod Appending
+pub mod Progress
+pub mod Sizes
+pub mod Once
+pub mod Cutting

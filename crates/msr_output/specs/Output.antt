@@ -61,8 +61,12 @@ pub record Cut : Type 0 where
   pub segment : Segment
   pub run : Run
 
+-- a segment at its runs
+abbrev pub cuts_at : Segment → List Run → List Cut
+cuts_at segment runs = map (λ run. record { segment = segment; run = run }) runs
+
 abbrev pub cuts_of : Packed → List Cut
-cuts_of packed = map (λ run. record { segment = packed.segment; run = run }) packed.runs
+cuts_of packed = cuts_at packed.segment packed.runs
 
 -- the sequence number behind those of these cuts
 abbrev pub number_after : ℕ → List Cut → ℕ

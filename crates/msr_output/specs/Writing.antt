@@ -2,10 +2,11 @@
 use Rattle.std.specs.Prelude.{◌≡◌, ℕ, ◌+◌, ◌<◌, ◌≤◌, ◌^◌, List, [], ◌∷◌, ◌++◌, length, map}
 use Rattle.std.specs.List.{flat_map}
 use Rattle.msr_devices.specs.Device.{Device, Takes, HasFailed, IsCalm, IsSteady}
+use Rattle.msr_words.specs.declared.kinds.Run.{Run}
 use Rattle.msr_record.specs.declared.row.Row.{Row}
 use Rattle.msr_segments.specs.declared.joiner.Segment.{Segment}
 use Rattle.msr_report.specs.declared.report.SegmentLine.{SegmentLine}
-use Rattle.msr_output.specs.Output.{Packed, IsOutput, IsFrontOfOutput, number_after, cuts_of, segment_of_packed}
+use Rattle.msr_output.specs.Output.{Packed, Cut, IsRecordOfRun, AreWritten, IsOutput, IsFrontOfOutput, number_after, cuts_of, segment_of_packed}
 use Rattle.msr_output.specs.declared.fault.WriteFault.{WriteFault}
 use Rattle.msr_output.specs.declared.fault.WriteFault.TheVariants.{Write, Memory}
 
@@ -14,6 +15,21 @@ pub record Writing : Type 0 where
   pub size : ℕ
   pub number : ℕ
   pub waiting : List ℕ
+
+-- After the old bytes the new ones have the record of the run.
+pub record AppendsRecordOfRun (size number : ℕ) (segment : Segment) (run : Run) (old new : List ℕ) : Type 0 where
+  pub row : Row
+  pub bytes : List ℕ
+  pub joined : new ≡ old ++ bytes
+  pub is_record : IsRecordOfRun size number segment run row bytes
+
+-- After the old bytes the new ones have the records of these cuts, from this sequence number on to before the next.
+pub record AppendsRecords (size number : ℕ) (cuts : List Cut) (old new : List ℕ) (next : ℕ) : Type 0 where
+  pub rows : List Row
+  pub bytes : List ℕ
+  pub joined : new ≡ old ++ bytes
+  pub written : AreWritten size number cuts rows bytes
+  pub after : next ≡ number_after number cuts
 
 -- the line of a segment that is packed so
 pub record IsLineOf (packed : Packed) (line : SegmentLine) : Type 0 where

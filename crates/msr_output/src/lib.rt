@@ -3,8 +3,12 @@
 
 mod fault;
 mod laws;
+mod records;
 mod writer;
 
 pub use fault::WriteFault;
 pub use laws::{one_output, output_has_size, output_keeps_segments};
 pub use writer::SegmentWriter;
+
+#[cfg(test)]
+mod tests;

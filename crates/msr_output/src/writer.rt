@@ -1,6 +1,8 @@
-// The contracts are those that the layers above stand on; fields, bodies and helpers are still to be written.
+// A writer of segments.
 use crate::fault::WriteFault;
+use crate::records::encode_runs;
 use msr_devices::{Sink, WriteBuffer};
+use msr_packer::{Packing, pack};
 use msr_report::SegmentLine;
 use msr_segments::Segment;
 use msr_words::Length;
@@ -11,18 +13,21 @@ use std::marker::Model;
 #[derive(Drop)]
 pub struct SegmentWriter {
     alloc: Global,
-    length: Length,
+    record_length: Length,
     number: u32,
     buffer: WriteBuffer,
 }
 
 impl Model for SegmentWriter {
+    ghost use Rattle.std.specs.Prelude.{◌≤◌};
     ghost use Rattle.msr_words.specs.Lengths.{bytes_of};
     ghost use Rattle.msr_output.specs.Writing.{Writing};
 
     ghost Value = { Writing };
 
-    ghost view = { λ w. record { size = bytes_of w.length; number = w.number; waiting = w.buffer.bytes.items } };
+    ghost view = { λ w. record { size = bytes_of w.record_length; number = w.number; waiting = w.buffer.bytes.items } };
+
+    ghost invariant = { λ w. (1 ≤ w.number) × (w.number ≤ 999_999) };
 }
 
 impl SegmentWriter {
@@ -37,9 +42,17 @@ impl SegmentWriter {
     ghost use Rattle.msr_output.specs.Writing.{HasWritten, HasWrittenAll, WritesSegment, StopsWriting};
 
     /// A writer before the first record. It takes no memory yet.
-    pub fn new(alloc: Global, length: Length) -> SegmentWriter
-        ensures size { result.size ≡ bytes_of length }
+    pub fn new(alloc: Global, record_length: Length) -> SegmentWriter
+        ensures size { result.size ≡ bytes_of record_length }
         ensures none { (start : Device) → HasWritten start start result [] [] }
+    {
+        SegmentWriter {
+            alloc,
+            record_length,
+            number: 1,
+            buffer: WriteBuffer::new(alloc),
+        }
+    }
 
     /// Packs the segment, puts its records behind those that wait, and writes in pieces of 64 KiB.
     pub fn write_segment<W: Sink>(&mut self, sink: &mut W, segment: &Segment) -> Result<SegmentLine, WriteFault>
@@ -53,6 +66,29 @@ impl SegmentWriter {
                 (StopsWriting self.old.size start (W.device sink.new) (map segment_of_packed packed ++ segment.now ∷ [])) }
         ensures size { self.new.size ≡ self.old.size }
         ensures few { CountsFew (W.device sink.old) (W.device sink.new) }
+    {
+        let Packing { runs, separators } = pack(
+            self.alloc,
+            segment.samples.as_slice(),
+            self.record_length,
+        )?;
+        self.number = encode_runs(
+            self.alloc,
+            segment,
+            runs.as_slice(),
+            self.number,
+            self.record_length,
+            &mut self.buffer.bytes,
+        )?;
+        self.buffer.flush_full(sink)?;
+        Ok(SegmentLine {
+            key: segment.key,
+            start: segment.start,
+            samples: segment.samples.len() as u64,
+            records: runs.len() as u64,
+            separators,
+        })
+    }
 
     /// Writes all that waits.
     pub fn finish<W: Sink>(self, sink: &mut W) -> Result<(), WriteFault>
@@ -62,4 +98,9 @@ impl SegmentWriter {
                 (λ _. HasWrittenAll start (W.device sink.new) self packed rows)
                 (StopsWriting self.size start (W.device sink.new) (map segment_of_packed packed)) }
         ensures few { CountsFew (W.device sink.old) (W.device sink.new) }
+    {
+        let mut buffer = self.buffer;
+        buffer.flush(sink)?;
+        Ok(())
+    }
 }

@@ -10,4 +10,12 @@ loop-written-preserved g c = record {
   within = omega (arith, c.in-Ok.ensures.within, length-take (length c.args.buf.now - c.loop-written.written) (drop c.loop-written.written c.args.buf.now), length-drop c.loop-written.written c.args.buf.now);
   calm = calm-moves _ _ _ c.in-Ok.n c.loop-written.invariant.calm c.in-Ok.ensures.moves c.in-Ok.ensures.some;
   bytes = rw (take-more c.loop-written.written c.in-Ok.n c.args.buf.now) (takes-append _ _ _ _ _ c.loop-written.invariant.bytes c.in-Ok.ensures.bytes);
+  moved = omega (arith, c.loop-written.invariant.moved, c.in-Ok.ensures.moves.moved);
+  short = λ h. c.in-Ok.ensures.short;
 }
+
+pub returns-in-Err-clause-moved : goal.returns-in-Err-clause-moved
+returns-in-Err-clause-moved g c = omega (arith, c.loop-written.invariant.moved, c.in-Err.ensures.still)
+
+pub returns-in-Err-clause-short : goal.returns-in-Err-clause-short
+returns-in-Err-clause-short g c = λ h. omega (arith, c.loop-written.invariant.short h, c.in-Err.ensures.still)

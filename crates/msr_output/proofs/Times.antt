@@ -1,0 +1,66 @@
+-- A sample of a segment lies in the supported years where the first and the last do.
+use Rattle.std.proofs.Common.{◌≡◌, refl, ℕ, ◌+◌, ◌*◌, ◌-◌, ◌<◌, ◌≤◌, arith, ℤ, pos, ◌+ℤ◌, ◌-ℤ◌, ◌*ℤ◌, Option, None, Some}
+use Rattle.std.specs.Prelude.{SomeIff, IsSome}
+use Rattle.std.proofs.Math.Nat.{mul-le-mul_right}
+use Rattle.jiff_core.proofs.SignedLemmas.{signed_arith}
+use Rattle.msr_time.specs.SampleRate.{SampleRate, period_of, scaled_time, IsRoundedNominal}
+use Rattle.msr_time.specs.Instant.{IsInstant}
+use Rattle.msr_time.proofs.RateLemmas.{scaled}
+use borrow.Author.Differences.{up, down}
+
+-- the parts of a rounded instant, over naturals: times the denominator
+rounded_parts : (rate : SampleRate) (t0 : ℤ) (n : ℕ) (r : ℤ) → IsRoundedNominal rate t0 n r → (let den = (period_of rate).1 in let span = n * (period_of rate).0 in (2 * (up r * den) + 2 * (down t0 * den) ≤ 2 * (down r * den) + 2 * (up t0 * den) + 2 * span + den) × (2 * (up t0 * den) + 2 * span + 2 * (down r * den) < 2 * (up r * den) + den + 2 * (down t0 * den)))
+rounded_parts rate t0 n r h =
+    let den = (period_of rate).1 in
+    let base = scaled t0 (up t0) (down t0) den (omega arith) in
+    let below = scaled (pos 2 *ℤ r -ℤ pos 1) (2 * up r) (2 * down r + 1) den (omega (arith, signed_arith)) in
+    let above = scaled (pos 2 *ℤ r +ℤ pos 1) (2 * up r + 1) (2 * down r) den (omega (arith, signed_arith)) in
+    let early = h.not_early in
+    let late = h.not_late in
+    (omega (arith, signed_arith), omega (arith, signed_arith))
+
+-- no rounded instant lies before the start
+not_before_start : (rate : SampleRate) (t0 : ℤ) (n : ℕ) (r : ℤ) → IsRoundedNominal rate t0 n r → up r + down t0 < up t0 + down r → ⊥
+not_before_start rate t0 n r h before =
+    let den = (period_of rate).1 in
+    let a = rounded_parts rate t0 n r h in
+    let step : (up r + down t0 + 1) * den ≤ (up t0 + down r) * den = mul-le-mul_right den (omega arith) in
+    omega arith
+
+-- nor behind that of a later sample
+not_after : (rate : SampleRate) (t0 : ℤ) (n m : ℕ) (r q : ℤ) → n ≤ m → IsRoundedNominal rate t0 n r → IsRoundedNominal rate t0 m q → up q + down r < up r + down q → ⊥
+not_after rate t0 n m r q later h k before =
+    let den = (period_of rate).1 in
+    let a = rounded_parts rate t0 n r h in
+    let b = rounded_parts rate t0 m q k in
+    let span : n * (period_of rate).0 ≤ m * (period_of rate).0 = mul-le-mul_right (period_of rate).0 later in
+    let step : (up q + down r + 1) * den ≤ (up r + down q) * den = mul-le-mul_right den (omega arith) in
+    omega arith
+
+pub nominal_between : (rate : SampleRate) (t0 r last : ℤ) (n m : ℕ) → n ≤ m → IsRoundedNominal rate t0 n r → IsRoundedNominal rate t0 m last → IsInstant t0 → IsInstant last → IsInstant r
+nominal_between rate t0 r last n m later h k first end =
+    let a : up r + down t0 < up t0 + down r → ⊥ = not_before_start rate t0 n r h in
+    let b : up last + down r < up r + down last → ⊥ = not_after rate t0 n m r last later h k in
+    (omega (arith, signed_arith), omega (arith, signed_arith))
+
+-- the first sample has the start
+not_after_start : (rate : SampleRate) (t0 r : ℤ) → IsRoundedNominal rate t0 0 r → up t0 + down r < up r + down t0 → ⊥
+not_after_start rate t0 r h before =
+    let den = (period_of rate).1 in
+    let a = rounded_parts rate t0 0 r h in
+    let step : (up t0 + down r + 1) * den ≤ (up r + down t0) * den = mul-le-mul_right den (omega arith) in
+    omega arith
+
+pub nominal_first : (rate : SampleRate) (t0 r : ℤ) → IsRoundedNominal rate t0 0 r → r ≡ t0
+nominal_first rate t0 r h =
+    let a : up r + down t0 < up t0 + down r → ⊥ = not_before_start rate t0 0 r h in
+    let b : up t0 + down r < up r + down t0 → ⊥ = not_after_start rate t0 r h in
+    omega (arith, signed_arith)
+
+pub some_where : (found : Option ℤ) (P : Type 0) (v : ℤ) → SomeIff found P v → P → IsSome found
+some_where None P v h p = absurd (h p)
+some_where (Some x) P v h p = refl
+
+pub nominal_found : (rate : SampleRate) (t0 v : ℤ) (n : ℕ) (found : Option ℤ) → ((r : ℤ) × IsRoundedNominal rate t0 n r × SomeIff found (IsInstant r) r) → found ≡ Some v → IsRoundedNominal rate t0 n v
+nominal_found rate t0 v n None h e = absurd cc
+nominal_found rate t0 v n (Some x) h e = let is : x ≡ h.0 = h.2.1 in let same : v ≡ h.0 = cc in rw same h.1

@@ -1,0 +1,5 @@
+use Rattle.msr_output.proofs.Cutting.{output-keeps}
+use Rattle.msr_output.proofs.laws.output_keeps_segments.Goals as goal
+
+pub returns : goal.returns
+returns c = output-keeps

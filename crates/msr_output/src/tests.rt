@@ -1,0 +1,150 @@
+//! The bytes of records worked out by hand, the sequence number behind the last one, and each call with
+//! ample memory.
+ghost use Rattle.std.specs.Prelude.{IsTrue, IfOk};
+ghost use Rattle.msr_segments.specs.Segments.{SegmentIsInTime};
+
+use crate::records::encode_runs;
+use crate::{SegmentWriter, WriteFault, one_output, output_has_size, output_keeps_segments};
+use msr_devices::{Behavior, TestSink};
+use msr_packer::pack;
+use msr_plain::Samples;
+use msr_record::Key;
+use msr_segments::Segment;
+use msr_time::{Rate, is_instant};
+use msr_words::Length;
+use std::alloc::{AllocError, Global};
+use std::process::Abort;
+use std::test::Fail;
+
+// 2020-01-01 00:00:00.
+const START: i64 = 1_577_836_800_000_000;
+
+// The header of a record of 301 samples at 20 samples a second, and its three frames: the differences are 0,
+// seven in a word.
+const FIRST: [u8; 64] = [
+    0x30, 0x30, 0x30, 0x30, 0x30, 0x31, 0x44, 0x20, 0x54, 0x45, 0x53, 0x54, 0x20, 0x30, 0x30, 0x42,
+    0x48, 0x5a, 0x58, 0x58, 0x07, 0xe4, 0x00, 0x01, 0x00, 0x00, 0x00, 0x00, 0x00, 0x00, 0x01, 0x2d,
+    0x00, 0x14, 0x00, 0x01, 0x00, 0x00, 0x00, 0x02, 0x00, 0x00, 0x00, 0x00, 0x00, 0x40, 0x00, 0x30,
+    0x03, 0xe8, 0x00, 0x38, 0x0b, 0x01, 0x08, 0x00, 0x03, 0xe9, 0x00, 0x00, 0x00, 0x00, 0x00, 0x03,
+];
+
+const FIRST_CODES: [(usize, [u8; 4]); 3] = [
+    (64, [0x03, 0xff, 0xff, 0xff]),
+    (128, [0x3f, 0xff, 0xff, 0xff]),
+    (192, [0x3f, 0xff, 0xff, 0xff]),
+];
+
+// Where the next record differs: its number, its time, one sample in one frame, and the only data word.
+const SECOND: [(usize, &[u8]); 6] = [
+    (5, &[0x32]),
+    (20, &[0x07, 0xe4, 0x00, 0x01, 0x00, 0x00, 0x0f, 0x00, 0x01, 0xf4]),
+    (30, &[0x00, 0x01]),
+    (63, &[0x01]),
+    (64, &[0x02, 0x00, 0x00, 0x00]),
+    (76, &[0x40, 0x00, 0x00, 0x00]),
+];
+
+fn put(rt: &impl Abort, bytes: &mut [u8; 256], at: usize, part: &[u8]) {
+    for (i, byte) in part.iter().enumerate() {
+        let Some(place) = bytes.get_mut(at.saturating_add(i)) else {
+            panic!(rt; "no place")
+        };
+        *place = *byte;
+    }
+}
+
+fn first_record(rt: &impl Abort) -> [u8; 256] {
+    let mut bytes = [0; 256];
+    put(rt, &mut bytes, 0, &FIRST);
+    for word in 3..48usize {
+        if word % 16 != 0 {
+            put(rt, &mut bytes, 64 + 4 * word, &[0x80, 0x00, 0x00, 0x00]);
+        }
+    }
+    for (at, codes) in FIRST_CODES {
+        put(rt, &mut bytes, at, &codes);
+    }
+    bytes
+}
+
+fn second_record(rt: &impl Abort) -> [u8; 256] {
+    let mut bytes = [0; 256];
+    put(rt, &mut bytes, 0, &FIRST);
+    for (at, part) in SECOND {
+        put(rt, &mut bytes, at, part);
+    }
+    bytes
+}
+
+// So many samples of 0 at 20 samples a second.
+fn zeros(rt: &impl Abort, alloc: Global, count: usize) -> Result<Segment, AllocError> {
+    let Some(rate) = Rate::new(20, 1) else {
+        panic!(rt; "no rate")
+    };
+    let mut samples = Samples::new(alloc);
+    for _ in 0..count {
+        samples.push(0)?;
+    }
+    Ok(Segment {
+        key: Key {
+            network: *b"XX",
+            station: *b"TEST ",
+            location: *b"00",
+            channel: *b"BHZ",
+            quality: b'D',
+            rate,
+            activity: 0,
+            clock: 0,
+            data_quality: 0,
+            correction: 0,
+            timing: 0,
+        },
+        start: START,
+        samples,
+    })
+}
+
+fn short_length(rt: &impl Abort) -> Length {
+    let Some(record_length) = Length::new(256) else {
+        panic!(rt; "no length")
+    };
+    record_length
+}
+
+fn behavior(most: usize, fails_at: Option<u64>) -> Behavior {
+    Behavior {
+        most,
+        interruptions: 0,
+        fails_at,
+    }
+}
+
+#[test]
+fn two_records(rt: HostRuntime) -> Result<(), Fail> {
+    let segment = zeros(&rt, rt.alloc(), 302)?;
+    assert!(rt; is_writable(&segment));
+    let mut sink = TestSink::new(Vec::new(rt.alloc()), behavior(64, None));
+    let mut writer = SegmentWriter::new(rt.alloc(), short_length(&rt));
+    let Ok(line) = writer.write_segment(&mut sink, &segment) else {
+        panic!(rt; "not written")
+    };
+    assert_eq!(rt; line.key, segment.key);
+    assert_eq!(rt; line.start, START);
+    assert_eq!(rt; line.samples, 302);
+    assert_eq!(rt; line.records, 2);
+    assert!(rt; line.separators.as_slice() == [0u64, 301].as_slice());
+    assert_eq!(rt; writer.finish(&mut sink), Ok(()));
+    assert_eq!(rt; sink.bytes().len(), 512);
+    let (first, second) = sink.bytes().split_at(256);
+    assert!(rt; first == first_record(&rt).as_slice());
+    assert!(rt; second == second_record(&rt).as_slice());
+    Ok(())
+}
+
+// Whether the segment can be written.
+fn is_writable(segment: &Segment) -> bool {
+    let Some(last) = segment.samples.len().checked_sub(1) else {
+        return false;
+    };
+    is_instant(segment.start) && segment.key.rate.nominal(segment.start, last as u64).is_some()
+}
