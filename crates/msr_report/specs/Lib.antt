@@ -1,1 +1,2 @@
 pub mod Proper
+pub mod Text
