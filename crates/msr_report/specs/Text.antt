@@ -85,6 +85,11 @@ pub record IsListLine (key : Key) (start : ℤ) (samples : ℕ) (text : List ℕ
   pub time : IsTimeText start start_text
   pub is : text ≡ segment_words key start_text samples (10 ∷ [])
 
+-- the line of a segment in a report, whose start has the given text
+abbrev pub segment_line : SegmentLine → List ℕ → List ℕ
+segment_line line start =
+    segment_words line.key start line.samples (codes " records " ++ (decimal line.records ++ 10 ∷ []))
+
 -- a number for each separator
 abbrev pub separators_line : List ℕ → List ℕ
 separators_line separators = codes "separators" ++ (flat_map (λ n. 32 ∷ decimal n) separators ++ 10 ∷ [])
@@ -93,7 +98,7 @@ separators_line separators = codes "separators" ++ (flat_map (λ n. 32 ∷ decim
 pub record IsSegmentText (line : SegmentLine) (text : List ℕ) : Type 0 where
   pub start_text : List ℕ
   pub time : IsTimeText line.start start_text
-  pub is : text ≡ segment_words line.key start_text line.samples (codes " records " ++ (decimal line.records ++ (10 ∷ separators_line line.separators.items)))
+  pub is : text ≡ segment_line line start_text ++ separators_line line.separators.items
 
 -- the lines of the segments in their order
 abbrev pub AreSegmentTexts : List SegmentLine → List ℕ → Type 0

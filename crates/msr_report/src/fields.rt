@@ -68,28 +68,28 @@ fn flags_string(alloc: Global, key: &Key) -> Result<String, AllocError>
     format!(in alloc; "{activity} {clock} {data}")
 }
 
-#[tactic(auto, using(crate::proofs::Text::zeros_before))]
+#[tactic(auto, using(crate::proofs::Words::zeros_before))]
 fn two_digits(alloc: Global, n: u8) -> Result<String, AllocError>
     ensures { IfOk result (λ text. string_bytes text ≡ padded_decimal 2 n) }
 {
     format!(in alloc; "{n:02}")
 }
 
-#[tactic(auto, using(crate::proofs::Text::zeros_before))]
+#[tactic(auto, using(crate::proofs::Words::zeros_before))]
 fn three_digits(alloc: Global, n: u16) -> Result<String, AllocError>
     ensures { IfOk result (λ text. string_bytes text ≡ padded_decimal 3 n) }
 {
     format!(in alloc; "{n:03}")
 }
 
-#[tactic(auto, using(crate::proofs::Text::zeros_before))]
+#[tactic(auto, using(crate::proofs::Words::zeros_before))]
 fn four_digits(alloc: Global, n: u16) -> Result<String, AllocError>
     ensures { IfOk result (λ text. string_bytes text ≡ padded_decimal 4 n) }
 {
     format!(in alloc; "{n:04}")
 }
 
-#[tactic(auto, using(crate::proofs::Text::zeros_before))]
+#[tactic(auto, using(crate::proofs::Words::zeros_before))]
 fn six_digits(alloc: Global, n: u32) -> Result<String, AllocError>
     ensures { IfOk result (λ text. string_bytes text ≡ padded_decimal 6 n) }
 {

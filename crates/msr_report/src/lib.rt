@@ -2,8 +2,12 @@
 #![tactic(auto)]
 
 mod fields;
+mod laws;
 mod lines;
 mod report;
+mod text;
 
+pub use laws::{has_text, one_text};
 pub use lines::{push_counts, push_list_line};
 pub use report::{Counts, Report, SegmentLine};
+pub use text::TextFault;

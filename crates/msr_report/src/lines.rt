@@ -78,3 +78,71 @@ pub fn push_counts(alloc: Global, out: &mut Vec<u8>, counts: &Counts) -> Result<
     let text = counts_string(alloc, counts)?;
     out.extend_from_slice(text.as_bytes())
 }
+
+// Appends a number behind a space.
+fn push_number(alloc: Global, out: &mut Vec<u8>, n: u64) -> Result<(), AllocError>
+    ensures { OnOk result (out.new.items ≡ out.old.items ++ (32 ∷ decimal n)) }
+{
+    let word = format!(in alloc; " {n}")?;
+    out.extend_from_slice(word.as_bytes())
+}
+
+// Appends the line of the separators.
+fn push_separators(
+    alloc: Global,
+    out: &mut Vec<u8>,
+    separators: &[u64],
+) -> Result<(), AllocError>
+    ensures { OnOk result (out.new.items ≡ out.old.items ++ separators_line separators.now) }
+{
+    out.extend_from_slice(b"separators")?;
+    for separator in separators {
+        push_number(alloc, out, *separator)?;
+    }
+    out.push(b'\n')?;
+    Ok(())
+}
+
+/// Appends the two lines of a segment in a report.
+pub(crate) fn push_segment(
+    alloc: Global,
+    out: &mut Vec<u8>,
+    line: &SegmentLine,
+) -> Result<(), AllocError>
+    requires { IsInstant line.now.start }
+    ensures { OnOk result ((text : List ℕ) × (IsSegmentText line.now text × (out.new.items ≡ out.old.items ++ text))) }
+{
+    let time = time_string(alloc, line.start)?;
+    let records = line.records;
+    let more = format!(in alloc; " records {records}\n")?;
+    push_words(alloc, out, &line.key, time.as_str(), line.samples, more.as_str())?;
+    push_separators(alloc, out, &line.separators)
+}
+
+/// Appends the lines before the segments.
+pub(crate) fn push_first_lines(
+    alloc: Global,
+    out: &mut Vec<u8>,
+    report: &Report,
+) -> Result<(), AllocError>
+    ensures { OnOk result (out.new.items ≡ out.old.items ++ first_lines report.now) }
+{
+    let length = report.length.bytes();
+    let tolerance = report.tolerance;
+    let counts = counts_string(alloc, &report.counts)?;
+    let text = format!(in alloc; "msrepack 1\nlength {length}\ntolerance {tolerance}\n{counts}")?;
+    out.extend_from_slice(text.as_bytes())
+}
+
+/// Appends the last line.
+pub(crate) fn push_end_line(
+    alloc: Global,
+    out: &mut Vec<u8>,
+    segments: u64,
+    records: u64,
+) -> Result<(), AllocError>
+    ensures { OnOk result (out.new.items ≡ out.old.items ++ end_line segments records) }
+{
+    let text = format!(in alloc; "end {segments} segments {records} records\n")?;
+    out.extend_from_slice(text.as_bytes())
+}
