@@ -1,1 +1,3 @@
 pub mod Proper
+pub mod Text
+pub mod Writing

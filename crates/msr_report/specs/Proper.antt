@@ -1,5 +1,5 @@
 -- Which reports have a text.
-use Rattle.std.specs.Prelude.{◌≡◌, ℕ, ◌+◌, ◌^◌, ◌<◌, ◌≤◌, List, [], ◌∷◌, All, IsTrue}
+use Rattle.std.specs.Prelude.{ℕ, ◌+◌, ◌^◌, ◌<◌, ◌≤◌, List, [], ◌∷◌, All, IsTrue}
 use Rattle.msr_time.specs.Instant.{IsInstant}
 use Rattle.msr_header.specs.Reading.{is_quality}
 use Rattle.msr_report.specs.declared.report.SegmentLine.{SegmentLine}

@@ -1,6 +1,15 @@
 //! The report of a repacked input, and its text.
 #![tactic(auto)]
 
+mod fields;
+mod laws;
+mod lines;
 mod report;
+#[cfg(test)]
+mod tests;
+mod text;
 
+pub use laws::{has_text, one_text};
+pub use lines::{push_counts, push_list_line};
 pub use report::{Counts, Report, SegmentLine};
+pub use text::TextFault;

@@ -1,0 +1,148 @@
+// The lines of a list and of a report.
+ghost use Rattle.std.specs.Prelude.{◌≡◌, ◌++◌, ◌∷◌, [], ◌<◌, ℕ, List, IfOk, OnOk, OnErr, string_bytes, codes, decimal, length};
+ghost use Rattle.msr_time.specs.Instant.{IsInstant};
+ghost use Rattle.msr_report.specs.Text.{IsTimeText, words_after_quality, segment_words, IsListLine, separators_line, IsSegmentText, counts_line, first_lines, end_line};
+
+use crate::fields::{name_string, settings_string, time_string};
+use crate::report::{Counts, Report, SegmentLine};
+use msr_record::Key;
+use std::alloc::{AllocError, Global};
+
+// The words after the quality, and then more text.
+fn words_string(
+    alloc: Global,
+    key: &Key,
+    start: &str,
+    samples: u64,
+    more: &str,
+) -> Result<String, AllocError>
+    ensures { IfOk result (λ text. string_bytes text ≡ words_after_quality key.now start.now samples more.now) }
+{
+    let settings = settings_string(alloc, key)?;
+    format!(in alloc; " {settings} start {start} samples {samples}{more}")
+}
+
+// Appends the words of a segment, whose start has the given text, and then more text.
+fn push_words(
+    alloc: Global,
+    out: &mut Vec<u8>,
+    key: &Key,
+    start: &str,
+    samples: u64,
+    more: &str,
+) -> Result<(), AllocError>
+    ensures pushed { OnOk result (out.new.items ≡ out.old.items ++ segment_words key.now start.now samples more.now) }
+    ensures refused { OnErr result (out.new.items ≡ out.old.items) }
+{
+    let name = name_string(alloc, key)?;
+    let words = words_string(alloc, key, start, samples, more)?;
+    let mut line = Vec::new(alloc);
+    line.extend_from_slice(format!(in alloc; "segment {name} ")?.as_bytes())?;
+    line.push(key.quality)?;
+    line.extend_from_slice(words.as_bytes())?;
+    out.extend_from_slice(line.as_slice())
+}
+
+/// Appends the line of a segment, as a list has it. Where memory is refused nothing is appended.
+pub fn push_list_line(
+    alloc: Global,
+    out: &mut Vec<u8>,
+    key: &Key,
+    start: i64,
+    samples: u64,
+) -> Result<(), AllocError>
+    requires { IsInstant start }
+    ensures pushed { OnOk result ((line : List ℕ) × (IsListLine key.now start samples line × (out.new.items ≡ out.old.items ++ line))) }
+    ensures refused { OnErr result (out.new.items ≡ out.old.items) }
+{
+    let time = time_string(alloc, start)?;
+    push_words(alloc, out, key, time.as_str(), samples, "\n")
+}
+
+fn counts_string(alloc: Global, counts: &Counts) -> Result<String, AllocError>
+    ensures { IfOk result (λ text. string_bytes text ≡ counts_line counts.now) }
+{
+    let Counts {
+        read,
+        empty,
+        mismatched,
+    } = *counts;
+    format!(in alloc; "read {read} empty {empty} mismatched {mismatched}\n")
+}
+
+/// Appends the line of the counts. Where memory is refused nothing is appended.
+pub fn push_counts(alloc: Global, out: &mut Vec<u8>, counts: &Counts) -> Result<(), AllocError>
+    ensures pushed { OnOk result (out.new.items ≡ out.old.items ++ counts_line counts.now) }
+    ensures refused { OnErr result (out.new.items ≡ out.old.items) }
+{
+    let text = counts_string(alloc, counts)?;
+    out.extend_from_slice(text.as_bytes())
+}
+
+// Appends a number behind a space.
+fn push_number(alloc: Global, out: &mut Vec<u8>, n: u64) -> Result<(), AllocError>
+    ensures { OnOk result (out.new.items ≡ out.old.items ++ (32 ∷ decimal n)) }
+{
+    let word = format!(in alloc; " {n}")?;
+    out.extend_from_slice(word.as_bytes())
+}
+
+// Appends the line of the separators.
+fn push_separators(
+    alloc: Global,
+    out: &mut Vec<u8>,
+    separators: &[u64],
+) -> Result<(), AllocError>
+    ensures { OnOk result (out.new.items ≡ out.old.items ++ separators_line separators.now) }
+{
+    out.extend_from_slice(b"separators")?;
+    for separator in separators {
+        push_number(alloc, out, *separator)?;
+    }
+    out.push(b'\n')?;
+    Ok(())
+}
+
+/// Appends the two lines of a segment in a report.
+pub(crate) fn push_segment(
+    alloc: Global,
+    out: &mut Vec<u8>,
+    line: &SegmentLine,
+) -> Result<(), AllocError>
+    requires { IsInstant line.now.start }
+    ensures { OnOk result ((text : List ℕ) × (IsSegmentText line.now text × (out.new.items ≡ out.old.items ++ text))) }
+{
+    let time = time_string(alloc, line.start)?;
+    let records = line.records;
+    let more = format!(in alloc; " records {records}\n")?;
+    push_words(alloc, out, &line.key, time.as_str(), line.samples, more.as_str())?;
+    push_separators(alloc, out, &line.separators)
+}
+
+/// Appends the lines before the segments.
+pub(crate) fn push_first_lines(
+    alloc: Global,
+    out: &mut Vec<u8>,
+    report: &Report,
+) -> Result<(), AllocError>
+    ensures { OnOk result (out.new.items ≡ out.old.items ++ first_lines report.now) }
+{
+    let length = report.length.bytes();
+    let tolerance = report.tolerance;
+    let counts = counts_string(alloc, &report.counts)?;
+    let text = format!(in alloc; "msrepack 1\nlength {length}\ntolerance {tolerance}\n{counts}")?;
+    out.extend_from_slice(text.as_bytes())
+}
+
+/// Appends the last line.
+pub(crate) fn push_end_line(
+    alloc: Global,
+    out: &mut Vec<u8>,
+    segments: u64,
+    records: u64,
+) -> Result<(), AllocError>
+    ensures { OnOk result (out.new.items ≡ out.old.items ++ end_line segments records) }
+{
+    let text = format!(in alloc; "end {segments} segments {records} records\n")?;
+    out.extend_from_slice(text.as_bytes())
+}
