@@ -4,6 +4,7 @@ use msr_devices::{Behavior, FillFault, TestSource};
 use msr_header::HeaderFault;
 use msr_record::FaultKind;
 use msr_report::Counts;
+use msr_segments::Segment;
 use std::alloc::Global;
 use std::process::Abort;
 use std::test::Fail;
@@ -26,6 +27,17 @@ const NEXT: &[(usize, &[u8])] = &[(26, &[0x02, 0x00, 0x0f, 0xa0])];
 
 const LATER: &[(usize, &[u8])] = &[(26, &[0x03, 0x00, 0x0f, 0xa0])];
 
+// at the end of 2100, and where those samples end but for 6 milliseconds;
+const NEAR_THE_END: &[(usize, &[u8])] = &[(
+    20,
+    &[0x08, 0x34, 0x01, 0x6d, 0x17, 0x3b, 0x37, 0x00, 0x09, 0xce],
+)];
+
+const AT_THE_END: &[(usize, &[u8])] = &[(
+    20,
+    &[0x08, 0x34, 0x01, 0x6d, 0x17, 0x3b, 0x39, 0x00, 0x19, 0x32],
+)];
+
 // one sample of 0 as Steim-2, whose reverse constant is 1.
 const MISMATCHED: &[(usize, &[u8])] = &[
     (26, &[0x0a, 0x00, 0x00, 0x00]),
@@ -42,7 +54,10 @@ const WHOLE: Behavior = Behavior {
     fails_at: None,
 };
 
-fn edit(rt: &impl Abort, bytes: &mut [u8], edits: &[(usize, &[u8])]) {
+// The record after some edits.
+fn record(rt: &impl Abort, edits: &[(usize, &[u8])]) -> [u8; 256] {
+    let mut bytes = [0; 256];
+    bytes[..64].copy_from_slice(&HEADER);
     for (at, values) in edits {
         for (place, value) in values.iter().enumerate() {
             match bytes.get_mut(at.saturating_add(place)) {
@@ -51,126 +66,145 @@ fn edit(rt: &impl Abort, bytes: &mut [u8], edits: &[(usize, &[u8])]) {
             }
         }
     }
+    bytes
 }
 
-// Three records of 256 bytes, each with its edits.
-fn three(
-    rt: &impl Abort,
-    first: &[(usize, &[u8])],
-    second: &[(usize, &[u8])],
-    third: &[(usize, &[u8])],
-) -> [u8; 768] {
+// Records one after another.
+fn two(first: &[u8; 256], second: &[u8; 256]) -> [u8; 512] {
+    let mut bytes = [0; 512];
+    bytes[..256].copy_from_slice(first);
+    bytes[256..].copy_from_slice(second);
+    bytes
+}
+
+fn three(first: &[u8; 256], second: &[u8; 256], third: &[u8; 256]) -> [u8; 768] {
     let mut bytes = [0; 768];
-    bytes[..64].copy_from_slice(&HEADER);
-    bytes[256..320].copy_from_slice(&HEADER);
-    bytes[512..576].copy_from_slice(&HEADER);
-    edit(rt, &mut bytes[..256], first);
-    edit(rt, &mut bytes[256..512], second);
-    edit(rt, &mut bytes[512..], third);
+    bytes[..512].copy_from_slice(&two(first, second));
+    bytes[512..].copy_from_slice(third);
     bytes
 }
 
 // Two records that join, and an empty one between them.
 fn joining(rt: &impl Abort) -> [u8; 768] {
-    three(rt, &[], EMPTY, NEXT)
+    three(&record(rt, &[]), &record(rt, EMPTY), &record(rt, NEXT))
 }
 
-// Where the segments of these bytes begin, and how many samples they have; and the counts.
+// Where a segment begins, and how many samples it has.
+type Place = (i64, usize);
+
+// The place of the segment that was given, where one was.
+fn given(rt: &impl Abort, next: Result<Option<Segment>, ReadFault>) -> Option<Place> {
+    match next {
+        Ok(Some(segment)) => Some((segment.start, segment.samples.len())),
+        Ok(None) => None,
+        Err(fault) => panic!(rt; "{fault}"),
+    }
+}
+
+// The first two segments that end before the last one of these bytes, the last one, and the counts.
 fn segments_of(
     rt: &impl Abort,
     alloc: Global,
     bytes: &[u8],
     behavior: Behavior,
-) -> Result<(Vec<(i64, usize)>, Counts), Fail> {
+) -> (Option<Place>, Option<Place>, Option<Place>, Counts) {
     let mut source = TestSource::new(bytes, behavior);
     let mut reader = SegmentReader::new(alloc, 10_000);
-    let mut segments = Vec::new(alloc);
-    for _ in 0..4 {
-        match reader.next_segment(&mut source) {
-            Ok(Some(segment)) => segments.push((segment.start, segment.samples.len()))?,
-            Ok(None) => break,
-            Err(fault) => panic!(rt; "{fault}"),
-        }
-    }
+    let first = given(rt, reader.next_segment(&mut source));
+    let second = given(rt, reader.next_segment(&mut source));
+    let third = given(rt, reader.next_segment(&mut source));
+    assert_eq!(rt; third, None);
     let counts = reader.counts();
-    if let Some(segment) = reader.finish() {
-        segments.push((segment.start, segment.samples.len()))?;
-    }
-    Ok((segments, counts))
+    let last = reader
+        .finish()
+        .map(|segment| (segment.start, segment.samples.len()));
+    (first, second, last, counts)
 }
 
-// Why the bytes are refused, behind so many segments.
-fn fault_of(rt: &impl Abort, alloc: Global, bytes: &[u8], behavior: Behavior) -> (u32, ReadFault) {
-    let mut source = TestSource::new(bytes, behavior);
+// How many segments were given before the bytes were refused, and why they are; the second call tells it again.
+fn fault_of(rt: &impl Abort, alloc: Global, bytes: &[u8]) -> (u32, ReadFault) {
+    let mut source = TestSource::new(bytes, WHOLE);
     let mut reader = SegmentReader::new(alloc, 10_000);
-    for given in 0u32..4 {
-        match reader.next_segment(&mut source) {
-            Ok(Some(_)) => {}
-            Ok(None) => panic!(rt; "the input has ended"),
-            Err(fault) => return (given, fault),
+    let first = reader.next_segment(&mut source);
+    let second = reader.next_segment(&mut source);
+    match (first, second) {
+        (Err(fault), Err(again)) => {
+            assert_eq!(rt; fault, again);
+            (0, fault)
         }
+        (Ok(Some(_)), Err(fault)) => (1, fault),
+        _ => panic!(rt; "no fault"),
     }
-    panic!(rt; "no end")
 }
 
 #[test]
-fn an_empty_record_between_two_that_join(rt: HostRuntime) -> Result<(), Fail> {
-    let (segments, counts) = segments_of(&rt, rt.alloc(), &joining(&rt), WHOLE)?;
-    assert!(rt; segments.as_slice() == [(START, 96)].as_slice());
-    assert_eq!(rt;
-        counts,
-        Counts {
-            read: 3,
-            empty: 1,
-            mismatched: 0
-        }
+fn an_empty_record_between_two_that_join(rt: HostRuntime) {
+    let found = segments_of(&rt, rt.alloc(), &joining(&rt), WHOLE);
+    let counts = Counts {
+        read: 3,
+        empty: 1,
+        mismatched: 0,
+    };
+    assert_eq!(rt; found, (None, None, Some((START, 96)), counts));
+}
+
+#[test]
+fn segments_end_at_a_gap(rt: HostRuntime) {
+    let bytes = three(
+        &record(&rt, &[]),
+        &record(&rt, LATER),
+        &record(&rt, MISMATCHED),
     );
-    Ok(())
-}
-
-#[test]
-fn segments_end_at_a_gap(rt: HostRuntime) -> Result<(), Fail> {
-    let bytes = three(&rt, &[], LATER, MISMATCHED);
-    let (segments, counts) = segments_of(&rt, rt.alloc(), &bytes, WHOLE)?;
-    let want = [
-        (START, 48),
-        (START + 3_400_000, 48),
-        (START + 10_000_000, 1),
-    ];
-    assert!(rt; segments.as_slice() == want.as_slice());
-    assert_eq!(rt;
+    let counts = Counts {
+        read: 3,
+        empty: 0,
+        mismatched: 1,
+    };
+    let want = (
+        Some((START, 48)),
+        Some((START + 3_400_000, 48)),
+        Some((START + 10_000_000, 1)),
         counts,
-        Counts {
-            read: 3,
-            empty: 0,
-            mismatched: 1
-        }
     );
-    Ok(())
+    assert_eq!(rt; segments_of(&rt, rt.alloc(), &bytes, WHOLE), want);
 }
 
 #[test]
-fn no_bytes(rt: HostRuntime) -> Result<(), Fail> {
-    let (segments, counts) = segments_of(&rt, rt.alloc(), &[], WHOLE)?;
-    assert!(rt; segments.is_empty());
-    assert_eq!(rt; counts.read, 0);
-    Ok(())
+fn no_bytes(rt: HostRuntime) {
+    let counts = Counts {
+        read: 0,
+        empty: 0,
+        mismatched: 0,
+    };
+    assert_eq!(rt;
+        segments_of(&rt, rt.alloc(), &[], WHOLE),
+        (None, None, None, counts)
+    );
 }
 
 #[test]
-fn one_byte_for_each_read_between_interruptions(rt: HostRuntime) -> Result<(), Fail> {
+fn one_byte_for_each_read_between_interruptions(rt: HostRuntime) {
     let slow = Behavior {
         most: 1,
         interruptions: 63,
         fails_at: None,
     };
-    let (segments, counts) = segments_of(&rt, rt.alloc(), &joining(&rt), slow)?;
-    assert!(rt; segments.as_slice() == [(START, 96)].as_slice());
+    let (first, second, last, counts) = segments_of(&rt, rt.alloc(), &joining(&rt), slow);
+    assert_eq!(rt; (first, second, last), (None, None, Some((START, 96))));
     assert_eq!(rt; counts.read, 3);
-    Ok(())
 }
 
-// A source that fails at any read is neither taken for one that has ended, nor for one with a fault.
+// What the first call answers where the source plays so.
+fn failure_of(rt: &impl Abort, alloc: Global, bytes: &[u8], behavior: Behavior) -> ReadFault {
+    let mut source = TestSource::new(bytes, behavior);
+    let mut reader = SegmentReader::new(alloc, 10_000);
+    match reader.next_segment(&mut source) {
+        Ok(_) => panic!(rt; "no failure"),
+        Err(fault) => fault,
+    }
+}
+
+// A source that fails is neither taken for one that has ended, nor for one with a fault.
 #[test]
 fn failures(rt: HostRuntime) {
     let bytes = joining(&rt);
@@ -180,8 +214,8 @@ fn failures(rt: HostRuntime) {
             interruptions: 1,
             fails_at: Some(fails_at),
         };
-        let found = fault_of(&rt, rt.alloc(), &bytes, behavior);
-        assert_eq!(rt; found, (0, ReadFault::Read), "at {fails_at}");
+        let fault = failure_of(&rt, rt.alloc(), &bytes, behavior);
+        assert_eq!(rt; fault, ReadFault::Read, "at {fails_at}");
     }
     let interrupted = Behavior {
         most: 90,
@@ -189,28 +223,22 @@ fn failures(rt: HostRuntime) {
         fails_at: None,
     };
     assert_eq!(rt;
-        fault_of(&rt, rt.alloc(), &bytes, interrupted),
-        (0, ReadFault::Read)
+        failure_of(&rt, rt.alloc(), &bytes, interrupted),
+        ReadFault::Read
     );
 }
 
 #[test]
 fn faults_stand_at_their_records(rt: HostRuntime) -> Result<(), Fail> {
     let joined = joining(&rt);
-    let gaps = three(&rt, &[], LATER, &[(56, &[0x01, 0xf4])]);
+    let refused = record(&rt, &[(56, &[0x01, 0xf4])]);
+    let gaps = three(&record(&rt, &[]), &record(&rt, LATER), &refused);
 
     // the second row joins some milliseconds before its nominal start, so its last sample counts as of 2101
     let end = three(
-        &rt,
-        &[(
-            20,
-            &[0x08, 0x34, 0x01, 0x6d, 0x17, 0x3b, 0x37, 0x00, 0x09, 0xce],
-        )],
-        &[(
-            20,
-            &[0x08, 0x34, 0x01, 0x6d, 0x17, 0x3b, 0x39, 0x00, 0x19, 0x32],
-        )],
-        &[],
+        &record(&rt, NEAR_THE_END),
+        &record(&rt, AT_THE_END),
+        &refused,
     );
     let rows: [(&[u8], u32, &str); 6] = [
         (&joined[..300], 0, "offset 256: 1 Truncated"),
@@ -220,9 +248,9 @@ fn faults_stand_at_their_records(rt: HostRuntime) -> Result<(), Fail> {
         (&gaps, 1, "offset 512: 5 OtherBlockette 500"),
         (&end, 0, "offset 256: 17 TimeRange"),
     ];
-    for (bytes, given, want) in rows {
-        let (segments, fault) = fault_of(&rt, rt.alloc(), bytes, WHOLE);
-        assert_eq!(rt; segments, given, "{want}");
+    for (bytes, segments, want) in rows {
+        let (given, fault) = fault_of(&rt, rt.alloc(), bytes);
+        assert_eq!(rt; given, segments, "{want}");
         assert_eq!(rt; format!(in rt.alloc(); "{fault}")?.as_str(), want);
     }
     Ok(())

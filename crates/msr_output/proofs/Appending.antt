@@ -41,7 +41,7 @@ appends-more size first number segment runs run old mid new so_far one =
     let cut : Cut = record { segment = segment; run = run } in
     let cuts : cuts_at segment (runs ++ run ∷ []) ≡ cuts_at segment runs ++ cut ∷ [] = map-append (λ (r : Run). record { segment = segment; run = r }) runs (run ∷ []) in
     let last : AreWritten size number (cut ∷ []) (one.row ∷ []) one.bytes =
-        ([], [], record { row = one.row; first = one.bytes; is_record = one.is_record; all_rows = refl; all_bytes = sym (append-nil one.bytes) }, (refl, refl)) in
+    ([], [], record { row = one.row; first = one.bytes; is_record = one.is_record; all_rows = refl; all_bytes = sym (append-nil one.bytes) }, (refl, refl)) in
     let written = written-append size first (cuts_at segment runs) (cut ∷ []) so_far.rows (one.row ∷ []) so_far.bytes one.bytes so_far.written (rw (← so_far.after) last) in
     record {
       rows = so_far.rows ++ one.row ∷ [];

@@ -87,9 +87,9 @@ one-cut size n segment segments (run ∷ runs) before rows bytes some fitting jo
     let time : w.row.start ≡ segment.start = nominal_first segment.key.rate segment.start w.row.start (rw start at is_row.start) in
     let samples : w.row.samples ≡ take run.end segment.samples = is_row.samples ∙ (let e : run.end - 0 ≡ run.end = omega arith in rw (start, e) refl) in
     let first : row_segment w.row ≡ front segment run.end =
-        ap (λ (k : Key). record { key = k; start = w.row.start; samples = w.row.samples }) is_row.key
-        ∙ ap (λ (t : ℤ). record { key = segment.key; start = t; samples = w.row.samples }) time
-        ∙ ap (λ (s : List ℤ). record { key = segment.key; start = segment.start; samples = s }) samples in
+    ap (λ (k : Key). record { key = k; start = w.row.start; samples = w.row.samples }) is_row.key
+    ∙ ap (λ (t : ℤ). record { key = segment.key; start = t; samples = w.row.samples }) time
+    ∙ ap (λ (s : List ℤ). record { key = segment.key; start = segment.start; samples = s }) samples in
     let begun : AreCuts (segments ++ front segment run.end ∷ []) (before ++ w.row ∷ []) = subst (λ (s : Segment). AreCuts (segments ++ s ∷ []) (before ++ w.row ∷ [])) first (cuts_begin segments before w.row cuts) in
     let all = go-on size (next_number n) segment segments runs run.end (before ++ w.row ∷ []) are.0 are.1 begun (all-rest (IsFitting size segment.samples) run runs fitting) joined.1 are.3 in
     let same : front segment (length segment.samples) ≡ segment = ap (λ (s : List ℤ). record { key = segment.key; start = segment.start; samples = s }) (take_all (length segment.samples) segment.samples (omega arith)) in

@@ -1,6 +1,8 @@
 //! The bytes of records worked out by hand, the sequence number behind the last one, and each call with
 //! ample memory.
-ghost use Rattle.std.specs.Prelude.{IsTrue, IfOk};
+ghost use Rattle.std.specs.Prelude.{◌≡◌, IsTrue, false};
+ghost use Rattle.msr_header.specs.Reading.{is_quality};
+ghost use Rattle.msr_record.specs.Correction.{is_pending};
 ghost use Rattle.msr_segments.specs.Segments.{SegmentIsInTime};
 
 use crate::records::encode_runs;
@@ -37,7 +39,10 @@ const FIRST_CODES: [(usize, [u8; 4]); 3] = [
 // Where the next record differs: its number, its time, one sample in one frame, and the only data word.
 const SECOND: [(usize, &[u8]); 6] = [
     (5, &[0x32]),
-    (20, &[0x07, 0xe4, 0x00, 0x01, 0x00, 0x00, 0x0f, 0x00, 0x01, 0xf4]),
+    (
+        20,
+        &[0x07, 0xe4, 0x00, 0x01, 0x00, 0x00, 0x0f, 0x00, 0x01, 0xf4],
+    ),
     (30, &[0x00, 0x01]),
     (63, &[0x01]),
     (64, &[0x02, 0x00, 0x00, 0x00]),
@@ -104,6 +109,25 @@ fn zeros(rt: &impl Abort, alloc: Global, count: usize) -> Result<Segment, AllocE
     })
 }
 
+// Whether the segment can be written, as one of a joiner can.
+fn is_writable(segment: &Segment) -> bool
+    ensures quality { IsTrue result → IsTrue (is_quality segment.now.key.quality) }
+    ensures normal { IsTrue result → is_pending segment.now.key.activity segment.now.key.correction ≡ false }
+    ensures in_time { IsTrue result → SegmentIsInTime segment.now }
+{
+    let Some(last) = segment.samples.len().checked_sub(1) else {
+        return false;
+    };
+    if segment.key.quality != b'D' || segment.key.correction != 0 || !is_instant(segment.start) {
+        return false;
+    }
+    segment
+        .key
+        .rate
+        .nominal(segment.start, last as u64)
+        .is_some()
+}
+
 fn short_length(rt: &impl Abort) -> Length {
     let Some(record_length) = Length::new(256) else {
         panic!(rt; "no length")
@@ -141,10 +165,127 @@ fn two_records(rt: HostRuntime) -> Result<(), Fail> {
     Ok(())
 }
 
-// Whether the segment can be written.
-fn is_writable(segment: &Segment) -> bool {
-    let Some(last) = segment.samples.len().checked_sub(1) else {
-        return false;
+// The sequence numbers of records, where they begin so.
+fn numbers_behind(
+    rt: &impl Abort,
+    alloc: Global,
+    first: u32,
+) -> Result<([u8; 6], [u8; 6], u32), AllocError> {
+    let segment = zeros(rt, alloc, 302)?;
+    assert!(rt; is_writable(&segment));
+    assert!(rt; 1 <= first && first <= 999_999);
+    let record_length = short_length(rt);
+    let packing = pack(alloc, segment.samples.as_slice(), record_length)?;
+    let mut bytes = Vec::new(alloc);
+    let next = encode_runs(
+        alloc,
+        &segment,
+        packing.runs.as_slice(),
+        first,
+        record_length,
+        &mut bytes,
+    )?;
+    assert!(rt; bytes.len() >= 256);
+    let (first, second) = bytes.as_slice().split_at(256);
+    Ok((digits(rt, first), digits(rt, second), next))
+}
+
+fn digits(rt: &impl Abort, record: &[u8]) -> [u8; 6] {
+    let Some(front) = record.first_chunk::<6>() else {
+        panic!(rt; "no record")
     };
-    is_instant(segment.start) && segment.key.rate.nominal(segment.start, last as u64).is_some()
+    *front
+}
+
+#[test]
+fn numbers_begin_again(rt: HostRuntime) -> Result<(), Fail> {
+    for (first, numbers) in [
+        (1u32, (*b"000001", *b"000002", 3u32)),
+        (999_997, (*b"999997", *b"999998", 999_999)),
+        (999_998, (*b"999998", *b"999999", 1)),
+        (999_999, (*b"999999", *b"000001", 2)),
+    ] {
+        assert_eq!(rt; numbers_behind(&rt, rt.alloc(), first)?, numbers);
+    }
+    Ok(())
+}
+
+// What a sink of that behavior holds after two segments of so many samples, and why it does not hold all.
+fn written(
+    rt: &impl Abort,
+    alloc: Global,
+    count: usize,
+    behavior: Behavior,
+) -> Result<(Option<WriteFault>, TestSink), AllocError> {
+    let segment = zeros(rt, alloc, count)?;
+    assert!(rt; is_writable(&segment));
+    let mut sink = TestSink::accepting_nothing(Vec::new(alloc), behavior);
+    let mut writer = SegmentWriter::new(alloc, short_length(rt));
+    if let Err(fault) = writer.write_segment(&mut sink, &segment) {
+        return Ok((Some(fault), sink));
+    }
+    if let Err(fault) = writer.write_segment(&mut sink, &segment) {
+        return Ok((Some(fault), sink));
+    }
+    let fault = writer.finish(&mut sink).err();
+    Ok((fault, sink))
+}
+
+// The records of the second segment are numbered on from those of the first.
+#[test]
+fn numbers_go_on(rt: HostRuntime) -> Result<(), Fail> {
+    let (fault, sink) = written(&rt, rt.alloc(), 302, behavior(100, None))?;
+    assert_eq!(rt; fault, None);
+    for (record, number) in sink
+        .bytes()
+        .chunks(256)
+        .zip([*b"000001", *b"000002", *b"000003", *b"000004"])
+    {
+        assert_eq!(rt; digits(&rt, record), number);
+    }
+    assert_eq!(rt; sink.bytes().len(), 1024);
+    Ok(())
+}
+
+// Each call that writes is refused in turn. All waits until the end, or much is written with its segment.
+#[test]
+fn failing_sinks_hold_a_front(rt: HostRuntime) -> Result<(), Fail> {
+    for (count, most, size, calls) in [
+        (302usize, 100usize, 1024usize, 11u64),
+        (80_000, 30_000, 136_192, 6),
+    ] {
+        let (fault, whole) = written(&rt, rt.alloc(), count, behavior(most, None))?;
+        assert_eq!(rt; fault, None);
+        assert_eq!(rt; whole.bytes().len(), size);
+        for failing in 0..=calls {
+            let (fault, sink) = written(&rt, rt.alloc(), count, behavior(most, Some(failing)))?;
+            let want = if failing < calls {
+                Some(WriteFault::Write)
+            } else {
+                None
+            };
+            assert_eq!(rt; fault, want, "at {failing}");
+            assert_eq!(rt; sink.bytes().len() == size, fault.is_none(), "at {failing}");
+            assert!(rt; whole.bytes().starts_with(sink.bytes()));
+        }
+    }
+    Ok(())
+}
+
+#[test]
+fn texts_of_faults(rt: HostRuntime) -> Result<(), Fail> {
+    for (fault, text) in [
+        (WriteFault::Write, "write fault"),
+        (WriteFault::Memory, "out of memory"),
+    ] {
+        assert_eq!(rt; format!(in rt.alloc(); "{fault}")?.as_str(), text);
+    }
+    Ok(())
+}
+
+#[test]
+fn laws() {
+    one_output();
+    output_has_size();
+    output_keeps_segments();
 }

@@ -55,15 +55,19 @@ impl SegmentWriter {
     }
 
     /// Packs the segment, puts its records behind those that wait, and writes in pieces of 64 KiB.
-    pub fn write_segment<W: Sink>(&mut self, sink: &mut W, segment: &Segment) -> Result<SegmentLine, WriteFault>
+    pub fn write_segment<W: Sink>(
+        &mut self,
+        sink: &mut W,
+        segment: &Segment,
+    ) -> Result<SegmentLine, WriteFault>
         requires count { CanCountCall (W.device sink.old) }
         requires quality { IsTrue (is_quality segment.now.key.quality) }
         requires normal { is_pending segment.now.key.activity segment.now.key.correction ≡ false }
         requires in_time { SegmentIsInTime segment.now }
         ensures written { (start : Device) (packed : List Packed) (rows : List Row) → HasWritten start (W.device sink.old) self.old packed rows
             → MatchResult result
-                (WritesSegment start (W.device sink.new) self.new packed segment.now)
-                (StopsWriting self.old.size start (W.device sink.new) (map segment_of_packed packed ++ segment.now ∷ [])) }
+            (WritesSegment start (W.device sink.new) self.new packed segment.now)
+            (StopsWriting self.old.size start (W.device sink.new) (map segment_of_packed packed ++ segment.now ∷ [])) }
         ensures size { self.new.size ≡ self.old.size }
         ensures few { CountsFew (W.device sink.old) (W.device sink.new) }
     {
@@ -95,8 +99,8 @@ impl SegmentWriter {
         requires { CanCountCall (W.device sink.old) }
         ensures written { (start : Device) (packed : List Packed) (rows : List Row) → HasWritten start (W.device sink.old) self packed rows
             → MatchResult result
-                (λ _. HasWrittenAll start (W.device sink.new) self packed rows)
-                (StopsWriting self.size start (W.device sink.new) (map segment_of_packed packed)) }
+            (λ _. HasWrittenAll start (W.device sink.new) self packed rows)
+            (StopsWriting self.size start (W.device sink.new) (map segment_of_packed packed)) }
         ensures few { CountsFew (W.device sink.old) (W.device sink.new) }
     {
         let mut buffer = self.buffer;

@@ -31,12 +31,18 @@ next_year year = day_count-next_year (pos year) (pos (year + 1)) (omega (arith, 
 next_day : (n year day : ℕ) → IsDay n year day → (y : ℕ) × ((d : ℕ) × IsDay (suc n) y d)
 next_day n year day h = elim (cases_lt day (days_in_year (pos year))) [
   | inl lt ↦ (year, (day + 1, record { low = h.low; first = omega arith; last = omega arith; count = omega (arith, h.count) }))
-  | inr le ↦ (year + 1, (1, record {
-    low = omega (arith, h.low);
-    first = omega arith;
-    last = omega (arith, days_in_year_bounds (pos (year + 1)));
-    count = omega (arith, h.count, h.last, next_year year);
-  }))
+  | inr le ↦ (
+    year + 1,
+    (
+      1,
+      record {
+        low = omega (arith, h.low);
+        first = omega arith;
+        last = omega (arith, days_in_year_bounds (pos (year + 1)));
+        count = omega (arith, h.count, h.last, next_year year);
+      },
+    ),
+  )
 ]
 
 has_day : (n : ℕ) → (y : ℕ) × ((d : ℕ) × IsDay n y d)
@@ -46,8 +52,8 @@ has_day (suc n) = let day = has_day n in next_day n day.0 day.1.0 day.1.1
 supported_year : (n year day : ℕ) → IsDay n year day → n < 73_414 → year ≤ 2100
 supported_year n year day h few = elim (cases_lt 2100 year) [
   | inl lt ↦ absurd (
-    let l = day_count-later_year (pos 2100) (pos year) (omega (arith, signed_arith)) (omega (arith, signed_arith)) in
-    omega (arith, l, count_2100, h.count, h.first, days_in_year_bounds (pos 2100)))
+      let l = day_count-later_year (pos 2100) (pos year) (omega (arith, signed_arith)) (omega (arith, signed_arith)) in
+      omega (arith, l, count_2100, h.count, h.first, days_in_year_bounds (pos 2100)))
   | inr le ↦ le
 ]
 
@@ -86,10 +92,15 @@ has_split t h =
     let is_day = found.1.1 in
     let high = supported_year n year day is_day within.0 in
     let parts = time_parts year day rest few is_day.low high is_day.first is_day.last in
-    let number : day_number year day ≡ whole = omega (arith, signed_arith, day_number_parts year day is_day.first, is_day.count, within.1) in
-    (time_at year day rest, (rest % 100, record {
-      is_time = parts.0;
-      no_leap_second = parts.1;
-      below = omega arith;
-      sum = split_sum t (time_at year day rest) (rest % 100) year day refl refl number parts.2;
-    }))
+    let number : day_number year day ≡ whole = omega (arith, signed_arith, day_number_parts year day is_day.first, is_day.count, within.1) in (
+      time_at year day rest,
+      (
+        rest % 100,
+        record {
+          is_time = parts.0;
+          no_leap_second = parts.1;
+          below = omega arith;
+          sum = split_sum t (time_at year day rest) (rest % 100) year day refl refl number parts.2;
+        },
+      ),
+    )

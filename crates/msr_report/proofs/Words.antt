@@ -1,18 +1,10 @@
-use Rattle.std.proofs.Common.{◌≡◌, ℕ, ◌-◌, ◌++◌, ◌∷◌, ◌∙◌, [], List, false, arith, ap, sym, append_assoc, flat_map, length, decimal, refl, ◌^◌, codes, ℤ, w64, to_z, of_z}
+use Rattle.std.proofs.Common.{◌≡◌, ℕ, ◌-◌, ◌++◌, ◌∷◌, ◌∙◌, [], List, false, arith, ap, append_assoc, length, decimal, refl, ◌^◌, codes, ℤ, w64, to_z, of_z}
 use Rattle.std.proofs.lemmas.Int.{ints}
 use Rattle.msr_time.specs.Instant.{IsInstant}
 use Rattle.std.specs.Fmt.{padded_integral, format_spec, char_count}
 use Rattle.std.proofs.lemmas.List.{append-nil}
-use Rattle.std.proofs.lemmas.Grind.{flat_map-append}
-use Rattle.msr_report.specs.Text.{field_text, byte_text, padded_decimal, IsTimeText, segment_words, segment_line, separators_line, IsSegmentText}
+use Rattle.msr_report.specs.Text.{padded_decimal, IsTimeText, segment_words, segment_line, separators_line, IsSegmentText}
 use Rattle.msr_report.specs.declared.report.SegmentLine.{SegmentLine}
-
--- a field with one more byte
-pub more_bytes : (old text bytes : List ℕ) (b : ℕ) → old ≡ field_text bytes → text ≡ old ++ byte_text b → text ≡ field_text (bytes ++ b ∷ [])
-more_bytes old text bytes b so_far is =
-    is ∙ ap (λ (t : List ℕ). t ++ byte_text b) so_far
-    ∙ ap (λ (t : List ℕ). flat_map byte_text bytes ++ t) (sym (append-nil (byte_text b)))
-    ∙ sym (flat_map-append byte_text bytes (b ∷ []))
 
 -- what `{:04}` and its like write
 pub zeros_before : (width n : ℕ) → padded_integral (format_spec 32 0 4 width (2 ^ 64 - 1)) false [] (decimal n) ≡ padded_decimal width n
@@ -20,11 +12,6 @@ unfolding padded_integral char_count
 zeros_before width n =
     let short : width - length (decimal n) - 0 - char_count [] ≡ width - length (decimal n) = omega arith in
     rw (short, append-nil (decimal n)) refl
-
--- bytes put down in three parts
-pub three_parts : (old a : List ℕ) (q : ℕ) (b line new : List ℕ) → line ≡ (a ++ q ∷ []) ++ b → new ≡ old ++ line → new ≡ old ++ (a ++ (q ∷ b))
-three_parts old a q b line new parts is =
-    is ∙ ap (λ (t : List ℕ). old ++ t) (parts ∙ append_assoc a (q ∷ []) b)
 
 -- an instant fits 64 bits
 pub instant_back : (t : ℤ) → IsInstant t → to_z w64 (of_z w64 t) ≡ t
@@ -36,8 +23,11 @@ pub two_lines : (line : SegmentLine) (time start more old between new separators
     → separators ≡ line.separators.items → new ≡ between ++ separators_line separators
     → (text : List ℕ) × (IsSegmentText line text × (new ≡ old ++ text))
 two_lines line time start more old between new separators is_time same rest first are second =
-    let head : between ≡ old ++ segment_line line time = first ∙ ap (λ (s : List ℕ). old ++ segment_words line.key s line.samples more) same ∙ ap (λ (s : List ℕ). old ++ segment_words line.key time line.samples s) rest in
-    (segment_line line time ++ separators_line line.separators.items, (
-    record { start_text = time; time = is_time; is = refl },
-    second ∙ ap (λ (t : List ℕ). t ++ separators_line separators) head ∙ append_assoc old (segment_line line time) (separators_line separators)
-    ∙ ap (λ (s : List ℕ). old ++ (segment_line line time ++ separators_line s)) are))
+    let head : between ≡ old ++ segment_line line time = first ∙ ap (λ (s : List ℕ). old ++ segment_words line.key s line.samples more) same ∙ ap (λ (s : List ℕ). old ++ segment_words line.key time line.samples s) rest in (
+      segment_line line time ++ separators_line line.separators.items,
+      (
+        record { start_text = time; time = is_time; is = refl },
+        second ∙ ap (λ (t : List ℕ). t ++ separators_line separators) head ∙ append_assoc old (segment_line line time) (separators_line separators)
+            ∙ ap (λ (s : List ℕ). old ++ (segment_line line time ++ separators_line s)) are,
+      ),
+    )

@@ -79,19 +79,22 @@ pub written_front : (old new : Device) (report : Report) (lines others : List Se
     → IsWritten old new report lines waits → (text : List ℕ) × (IsReportText report text × TakesFront old new text)
 written_front old new report lines others waits all more are w =
     let end = end_line (length report.segments.items) (records_of report.segments.items) in
-    let P : List SegmentLine → Type 0 = λ l. AreSegmentTexts l (w.segments ++ more) in
-    (first_lines report ++ ((w.segments ++ more) ++ end), (
-    record { segments = w.segments ++ more; are = subst P all (segments-append lines others w.segments more w.are are); is = refl },
-    record {
-      taken = w.taken;
-      rest = waits ++ (more ++ end);
-      takes = w.takes;
-      whole =
-          ap (λ (t : List ℕ). first_lines report ++ t) (append_assoc w.segments more end)
-          ∙ sym (append_assoc (first_lines report) w.segments (more ++ end))
-          ∙ ap (λ (t : List ℕ). t ++ (more ++ end)) w.whole
-          ∙ append_assoc w.taken waits (more ++ end);
-    }))
+    let P : List SegmentLine → Type 0 = λ l. AreSegmentTexts l (w.segments ++ more) in (
+      first_lines report ++ ((w.segments ++ more) ++ end),
+      (
+        record { segments = w.segments ++ more; are = subst P all (segments-append lines others w.segments more w.are are); is = refl },
+        record {
+          taken = w.taken;
+          rest = waits ++ (more ++ end);
+          takes = w.takes;
+          whole =
+              ap (λ (t : List ℕ). first_lines report ++ t) (append_assoc w.segments more end)
+              ∙ sym (append_assoc (first_lines report) w.segments (more ++ end))
+              ∙ ap (λ (t : List ℕ). t ++ (more ++ end)) w.whole
+              ∙ append_assoc w.taken waits (more ++ end);
+        },
+      ),
+    )
 
 -- the same of the first i segments of a proper report
 pub written_front_of : (old new : Device) (report : Report) (i : ℕ) (waits : List ℕ)
@@ -108,16 +111,23 @@ pub written_end : (old new next : Device) (report : Report) (lines : List Segmen
     → (text : List ℕ) × (IsReportText report text × ((taken : List ℕ) × (Takes old next taken × (text ≡ taken ++ left))))
 written_end old new next report lines waits pushed left segments records all count sum w is p =
     let end = end_line segments records in
-    let P : List SegmentLine → Type 0 = λ l. AreSegmentTexts l w.segments in
-    (first_lines report ++ (w.segments ++ end), (
-    record {
-      segments = w.segments;
-      are = subst P all w.are;
-      is = ap (λ (n : ℕ). first_lines report ++ (w.segments ++ end_line n records)) count ∙ ap (λ (n : ℕ). first_lines report ++ (w.segments ++ end_line (length report.segments.items) n)) sum;
-    },
-    (w.taken ++ p.taken, (
-    takes-append old new next w.taken p.taken w.takes p.takes,
-    sym (append_assoc (first_lines report) w.segments end) ∙ passed (first_lines report ++ w.segments) end w.taken waits [] pushed p.taken left w.whole is p.whole))))
+    let P : List SegmentLine → Type 0 = λ l. AreSegmentTexts l w.segments in (
+      first_lines report ++ (w.segments ++ end),
+      (
+        record {
+          segments = w.segments;
+          are = subst P all w.are;
+          is = ap (λ (n : ℕ). first_lines report ++ (w.segments ++ end_line n records)) count ∙ ap (λ (n : ℕ). first_lines report ++ (w.segments ++ end_line (length report.segments.items) n)) sum;
+        },
+        (
+          w.taken ++ p.taken,
+          (
+            takes-append old new next w.taken p.taken w.takes p.takes,
+            sym (append_assoc (first_lines report) w.segments end) ∙ passed (first_lines report ++ w.segments) end w.taken waits [] pushed p.taken left w.whole is p.whole,
+          ),
+        ),
+      ),
+    )
 
 pub end_front : (old new : Device) (report : Report) (left : List ℕ)
     → (text : List ℕ) × (IsReportText report text × ((taken : List ℕ) × (Takes old new taken × (text ≡ taken ++ left))))

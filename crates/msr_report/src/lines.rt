@@ -88,11 +88,7 @@ fn push_number(alloc: Global, out: &mut Vec<u8>, n: u64) -> Result<(), AllocErro
 }
 
 // Appends the line of the separators.
-fn push_separators(
-    alloc: Global,
-    out: &mut Vec<u8>,
-    separators: &[u64],
-) -> Result<(), AllocError>
+fn push_separators(alloc: Global, out: &mut Vec<u8>, separators: &[u64]) -> Result<(), AllocError>
     ensures { OnOk result (out.new.items ≡ out.old.items ++ separators_line separators.now) }
 {
     out.extend_from_slice(b"separators")?;
@@ -115,7 +111,14 @@ pub(crate) fn push_segment(
     let time = time_string(alloc, line.start)?;
     let records = line.records;
     let more = format!(in alloc; " records {records}\n")?;
-    push_words(alloc, out, &line.key, time.as_str(), line.samples, more.as_str())?;
+    push_words(
+        alloc,
+        out,
+        &line.key,
+        time.as_str(),
+        line.samples,
+        more.as_str(),
+    )?;
     push_separators(alloc, out, &line.separators)
 }
 

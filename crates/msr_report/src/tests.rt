@@ -12,6 +12,7 @@ use msr_record::Key;
 use msr_time::{Rate, is_instant};
 use msr_words::Length;
 use std::alloc::{AllocError, Global};
+use std::process::Abort;
 use std::test::Fail;
 
 // 2020-01-01 00:00:00.
@@ -79,11 +80,7 @@ fn key(factor: i16, multiplier: i16) -> Option<Key>
 }
 
 // The first of two segments, and the second.
-fn segments(
-    alloc: Global,
-    key: Key,
-    with_second: bool,
-) -> Result<Vec<SegmentLine>, AllocError>
+fn segments(alloc: Global, key: Key, with_second: bool) -> Result<Vec<SegmentLine>, AllocError>
     requires { IsTrue (is_quality key.quality) }
     ensures { IfOk result (λ lines. All IsProperLine lines.items × (records_of lines.items < 2 ^ 64)) }
 {
@@ -145,34 +142,46 @@ fn lists(rt: HostRuntime) -> Result<(), Fail> {
     Ok(())
 }
 
+// The report has this text.
+fn writes(rt: &impl Abort, alloc: Global, given: Option<Report>, text: &str) -> Result<(), Fail>
+    requires { IfSome given IsProper }
+{
+    let report = given.ok_or("no report")?;
+    let mut sink = TestSink::new(Vec::new(alloc), behavior(100, None));
+    assert_eq!(rt; report.write_text(alloc, &mut sink), Ok(()));
+    assert_eq!(rt; sink.bytes(), text.as_bytes());
+    Ok(())
+}
+
 #[test]
 fn reports(rt: HostRuntime) -> Result<(), Fail> {
     let alloc = rt.alloc();
     let key = key(20, 1).ok_or("no rate")?;
-    let some = Counts { read: 1, ..NO_RECORDS };
+    let some = Counts {
+        read: 1,
+        ..NO_RECORDS
+    };
     let more = Counts {
         read: 3,
         empty: 1,
         mismatched: 2,
     };
-    for (report, text) in [
-        (report(512, NO_RECORDS, Vec::new(alloc)), NO_SEGMENTS),
-        (report(256, some, segments(alloc, key, false)?), ONE_SEGMENT),
-        (report(256, more, segments(alloc, key, true)?), TWO_SEGMENTS),
-    ] {
-        let report = report.ok_or("no report")?;
-        let mut sink = TestSink::new(Vec::new(alloc), behavior(100, None));
-        assert_eq!(rt; report.write_text(alloc, &mut sink), Ok(()));
-        assert_eq!(rt; sink.bytes(), text.as_bytes());
-    }
-    Ok(())
+    let none = report(512, NO_RECORDS, Vec::new(alloc));
+    let one = report(256, some, segments(alloc, key, false)?);
+    let two = report(256, more, segments(alloc, key, true)?);
+    writes(&rt, alloc, none, NO_SEGMENTS)?;
+    writes(&rt, alloc, one, ONE_SEGMENT)?;
+    writes(&rt, alloc, two, TWO_SEGMENTS)
 }
 
 #[test]
 fn a_sink_that_fails_took_a_front(rt: HostRuntime) -> Result<(), Fail> {
     let alloc = rt.alloc();
     let key = key(20, 1).ok_or("no rate")?;
-    let counts = Counts { read: 1, ..NO_RECORDS };
+    let counts = Counts {
+        read: 1,
+        ..NO_RECORDS
+    };
     let report = report(256, counts, segments(alloc, key, false)?).ok_or("no report")?;
     for fails_at in 0u64..10 {
         let mut sink = TestSink::new(Vec::new(alloc), behavior(20, Some(fails_at)));

@@ -31,5 +31,5 @@ returns c =
     let nominal = nominal_found c.args.segment.now.key.rate c.args.segment.now.start c.unwrap-first.result c.args.run.start c.nominal.result found c.unwrap-first.ensures in
     let first_fits : FitsSigned w64 c.unwrap-first.result = search rules in
     let appended : OnOk c.encode_record.result (AppendsRecord c.args.out.now.items c.encode_record.new.out.items c.args.segment.now.key c.unwrap-first.result c.args.number (sample_before c.args.segment.now.samples c.args.run.start) (slice_range c.args.segment.now.samples c.args.run.start c.args.run.end) c.args.run.kind (bytes_of c.args.record_length)) =
-        rw (to_z-of_z first_fits, c.sample_before-before.ensures, c.as_slice-samples.ensures) at c.encode_record.ensures.appended in
+    rw (to_z-of_z first_fits, c.sample_before-before.ensures, c.as_slice-samples.ensures) at c.encode_record.ensures.appended in
     on_ok c.encode_record.result (λ a. record_of_run (bytes_of c.args.record_length) c.args.number c.args.segment.now c.args.run c.unwrap-first.result _ _ nominal a) appended
