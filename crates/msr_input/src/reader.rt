@@ -35,7 +35,7 @@ impl SegmentReader {
     ghost use Rattle.msr_record.specs.declared.row.Record.{Record as Found};
     ghost use Rattle.msr_segments.specs.declared.joiner.Segment.{Segment as Joined};
     ghost use Rattle.msr_input.specs.Reading.{HasRead, HasReadAll, StopsReading};
-    ghost use Rattle.msr_input.specs.Steps.{CanJoin};
+    ghost use Rattle.msr_input.specs.Steps.{CanJoin, JoinsRecord};
 
     /// A reader before the first record, for that tolerance in microseconds. It takes no memory yet.
     pub fn new(alloc: Global, tolerance: u32) -> SegmentReader
@@ -56,8 +56,9 @@ impl SegmentReader {
         }
     }
 
-    // The next record, whose bytes still wait; `None` where the input has ended.
-    fn next_record<R: Source>(&mut self, source: &mut R) -> Result<Option<Record>, ReadFault>
+    /// The next record, which [`take`](Self::take) then takes; `None` where the input has ended. A further call
+    /// gives the same record again.
+    pub fn next_record<R: Source>(&mut self, source: &mut R) -> Result<Option<Record>, ReadFault>
         requires { CanCountCall (R.device source.old) }
         ensures read { (start : Device) (records : List Found) (given : List Joined) → HasRead start (R.device source.old) self.old records given
             → MatchResult result (λ _. HasRead start (R.device source.new) self.new records given) (StopsReading self.old.joining.tolerance start (R.device source.new) given) }
@@ -82,12 +83,14 @@ impl SegmentReader {
         Ok(Some(found))
     }
 
-    // Takes the record that the waiting bytes begin with, and gives the segment that it ended.
-    fn take(&mut self, found: Record) -> Result<Option<Segment>, ReadFault>
+    /// Takes the record that [`next_record`](Self::next_record) gave, and gives the segment that it ended. For
+    /// readers that look at each record; `next_segment` does both for the others.
+    pub fn take(&mut self, found: Record) -> Result<Option<Segment>, ReadFault>
         requires is_record { IsRecordOf self.old.waiting found }
         requires can_join { IfSome found.row CanJoin }
         ensures read { (start now : Device) (records : List Found) (given : List Joined) → HasRead start now self.old records given
             → MatchResult result (λ ended. HasRead start now self.new (records ++ found ∷ []) (given ++ option_to_list ended)) (StopsReading self.old.joining.tolerance start now given) }
+        ensures step { IfOk result (λ ended. JoinsRecord self.old.joining found.row ended self.new.joining) }
         ensures tolerance { self.new.joining.tolerance ≡ self.old.joining.tolerance }
         ensures unchanged { OnErr result (self.new ≡ self.old) }
         ensures fewer { OnOk result (length self.new.waiting < length self.old.waiting) }
