@@ -1,0 +1,114 @@
+-- When a report shows that every segment of packed records stands in the fewest records.
+use Rattle.std.specs.Prelude.{◌≡◌, ℕ, ◌+◌, ◌≤◌, List, [], ◌∷◌, length, All, IsSome, Result, Ok, Err}
+use Rattle.msr_words.specs.declared.kinds.Run.{Run}
+use Rattle.msr_words.specs.Lengths.{bytes_of}
+use Rattle.msr_words.specs.Packing.{IsPacking, IsSeparating}
+use Rattle.msr_record.specs.declared.row.Row.{Row}
+use Rattle.msr_record.specs.declared.row.Record.{Record}
+use Rattle.msr_segments.specs.Segments.{Part, rows_of, segment_of, IsDivision}
+use Rattle.msr_segments.specs.declared.joiner.Segment.{Segment}
+use Rattle.msr_report.specs.declared.report.SegmentLine.{SegmentLine}
+use Rattle.msr_report.specs.declared.report.Report.{Report}
+use Rattle.msr_input.specs.Input.{AreRead, IsReadable, IsFirstFault, rows_of_records}
+use Rattle.msr_input.specs.declared.fault.Fault.{Fault}
+use Rattle.msr_input.specs.declared.fault.ReadFault.{ReadFault}
+use Rattle.msr_input.specs.declared.fault.ReadFault.TheVariants.{Input, Read, Memory}
+use Rattle.msr_verdict.specs.declared.verdict.Verdict.{Verdict}
+use Rattle.msr_verdict.specs.declared.verdict.Verdict.TheVariants.{Least, NotShown}
+
+-- the runs that rows are, one after another, where so many samples stand before them
+abbrev pub runs_of_rows : ℕ → List Row → List Run
+runs_of_rows at [] = []
+runs_of_rows at (row ∷ rows) =
+    record { start = at; end = at + length row.samples; kind = row.kind } ∷ runs_of_rows (at + length row.samples) rows
+
+-- the runs of a part of the rows, whose samples are one segment
+abbrev pub runs_of_part : Part → List Run
+runs_of_part part = runs_of_rows 0 (rows_of part)
+
+-- The line is the segment's, packed in these runs, and its separators show that fewer do not suffice.
+pub record IsShownAs (size : ℕ) (segment : Segment) (runs : List Run) (line : SegmentLine) : Type 0 where
+  pub key : line.key ≡ segment.key
+  pub start : line.start ≡ segment.start
+  pub samples : line.samples ≡ length segment.samples
+  pub records : line.records ≡ length runs
+  pub packing : IsPacking size segment.samples runs
+  pub separating : IsSeparating size segment.samples line.separators.items
+  pub as_many : length runs ≡ length line.separators.items
+
+abbrev pub IsShownBy : ℕ → Part → SegmentLine → Type 0
+IsShownBy size part line = IsShownAs size (segment_of part) (runs_of_part part) line
+
+-- each part is shown by the line at its place, and there are as many lines as parts
+abbrev pub AreShownBy : ℕ → List Part → List SegmentLine → Type 0
+AreShownBy size [] [] = Unit {0}
+AreShownBy size [] (line ∷ lines) = ⊥
+AreShownBy size (part ∷ parts) [] = ⊥
+AreShownBy size (part ∷ parts) (line ∷ lines) = IsShownBy size part line × AreShownBy size parts lines
+
+-- the record has that length, and samples
+pub record IsFull (size : ℕ) (found : Record) : Type 0 where
+  pub length_is : found.length ≡ size
+  pub some : IsSome found.row
+
+-- The report shows that every segment of the input stands in the fewest records: the input is readable, each of
+-- its records has the report's length and some samples, and its segments are shown by the report's lines in order.
+pub record ShowsLeast (report : Report) (input : List ℕ) : Type 0 where
+  pub records : List Record
+  pub parts : List Part
+  pub are_read : AreRead report.tolerance input records []
+  pub division : IsDivision report.tolerance (rows_of_records records) parts
+  pub full : All (IsFull (bytes_of report.length)) records
+  pub shown : AreShownBy (bytes_of report.length) parts report.segments.items
+
+-- The input is readable, and the report does not show that.
+pub record DoesNotShow (report : Report) (input : List ℕ) : Type 0 where
+  pub records : List Record
+  pub segments : List Segment
+  pub readable : IsReadable report.tolerance input records segments
+  pub none : ShowsLeast report input → ⊥
+
+-- The input has this first fault.
+pub record IsRefusedAt (tolerance : ℕ) (input : List ℕ) (fault : Fault) : Type 0 where
+  pub records : List Record
+  pub first : IsFirstFault tolerance input records fault
+
+-- Some first records of the input are read, none of them refused.
+pub record BeginsReadable (tolerance : ℕ) (input : List ℕ) : Type 0 where
+  pub records : List Record
+  pub rest : List ℕ
+  pub are_read : AreRead tolerance input records rest
+
+-- what an answer says of the input
+abbrev pub Answers : Report → List ℕ → Result Verdict ReadFault → Type 0
+Answers report input (Ok Least) = ShowsLeast report input
+Answers report input (Ok NotShown) = DoesNotShow report input
+Answers report input (Err (Input fault)) = IsRefusedAt report.tolerance input fault
+Answers report input (Err Read) = BeginsReadable report.tolerance input
+Answers report input (Err Memory) = BeginsReadable report.tolerance input
+
+-- No packing of the part's segment has fewer records than it stands in, nor than the line says.
+pub record StandsInFewest (size : ℕ) (part : Part) (line : SegmentLine) : Type 0 where
+  pub records : line.records ≡ length (rows_of part)
+  pub fewest : (other : List Run) → IsPacking size (segment_of part).samples other → length (rows_of part) ≤ length other
+
+abbrev pub AllStandInFewest : ℕ → List Part → List SegmentLine → Type 0
+AllStandInFewest size [] [] = Unit {0}
+AllStandInFewest size [] (line ∷ lines) = ⊥
+AllStandInFewest size (part ∷ parts) [] = ⊥
+AllStandInFewest size (part ∷ parts) (line ∷ lines) = StandsInFewest size part line × AllStandInFewest size parts lines
+
+-- Where the report shows it, every segment of the input stands in the fewest records, whatever list of records and
+-- whatever division into segments is asked for: the input has no other.
+abbrev pub ShownIsFewest : Type 0
+ShownIsFewest =
+    (report : Report) (input : List ℕ) (records : List Record) (parts : List Part) → ShowsLeast report input
+    → AreRead report.tolerance input records []
+    → IsDivision report.tolerance (rows_of_records records) parts
+    → AllStandInFewest (bytes_of report.length) parts report.segments.items
+
+-- and the input is readable
+abbrev pub ShownIsReadable : Type 0
+ShownIsReadable =
+    (report : Report) (input : List ℕ) → ShowsLeast report input
+    → (records : List Record) × (segments : List Segment) × IsReadable report.tolerance input records segments

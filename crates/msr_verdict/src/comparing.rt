@@ -1,0 +1,131 @@
+// Comparing segments with the lines of a report, one after another.
+ghost use Rattle.std.specs.Prelude.{◌↔◌, IsTrue};
+ghost use Rattle.msr_words.specs.Lengths.{bytes_of};
+ghost use Rattle.msr_verdict.specs.Packed.{IsShownAs};
+
+use crate::piece::Piece;
+use crate::verdict::Verdict;
+use msr_check::shows_least;
+use msr_input::ReadFault;
+use msr_report::{Report, SegmentLine};
+use msr_segments::Segment;
+use msr_words::{Length, Run};
+use std::alloc::Global;
+use std::marker::Model;
+
+/// The line is the segment's, in these runs, and its separators show that they are the fewest.
+fn is_shown_by(
+    segment: &Segment,
+    record_length: Length,
+    runs: &[Run],
+    line: &SegmentLine,
+) -> bool
+    ensures { IsTrue result ↔ IsShownAs (bytes_of record_length) segment.now runs.now line.now }
+{
+    line.key == segment.key
+        && line.start == segment.start
+        && line.samples == segment.samples.len() as u64
+        && line.records == runs.len() as u64
+        && shows_least(
+            segment.samples.as_slice(),
+            record_length,
+            runs,
+            line.separators.as_slice(),
+        )
+}
+
+/// How far the segments agree with the lines of one report. It keeps the runs of the open segment, and none
+/// once a segment or a record disagreed.
+#[derive(Drop)]
+pub struct Comparing {
+    place: usize,
+    runs: Vec<Run>,
+    samples: u64,
+    agrees: bool,
+}
+
+impl Model for Comparing {
+    ghost use Rattle.msr_verdict.specs.Compared.{Compared};
+
+    ghost Value = { Compared };
+
+    ghost view = { λ c. record { place = c.place; runs = c.runs.items; samples = c.samples; agrees = c.agrees } };
+}
+
+impl Comparing {
+    ghost use Rattle.std.specs.Prelude.{◌≡◌, ◌↔◌, ◌<◌, ◌^◌, [], length, true, OnOk, IfErr, IfSome, IsTrue};
+    ghost use Rattle.msr_words.specs.Lengths.{bytes_of};
+    ghost use Rattle.msr_verdict.specs.Compared.{ComparesEnded, AddsPiece, IsShownAt};
+
+    /// Before the first segment.
+    pub fn new(alloc: Global) -> Comparing
+        ensures { result ≡ record { place = 0; runs = []; samples = 0; agrees = true } }
+    {
+        Comparing {
+            place: 0,
+            runs: Vec::new(alloc),
+            samples: 0,
+            agrees: true,
+        }
+    }
+
+    /// The segment, in the runs so far, is shown by the line at its place.
+    fn is_shown(&self, report: &Report, segment: &Segment) -> bool
+        ensures { IsTrue result ↔ IsShownAt (bytes_of report.now.length) report.now.segments.items self.now.place segment.now self.now.runs }
+    {
+        match report.segments.get(self.place) {
+            Some(line) => is_shown_by(segment, report.length, self.runs.as_slice(), line),
+            None => false,
+        }
+    }
+
+    /// Compares the segment that ended, if one did, with its line.
+    pub fn compare(&mut self, report: &Report, ended: &Option<Segment>)
+        ensures compared { ComparesEnded (bytes_of report.now.length) report.now.segments.items self.old ended.now self.new }
+        ensures few { IfSome ended.now (λ segment. length segment.samples < 2 ^ 64) }
+    {
+        let Some(segment) = ended else {
+            return;
+        };
+        self.agrees = self.agrees && self.is_shown(report, segment);
+        self.place = self.place.saturating_add(1);
+        self.runs.clear();
+        self.samples = 0;
+    }
+
+    /// Adds the run of a record to the open segment; `None` for a record that agrees with no report.
+    pub fn add(&mut self, piece: Option<Piece>) -> Result<(), ReadFault>
+        ensures added { OnOk result (AddsPiece self.old piece self.new) }
+        ensures memory { IfErr result (λ fault. fault ≡ ReadFault.Memory) }
+    {
+        let Some(piece) = piece else {
+            self.agrees = false;
+            return Ok(());
+        };
+        if !self.agrees {
+            return Ok(());
+        }
+        let end = self.samples.saturating_add(piece.count);
+        let run = Run {
+            start: self.samples,
+            end,
+            kind: piece.kind,
+        };
+        let Ok(()) = self.runs.push(run) else {
+            return Err(ReadFault::Memory);
+        };
+        self.samples = end;
+        Ok(())
+    }
+
+    /// The verdict, where the last segment was compared.
+    pub fn verdict(&self, report: &Report) -> Verdict
+        ensures { (result ≡ Verdict.Least) ↔ ((self.now.agrees ≡ true) × (self.now.place ≡ length report.now.segments.items)) }
+    {
+        if self.agrees && self.place == report.segments.len() {
+            Verdict::Least
+        } else {
+            Verdict::NotShown
+        }
+    }
+}

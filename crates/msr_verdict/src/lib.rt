@@ -1,0 +1,14 @@
+//! Whether a report shows that packed records are the fewest.
+#![tactic(auto)]
+
+mod comparing;
+mod laws;
+mod piece;
+#[cfg(test)]
+mod tests;
+mod verdict;
+mod verify;
+
+pub use laws::shown_is_fewest;
+pub use verdict::Verdict;
+pub use verify::verify_packed;

@@ -1,0 +1,44 @@
+// Reading packed records beside their report.
+ghost use Rattle.std.specs.Prelude.{◌↔◌, ◌≤◌, ℕ, List, IsErrOf};
+ghost use Rattle.msr_devices.specs.Device.{CanCountCall, CountsFew, HasFailed, HasLeft};
+ghost use Rattle.msr_verdict.specs.Packed.{Answers};
+
+use crate::comparing::Comparing;
+use crate::piece::piece_of;
+use crate::verdict::Verdict;
+use msr_devices::Source;
+use msr_input::{ReadFault, SegmentReader};
+use msr_report::Report;
+use std::alloc::Global;
+
+/// Reads all records of the source, and says whether the report shows that each of their segments stands in the
+/// fewest records of its length. Of the input it keeps one segment and that segment's runs.
+///
+/// The counts of the report are of another input, the one that was packed, and are not looked at.
+pub fn verify_packed<R: Source>(
+    alloc: Global,
+    source: &mut R,
+    report: &Report,
+) -> Result<Verdict, ReadFault>
+    requires count { CanCountCall (R.device source.old) }
+    requires tolerance { (1 ≤ report.now.tolerance) × (report.now.tolerance ≤ 1_000_000) }
+
+    // What is answered, for the bytes that the source has.
+    ensures answer { (input : List ℕ) × HasLeft (R.device source.old) input × Answers report.now input result }
+
+    // A failure of the source is answered as such, and nothing else is.
+    ensures read { IsErrOf result ReadFault.Read ↔ HasFailed (R.device source.old) (R.device source.new) }
+    ensures few { CountsFew (R.device source.old) (R.device source.new) }
+{
+    let mut reader = SegmentReader::new(alloc, report.tolerance);
+    let mut comparing = Comparing::new(alloc);
+    'records: while let Some(found) = reader.next_record(source)? {
+        let piece = piece_of(&found, report.length);
+        let ended = reader.take(found)?;
+        comparing.compare(report, &ended);
+        comparing.add(piece)?;
+    }
+    let last = reader.finish();
+    comparing.compare(report, &last);
+    Ok(comparing.verdict(report))
+}
