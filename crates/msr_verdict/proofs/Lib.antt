@@ -1,0 +1,5 @@
+pub mod Lines
+pub mod Runs
+pub mod Parts
+pub mod States
+pub mod Answers

@@ -1,7 +1,5 @@
 // Comparing segments with the lines of a report, one after another.
-ghost use Rattle.std.specs.Prelude.{◌↔◌, IsTrue};
-ghost use Rattle.msr_words.specs.Lengths.{bytes_of};
-ghost use Rattle.msr_verdict.specs.Packed.{IsShownAs};
+ghost use Rattle.std.specs.Prelude.{◌≡◌, ◌↔◌, IsTrue};
 
 use crate::piece::Piece;
 use crate::verdict::Verdict;
@@ -9,29 +7,18 @@ use msr_check::shows_least;
 use msr_input::ReadFault;
 use msr_report::{Report, SegmentLine};
 use msr_segments::Segment;
-use msr_words::{Length, Run};
+use msr_words::Run;
 use std::alloc::Global;
 use std::marker::Model;
 
-/// The line is the segment's, in these runs, and its separators show that they are the fewest.
-fn is_shown_by(
-    segment: &Segment,
-    record_length: Length,
-    runs: &[Run],
-    line: &SegmentLine,
-) -> bool
-    ensures { IsTrue result ↔ IsShownAs (bytes_of record_length) segment.now runs.now line.now }
+/// The line is of a segment with that key and start, so many samples and so many records.
+fn is_line_of(line: &SegmentLine, segment: &Segment, samples: u64, records: usize) -> bool
+    ensures { IsTrue result ↔ (line.now.key ≡ segment.now.key) × (line.now.start ≡ segment.now.start) × (line.now.samples ≡ samples) × (line.now.records ≡ records) }
 {
     line.key == segment.key
         && line.start == segment.start
-        && line.samples == segment.samples.len() as u64
-        && line.records == runs.len() as u64
-        && shows_least(
-            segment.samples.as_slice(),
-            record_length,
-            runs,
-            line.separators.as_slice(),
-        )
+        && line.samples == samples
+        && line.records == records as u64
 }
 
 /// How far the segments agree with the lines of one report. It keeps the runs of the open segment, and none
@@ -71,12 +58,20 @@ impl Comparing {
 
     /// The segment, in the runs so far, is shown by the line at its place.
     fn is_shown(&self, report: &Report, segment: &Segment) -> bool
-        ensures { IsTrue result ↔ IsShownAt (bytes_of report.now.length) report.now.segments.items self.now.place segment.now self.now.runs }
+        ensures shown { IsTrue result ↔ IsShownAt (bytes_of report.now.length) report.now.segments.items self.now.place segment.now self.now.runs }
+        ensures few { length segment.now.samples < 2 ^ 64 }
     {
-        match report.segments.get(self.place) {
-            Some(line) => is_shown_by(segment, report.length, self.runs.as_slice(), line),
-            None => false,
-        }
+        let samples = segment.samples.len() as u64;
+        let Some(line) = report.segments.get(self.place) else {
+            return false;
+        };
+        is_line_of(line, segment, samples, self.runs.len())
+            && shows_least(
+                segment.samples.as_slice(),
+                report.length,
+                self.runs.as_slice(),
+                line.separators.as_slice(),
+            )
     }
 
     /// Compares the segment that ended, if one did, with its line.
@@ -87,7 +82,7 @@ impl Comparing {
         let Some(segment) = ended else {
             return;
         };
-        self.agrees = self.agrees && self.is_shown(report, segment);
+        self.agrees = self.is_shown(report, segment) && self.agrees;
         self.place = self.place.saturating_add(1);
         self.runs.clear();
         self.samples = 0;
