@@ -2,4 +2,4 @@ pub mod Lines
 pub mod Runs
 pub mod Parts
 pub mod States
-pub mod Answers
+pub mod Endings
