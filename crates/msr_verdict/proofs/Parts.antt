@@ -6,7 +6,8 @@ use Rattle.std.proofs.lemmas.List.{append-nil}
 use Rattle.msr_record.specs.declared.row.Row.{Row}
 use Rattle.msr_segments.specs.declared.joiner.Segment.{Segment}
 use Rattle.msr_segments.specs.Segments.{Part, rows_of, segment_of, row_segment, with_row, ContinuesSegment, IsDivision}
-use Rattle.msr_segments.specs.Joining.{Joining, IsPush}
+use Rattle.msr_segments.specs.Joining.{Joining, HasJoined, IsPush}
+use Rattle.msr_segments.proofs.Histories.{ends_empty}
 use Rattle.msr_segments.proofs.Divisions.{no_empty, cases_last, longer_part, ContinuesPart, division_none, division_breaks, division_joins, division_begins, segment_of-longer, segment_of-alone}
 
 -- the rows of the part that is open
@@ -20,8 +21,13 @@ pub record HasParts (joining : Joining) (rows : List Row) (parts : List Part) (l
   pub current : joining.current ≡ option_map segment_of last
   pub begun : last ≡ None → rows ≡ []
 
-pub parts-none : (tolerance : ℕ) → HasParts (record { tolerance = tolerance; current = None }) [] [] None
-parts-none tolerance = record { division = division_none tolerance; current = refl; begun = λ e. refl }
+-- a joiner without rows
+pub parts-none : (joining : Joining) (ended : List Segment) → HasJoined joining [] ended → HasParts joining [] [] None
+parts-none joining ended h = record {
+  division = division_none joining.tolerance;
+  current = ends_empty joining.tolerance [] ended joining.current refl h.segments;
+  begun = λ e. refl;
+}
 
 -- A row more belongs to the open part, or ends it.
 pub record Grows (new : Joining) (rows : List Row) (row : Row) (parts : List Part) (last : Option Part) (gave : Option Segment) : Type 0 where

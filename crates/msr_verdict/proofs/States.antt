@@ -8,7 +8,7 @@ use Rattle.msr_words.specs.declared.kinds.Kind.{Kind}
 use Rattle.msr_record.specs.declared.row.Row.{Row}
 use Rattle.msr_record.specs.declared.row.Record.{Record}
 use Rattle.msr_segments.specs.Segments.{Part, rows_of, segment_of}
-use Rattle.msr_segments.specs.Joining.{Joining}
+use Rattle.msr_segments.specs.Joining.{Joining, HasJoined}
 use Rattle.msr_segments.specs.declared.joiner.Segment.{Segment}
 use Rattle.msr_report.specs.declared.report.SegmentLine.{SegmentLine}
 use Rattle.msr_input.specs.Input.{rows_of_records}
@@ -19,7 +19,7 @@ use Rattle.msr_verdict.specs.Packed.{IsFull, IsShownAs, IsShownBy, AreShownBy, r
 use Rattle.msr_verdict.specs.Compared.{Compared, IsPieceOf, IsShownAt, ComparesSegment, ComparesEnded, AddsRun, AddsPiece, end_of_next}
 use Rattle.msr_verdict.proofs.Lines.{shown-snoc, shown-next, get-behind, behind-get}
 use Rattle.msr_verdict.proofs.Runs.{samples_of, segment-samples, total-snoc, run_behind, runs-snoc}
-use Rattle.msr_verdict.proofs.Parts.{open_rows, HasParts, Grows, grows}
+use Rattle.msr_verdict.proofs.Parts.{open_rows, HasParts, parts-none, Grows, grows}
 
 -- All records so far are full, the ended parts are shown by the first lines, and these are the runs of the open rows,
 -- as far as 64 bits count their samples.
@@ -208,6 +208,14 @@ pub record Follows (size : ℕ) (lines : List SegmentLine) (joining : Joining) (
   pub last : Option Part
   pub has_parts : HasParts joining (rows_of_records records) parts last
   pub compared : IsCompared size lines records parts (open_rows last) c
+
+pub follows-none : (size : ℕ) (lines : List SegmentLine) (joining : Joining) (ended : List Segment) (c : Compared) → HasJoined joining [] ended → c ≡ record { place = 0; runs = []; samples = 0; agrees = true } → Follows size lines joining [] c
+follows-none size lines joining ended c h none = record {
+  parts = [];
+  last = None;
+  has_parts = parts-none joining ended h;
+  compared = rw none (compared-none size lines);
+}
 
 no-piece : (size : ℕ) (found : Record) (piece : Option Piece) (old new : Compared) → found.row ≡ None → MatchOption piece (IsFull size found → ⊥) (IsPieceOf size found) → AddsPiece old piece new → (IsFull size found → ⊥) × (new.agrees ≡ false)
 no-piece size found None old new none is added = (is, added)

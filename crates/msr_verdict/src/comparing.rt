@@ -75,14 +75,14 @@ impl Comparing {
     }
 
     /// Compares the segment that ended, if one did, with its line.
-    pub fn compare(&mut self, report: &Report, ended: &Option<Segment>)
-        ensures compared { ComparesEnded (bytes_of report.now.length) report.now.segments.items self.old ended.now self.new }
-        ensures few { IfSome ended.now (λ segment. length segment.samples < 2 ^ 64) }
+    pub fn compare(&mut self, report: &Report, ended: Option<Segment>)
+        ensures compared { ComparesEnded (bytes_of report.now.length) report.now.segments.items self.old ended self.new }
+        ensures few { IfSome ended (λ segment. length segment.samples < 2 ^ 64) }
     {
         let Some(segment) = ended else {
             return;
         };
-        self.agrees = self.is_shown(report, segment) && self.agrees;
+        self.agrees = self.is_shown(report, &segment) && self.agrees;
         self.place = self.place.saturating_add(1);
         self.runs.clear();
         self.samples = 0;

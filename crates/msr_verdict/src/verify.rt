@@ -34,11 +34,9 @@ pub fn verify_packed<R: Source>(
     let mut comparing = Comparing::new(alloc);
     'records: while let Some(found) = reader.next_record(source)? {
         let piece = piece_of(&found, report.length);
-        let ended = reader.take(found)?;
-        comparing.compare(report, &ended);
+        comparing.compare(report, reader.take(found)?);
         comparing.add(piece)?;
     }
-    let last = reader.finish();
-    comparing.compare(report, &last);
+    comparing.compare(report, reader.finish());
     Ok(comparing.verdict(report))
 }
