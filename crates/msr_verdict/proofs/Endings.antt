@@ -1,11 +1,9 @@
 -- What is answered where reading stops, and at the end of the input.
-use Rattle.std.proofs.Common.{◌≡◌, ◌≢◌, ◌↔◌, ◌⊎◌, inl, inr, ℕ, ◌+◌, ◌^◌, ◌<◌, ◌≤◌, true, false, List, [], ◌∷◌, ◌++◌, length, map, refl, sym, ap, subst, ◌∙◌, arith, length-append, Option, Some, None, Result, Ok, Err, IsErrOf, All}
+use Rattle.std.proofs.Common.{◌≡◌, ◌↔◌, inl, inr, ℕ, ◌^◌, ◌<◌, true, List, [], ◌∷◌, ◌++◌, length, map, refl, sym, ap, subst, ◌∙◌, arith, length-append, Option, Result, Ok, Err, IsErrOf, All}
 use Rattle.std.specs.Prelude.{IfSome}
 use Rattle.std.specs.Option.{option_to_list}
 use Rattle.std.proofs.lemmas.List.{append-nil}
 use Rattle.msr_words.specs.Lengths.{bytes_of}
-use Rattle.msr_words.specs.declared.kinds.Run.{Run}
-use Rattle.msr_words.specs.Packing.{IsPacking, IsLeast}
 use Rattle.msr_words.proofs.Certificate.{least_by_separators}
 use Rattle.msr_record.specs.declared.row.Record.{Record}
 use Rattle.msr_devices.specs.Device.{Device, HasLeft, HasFailed, IsSteady, CountsFew, CanCountCall}
@@ -22,7 +20,7 @@ use Rattle.msr_input.specs.declared.fault.ReadFault.TheVariants as fault
 use Rattle.msr_input.proofs.OneReading.{one_list_of_records}
 use Rattle.msr_verdict.specs.declared.verdict.Verdict.{Verdict}
 use Rattle.msr_verdict.specs.declared.verdict.Verdict.TheVariants.{Least, NotShown}
-use Rattle.msr_verdict.specs.Packed.{IsFull, IsShownBy, AreShownBy, ShowsLeast, DoesNotShow, Answers, StandsInFewest, AllStandInFewest, ShownIsFewest, ShownIsReadable, runs_of_part}
+use Rattle.msr_verdict.specs.Packed.{IsFull, IsShownBy, AreShownBy, ShowsLeast, Answers, StandsInFewest, AllStandInFewest, ShownIsFewest, ShownIsReadable, runs_of_part}
 use Rattle.msr_verdict.specs.Compared.{Compared, ComparesEnded}
 use Rattle.msr_verdict.proofs.Lines.{shown-length}
 use Rattle.msr_verdict.proofs.Runs.{runs-length}

@@ -1,9 +1,8 @@
 -- Parts of the rows beside lines of a report.
-use Rattle.std.proofs.Common.{rules, true, false, ◌≡◌, ◌≢◌, ◌↔◌, ℕ, zero, suc, ◌+◌, ◌<◌, Bool, List, [], ◌∷◌, ◌++◌, length, refl, sym, ap, subst, ◌∙◌, arith, ℤ, Option, Some, None}
+use Rattle.std.proofs.Common.{rules, true, false, ◌≡◌, ◌↔◌, ℕ, suc, Bool, List, [], ◌∷◌, ◌++◌, length, refl, sym, ap, subst, ◌∙◌, Option, Some}
 use Rattle.std.specs.Prelude.{IsTrue, slice_get}
 use Rattle.msr_words.specs.declared.kinds.Run.{Run}
 use Rattle.msr_words.specs.Packing.{IsPacking, IsSeparating}
-use Rattle.msr_record.specs.declared.row.Key.{Key}
 use Rattle.msr_segments.specs.Segments.{Part}
 use Rattle.msr_segments.specs.declared.joiner.Segment.{Segment}
 use Rattle.msr_report.specs.declared.report.SegmentLine.{SegmentLine}

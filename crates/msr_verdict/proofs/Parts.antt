@@ -1,11 +1,11 @@
 -- How the parts of the rows so far grow by a row more.
-use Rattle.std.proofs.Common.{◌≡◌, ◌⊎◌, inl, inr, ℕ, List, [], ◌∷◌, ◌++◌, refl, sym, ap, subst, ◌∙◌, append_assoc, Option, Some, None}
+use Rattle.std.proofs.Common.{◌≡◌, ◌⊎◌, inl, inr, ℕ, List, [], ◌∷◌, ◌++◌, refl, sym, ap, subst, ◌∙◌, Option, Some, None}
 use Rattle.std.specs.Prelude.{option_map}
 use Rattle.std.specs.Option.{option_to_list}
 use Rattle.std.proofs.lemmas.List.{append-nil}
 use Rattle.msr_record.specs.declared.row.Row.{Row}
 use Rattle.msr_segments.specs.declared.joiner.Segment.{Segment}
-use Rattle.msr_segments.specs.Segments.{Part, rows_of, segment_of, row_segment, with_row, ContinuesSegment, IsDivision}
+use Rattle.msr_segments.specs.Segments.{Part, rows_of, segment_of, with_row, ContinuesSegment, IsDivision}
 use Rattle.msr_segments.specs.Joining.{Joining, HasJoined, IsPush}
 use Rattle.msr_segments.proofs.Histories.{ends_empty}
 use Rattle.msr_segments.proofs.Divisions.{no_empty, cases_last, longer_part, ContinuesPart, division_none, division_breaks, division_joins, division_begins, segment_of-longer, segment_of-alone}

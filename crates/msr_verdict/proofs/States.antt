@@ -1,5 +1,5 @@
 -- What is known of the comparing so far, and how a segment or a record more changes it.
-use Rattle.std.proofs.Common.{◌≡◌, ◌⊎◌, inl, inr, ℕ, zero, suc, ◌+◌, ◌-◌, ◌^◌, ◌<◌, ◌≤◌, min, Bool, true, false, List, [], ◌∷◌, ◌++◌, length, refl, sym, ap, subst, ◌∙◌, arith, append_assoc, length-append, Option, Some, None, All}
+use Rattle.std.proofs.Common.{◌≡◌, ◌⊎◌, inl, inr, ℕ, zero, suc, ◌+◌, ◌-◌, ◌^◌, ◌<◌, min, Bool, true, false, List, [], ◌∷◌, ◌++◌, length, refl, sym, ap, subst, ◌∙◌, arith, append_assoc, length-append, Option, Some, None, All}
 use Rattle.std.specs.Prelude.{slice_get, option_map, IfSome, MatchOption}
 use Rattle.std.specs.Option.{option_to_list}
 use Rattle.std.proofs.lemmas.List.{append-nil}
@@ -15,11 +15,11 @@ use Rattle.msr_input.specs.Input.{rows_of_records}
 use Rattle.msr_input.specs.Steps.{JoinsRecord}
 use Rattle.msr_input.proofs.Records.{rows-snoc}
 use Rattle.msr_verdict.specs.declared.piece.Piece.{Piece}
-use Rattle.msr_verdict.specs.Packed.{IsFull, IsShownAs, IsShownBy, AreShownBy, runs_of_rows, runs_of_part}
+use Rattle.msr_verdict.specs.Packed.{IsFull, IsShownAs, IsShownBy, AreShownBy, runs_of_rows}
 use Rattle.msr_verdict.specs.Compared.{Compared, IsPieceOf, IsShownAt, ComparesSegment, ComparesEnded, AddsRun, AddsPiece, end_of_next}
 use Rattle.msr_verdict.proofs.Lines.{shown-snoc, shown-next, get-behind, behind-get}
-use Rattle.msr_verdict.proofs.Runs.{samples_of, segment-samples, total-snoc, run_behind, runs-snoc}
-use Rattle.msr_verdict.proofs.Parts.{open_rows, HasParts, parts-none, Grows, grows}
+use Rattle.msr_verdict.proofs.Runs.{samples_of, segment-samples, total-snoc, runs-snoc}
+use Rattle.msr_verdict.proofs.Parts.{open_rows, HasParts, parts-none, grows}
 
 -- All records so far are full, the ended parts are shown by the first lines, and these are the runs of the open rows,
 -- as far as 64 bits count their samples.
@@ -51,15 +51,15 @@ not-both b e f = cc
 pub compared-none : (size : ℕ) (lines : List SegmentLine) → IsCompared size lines [] [] [] (record { place = 0; runs = []; samples = 0; agrees = true })
 compared-none size lines = record {
   agrees = λ t. record {
-      full = λ k d h. absurd (omega arith);
-      done = [];
-      left = lines;
-      whole = refl;
-      place = refl;
-      shown = tt;
-      runs = λ h. refl;
-      samples = λ h. refl;
-    };
+    full = λ k d h. absurd (omega arith);
+    done = [];
+    left = lines;
+    whole = refl;
+    place = refl;
+    shown = tt;
+    runs = λ h. refl;
+    samples = λ h. refl;
+  };
   differs = λ f. absurd cc;
 }
 
@@ -103,13 +103,13 @@ still-differs size lines records parts more d = record {
 compare-segment : (size : ℕ) (lines : List SegmentLine) (records : List Record) (parts : List Part) (part : Part) (old new : Compared) → IsCompared size lines records parts (rows_of part) old → ComparesSegment size lines old (segment_of part) new → length (samples_of (rows_of part)) < 2 ^ 64 → IsCompared size lines records (parts ++ part ∷ []) [] new
 compare-segment size lines records parts part old new h k few = record {
   agrees = λ t. elim (true-or-false old.agrees) [
-      | inl was ↦ (let a = h.agrees was in segment-agrees size lines records parts part old new a k few ((k.agrees was).0 t) t)
-      | inr was ↦ absurd (not-both new.agrees t (k.differs was))
-    ];
+    | inl was ↦ (let a = h.agrees was in segment-agrees size lines records parts part old new a k few ((k.agrees was).0 t) t)
+    | inr was ↦ absurd (not-both new.agrees t (k.differs was))
+  ];
   differs = λ f. elim (true-or-false old.agrees) [
-      | inl was ↦ segment-differs size lines records parts part old new (h.agrees was) k few was f
-      | inr was ↦ still-differs size lines records parts (part ∷ []) (h.differs was)
-    ];
+    | inl was ↦ segment-differs size lines records parts part old new (h.agrees was) k few was f
+    | inr was ↦ still-differs size lines records parts (part ∷ []) (h.differs was)
+  ];
 }
 
 -- the open part, where there is one, ends

@@ -1,6 +1,5 @@
 -- How far segments were compared with the lines of a report, and how a segment or a record more changes it.
 use Rattle.std.specs.Prelude.{◌≡◌, ◌↔◌, ℕ, ◌+◌, ◌-◌, ◌^◌, min, Bool, true, false, List, [], ◌∷◌, ◌++◌, length, Option, None, Some, slice_get}
-use Rattle.msr_words.specs.declared.kinds.Kind.{Kind}
 use Rattle.msr_words.specs.declared.kinds.Run.{Run}
 use Rattle.msr_record.specs.declared.row.Row.{Row}
 use Rattle.msr_record.specs.declared.row.Record.{Record}

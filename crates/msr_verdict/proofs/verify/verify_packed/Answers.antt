@@ -1,10 +1,10 @@
-use Rattle.std.proofs.Common.{rules, ◌≡◌, ◌∷◌, ◌++◌, [], refl, sym, ap, subst, ◌∙◌}
+use Rattle.std.proofs.Common.{◌∷◌, ◌++◌, [], refl, sym, ap, subst, ◌∙◌}
 use Rattle.std.proofs.lemmas.Result.{err_from_is_err_and}
 use Rattle.std.specs.Option.{option_to_list}
 use Rattle.msr_words.specs.Lengths.{bytes_of}
 use Rattle.msr_segments.specs.Joining.{Joining}
 use Rattle.msr_verdict.proofs.States.{Follows, follows-none, follows-step}
-use Rattle.msr_verdict.proofs.Endings.{UnderWay, as-answer, read-fails, read-tells, memory-fails, memory-tells, ok-tells, done}
+use Rattle.msr_verdict.proofs.Endings.{as-answer, read-fails, read-tells, memory-fails, done}
 use Rattle.msr_verdict.proofs.verify.verify_packed.Goals as goal
 
 pub records-init : goal.records-init

@@ -1,4 +1,4 @@
-use Rattle.std.proofs.Common.{rules, ◌≡◌, ◌∙◌, sym, ap, length, Option, Some}
+use Rattle.std.proofs.Common.{rules, ◌≡◌, ◌∙◌, sym, ap, length, Some}
 use Rattle.std.specs.Prelude.{slice_get}
 use Rattle.std.proofs.lemmas.Option.{slice_get-get_or}
 use Rattle.msr_words.specs.Lengths.{bytes_of}
@@ -22,5 +22,5 @@ returns-else-is_line_of-clause-shown c =
     let at : slice_get c.args.report.now.segments.items c.self.inside.place ≡ Some c.in-Some.line.now = rw c.deref.ensures.value at (slice_get-get_or c.deref.result.now c.self.inside.place c.in-Some.line.now look.3.0 ∙ ap (λ (l : SegmentLine). Some l) (sym (look.3.1 c.in-Some.line.now))) in
     let runs : c.len.result ≡ length c.self.inside.runs.items = search rules in
     rw (← c.self.view_is) (other-line (bytes_of c.args.report.now.length) c.self.inside.place c.args.report.now.segments.items c.args.segment.now c.self.inside.runs.items c.in-Some.line.now c.is_line_of.result at
-        (λ is. not-true c.is_line_of.result c.if-is_line_of.false (c.is_line_of.ensures.1 (is.key, is.start, is.samples ∙ sym c.len-samples.ensures, is.records ∙ sym runs)))
-        (λ t. not-true c.is_line_of.result c.if-is_line_of.false t))
+    (λ is. not-true c.is_line_of.result c.if-is_line_of.false (c.is_line_of.ensures.1 (is.key, is.start, is.samples ∙ sym c.len-samples.ensures, is.records ∙ sym runs)))
+    (λ t. not-true c.is_line_of.result c.if-is_line_of.false t))
