@@ -4,7 +4,7 @@ use Rattle.std.proofs.lemmas.Bool.{cases_lt}
 use Rattle.msr_words.specs.declared.kinds.Kind.{Kind}
 use Rattle.msr_words.specs.declared.kinds.Kind.TheVariants.{Int16, Int32, Steim1, Steim2}
 use Rattle.msr_words.specs.Segment.{run_points}
-use Rattle.msr_words.specs.Fit.{Fits, FitsAny}
+use Rattle.msr_words.specs.Fit.{Fits}
 use Rattle.msr_words.specs.Laws.{look_back_of}
 use Rattle.msr_words.specs.Lemmas.KindLaws.{prefix_kind, back_step_kind}
 use Rattle.msr_words.proofs.Runs.{prefix_run, back_step_run}

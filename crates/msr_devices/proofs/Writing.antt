@@ -1,6 +1,5 @@
 -- A sink that is written through a write buffer, over many calls.
-use Rattle.std.proofs.Common.{List, ℕ, ◌+◌, ◌<◌, ◌≤◌, [], ◌++◌, ◌∙◌, ◌⊎◌, inl, inr, length, arith, sym, ap, append_assoc, length-append}
-use Rattle.std.proofs.lemmas.Bool.{cases_lt}
+use Rattle.std.proofs.Common.{List, ℕ, [], ◌++◌, ◌∙◌, arith, sym, ap, append_assoc, length-append}
 use Rattle.std.proofs.lemmas.List.{append-nil}
 use Rattle.msr_devices.specs.Device.{Device, Takes}
 use Rattle.msr_devices.specs.WriteBuffer.{Passes}

@@ -1,16 +1,15 @@
 -- What a reader has read, step by step, and why it stops.
-use Rattle.std.proofs.Common.{◌≡◌, ◌≢◌, ℕ, ◌+◌, ◌^◌, ◌<◌, ◌≤◌, ◌-◌, suc, ◌⊎◌, inl, inr, Bool, true, false, List, [], ◌∷◌, ◌++◌, length, drop, refl, sym, ap, subst, ◌∙◌, arith, append_assoc, length-append, length-drop, Option, Some, None, All, get_or, IfSome}
+use Rattle.std.proofs.Common.{◌≡◌, ◌≢◌, ℕ, ◌+◌, ◌^◌, ◌<◌, ◌≤◌, ◌-◌, suc, ◌⊎◌, inl, inr, Bool, true, false, List, [], ◌∷◌, ◌++◌, length, drop, refl, sym, ap, subst, ◌∙◌, arith, append_assoc, length-append, length-drop, Option, Some, None, All, get_or, IfSome, IsSome}
 use Rattle.std.specs.Option.{option_to_list}
 use Rattle.std.proofs.lemmas.List.{append-nil, get_or_append_left, drop-append-le}
 use Rattle.std.proofs.lemmas.List.Elements.{All-append}
-use Rattle.msr_record.specs.Records.{IsRecordOf, IsRowOf, IsRefused, RowIsInTime}
+use Rattle.msr_record.specs.Records.{IsRecordOf, IsRowOf, IsRefused, RowIsInTime, TakesMemory}
 use Rattle.msr_record.specs.declared.row.Record.{Record}
 use Rattle.msr_record.specs.declared.row.Row.{Row}
 use Rattle.msr_record.specs.declared.fault.FaultKind.{FaultKind}
-use Rattle.msr_record.specs.declared.fault.FaultKind.TheVariants.{TimeRange}
 use Rattle.msr_record.proofs.Shown.{record_fits, shown_record}
 use Rattle.msr_record.proofs.WritableRows.{row_is_writable}
-use Rattle.msr_devices.specs.Device.{Device, HasLeft, GivesOnto, HasFailed, IsCalm, IsSteady}
+use Rattle.msr_devices.specs.Device.{Device, HasLeft, GivesOnto, IsCalm, IsSteady}
 use Rattle.msr_devices.specs.ReadBuffer.{Window, IsFilled}
 use Rattle.msr_devices.proofs.Chaining.{calm-same, calm-calm, calm-failed, steady-steady, left-of}
 use Rattle.msr_segments.specs.Spans.{Overruns}
@@ -21,10 +20,9 @@ use Rattle.msr_segments.proofs.Divisions.{no_empty, cases_last}
 use Rattle.msr_segments.proofs.Histories.{joined_none}
 use Rattle.msr_segments.proofs.StepLaws.{pushes_grow, overruns_out}
 use Rattle.msr_report.specs.declared.report.Counts.{Counts}
-use Rattle.msr_input.specs.Input.{BeginsWith, NoneOverruns, bytes_of_records, rows_of_records, counts_of}
-use Rattle.msr_input.specs.Reading.{Reading, IsWritable, HasRead, HasReadAll, StopsAfter, StopsAtFault, StopsReading}
+use Rattle.msr_input.specs.Input.{BeginsWith, NoneOverruns, rows_of_records, counts_of}
+use Rattle.msr_input.specs.Reading.{Reading, IsWritable, HasRead, HasReadAll, StopsAfter, StopsAtFault, StopsReading, AllReadIsReadable}
 use Rattle.msr_input.specs.Steps.{StopsBefore, StopsDecoding, JoinsRecord, OverrunsWith, StopsJoining}
-use Rattle.msr_input.specs.declared.fault.Fault.{Fault}
 use Rattle.msr_input.specs.declared.fault.ReadFault.{ReadFault}
 use Rattle.msr_input.specs.declared.fault.ReadFault.TheVariants as fault
 use Rattle.msr_input.proofs.Records.{begins-snoc, bytes-snoc, rows-snoc, records-few}
@@ -34,6 +32,7 @@ abbrev pub at_window : Window → Joining → Counts → ℕ → Reading
 at_window window joining counts offset = record {
   waiting = window.bytes;
   ended = window.ended;
+  room = window.room;
   joining = joining;
   counts = counts;
   offset = offset;
@@ -270,7 +269,7 @@ in-range-more old records given found none joined in_time no_overrun before afte
     ]
 
 -- after a record was taken
-pub read-taken : (s a : Device) (reading : Reading) (new : Joining) (counts : Counts) (offset : ℕ) (records : List Record) (given : List Segment) (found : Record) (ended : Option Segment) → HasRead s a reading records given → IsRecordOf reading.waiting found → JoinsRecord reading.joining found.row ended new → counts ≡ counts_of (records ++ found ∷ []) → offset ≡ reading.offset + found.length → HasRead s a (record { waiting = drop found.length reading.waiting; ended = reading.ended; joining = new; counts = counts; offset = offset }) (records ++ found ∷ []) (given ++ option_to_list ended)
+pub read-taken : (s a : Device) (reading : Reading) (new : Joining) (counts : Counts) (offset : ℕ) (records : List Record) (given : List Segment) (found : Record) (ended : Option Segment) → HasRead s a reading records given → IsRecordOf reading.waiting found → JoinsRecord reading.joining found.row ended new → counts ≡ counts_of (records ++ found ∷ []) → offset ≡ reading.offset + found.length → HasRead s a (record { waiting = drop found.length reading.waiting; ended = reading.ended; room = reading.room; joining = new; counts = counts; offset = offset }) (records ++ found ∷ []) (given ++ option_to_list ended)
 read-taken s a reading new counts offset records given found ended has is joins counts_are offset_is =
     let old = reading.joining in
     let fits = record_fits reading.waiting found is in
@@ -314,3 +313,42 @@ in-bounds s a reading records given found has is =
 -- all was read
 pub read-all : (s a : Device) (reading : Reading) (records : List Record) (given : List Segment) → HasRead s a reading records given → reading.waiting ≡ [] → reading.ended ≡ true → HasReadAll s a reading given
 read-all s a reading records given has none ended = record { records = records; read = has; none_wait = none; ended = ended }
+
+pub all_read_is_readable : AllReadIsReadable
+all_read_is_readable start now reading given all =
+    let has = all.read in
+    let came = has.came [] (has.end all.ended) in
+    let none : reading.waiting ++ [] ≡ [] = append-nil reading.waiting ∙ all.none_wait in
+    record {
+      input = came.0;
+      records = all.records;
+      left = came.1;
+      readable = record {
+        are_read = record {
+          begins = subst (λ (bytes : List ℕ). BeginsWith all.records came.0 bytes) none came.2;
+          in_range = has.in_range;
+        };
+        are_segments = has.joined.segments;
+      };
+      writable = has.writable;
+      counted = has.counts;
+    }
+
+-- the segment given last can be written
+pub given-writable : (s a : Device) (reading : Reading) (records : List Record) (given : List Segment) (segment : Segment) → HasRead s a reading records (given ++ segment ∷ []) → IsWritable segment
+given-writable s a reading records given segment has =
+    all-last IsWritable given segment (all-left IsWritable (given ++ segment ∷ []) (option_to_list reading.joining.current) has.writable)
+
+-- and so can the one that is still with the reader
+pub last-writable : (s a : Device) (reading : Reading) (records : List Record) (given : List Segment) (segment : Segment) → HasRead s a reading records given → reading.joining.current ≡ Some segment → IsWritable segment
+last-writable s a reading records given segment has current =
+    all-last IsWritable given segment (subst (λ (last : Option Segment). All IsWritable (given ++ option_to_list last)) current has.writable)
+
+row-takes : (bytes : List ℕ) (row : Option Row) → IsSome row → IfSome row (IsRowOf bytes) → TakesMemory bytes
+row-takes bytes None some is = absurd cc
+row-takes bytes (Some row) some is = record { header = is.header; kind = row.kind; has_area = is.has_area }
+
+-- want of memory for a row comes only where there is one
+pub join-memory : (bytes : List ℕ) (old : Joining) (found : Record) (offset : ℕ) (why : ReadFault) → IsRecordOf bytes found → StopsJoining old found.row offset why → why ≡ fault.Memory → TakesMemory bytes
+join-memory bytes old found offset why is stop e =
+    row-takes bytes found.row (subst (λ (w : ReadFault). StopsJoining old found.row offset w) e stop) is.row

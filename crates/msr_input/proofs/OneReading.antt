@@ -1,15 +1,14 @@
 -- An input has one list of records, and at most one first fault.
-use Rattle.std.proofs.Common.{◌≡◌, ℕ, ◌<◌, inl, inr, List, [], ◌∷◌, ◌++◌, length, drop, refl, sym, ap, subst, ◌∙◌, arith, Option, Some}
+use Rattle.std.proofs.Common.{◌≡◌, ℕ, ◌<◌, inl, inr, List, [], ◌∷◌, ◌++◌, length, refl, sym, ap, subst, ◌∙◌, arith}
 use Rattle.std.proofs.lemmas.List.{append-nil}
-use Rattle.msr_record.specs.Records.{IsRecordOf, IsRefused}
+use Rattle.msr_record.specs.Records.{IsRefused}
 use Rattle.msr_record.specs.declared.row.Record.{Record}
-use Rattle.msr_record.specs.declared.row.Row.{Row}
 use Rattle.msr_record.specs.declared.fault.FaultKind.{FaultKind}
+use Rattle.msr_record.specs.declared.fault.FaultKind.TheVariants.{Memory}
 use Rattle.msr_record.proofs.OneAnswer.{one_record, one_fault, not_refused}
 use Rattle.msr_segments.specs.Segments.{AreSegments}
-use Rattle.msr_segments.specs.declared.joiner.Segment.{Segment}
 use Rattle.msr_segments.proofs.DivisionLaws.{one_list}
-use Rattle.msr_input.specs.Input.{BeginsWith, NoneOverruns, OverrunsBehind, IsRefusedBehind, bytes_of_records, rows_of_records, OneListOfRecords, OneFirstFault, ReadableHasNoFault, IsFirstFault, IsReadable}
+use Rattle.msr_input.specs.Input.{BeginsWith, NoneOverruns, IsRefusedBehind, bytes_of_records, rows_of_records, OneListOfRecords, OneFirstFault, ReadableHasNoFault, MemoryIsNoFault}
 use Rattle.msr_input.specs.declared.fault.Fault.{Fault}
 use Rattle.msr_input.proofs.Records.{GoesOn, compare-begins, nothing-begins}
 
@@ -72,3 +71,10 @@ readable_has_no_fault tolerance input records others segments fault a b =
       | inl g ↦ some-left b.rest (stops-at-end g.more b.rest g.begins).1 b.some_left
       | inr g ↦ some-left b.rest (sym (refused-stops tolerance others records g.more b.rest [] fault.kind g.whole g.begins a.are_read.in_range b.refused).1) b.some_left
     ]
+
+memory-refused : (tolerance : ℕ) (records : List Record) (rest : List ℕ) (kind : FaultKind) → IsRefusedBehind tolerance records rest kind → kind ≡ Memory → ⊥
+memory-refused tolerance records rest kind (inl refused) e = subst (λ (k : FaultKind). IsRefused rest k) e refused
+memory-refused tolerance records rest kind (inr overruns) e = let time = overruns.0 in cc
+
+pub memory_is_no_fault : MemoryIsNoFault
+memory_is_no_fault tolerance input records fault first = memory-refused tolerance records first.rest fault.kind first.refused

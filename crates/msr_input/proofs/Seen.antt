@@ -1,18 +1,18 @@
 -- Bytes behind those of the longest record do not change a refusal, whatever numbers they are.
-use Rattle.std.proofs.Common.{◌≡◌, ◌≢◌, ℕ, zero, suc, ◌+◌, ◌^◌, ◌<◌, ◌≤◌, ◌⊎◌, inl, inr, List, ◌∷◌, ◌++◌, length, take, ap, subst, ◌∙◌, [], sym, refl, arith, Ok}
+use Rattle.std.proofs.Common.{◌≡◌, ◌≢◌, ℕ, zero, suc, ◌+◌, ◌^◌, ◌<◌, ◌≤◌, ◌⊎◌, inl, inr, List, ◌++◌, length, ap, subst, ◌∙◌, sym, refl, arith}
 use Rattle.std.proofs.Math.Nat.{pow-le-pow_right}
 use Rattle.std.proofs.lemmas.List.{take-append-le}
 use Rattle.byteorder.specs.Numbers.{big_from-lt, little_from-lt}
 use Rattle.msr_header.specs.Layout.{number_at, order_of}
-use Rattle.msr_header.specs.Chain.{next_at, offsets_from, chain_offsets}
+use Rattle.msr_header.specs.Chain.{next_at, offsets_from}
 use Rattle.msr_header.specs.declared.header.Order.{Order}
 use Rattle.msr_header.specs.declared.header.Order.TheVariants.{Big, Little}
 use Rattle.msr_header.proofs.ChainLemmas.{offsets_end, offsets_more}
 use Rattle.msr_header.proofs.FoundLemmas.{header_sound}
 use Rattle.msr_header.proofs.ShownLemmas.{AreBytes, AllWithin, Covers, SameFirst, header_alike}
-use Rattle.msr_record.specs.Records.{IsRefused}
+use Rattle.msr_record.specs.Records.{IsRefused, TakesMemory}
 use Rattle.msr_record.specs.declared.fault.FaultKind.{FaultKind}
-use Rattle.msr_record.specs.declared.fault.FaultKind.TheVariants.{Memory, Header, DataShort, BadCode, NoRate, OtherEncoding, BadDataOffset, TimeRange}
+use Rattle.msr_record.specs.declared.fault.FaultKind.TheVariants.{Memory}
 use Rattle.msr_input.specs.Steps.{fault_at, StopsDecoding}
 use Rattle.msr_record.proofs.FirstBytes.{SameRecord, own_same, refused_same}
 
@@ -56,6 +56,7 @@ still_refused bytes rest kind are long refused =
     refused_same bytes (bytes ++ rest) kind same refused
 
 -- so a record that is refused stops reading, and so does want of memory
-pub decoding-stops : (bytes : List ℕ) (offset : ℕ) (kind : FaultKind) → AreBytes bytes → (kind ≢ Memory → IsRefused bytes kind) → StopsDecoding bytes offset (fault_at offset kind)
-decoding-stops bytes offset Memory are refused = tt
-decoding-stops bytes offset kind are refused = (refl, refused (λ e. cc), λ rest long. still_refused bytes rest kind are long (refused (λ e. cc)))
+pub decoding-stops : (bytes : List ℕ) (offset : ℕ) (kind : FaultKind) → AreBytes bytes → (kind ≢ Memory → IsRefused bytes kind) → (kind ≡ Memory → TakesMemory bytes) → StopsDecoding bytes offset (fault_at offset kind)
+decoding-stops bytes offset Memory are refused takes = takes refl
+decoding-stops bytes offset kind are refused takes =
+    (refl, refused (λ e. cc), λ rest long. still_refused bytes rest kind are long (refused (λ e. cc)))

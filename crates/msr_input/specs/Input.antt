@@ -1,12 +1,12 @@
 -- An input: miniSEED records one after another (SEED Reference Manual 2.4, data records), and the first one that
 -- is refused. Each record is judged by all bytes that are left from its first one on.
-use Rattle.std.specs.Prelude.{◌≡◌, ◌⊎◌, ℕ, ◌+◌, ◌<◌, if◌then◌else◌, List, [], ◌∷◌, ◌++◌, length, drop, is_some, Some}
+use Rattle.std.specs.Prelude.{◌≡◌, ◌≢◌, ◌⊎◌, ℕ, ◌+◌, ◌<◌, if◌then◌else◌, List, [], ◌∷◌, ◌++◌, length, drop, is_some, Some}
 use Rattle.std.specs.Option.{option_to_list}
 use Rattle.msr_record.specs.Records.{IsRecordOf, IsRefused}
 use Rattle.msr_record.specs.declared.row.Record.{Record}
 use Rattle.msr_record.specs.declared.row.Row.{Row}
 use Rattle.msr_record.specs.declared.fault.FaultKind.{FaultKind}
-use Rattle.msr_record.specs.declared.fault.FaultKind.TheVariants.{TimeRange}
+use Rattle.msr_record.specs.declared.fault.FaultKind.TheVariants.{TimeRange, Memory}
 use Rattle.msr_segments.specs.Segments.{AreSegments, LastEndsOutOfRange}
 use Rattle.msr_segments.specs.declared.joiner.Segment.{Segment}
 use Rattle.msr_report.specs.declared.report.Counts.{Counts}
@@ -89,7 +89,7 @@ pub record HaveBegun (tolerance : ℕ) (records : List Record) (segments : List 
   pub others : List Segment
   pub are_segments : AreSegments tolerance (rows_of_records records) (segments ++ others)
 
--- an input begins with one list of records, up to where no record is read any more
+-- a readable input has one list of records, and one list of segments
 abbrev pub OneListOfRecords : Type 0
 OneListOfRecords =
     (tolerance : ℕ) (input : List ℕ) (records others : List Record) (segments more : List Segment)
@@ -112,3 +112,9 @@ ReadableHasNoFault =
     → IsReadable tolerance input records segments
     → IsFirstFault tolerance input others fault
     → ⊥
+
+-- want of memory is no fault of an input
+abbrev pub MemoryIsNoFault : Type 0
+MemoryIsNoFault =
+    (tolerance : ℕ) (input : List ℕ) (records : List Record) (fault : Fault) → IsFirstFault tolerance input records fault
+    → fault.kind ≢ Memory

@@ -1,27 +1,37 @@
 -- What a reader of segments shows, and what reading does.
-use Rattle.std.specs.Prelude.{◌≡◌, ℕ, ◌+◌, ◌<◌, ◌≤◌, ◌^◌, Bool, true, false, List, [], ◌∷◌, ◌++◌, length, All, IsTrue}
+use Rattle.std.specs.Prelude.{◌≡◌, ◌⊎◌, ℕ, ◌+◌, ◌-◌, ◌<◌, ◌≤◌, ◌^◌, Bool, true, false, List, [], ◌++◌, length, All, IsTrue}
 use Rattle.std.specs.Option.{option_to_list}
 use Rattle.msr_header.specs.Reading.{is_quality}
 use Rattle.msr_record.specs.Correction.{is_pending}
+use Rattle.msr_record.specs.Records.{TakesMemory}
 use Rattle.msr_record.specs.declared.row.Record.{Record}
-use Rattle.msr_devices.specs.Device.{Device, HasLeft, Gives, HasFailed, IsCalm, IsSteady}
+use Rattle.msr_devices.specs.Device.{Device, HasLeft, HasFailed, IsCalm, IsSteady}
 use Rattle.msr_segments.specs.Segments.{SegmentIsInTime}
 use Rattle.msr_segments.specs.Joining.{Joining, HasJoined}
 use Rattle.msr_segments.specs.declared.joiner.Segment.{Segment}
 use Rattle.msr_report.specs.declared.report.Counts.{Counts}
-use Rattle.msr_input.specs.Input.{AreRead, IsFirstFault, HaveBegun, BeginsWith, NoneOverruns, rows_of_records, bytes_of_records, counts_of}
+use Rattle.msr_input.specs.Input.{AreRead, IsReadable, IsFirstFault, HaveBegun, BeginsWith, NoneOverruns, rows_of_records, bytes_of_records, counts_of}
 use Rattle.msr_input.specs.declared.fault.Fault.{Fault}
 use Rattle.msr_input.specs.declared.fault.ReadFault.{ReadFault}
 use Rattle.msr_input.specs.declared.fault.ReadFault.TheVariants.{Input, Read, Memory}
 
--- what a reader shows: the bytes that came and are not yet used, whether the source has ended behind them, its
--- joiner, and the counts of the records so far
+-- what a reader shows: the bytes that came and are not yet used, whether the source has ended behind them, for
+-- how many bytes it has memory, its joiner, the counts of the records so far, and how many bytes these have
 pub record Reading : Type 0 where
   pub waiting : List ℕ
   pub ended : Bool
+  pub room : ℕ
   pub joining : Joining
   pub counts : Counts
   pub offset : ℕ
+
+-- how many bytes are left to read at most, of a source that gives fewer than 2^64
+abbrev pub left_to_read : Device → Reading → ℕ
+left_to_read source reading = (2 ^ 64 - source.moved) + length reading.waiting
+
+-- Memory is taken: once for the bytes that are read ahead, and for the samples of the next record.
+abbrev pub TakesMemoryNext : Reading → Type 0
+TakesMemoryNext reading = (reading.room < 2_162_688) ⊎ TakesMemory reading.waiting
 
 -- the segment can be written: its quality is D, R, Q or M, its correction in normal form, its samples are of
 -- the supported years, and it has some
@@ -75,3 +85,19 @@ abbrev pub StopsReading : ℕ → Device → Device → List Segment → ReadFau
 StopsReading tolerance start now given (Input fault) = StopsAtFault tolerance start given fault × IsSteady start now
 StopsReading tolerance start now given Read = StopsAfter tolerance start given × HasFailed start now
 StopsReading tolerance start now given Memory = StopsAfter tolerance start given × IsSteady start now
+
+-- the source's bytes are a readable input, these are its segments, each of which can be written, and these its
+-- counts
+pub record GaveInput (start : Device) (tolerance : ℕ) (segments : List Segment) (counts : Counts) : Type 0 where
+  pub input : List ℕ
+  pub records : List Record
+  pub left : HasLeft start input
+  pub readable : IsReadable tolerance input records segments
+  pub writable : All IsWritable segments
+  pub counted : counts ≡ counts_of records
+
+-- Where all records came the input is readable, and the segment that is still with the reader is its last.
+abbrev pub AllReadIsReadable : Type 0
+AllReadIsReadable =
+    (start now : Device) (reading : Reading) (given : List Segment) → HasReadAll start now reading given
+    → GaveInput start reading.joining.tolerance (given ++ option_to_list reading.joining.current) reading.counts

@@ -1,7 +1,7 @@
 -- What the steps of reading do: bytes are read ahead, a record is decoded, and its row is joined.
-use Rattle.std.specs.Prelude.{◌≡◌, ℕ, ◌≤◌, List, ◌++◌, length, Option, None, Some, false}
+use Rattle.std.specs.Prelude.{◌≡◌, ℕ, ◌<◌, ◌≤◌, List, ◌++◌, length, Option, None, Some, IsSome, false}
 use Rattle.msr_time.specs.Instant.{IsInstant}
-use Rattle.msr_record.specs.Records.{IsRefused}
+use Rattle.msr_record.specs.Records.{IsRefused, TakesMemory}
 use Rattle.msr_record.specs.declared.row.Row.{Row}
 use Rattle.msr_record.specs.declared.fault.FaultKind.{FaultKind}
 use Rattle.msr_record.specs.declared.fault.FaultKind.TheVariants as refusal
@@ -26,11 +26,12 @@ abbrev pub fault_at : ℕ → FaultKind → ReadFault
 fault_at offset refusal.Memory = fault.Memory
 fault_at offset kind = fault.Input (record { offset = offset; kind = kind })
 
--- why a source gave no more bytes: it failed, and had not ended, or nothing was read for want of memory
+-- why a source gave no more bytes: it failed, and had not ended, or nothing was read for want of memory for the
+-- bytes read ahead
 abbrev pub StopsBefore : Device → Device → Window → Window → ReadFault → Type 0
 StopsBefore old new before after (fault.Input f) = ⊥
 StopsBefore old new before after fault.Read = HasFailed old new × (before.ended ≡ false)
-StopsBefore old new before after fault.Memory = (new ≡ old) × (after ≡ before)
+StopsBefore old new before after fault.Memory = (new ≡ old) × (after ≡ before) × (before.room < 2_162_688)
 
 -- why no record was decoded: the one at that offset is refused, also with more behind as many bytes as the longest
 -- record has; or there was no memory
@@ -38,7 +39,7 @@ abbrev pub StopsDecoding : List ℕ → ℕ → ReadFault → Type 0
 StopsDecoding bytes offset (fault.Input f) =
     (f.offset ≡ offset) × IsRefused bytes f.kind × ((rest : List ℕ) → 1_048_576 ≤ length bytes → IsRefused (bytes ++ rest) f.kind)
 StopsDecoding bytes offset fault.Read = ⊥
-StopsDecoding bytes offset fault.Memory = Unit {0}
+StopsDecoding bytes offset fault.Memory = TakesMemory bytes
 
 -- a joiner takes such rows
 pub record CanJoin (row : Row) : Type 0 where
@@ -57,8 +58,8 @@ pub record OverrunsWith (old : Joining) (row : Option Row) : Type 0 where
   pub has_row : row ≡ Some the_row
   pub overruns : Overruns (following_of old) (row_span the_row)
 
--- why a row was not joined
+-- why a row was not joined: it ends its segment out of range, or there was no memory for it
 abbrev pub StopsJoining : Joining → Option Row → ℕ → ReadFault → Type 0
 StopsJoining old row offset (fault.Input f) = (f.offset ≡ offset) × (f.kind ≡ refusal.TimeRange) × OverrunsWith old row
 StopsJoining old row offset fault.Read = ⊥
-StopsJoining old row offset fault.Memory = Unit {0}
+StopsJoining old row offset fault.Memory = IsSome row

@@ -1,12 +1,13 @@
 //! Laws of inputs, each the contract of a function that does nothing.
-ghost use Rattle.msr_input.specs.Input.{OneListOfRecords, OneFirstFault, ReadableHasNoFault};
+ghost use Rattle.msr_input.specs.Input.{OneListOfRecords, OneFirstFault, ReadableHasNoFault, MemoryIsNoFault};
+ghost use Rattle.msr_input.specs.Reading.{AllReadIsReadable};
 
-/// An input has at most one list of records, and one list of segments.
+/// A readable input has one list of records, and one list of segments.
 pub fn one_list_of_records()
     ensures { OneListOfRecords }
 {}
 
-/// An input has at most one first fault.
+/// An input has at most one first fault, with one list of records before it.
 pub fn one_first_fault()
     ensures { OneFirstFault }
 {}
@@ -14,4 +15,15 @@ pub fn one_first_fault()
 /// A readable input has no fault.
 pub fn readable_has_no_fault()
     ensures { ReadableHasNoFault }
+{}
+
+/// The first fault of an input is never want of memory.
+pub fn memory_is_no_fault()
+    ensures { MemoryIsNoFault }
+{}
+
+/// Once a reader has answered `None` the input is readable: its segments are those that were given,
+/// and the one that `finish` gives, and its counts are the reader's.
+pub fn all_read_is_readable()
+    ensures { AllReadIsReadable }
 {}

@@ -1,13 +1,20 @@
 //! The records of an input, one after another, joined into segments.
+//!
+//! An input is read to its end, or to its first fault. A source that fails is never taken for one
+//! that has ended, and want of memory never for a fault of the input.
 #![tactic(auto)]
 
 mod fault;
 mod laws;
 mod reader;
 mod step;
-#[cfg(test)]
-mod tests;
 
 pub use fault::{Fault, ReadFault};
-pub use laws::{one_first_fault, one_list_of_records, readable_has_no_fault};
+pub use laws::{
+    all_read_is_readable, memory_is_no_fault, one_first_fault, one_list_of_records,
+    readable_has_no_fault,
+};
 pub use reader::SegmentReader;
+
+#[cfg(test)]
+mod tests;

@@ -24,17 +24,17 @@ impl Model for SegmentReader {
 
     ghost Value = { Reading };
 
-    ghost view = { λ r. record { waiting = r.buffer.bytes; ended = r.buffer.ended; joining = r.joiner; counts = r.counts; offset = r.offset } };
+    ghost view = { λ r. record { waiting = r.buffer.bytes; ended = r.buffer.ended; room = r.buffer.room; joining = r.joiner; counts = r.counts; offset = r.offset } };
 }
 
 impl SegmentReader {
-    ghost use Rattle.std.specs.Prelude.{◌≡◌, ◌≢◌, ◌≤◌, ◌<◌, ◌+◌, ◌-◌, ◌^◌, List, [], ◌∷◌, ◌++◌, length, true, OnOk, OnErr, IfOk, IfErr, IfSome, MatchResult, MatchOption, None};
+    ghost use Rattle.std.specs.Prelude.{◌≡◌, ◌≢◌, ◌≤◌, ◌<◌, ◌+◌, ◌-◌, ◌^◌, List, [], ◌∷◌, ◌++◌, length, true, OnOk, OnErr, IfOk, IfErr, IsErrOf, IfSome, MatchResult, MatchOption, None};
     ghost use Rattle.std.specs.Option.{option_to_list};
     ghost use Rattle.msr_devices.specs.Device.{Device, CanCountCall, CountsFew, IsSteady};
-    ghost use Rattle.msr_record.specs.Records.{IsRecordOf};
+    ghost use Rattle.msr_record.specs.Records.{IsRecordOf, TakesMemory};
     ghost use Rattle.msr_record.specs.declared.row.Record.{Record as Found};
     ghost use Rattle.msr_segments.specs.declared.joiner.Segment.{Segment as Joined};
-    ghost use Rattle.msr_input.specs.Reading.{HasRead, HasReadAll, StopsReading};
+    ghost use Rattle.msr_input.specs.Reading.{HasRead, HasReadAll, StopsReading, TakesMemoryNext, left_to_read};
     ghost use Rattle.msr_input.specs.Steps.{CanJoin, JoinsRecord};
 
     /// A reader before the first record, for that tolerance in microseconds. It takes no memory yet.
@@ -67,12 +67,13 @@ impl SegmentReader {
             (λ found. IsRecordOf self.new.waiting found × IfSome found.row CanJoin)) }
         ensures kept { (start : Device) (records : List Found) (given : List Joined) → HasRead start (R.device source.old) self.old records given
             → IfErr result (λ fault. fault ≢ ReadFault.Read → HasRead start (R.device source.new) self.new records given) }
+        ensures memory { IsErrOf result ReadFault.Memory → TakesMemoryNext self.new }
         ensures joining { self.new.joining ≡ self.old.joining }
         ensures steady { OnOk result (IsSteady (R.device source.old) (R.device source.new)) }
         ensures few { CountsFew (R.device source.old) (R.device source.new) }
 
         // What is left to read does not grow.
-        ensures left { OnOk result ((2 ^ 64 - (R.device source.new).moved) + length self.new.waiting ≤ (2 ^ 64 - (R.device source.old).moved) + length self.old.waiting) }
+        ensures left { OnOk result (left_to_read (R.device source.new) self.new ≤ left_to_read (R.device source.old) self.old) }
     {
         fill_ahead(&mut self.buffer, source)?;
         let bytes = self.buffer.bytes();
@@ -92,6 +93,7 @@ impl SegmentReader {
             → MatchResult result (λ ended. HasRead start now self.new (records ++ found ∷ []) (given ++ option_to_list ended)) (StopsReading self.old.joining.tolerance start now given) }
         ensures step { IfOk result (λ ended. JoinsRecord self.old.joining found.row ended self.new.joining) }
         ensures tolerance { self.new.joining.tolerance ≡ self.old.joining.tolerance }
+        ensures memory { IsErrOf result ReadFault.Memory → TakesMemory self.old.waiting }
         ensures unchanged { OnErr result (self.new ≡ self.old) }
         ensures fewer { OnOk result (length self.new.waiting < length self.old.waiting) }
     {
@@ -116,7 +118,11 @@ impl SegmentReader {
             (StopsReading self.old.joining.tolerance start (R.device source.new) given) }
         ensures kept { (start : Device) (records : List Found) (given : List Joined) → HasRead start (R.device source.old) self.old records given
             → IfErr result (λ fault. fault ≢ ReadFault.Read → (now : List Found) × HasRead start (R.device source.new) self.new now given) }
+
+        // Want of memory comes only where memory is taken.
+        ensures memory { IsErrOf result ReadFault.Memory → TakesMemoryNext self.new }
         ensures tolerance { self.new.joining.tolerance ≡ self.old.joining.tolerance }
+        ensures less { IfOk result (λ next. IfSome next (λ _. left_to_read (R.device source.new) self.new < left_to_read (R.device source.old) self.old)) }
         ensures few { CountsFew (R.device source.old) (R.device source.new) }
     {
         'records: while let Some(found) = self.next_record(source)? {

@@ -21,7 +21,10 @@ const LONGEST: usize = 1_048_576;
 const AHEAD: usize = 2_097_152;
 
 // Reads until the bytes of the longest record stand in the buffer, or no more are left.
-pub fn fill_ahead<R: Source>(buffer: &mut ReadBuffer, source: &mut R) -> Result<(), ReadFault>
+pub(crate) fn fill_ahead<R: Source>(
+    buffer: &mut ReadBuffer,
+    source: &mut R,
+) -> Result<(), ReadFault>
     requires { CanCountCall (R.device source.old) }
     ensures filled { MatchResult result (λ _. IsFilled 1_048_576 (R.device source.old) (R.device source.new) buffer.old buffer.new) (StopsBefore (R.device source.old) (R.device source.new) buffer.old buffer.new) }
     ensures few { CountsFew (R.device source.old) (R.device source.new) }
@@ -33,7 +36,7 @@ pub fn fill_ahead<R: Source>(buffer: &mut ReadBuffer, source: &mut R) -> Result<
 }
 
 // The record that the bytes begin with, which is the one at the offset.
-pub fn decode_at(alloc: Global, bytes: &[u8], offset: u64) -> Result<Record, ReadFault>
+pub(crate) fn decode_at(alloc: Global, bytes: &[u8], offset: u64) -> Result<Record, ReadFault>
     ensures found { IfOk result (IsRecordOf bytes.now) }
     ensures can_join { IfOk result (λ found. IfSome found.row CanJoin) }
     ensures refused { IfErr result (StopsDecoding bytes.now offset) }
@@ -45,7 +48,7 @@ pub fn decode_at(alloc: Global, bytes: &[u8], offset: u64) -> Result<Record, Rea
 }
 
 // Joins the row of the record at the offset, where it has one, and gives the segment that it ended.
-pub fn join(
+pub(crate) fn join(
     joiner: &mut Joiner,
     row: Option<Row>,
     offset: u64,
@@ -78,7 +81,7 @@ fn one_unless(holds: bool) -> u64
 }
 
 // The counts with those of one record more. A source has fewer than 2^64 bytes, so none saturates.
-pub fn counted(counts: Counts, found: &Record) -> Counts
+pub(crate) fn counted(counts: Counts, found: &Record) -> Counts
     ensures { (records : List Found) → counts ≡ counts_of records → length records < 2 ^ 64 - 1 → result ≡ counts_of (records ++ found.now ∷ []) }
 {
     let empty = one_unless(found.row.is_some());

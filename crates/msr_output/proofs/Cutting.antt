@@ -1,5 +1,5 @@
 -- The rows of an output are its segments, cut.
-use Rattle.std.proofs.Common.{◌≡◌, ℕ, suc, zero, ◌+◌, ◌-◌, ◌≤◌, List, [], ◌∷◌, ◌++◌, ◌∙◌, length, take, drop, map, arith, refl, sym, ap, subst, append_assoc, append-nil, length-take, ℤ}
+use Rattle.std.proofs.Common.{◌≡◌, ℕ, ◌+◌, ◌-◌, ◌≤◌, List, [], ◌∷◌, ◌++◌, ◌∙◌, length, take, map, arith, refl, sym, ap, subst, append_assoc, append-nil, length-take, ℤ}
 use Rattle.std.specs.List.{flat_map}
 use Rattle.std.specs.Prelude.{All, slice_range}
 use Rattle.std.proofs.Math.Seq.{take-add}
@@ -53,6 +53,12 @@ take-range a b xs within = let e : a + (b - a) ≡ b = omega arith in rw e at (s
 abbrev IsFitting : ℕ → List ℤ → Run → Type 0
 IsFitting size samples run = IsRun (Fits run.kind size) samples run.start run.end
 
+same-segment : (a b : Segment) → a.key ≡ b.key → a.start ≡ b.start → a.samples ≡ b.samples → a ≡ b
+same-segment a b key start samples =
+    ap (λ (k : Key). record { key = k; start = a.start; samples = a.samples }) key
+    ∙ ap (λ (t : ℤ). record { key = b.key; start = t; samples = a.samples }) start
+    ∙ ap (λ (s : List ℤ). record { key = b.key; start = b.start; samples = s }) samples
+
 -- the rows of further runs go on
 go-on : (size n : ℕ) (segment : Segment) (segments : List Segment) (runs : List Run) (a : ℕ) (before rows : List Row) (bytes : List ℕ) → AreCuts (segments ++ front segment a ∷ []) before → All (IsFitting size segment.samples) runs → Joins a runs (length segment.samples)
     → AreWritten size n (cuts_at segment runs) rows bytes
@@ -86,10 +92,7 @@ one-cut size n segment segments (run ∷ runs) before rows bytes some fitting jo
     let start : run.start ≡ 0 = joined.0 in
     let time : w.row.start ≡ segment.start = nominal_first segment.key.rate segment.start w.row.start (rw start at is_row.start) in
     let samples : w.row.samples ≡ take run.end segment.samples = is_row.samples ∙ (let e : run.end - 0 ≡ run.end = omega arith in rw (start, e) refl) in
-    let first : row_segment w.row ≡ front segment run.end =
-    ap (λ (k : Key). record { key = k; start = w.row.start; samples = w.row.samples }) is_row.key
-    ∙ ap (λ (t : ℤ). record { key = segment.key; start = t; samples = w.row.samples }) time
-    ∙ ap (λ (s : List ℤ). record { key = segment.key; start = segment.start; samples = s }) samples in
+    let first : row_segment w.row ≡ front segment run.end = same-segment (row_segment w.row) (front segment run.end) is_row.key time samples in
     let begun : AreCuts (segments ++ front segment run.end ∷ []) (before ++ w.row ∷ []) = subst (λ (s : Segment). AreCuts (segments ++ s ∷ []) (before ++ w.row ∷ [])) first (cuts_begin segments before w.row cuts) in
     let all = go-on size (next_number n) segment segments runs run.end (before ++ w.row ∷ []) are.0 are.1 begun (all-rest (IsFitting size segment.samples) run runs fitting) joined.1 are.3 in
     let same : front segment (length segment.samples) ≡ segment = ap (λ (s : List ℤ). record { key = segment.key; start = segment.start; samples = s }) (take_all (length segment.samples) segment.samples (omega arith)) in

@@ -1,5 +1,5 @@
 -- Segments have one output.
-use Rattle.std.proofs.Common.{◌≡◌, ℕ, suc, ◌+◌, ◌<◌, List, [], ◌∷◌, ◌++◌, ◌∙◌, length, get_or, map, arith, refl, sym, ap, subst, ℤ}
+use Rattle.std.proofs.Common.{◌≡◌, ℕ, suc, List, [], ◌∷◌, ◌++◌, ◌∙◌, map, arith, refl, sym, ap, subst, ℤ}
 use Rattle.std.specs.List.{flat_map}
 use Rattle.std.specs.Prelude.{All}
 use Rattle.msr_time.proofs.NominalLemmas.{nominal_one}

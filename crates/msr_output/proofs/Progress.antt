@@ -1,16 +1,15 @@
 -- A writer between two segments.
-use Rattle.std.proofs.Common.{◌≡◌, ℕ, ◌+◌, ◌<◌, ◌≤◌, ◌^◌, List, [], ◌∷◌, ◌++◌, ◌∙◌, length, get_or, map, arith, refl, sym, ap, subst, append_assoc, append-nil, length-append}
-use Rattle.std.specs.List.{flat_map}
+use Rattle.std.proofs.Common.{◌≡◌, ℕ, ◌+◌, ◌<◌, ◌^◌, List, [], ◌∷◌, ◌++◌, ◌∙◌, length, get_or, map, arith, refl, sym, ap, subst, append_assoc, append-nil, length-append}
 use Rattle.std.specs.Prelude.{All}
 use Rattle.std.proofs.lemmas.List.{map-append}
 use Rattle.std.proofs.lemmas.List.Elements.{All-append}
-use Rattle.msr_devices.specs.Device.{Device, Takes, HasFailed, IsCalm}
+use Rattle.msr_devices.specs.Device.{Device, HasFailed, IsCalm}
 use Rattle.msr_devices.specs.WriteBuffer.{Passes}
 use Rattle.msr_devices.proofs.Chaining.{takes-append, calm-same, calm-calm, calm-failed}
 use Rattle.msr_record.specs.declared.row.Row.{Row}
 use Rattle.msr_segments.specs.declared.joiner.Segment.{Segment}
 use Rattle.msr_output.specs.Output.{Packed, IsPacked, IsOutput, cuts_of, segment_of_packed}
-use Rattle.msr_output.specs.Writing.{Writing, AppendsRecords, HasWritten, HasWrittenAll, HasWrittenFront, StopsWriting}
+use Rattle.msr_output.specs.Writing.{Writing, AppendsRecords, HasWritten, HasWrittenAll, StopsWriting}
 use Rattle.msr_output.specs.declared.fault.WriteFault.TheVariants.{Write, Memory}
 use Rattle.msr_output.proofs.Appending.{written-more, number-more}
 

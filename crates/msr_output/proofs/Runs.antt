@@ -1,5 +1,5 @@
 -- A run of a segment and its record.
-use Rattle.std.proofs.Common.{◌≡◌, ℕ, suc, zero, ◌+◌, ◌-◌, ◌<◌, ◌≤◌, List, ◌++◌, length, take, drop, get_or, arith, refl, sym, ap, ◌∙◌, ℤ, pos, Option, None, Some, Result, Ok, Err, OnOk}
+use Rattle.std.proofs.Common.{◌≡◌, ℕ, suc, zero, ◌-◌, ◌≤◌, List, length, take, arith, refl, ap, ◌∙◌, ℤ, pos, None, Result, Ok, Err, OnOk}
 use Rattle.std.specs.Prelude.{slice_range}
 use Rattle.std.proofs.lemmas.Option.{slice_get-get_or}
 use Rattle.msr_time.specs.SampleRate.{IsRoundedNominal}

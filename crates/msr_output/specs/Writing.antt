@@ -1,12 +1,12 @@
 -- What a writer of segments shows, and what writing does.
-use Rattle.std.specs.Prelude.{◌≡◌, ℕ, ◌+◌, ◌<◌, ◌≤◌, ◌^◌, List, [], ◌∷◌, ◌++◌, length, map}
+use Rattle.std.specs.Prelude.{◌≡◌, ℕ, ◌+◌, ◌<◌, ◌^◌, List, [], ◌∷◌, ◌++◌, length}
 use Rattle.std.specs.List.{flat_map}
 use Rattle.msr_devices.specs.Device.{Device, Takes, HasFailed, IsCalm, IsSteady}
 use Rattle.msr_words.specs.declared.kinds.Run.{Run}
 use Rattle.msr_record.specs.declared.row.Row.{Row}
 use Rattle.msr_segments.specs.declared.joiner.Segment.{Segment}
 use Rattle.msr_report.specs.declared.report.SegmentLine.{SegmentLine}
-use Rattle.msr_output.specs.Output.{Packed, Cut, IsRecordOfRun, AreWritten, IsOutput, IsFrontOfOutput, number_after, cuts_of, segment_of_packed}
+use Rattle.msr_output.specs.Output.{Packed, Cut, IsRecordOfRun, AreWritten, IsOutput, IsFrontOfOutput, number_after, cuts_of}
 use Rattle.msr_output.specs.declared.fault.WriteFault.{WriteFault}
 use Rattle.msr_output.specs.declared.fault.WriteFault.TheVariants.{Write, Memory}
 

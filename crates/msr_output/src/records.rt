@@ -72,7 +72,7 @@ fn encode_run(
 }
 
 /// Appends the records of the runs of the segment, one after another, numbered from `first_number` on,
-/// and gives the sequence number behind theirs.
+/// and gives the sequence number behind theirs. The room for all of them is taken at once.
 pub(crate) fn encode_runs(
     alloc: Global,
     segment: &Segment,
@@ -91,6 +91,7 @@ pub(crate) fn encode_runs(
     ensures most { IfOk result (λ next. next ≤ 999_999) }
     ensures records { IfOk result (λ next. AppendsRecords (bytes_of record_length) first_number (cuts_at segment.now runs.now) out.old.items out.new.items next) }
 {
+    out.reserve(runs.len().saturating_mul(record_length.bytes() as usize))?;
     let mut number = first_number;
     for run in runs {
         encode_run(alloc, segment, *run, number, record_length, out)?;

@@ -9,7 +9,8 @@ use msr_words::Length;
 use std::alloc::Global;
 use std::marker::Model;
 
-/// Writes segments as records of one length, and numbers these. All calls take the same sink.
+/// Writes segments as records of one length, and numbers these. All calls take the same sink. After an `Err`
+/// what it would write is no output: it is not used again.
 #[derive(Drop)]
 pub struct SegmentWriter {
     alloc: Global,
@@ -54,7 +55,8 @@ impl SegmentWriter {
         }
     }
 
-    /// Packs the segment, puts its records behind those that wait, and writes in pieces of 64 KiB.
+    /// Packs the segment, puts all its records behind those that wait, and then writes these where they are
+    /// 64 KiB or more. So where there is no memory for one of its records, none of them was written.
     pub fn write_segment<W: Sink>(
         &mut self,
         sink: &mut W,

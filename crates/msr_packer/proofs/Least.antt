@@ -1,5 +1,5 @@
 -- Runs and separators that follow the frontiers are a packing and a separating list, by the two laws alone.
-use Rattle.std.proofs.Common.{◌≡◌, ℕ, zero, suc, ◌+◌, ◌<◌, ◌≤◌, min, ℤ, List, [], ◌∷◌, length, ◌++◌, refl, sym, ap, subst, ◌∙◌, arith}
+use Rattle.std.proofs.Common.{◌≡◌, ℕ, zero, suc, ◌+◌, ◌<◌, ◌≤◌, min, ℤ, List, [], ◌∷◌, length, ◌++◌, refl, sym, ap, subst, arith}
 use Rattle.std.specs.Prelude.{slice_index}
 use Rattle.std.specs.List.{All}
 use Rattle.std.proofs.lemmas.List.Elements.{All-cons, All-nil, All-weaker}
@@ -11,7 +11,7 @@ use Rattle.msr_words.specs.Laws.{BackStepLaw, FitsShort}
 use Rattle.msr_words.specs.Lemmas.KindLaws.{short_any, back_step_any, prefix_kind}
 use Rattle.msr_words.proofs.Runs.{prefix_run, back_step_run, length_run_points}
 use Rattle.msr_words.specs.Packing.{Joins, IsPacking, IsLeast, NoneHolds, IsSeparating, IsStep, CanonicalTo, IsCanonical}
-use Rattle.msr_words.proofs.Certificate.{least_by_separators}
+use Rattle.msr_words.proofs.Certificate.{joins_more, least_by_separators}
 
 module _ (bytes : ℕ) (samples : List ℤ) where
   same_size : (runs : List Run) (separators : List ℕ) (g end : ℕ) → CanonicalTo bytes samples g runs separators end → length runs ≡ length separators
@@ -128,10 +128,6 @@ pub record IsSoFar (bytes : ℕ) (samples : List ℤ) (runs : List Run) (separat
   pub within : g < length samples
   pub step : IsStep (FitsAny bytes) samples g h a
   pub reached : IsRun (Fits kind bytes) samples a h
-
-joins_more : (runs : List Run) (a b : ℕ) (run : Run) → Joins a runs b → run.start ≡ b → Joins a (runs ++ run ∷ []) run.end
-joins_more [] a b run joined e = (e ∙ sym joined, refl)
-joins_more (first ∷ runs) a b run joined e = (joined.0, joins_more runs first.end b run joined.1 e)
 
 chosen_more : (bytes : ℕ) (samples : List ℤ) (runs : List Run) (separators : List ℕ) (from g h : ℕ) (run : Run) →
     CanonicalTo bytes samples from runs separators g → g < length samples → IsStep (FitsAny bytes) samples g h run.start →

@@ -1,5 +1,5 @@
 -- Which bytes decide what a record is read as: its own, and so the first 2^20.
-use Rattle.std.proofs.Common.{◌≡◌, ◌≢◌, ℕ, ◌+◌, ◌-◌, ◌^◌, ◌≤◌, inl, inr, Bool, ℤ, List, length, take, drop, refl, sym, ap, ◌∙◌, arith, Option, Some, None, Ok, Err, Result, IfErr}
+use Rattle.std.proofs.Common.{◌≡◌, ◌≢◌, ℕ, ◌+◌, ◌-◌, ◌^◌, ◌≤◌, inl, inr, Bool, List, length, take, drop, refl, sym, ap, ◌∙◌, arith, Option, Some, None, Ok, Err, Result, IfErr}
 use Rattle.std.specs.Prelude.{slice_range}
 use Rattle.std.proofs.lemmas.Bool.{cases_lt}
 use Rattle.std.proofs.lemmas.List.{drop-take, take-take}
@@ -7,7 +7,6 @@ use Rattle.msr_header.specs.Reading.{header_of}
 use Rattle.msr_header.specs.declared.header.Header.{Header}
 use Rattle.msr_record.specs.Records.{data_area, first_bytes, HasSamples, HasArea, IsRowOf, AgreesAtEnd, FieldsAreRefused, AreaIsRefused, IsRefused, IsRecordOf}
 use Rattle.msr_words.specs.declared.kinds.Kind.{Kind}
-use Rattle.msr_record.specs.declared.row.Key.{Key}
 use Rattle.msr_record.specs.declared.row.Row.{Row}
 use Rattle.msr_record.specs.declared.row.Record.{Record}
 use Rattle.msr_record.specs.declared.fault.FaultKind.{FaultKind}

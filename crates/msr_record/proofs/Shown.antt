@@ -1,11 +1,10 @@
 -- Bytes behind those that were looked at change nothing.
-use Rattle.std.proofs.Common.{◌≡◌, ℕ, zero, suc, ◌^◌, ◌<◌, ◌≤◌, List, [], ◌∷◌, ◌++◌, length, take, ap, sym, ◌∙◌, arith, slice_index, Ok}
+use Rattle.std.proofs.Common.{◌≡◌, ℕ, zero, suc, ◌^◌, ◌≤◌, List, [], ◌∷◌, ◌++◌, length, take, ap, sym, ◌∙◌, arith}
 use Rattle.std.proofs.Math.Pow.{pow_mono}
 use Rattle.std.proofs.lemmas.List.{take-append-le}
 use Rattle.msr_header.proofs.FoundLemmas.{header_sound}
 use Rattle.msr_header.proofs.ShownLemmas.{AreBytes, header_same}
 use Rattle.msr_header.specs.Reading.{header_of}
-use Rattle.msr_header.specs.declared.header.Header.{Header}
 use Rattle.msr_record.specs.Records.{IsRecordOf, IsRefused}
 use Rattle.msr_record.specs.declared.row.Record.{Record}
 use Rattle.msr_record.specs.declared.fault.FaultKind.{FaultKind}

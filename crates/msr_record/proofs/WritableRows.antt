@@ -1,5 +1,5 @@
 -- A row that was read can be written.
-use Rattle.std.proofs.Common.{◌≡◌, ℕ, ◌≤◌, Bool, true, false, ℤ, List, length, refl, sym, ap, ◌∙◌, arith, cond, bit_and, bit_or, IsTrue}
+use Rattle.std.proofs.Common.{◌≡◌, ℕ, ◌≤◌, true, false, ℤ, List, length, refl, arith, cond, bit_or, IsTrue}
 use Rattle.std.proofs.lemmas.Nat.{and_or_self}
 use Rattle.msr_header.specs.Reading.{is_quality}
 use Rattle.msr_record.specs.Correction.{is_pending, activity_of}

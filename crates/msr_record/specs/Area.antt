@@ -1,5 +1,5 @@
 -- What the data area of a record carries, by the kind of its samples.
-use Rattle.std.specs.Prelude.{◌≡◌, ◌<◌, ℕ, ◌-◌, ◌*◌, ℤ, List, length, slice_get, Some}
+use Rattle.std.specs.Prelude.{◌<◌, ℕ, ◌*◌, ℤ, List, length}
 use Rattle.msr_header.specs.declared.header.Order.{Order}
 use Rattle.msr_plain.specs.Plain.{size_of, CarriesPlain}
 use Rattle.msr_plain.specs.declared.Width.{Width}

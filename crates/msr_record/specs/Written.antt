@@ -1,5 +1,5 @@
 -- The bytes of a written record (SEED 2.4, data record): a header of 64 bytes, then the data area.
-use Rattle.std.specs.Prelude.{◌≡◌, ℕ, ◌+◌, ◌-◌, ◌*◌, ◌/◌, ◌%◌, ◌^◌, ◌≤◌, nat_le, if◌then◌else◌, ℤ, pos, List, [], ◌∷◌, ◌++◌, length, map, replicate, slice_index_or, Option, Some, true}
+use Rattle.std.specs.Prelude.{◌≡◌, ℕ, ◌+◌, ◌-◌, ◌*◌, ◌/◌, ◌%◌, nat_le, if◌then◌else◌, ℤ, pos, List, [], ◌∷◌, ◌++◌, length, map, replicate, slice_index_or, Option, Some, true}
 use Rattle.msr_time.specs.declared.btime.BTime.{BTime}
 use Rattle.msr_time.specs.Instant.{IsSplit}
 use Rattle.msr_header.specs.declared.header.Order.TheVariants.{Big}

@@ -174,6 +174,7 @@ fn reports(rt: HostRuntime) -> Result<(), Fail> {
     writes(&rt, alloc, two, TWO_SEGMENTS)
 }
 
+// The text has 233 bytes, so twelve writes.
 #[test]
 fn a_sink_that_fails_took_a_front(rt: HostRuntime) -> Result<(), Fail> {
     let alloc = rt.alloc();
@@ -183,7 +184,7 @@ fn a_sink_that_fails_took_a_front(rt: HostRuntime) -> Result<(), Fail> {
         ..NO_RECORDS
     };
     let report = report(256, counts, segments(alloc, key, false)?).ok_or("no report")?;
-    for fails_at in 0u64..10 {
+    for fails_at in 0u64..12 {
         let mut sink = TestSink::new(Vec::new(alloc), behavior(20, Some(fails_at)));
         assert_eq!(rt; report.write_text(alloc, &mut sink), Err(TextFault::Write));
         assert_eq!(rt; sink.bytes().len() as u64, 20 * fails_at);

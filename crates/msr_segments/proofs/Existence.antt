@@ -1,18 +1,17 @@
 -- Whether a row continues a segment can be told, so every list of rows has a division.
-use Rattle.std.proofs.Common.{◌≡◌, ℕ, ◌*◌, ◌≤◌, ◌<◌, ◌⊎◌, inl, inr, arith, Bool, true, false, List, [], ◌∷◌, ◌++◌, refl, sym, ap, subst, ◌∙◌, append_assoc, ℤ, pos, ◌-ℤ◌, ◌*ℤ◌}
+use Rattle.std.proofs.Common.{◌≡◌, ℕ, ◌*◌, ◌⊎◌, inl, inr, arith, Bool, true, false, List, [], ◌∷◌, ◌++◌, refl, sym, subst, ◌∙◌, append_assoc, ℤ, pos, ◌-ℤ◌, ◌*ℤ◌}
 use Rattle.std.specs.Prelude.{unsigned_abs}
 use Rattle.std.specs.Bool.{Decides}
 use Rattle.std.proofs.lemmas.Bool.{cases_lt}
 use Rattle.std.proofs.lemmas.List.{append-nil}
 use Rattle.msr_time.specs.SampleRate.{SampleRate, IsNear, period_of, scaled_time}
 use Rattle.msr_record.specs.declared.row.Row.{Row}
-use Rattle.msr_record.specs.declared.row.Key.{Key}
 use Rattle.msr_record.proofs.KeyLemmas.{key_test}
 use Rattle.msr_segments.specs.declared.span.Span.{Span}
 use Rattle.msr_segments.specs.Spans.{Continues}
-use Rattle.msr_segments.specs.Segments.{Part, segment_of, part_span, row_span, IsDivision, HasDivision}
+use Rattle.msr_segments.specs.Segments.{Part, part_span, row_span, IsDivision, HasDivision}
 use Rattle.msr_segments.proofs.KeyLemmas.{key_decides}
-use Rattle.msr_segments.proofs.Divisions.{no_empty, cases_last, last_of, longer_part, ContinuesPart, division_none, division_begins, division_breaks, division_joins}
+use Rattle.msr_segments.proofs.Divisions.{no_empty, cases_last, last_of, longer_part, ContinuesPart, division_none, division_breaks, division_joins}
 
 by_test : (b : Bool) (P : Type 0) → Decides b P → P ⊎ (P → ⊥)
 by_test true P d = inl (d.0 refl)

@@ -1,5 +1,5 @@
 -- Facts about spans, followers and joiners over plain variables.
-use Rattle.std.proofs.Common.{◌≡◌, ℕ, ◌+◌, ◌-◌, List, [], ◌∷◌, ◌++◌, length, length-append, refl, sym, ap, subst, ◌∙◌, ℤ, Option, Some, None}
+use Rattle.std.proofs.Common.{◌≡◌, ℕ, ◌+◌, ◌-◌, List, ◌++◌, length, length-append, refl, sym, ap, subst, ◌∙◌, ℤ, Option, Some, None}
 use Rattle.std.specs.Prelude.{option_map, SomeIff}
 use Rattle.msr_time.specs.Instant.{IsInstant}
 use Rattle.msr_time.specs.SampleRate.{IsRoundedNominal}

@@ -1,8 +1,8 @@
 -- How segments grow by what a follower or a joiner does with a row, and which rows are out of range.
-use Rattle.std.proofs.Common.{◌≡◌, ℕ, ℤ, ◌-◌, ◌⊎◌, inl, inr, List, [], ◌∷◌, ◌++◌, map, refl, sym, ap, subst, ◌∙◌, length, Option, Some, None}
+use Rattle.std.proofs.Common.{◌≡◌, ℕ, ℤ, ◌-◌, inl, inr, List, [], ◌∷◌, ◌++◌, map, refl, sym, ap, subst, ◌∙◌, Option, Some, None}
 use Rattle.std.specs.Prelude.{option_map}
 use Rattle.std.specs.Option.{option_to_list}
-use Rattle.std.proofs.lemmas.List.{append-nil, map-append}
+use Rattle.std.proofs.lemmas.List.{map-append}
 use Rattle.msr_time.specs.Instant.{IsInstant}
 use Rattle.msr_time.proofs.NominalLemmas.{nominal_one}
 use Rattle.msr_record.specs.declared.row.Row.{Row}
@@ -10,9 +10,9 @@ use Rattle.msr_record.specs.Records.{RowIsInTime}
 use Rattle.msr_segments.specs.declared.span.Span.{Span}
 use Rattle.msr_segments.specs.declared.joiner.Segment.{Segment}
 use Rattle.msr_segments.specs.declared.follow.Step.TheVariants.{Begins, Joins}
-use Rattle.msr_segments.specs.Spans.{Continues, SpanIsInTime, EndsOutOfRange, longer, Following, Overruns}
-use Rattle.msr_segments.specs.Segments.{Part, segment_of, part_span, row_span, segment_span, row_segment, with_row, ContinuesSegment, IsDivision, AreSegments, LastEndsOutOfRange}
-use Rattle.msr_segments.specs.Joining.{Joining, following_of, HasJoined, HasFollowed, JoinsRow, BeginsRow, PushesGrowSegments, StepsArePushes, FollowersStandWithJoiners, OverrunsAreOutOfRange}
+use Rattle.msr_segments.specs.Spans.{Continues, SpanIsInTime, EndsOutOfRange, longer, Overruns}
+use Rattle.msr_segments.specs.Segments.{Part, segment_of, part_span, row_span, segment_span, row_segment, with_row, IsDivision, AreSegments, LastEndsOutOfRange}
+use Rattle.msr_segments.specs.Joining.{Joining, following_of, HasJoined, JoinsRow, BeginsRow, PushesGrowSegments, StepsArePushes, FollowersStandWithJoiners, OverrunsAreOutOfRange}
 use Rattle.msr_segments.proofs.Divisions.{no_parts, no_empty, last_same, span-with_row}
 use Rattle.msr_segments.proofs.DivisionLaws.{one_division, one_list}
 use Rattle.msr_segments.proofs.Existence.{continues_or_not}

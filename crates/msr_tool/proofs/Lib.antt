@@ -1,3 +1,6 @@
 pub mod Lines
 pub mod Stops
 pub mod UnderWay
+pub mod Listed
+pub mod UnderList
+pub mod Consequences

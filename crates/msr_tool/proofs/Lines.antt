@@ -1,17 +1,18 @@
 -- Segments written one behind another, and their lines.
-use Rattle.std.proofs.Common.{◌≡◌, ℕ, ◌+◌, ◌*◌, ◌^◌, ◌<◌, ◌≤◌, List, [], ◌∷◌, ◌++◌, ◌∙◌, length, map, All, refl, sym, ap, arith, append_assoc}
+use Rattle.std.proofs.Common.{◌≡◌, ℕ, List, [], ◌∷◌, ◌++◌, ◌∙◌, map, refl, sym, ap, arith, append_assoc}
 use Rattle.std.proofs.lemmas.List.{map-append, append-nil}
 use Rattle.msr_record.specs.declared.row.Row.{Row}
 use Rattle.msr_segments.specs.declared.joiner.Segment.{Segment}
-use Rattle.msr_devices.specs.Device.{Device, HasFailed, IsSteady}
+use Rattle.msr_devices.specs.Device.{Device}
 use Rattle.msr_report.specs.declared.report.SegmentLine.{SegmentLine}
 use Rattle.msr_report.specs.Proper.{records_of}
-use Rattle.msr_output.specs.Output.{Packed, IsFrontOfOutput, segment_of_packed, count_of_runs}
+use Rattle.msr_output.specs.Output.{Packed, segment_of_packed, count_of_runs}
 use Rattle.msr_output.specs.Writing.{Writing, IsLineOf, HasWritten, HasWrittenFront, WritesSegment, StopsWriting}
 use Rattle.msr_output.specs.declared.fault.WriteFault.{WriteFault}
 use Rattle.msr_output.specs.declared.fault.WriteFault.TheVariants as write
 use Rattle.msr_tool.specs.Fault.{fault_of_writing}
-use Rattle.msr_tool.specs.Writing.{Lined, AreLinesOf, HasLined, LinesMore, LinesAll, StopsLining}
+use Rattle.msr_tool.specs.Writing.{Lined, HasLined, LinesMore, StopsLining}
+use Rattle.msr_tool.specs.Answer.{AreLinesOf}
 use Rattle.msr_tool.specs.declared.fault.ToolFault.TheVariants.{Memory}
 
 pub lines-snoc : (packed : List Packed) (lines : List SegmentLine) (more : Packed) (line : SegmentLine) → AreLinesOf packed lines → IsLineOf more line → AreLinesOf (packed ++ more ∷ []) (lines ++ line ∷ [])

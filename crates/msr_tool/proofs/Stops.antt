@@ -1,10 +1,11 @@
 -- What is answered where repacking stops.
-use Rattle.std.proofs.Common.{◌≡◌, ◌≢◌, ◌↔◌, ℕ, ◌+◌, ◌<◌, ◌≤◌, List, [], ◌∷◌, ◌++◌, map, refl, sym, ap, Result, Ok, Err, IsErrOf, arith, append_assoc}
+use Rattle.std.proofs.Common.{◌≡◌, ◌↔◌, ℕ, List, ◌++◌, refl, Result, Ok, Err, IsErrOf, arith}
 use Rattle.std.specs.Option.{option_to_list}
 use Rattle.msr_record.specs.declared.row.Record.{Record}
 use Rattle.msr_segments.specs.declared.joiner.Segment.{Segment}
-use Rattle.msr_devices.specs.Device.{Device, HasLeft, Takes, HasFailed, IsSteady, IsCalm, CountsFew, CanCountCall}
-use Rattle.msr_devices.proofs.Chaining.{left-of, steady-sound, steady-few}
+use Rattle.msr_devices.specs.Device.{Device, HasLeft, Takes, HasFailed, IsSteady, CountsFew, CanCountCall}
+use Rattle.msr_devices.proofs.Chaining.{left-of, steady-sound}
+use Rattle.msr_report.specs.declared.report.Counts.{Counts}
 use Rattle.msr_report.specs.declared.report.Report.{Report}
 use Rattle.msr_input.specs.Reading.{Reading, HasRead, StopsAfter, StopsReading}
 use Rattle.msr_input.specs.declared.fault.ReadFault.{ReadFault}
@@ -12,7 +13,8 @@ use Rattle.msr_input.specs.declared.fault.ReadFault.TheVariants as read
 use Rattle.msr_output.specs.Writing.{HasWrittenFront}
 use Rattle.msr_tool.specs.Choice.{Choice, size_of}
 use Rattle.msr_tool.specs.Fault.{fault_of_reading}
-use Rattle.msr_tool.specs.Writing.{StopsLining}
+use Rattle.msr_tool.specs.Writing.{StopsSink, StopsLining}
+use Rattle.msr_tool.specs.ListWriting.{HasListedCut, HasListedFront, StopsListing, StopsListingAll}
 use Rattle.msr_tool.specs.Answer.{IsStopped, Answers}
 use Rattle.msr_tool.specs.declared.fault.ToolFault.{ToolFault}
 use Rattle.msr_tool.specs.declared.fault.ToolFault.TheVariants as fault
@@ -99,34 +101,54 @@ write-failed choice source0 sink0 sink given fault.Memory after h =
     record { input = s.input; written = s.written; left = s.left; takes = s.takes; answers = s.stopped }
 
 -- the source failed where reading says so
-pub read-tells_source : (tolerance : ℕ) (source0 source : Device) (given : List Segment) (why : ReadFault) → StopsReading tolerance source0 source given why → IsErrOf {T = Report} (Err (fault_of_reading why)) fault.Read ↔ HasFailed source0 source
-read-tells_source tolerance source0 source given (read.Input other) h = ((λ e. absurd cc), (λ failed. absurd (steady-sound source0 source h.1 failed)))
-read-tells_source tolerance source0 source given read.Read h = ((λ e. h.1), (λ failed. refl))
-read-tells_source tolerance source0 source given read.Memory h = ((λ e. absurd cc), (λ failed. absurd (steady-sound source0 source h.1 failed)))
+pub read-tells_source : {T : Type 0} (tolerance : ℕ) (source0 source : Device) (given : List Segment) (why : ReadFault) → StopsReading tolerance source0 source given why → IsErrOf {T = T} (Err (fault_of_reading why)) fault.Read ↔ HasFailed source0 source
+read-tells_source tolerance source0 source given (read.Input other) h = ((λ e. absurd cc), (λ has_failed. absurd (steady-sound source0 source h.1 has_failed)))
+read-tells_source tolerance source0 source given read.Read h = ((λ e. h.1), (λ has_failed. refl))
+read-tells_source tolerance source0 source given read.Memory h = ((λ e. absurd cc), (λ has_failed. absurd (steady-sound source0 source h.1 has_failed)))
 
 -- and the sink did not
-pub read-tells_sink : (sink0 sink : Device) (why : ReadFault) → IsSteady sink0 sink → IsErrOf {T = Report} (Err (fault_of_reading why)) fault.Write ↔ HasFailed sink0 sink
-read-tells_sink sink0 sink (read.Input other) steady = ((λ e. absurd cc), (λ failed. absurd (steady-sound sink0 sink steady failed)))
-read-tells_sink sink0 sink read.Read steady = ((λ e. absurd cc), (λ failed. absurd (steady-sound sink0 sink steady failed)))
-read-tells_sink sink0 sink read.Memory steady = ((λ e. absurd cc), (λ failed. absurd (steady-sound sink0 sink steady failed)))
+pub read-tells_sink : {T : Type 0} (sink0 sink : Device) (why : ReadFault) → IsSteady sink0 sink → IsErrOf {T = T} (Err (fault_of_reading why)) fault.Write ↔ HasFailed sink0 sink
+read-tells_sink sink0 sink (read.Input other) steady = ((λ e. absurd cc), (λ has_failed. absurd (steady-sound sink0 sink steady has_failed)))
+read-tells_sink sink0 sink read.Read steady = ((λ e. absurd cc), (λ has_failed. absurd (steady-sound sink0 sink steady has_failed)))
+read-tells_sink sink0 sink read.Memory steady = ((λ e. absurd cc), (λ has_failed. absurd (steady-sound sink0 sink steady has_failed)))
 
 -- the sink failed where writing says so
-pub write-tells_sink : (size : ℕ) (sink0 sink : Device) (given : List Segment) (found : ToolFault) → StopsLining size sink0 sink given found → IsErrOf {T = Report} (Err found) fault.Write ↔ HasFailed sink0 sink
-write-tells_sink size sink0 sink given (fault.Input other) h = absurd h
-write-tells_sink size sink0 sink given fault.Read h = absurd h
-write-tells_sink size sink0 sink given fault.Write h = ((λ e. h.1), (λ failed. refl))
-write-tells_sink size sink0 sink given fault.Memory h = ((λ e. absurd cc), (λ failed. absurd (steady-sound sink0 sink h.1 failed)))
+write-tells_sink : {T : Type 0} (failed refused : Type 0) (sink0 sink : Device) (found : ToolFault) → StopsSink failed refused sink0 sink found → IsErrOf {T = T} (Err found) fault.Write ↔ HasFailed sink0 sink
+write-tells_sink failed refused sink0 sink (fault.Input other) h = absurd h
+write-tells_sink failed refused sink0 sink fault.Read h = absurd h
+write-tells_sink failed refused sink0 sink fault.Write h = ((λ e. h.1), (λ has_failed. refl))
+write-tells_sink failed refused sink0 sink fault.Memory h = ((λ e. absurd cc), (λ has_failed. absurd (steady-sound sink0 sink h.1 has_failed)))
 
 -- and the source did not
-pub write-tells_source : (size : ℕ) (source0 source sink0 sink : Device) (given : List Segment) (found : ToolFault) → IsSteady source0 source → StopsLining size sink0 sink given found → IsErrOf {T = Report} (Err found) fault.Read ↔ HasFailed source0 source
-write-tells_source size source0 source sink0 sink given (fault.Input other) steady h = absurd h
-write-tells_source size source0 source sink0 sink given fault.Read steady h = absurd h
-write-tells_source size source0 source sink0 sink given fault.Write steady h = ((λ e. absurd cc), (λ failed. absurd (steady-sound source0 source steady failed)))
-write-tells_source size source0 source sink0 sink given fault.Memory steady h = ((λ e. absurd cc), (λ failed. absurd (steady-sound source0 source steady failed)))
+write-tells_source : {T : Type 0} (failed refused : Type 0) (source0 source sink0 sink : Device) (found : ToolFault) → IsSteady source0 source → StopsSink failed refused sink0 sink found → IsErrOf {T = T} (Err found) fault.Read ↔ HasFailed source0 source
+write-tells_source failed refused source0 source sink0 sink (fault.Input other) steady h = absurd h
+write-tells_source failed refused source0 source sink0 sink fault.Read steady h = absurd h
+write-tells_source failed refused source0 source sink0 sink fault.Write steady h = ((λ e. absurd cc), (λ has_failed. absurd (steady-sound source0 source steady has_failed)))
+write-tells_source failed refused source0 source sink0 sink fault.Memory steady h = ((λ e. absurd cc), (λ has_failed. absurd (steady-sound source0 source steady has_failed)))
+
+-- the same of writing segments
+pub lined-tells_sink : {T : Type 0} (size : ℕ) (sink0 sink : Device) (given : List Segment) (found : ToolFault) → StopsLining size sink0 sink given found → IsErrOf {T = T} (Err found) fault.Write ↔ HasFailed sink0 sink
+lined-tells_sink size sink0 sink given found h = write-tells_sink (HasWrittenFront size sink0 sink given) (HasWrittenFront size sink0 sink given) sink0 sink found h
+
+pub lined-tells_source : {T : Type 0} (size : ℕ) (source0 source sink0 sink : Device) (given : List Segment) (found : ToolFault) → IsSteady source0 source → StopsLining size sink0 sink given found → IsErrOf {T = T} (Err found) fault.Read ↔ HasFailed source0 source
+lined-tells_source size source0 source sink0 sink given found steady h = write-tells_source (HasWrittenFront size sink0 sink given) (HasWrittenFront size sink0 sink given) source0 source sink0 sink found steady h
+
+-- and of lines
+pub listing-tells_sink : {T : Type 0} (sink0 sink : Device) (given : List Segment) (found : ToolFault) → StopsListing sink0 sink given found → IsErrOf {T = T} (Err found) fault.Write ↔ HasFailed sink0 sink
+listing-tells_sink sink0 sink given found h = write-tells_sink (HasListedFront sink0 sink given) (HasListedFront sink0 sink given) sink0 sink found h
+
+pub listing-tells_source : {T : Type 0} (source0 source sink0 sink : Device) (given : List Segment) (found : ToolFault) → IsSteady source0 source → StopsListing sink0 sink given found → IsErrOf {T = T} (Err found) fault.Read ↔ HasFailed source0 source
+listing-tells_source source0 source sink0 sink given found steady h = write-tells_source (HasListedFront sink0 sink given) (HasListedFront sink0 sink given) source0 source sink0 sink found steady h
+
+pub listed-tells_sink : {T : Type 0} (sink0 sink : Device) (given : List Segment) (counts : Counts) (found : ToolFault) → StopsListingAll sink0 sink given counts found → IsErrOf {T = T} (Err found) fault.Write ↔ HasFailed sink0 sink
+listed-tells_sink sink0 sink given counts found h = write-tells_sink (HasListedCut sink0 sink given counts) (HasListedFront sink0 sink given) sink0 sink found h
+
+pub listed-tells_source : {T : Type 0} (source0 source sink0 sink : Device) (given : List Segment) (counts : Counts) (found : ToolFault) → IsSteady source0 source → StopsListingAll sink0 sink given counts found → IsErrOf {T = T} (Err found) fault.Read ↔ HasFailed source0 source
+listed-tells_source source0 source sink0 sink given counts found steady h = write-tells_source (HasListedCut sink0 sink given counts) (HasListedFront sink0 sink given) source0 source sink0 sink found steady h
 
 -- no device failed
-pub ok-tells : (old new : Device) (report : Report) (found : ToolFault) → IsSteady old new → IsErrOf (Ok report) found ↔ HasFailed old new
-ok-tells old new report found steady = ((λ e. absurd cc), (λ failed. absurd (steady-sound old new steady failed)))
+pub ok-tells : {T : Type 0} (old new : Device) (value : T) (found : ToolFault) → IsSteady old new → IsErrOf (Ok value) found ↔ HasFailed old new
+ok-tells old new value found steady = ((λ e. absurd cc), (λ has_failed. absurd (steady-sound old new steady has_failed)))
 
 -- a device that was steady can count the next call, and few calls are counted with it
 pub steady-can_count : (a b : Device) → IsSteady a b → CanCountCall a → CanCountCall b

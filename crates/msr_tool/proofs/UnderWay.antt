@@ -1,6 +1,6 @@
 -- The state of repacking between two segments.
-use Rattle.std.proofs.Common.{◌≡◌, ℕ, zero, suc, ◌+◌, ◌*◌, ◌^◌, ◌<◌, ◌≤◌, List, [], ◌∷◌, ◌++◌, ◌∙◌, length, map, All, refl, sym, ap, subst, Result, Ok, Err, Option, Some, None, arith, get_or, length-append}
-use Rattle.std.proofs.lemmas.List.{append-nil, get_or_append_left}
+use Rattle.std.proofs.Common.{◌≡◌, ℕ, zero, suc, ◌*◌, ◌^◌, ◌<◌, ◌≤◌, List, [], ◌∷◌, ◌++◌, ◌∙◌, length, map, All, refl, Ok, Option, arith}
+use Rattle.std.proofs.lemmas.List.{append-nil}
 use Rattle.std.proofs.Math.Nat.{mul-le-mul_right}
 use Rattle.std.specs.Option.{option_to_list}
 use Rattle.msr_record.specs.declared.row.Record.{Record}
@@ -9,13 +9,14 @@ use Rattle.msr_segments.specs.Segments.{AreSegments}
 use Rattle.msr_devices.specs.Device.{Device}
 use Rattle.msr_report.specs.declared.report.Report.{Report}
 use Rattle.msr_report.specs.declared.report.SegmentLine.{SegmentLine}
-use Rattle.msr_report.specs.Proper.{IsProperLine, records_of}
-use Rattle.msr_input.specs.Input.{rows_of_records, counts_of}
+use Rattle.msr_report.specs.Proper.{IsProperLine}
+use Rattle.msr_input.specs.Input.{rows_of_records}
 use Rattle.msr_input.specs.Reading.{Reading, IsWritable, HasRead, HasReadAll, StopsAfter}
 use Rattle.msr_output.specs.Output.{Packed, OutputKeepsSegments, OutputHasSize, segment_of_packed, count_of_runs}
-use Rattle.msr_output.specs.Writing.{Writing, IsLineOf}
+use Rattle.msr_output.specs.Writing.{Writing}
 use Rattle.msr_tool.specs.Choice.{Choice, size_of}
-use Rattle.msr_tool.specs.Writing.{Lined, AreLinesOf, HasLined, LinesMore, LinesAll}
+use Rattle.msr_tool.specs.Writing.{Lined, HasLined, LinesMore, LinesAll}
+use Rattle.msr_tool.specs.Answer.{AreLinesOf}
 use Rattle.msr_tool.proofs.Lines.{records-of_lines}
 use Rattle.msr_tool.proofs.Stops.{IsAnswered, stops-with}
 

@@ -1,5 +1,5 @@
 -- What repacking answers and leaves in the sink.
-use Rattle.std.specs.Prelude.{◌≡◌, ℕ, List, map, Result, Ok, Err}
+use Rattle.std.specs.Prelude.{◌≡◌, ℕ, List, [], ◌∷◌, map, Result, Ok, Err}
 use Rattle.msr_words.specs.Lengths.{bytes_of}
 use Rattle.msr_record.specs.declared.row.Row.{Row}
 use Rattle.msr_record.specs.declared.row.Record.{Record}
@@ -9,11 +9,17 @@ use Rattle.msr_report.specs.Proper.{IsProper}
 use Rattle.msr_report.specs.declared.report.Report.{Report}
 use Rattle.msr_input.specs.declared.fault.Fault.{Fault}
 use Rattle.msr_input.specs.Input.{AreRead, IsReadable, IsFirstFault, rows_of_records, counts_of}
+use Rattle.msr_output.specs.Writing.{IsLineOf}
 use Rattle.msr_output.specs.Output.{Packed, IsOutput, IsFrontOfOutput, segment_of_packed}
 use Rattle.msr_tool.specs.Choice.{Choice, size_of}
-use Rattle.msr_tool.specs.Writing.{AreLinesOf}
 use Rattle.msr_tool.specs.declared.fault.ToolFault.{ToolFault}
 use Rattle.msr_tool.specs.declared.fault.ToolFault.TheVariants.{Input, Read, Write, Memory}
+
+-- each line is that of the packed segment at its place
+abbrev pub AreLinesOf : List Packed → List SegmentLine → Type 0
+AreLinesOf [] lines = lines ≡ []
+AreLinesOf (packed ∷ others) [] = ⊥
+AreLinesOf (packed ∷ others) (line ∷ lines) = IsLineOf packed line × AreLinesOf others lines
 
 -- The report of an input: the choice, the counts of its records, and a line for each segment as it was packed.
 pub record IsReportOf (choice : Choice) (records : List Record) (packed : List Packed) (report : Report) : Type 0 where

@@ -1,4 +1,7 @@
 pub mod Choice
 pub mod Fault
-pub mod Writing
 pub mod Answer
+pub mod Writing
+pub mod Listing
+pub mod ListWriting
+pub mod Laws

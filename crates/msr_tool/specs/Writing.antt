@@ -1,19 +1,14 @@
 -- What writing the segments with their lines does.
-use Rattle.std.specs.Prelude.{◌≡◌, ℕ, List, [], ◌∷◌, ◌++◌, map}
+use Rattle.std.specs.Prelude.{◌≡◌, ℕ, List, ◌++◌, map}
 use Rattle.msr_devices.specs.Device.{Device, HasFailed, IsSteady}
 use Rattle.msr_record.specs.declared.row.Row.{Row}
 use Rattle.msr_segments.specs.declared.joiner.Segment.{Segment}
 use Rattle.msr_report.specs.declared.report.SegmentLine.{SegmentLine}
 use Rattle.msr_output.specs.Output.{Packed, segment_of_packed}
-use Rattle.msr_output.specs.Writing.{Writing, IsLineOf, HasWritten, HasWrittenAll, HasWrittenFront}
+use Rattle.msr_output.specs.Writing.{Writing, HasWritten, HasWrittenAll, HasWrittenFront}
+use Rattle.msr_tool.specs.Answer.{AreLinesOf}
 use Rattle.msr_tool.specs.declared.fault.ToolFault.{ToolFault}
 use Rattle.msr_tool.specs.declared.fault.ToolFault.TheVariants.{Input, Read, Write, Memory}
-
--- each line is that of the packed segment at its place
-abbrev pub AreLinesOf : List Packed → List SegmentLine → Type 0
-AreLinesOf [] lines = lines ≡ []
-AreLinesOf (packed ∷ others) [] = ⊥
-AreLinesOf (packed ∷ others) (line ∷ lines) = IsLineOf packed line × AreLinesOf others lines
 
 -- what a writer with the lines so far shows
 pub record Lined : Type 0 where
@@ -39,9 +34,14 @@ pub record LinesAll (start now : Device) (writing : Writing) (packed : List Pack
   pub written : HasWrittenAll start now writing packed rows
   pub are_lines : AreLinesOf packed lines
 
--- The sink failed; or memory was refused, and the sink did not fail.
+-- The sink failed, and the first holds; or memory was refused, the sink did not fail, and the second holds.
+abbrev pub StopsSink : Type 0 → Type 0 → Device → Device → ToolFault → Type 0
+StopsSink failed refused start now (Input fault) = ⊥
+StopsSink failed refused start now Read = ⊥
+StopsSink failed refused start now Write = failed × HasFailed start now
+StopsSink failed refused start now Memory = refused × IsSteady start now
+
+-- a front of the output of some first ones of these segments was written
 abbrev pub StopsLining : ℕ → Device → Device → List Segment → ToolFault → Type 0
-StopsLining size start now segments (Input fault) = ⊥
-StopsLining size start now segments Read = ⊥
-StopsLining size start now segments Write = HasWrittenFront size start now segments × HasFailed start now
-StopsLining size start now segments Memory = HasWrittenFront size start now segments × IsSteady start now
+StopsLining size start now segments fault =
+    StopsSink (HasWrittenFront size start now segments) (HasWrittenFront size start now segments) start now fault

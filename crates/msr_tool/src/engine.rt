@@ -13,7 +13,7 @@ use msr_report::Report;
 use std::alloc::Global;
 
 /// Reads all records of the source, joins their rows into segments, and writes each segment again in the fewest
-/// records of the length that is asked for.
+/// records of the length that is asked for. It holds the samples of one segment at a time, and a line for each.
 pub fn repack<R: Source, W: Sink>(
     alloc: Global,
     source: &mut R,

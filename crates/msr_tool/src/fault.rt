@@ -1,8 +1,9 @@
 // Why the tool stops.
 ghost use Rattle.std.specs.Prelude.{◌≡◌};
 ghost use Rattle.msr_tool.specs.Fault.{fault_of_reading, fault_of_writing};
-ghost use Rattle.msr_tool.specs.declared.fault.ToolFault.TheVariants.{Memory};
+ghost use Rattle.msr_tool.specs.declared.fault.ToolFault.TheVariants.{Write, Memory};
 
+use msr_devices::SinkFailed;
 use msr_input::{Fault, ReadFault};
 use msr_output::WriteFault;
 use std::alloc::{AllocError, AllocFailed};
@@ -54,6 +55,14 @@ impl From<WriteFault> for ToolFault {
             WriteFault::Write => ToolFault::Write,
             WriteFault::Memory => ToolFault::Memory,
         }
+    }
+}
+
+impl From<SinkFailed> for ToolFault {
+    ghost from_gives = { λ _ e. e ≡ Write };
+
+    fn from(_: SinkFailed) -> ToolFault {
+        ToolFault::Write
     }
 }
 

@@ -4,12 +4,20 @@
 
 mod engine;
 mod fault;
+mod laws;
+mod list;
+mod list_writer;
 mod options;
 mod output;
 
 pub use engine::repack;
 pub use fault::ToolFault;
+pub use laws::{one_refusal, one_repacking, readable_is_listed, readable_is_repacked};
+pub use list::list_segments;
 pub use msr_devices::{FromRead, FromWrite, Sink, Source, TestSink, TestSource};
 pub use msr_input::Fault;
-pub use msr_report::{Counts, Report, SegmentLine};
+pub use msr_report::{Counts, Report, SegmentLine, TextFault};
 pub use options::Options;
+
+#[cfg(test)]
+mod tests;

@@ -49,8 +49,8 @@ impl LinedWriter {
         requires writable { IsWritable segment.now }
         ensures written { (start : Device) (packed : List Packed) → HasLined start (W.device sink.old) self.old packed
             → MatchResult result
-                (λ _. LinesMore start (W.device sink.new) self.new packed (segment.now ∷ []))
-                (StopsLining self.old.writing.size start (W.device sink.new) (map segment_of_packed packed ++ segment.now ∷ [])) }
+            (λ _. LinesMore start (W.device sink.new) self.new packed (segment.now ∷ []))
+            (StopsLining self.old.writing.size start (W.device sink.new) (map segment_of_packed packed ++ segment.now ∷ [])) }
         ensures size { self.new.writing.size ≡ self.old.writing.size }
         ensures one_more { OnOk result (length self.new.lines ≡ length self.old.lines + 1) }
         ensures few { CountsFew (W.device sink.old) (W.device sink.new) }
@@ -70,8 +70,8 @@ impl LinedWriter {
         requires writable { All IsWritable (option_to_list last) }
         ensures written { (start : Device) (packed : List Packed) → HasLined start (W.device sink.old) self.old packed
             → MatchResult result
-                (λ _. LinesMore start (W.device sink.new) self.new packed (option_to_list last))
-                (StopsLining self.old.writing.size start (W.device sink.new) (map segment_of_packed packed ++ option_to_list last)) }
+            (λ _. LinesMore start (W.device sink.new) self.new packed (option_to_list last))
+            (StopsLining self.old.writing.size start (W.device sink.new) (map segment_of_packed packed ++ option_to_list last)) }
         ensures size { self.new.writing.size ≡ self.old.writing.size }
         ensures few { CountsFew (W.device sink.old) (W.device sink.new) }
     {
@@ -86,8 +86,8 @@ impl LinedWriter {
         requires count { CanCountCall (W.device sink.old) }
         ensures written { (start : Device) (packed : List Packed) → HasLined start (W.device sink.old) self packed
             → MatchResult result
-                (λ lines. LinesAll start (W.device sink.new) self.writing packed lines.items)
-                (StopsLining self.writing.size start (W.device sink.new) (map segment_of_packed packed)) }
+            (λ lines. LinesAll start (W.device sink.new) self.writing packed lines.items)
+            (StopsLining self.writing.size start (W.device sink.new) (map segment_of_packed packed)) }
         ensures few { CountsFew (W.device sink.old) (W.device sink.new) }
     {
         self.writer.finish(sink)?;

@@ -1,9 +1,8 @@
-use Rattle.std.proofs.Common.{rules, ◌≡◌, ℕ, ◌≤◌, ◌-◌, length, arith, refl, sym, ap, subst, List, ℤ, Option, FitsSigned, w64, to_z-of_z, OnOk}
+use Rattle.std.proofs.Common.{rules, ◌≤◌, ◌-◌, length, arith, FitsSigned, w64, to_z-of_z, OnOk}
 use Rattle.std.specs.Prelude.{slice_range}
 use Rattle.msr_record.specs.Written.{AppendsRecord}
 use Rattle.msr_output.specs.Output.{sample_before}
 use Rattle.msr_time.specs.Instant.{IsInstant}
-use Rattle.msr_words.specs.Fit.{Fits}
 use Rattle.msr_words.specs.Lengths.{bytes_of}
 use Rattle.msr_output.proofs.Times.{nominal_between, nominal_found, some_where}
 use Rattle.msr_output.proofs.Runs.{points_of_run, record_of_run, on_ok}

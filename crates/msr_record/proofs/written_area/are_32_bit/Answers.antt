@@ -1,4 +1,4 @@
-use Rattle.std.proofs.Common.{◌≡◌, ◌<◌, FitsSigned, w32, SFits, pos, rules, arith, length, take, slice_index_or, sym}
+use Rattle.std.proofs.Common.{FitsSigned, w32, SFits, pos, rules, arith, take, slice_index_or, sym}
 use Rattle.std.proofs.lemmas.List.{take_all}
 use Rattle.std.proofs.lemmas.List.Elements.{All-more, All-same}
 use Rattle.msr_record.proofs.written_area.are_32_bit.Goals as goal

@@ -1,4 +1,4 @@
-use Rattle.std.proofs.Common.{SFits, w32, w64, pos, rules, ◌+◌, ◌≡◌, ◌<◌, length, to_z, of_z, slice_index_or, arith}
+use Rattle.std.proofs.Common.{SFits, w32, w64, pos, rules, ◌≡◌, ◌<◌, length, to_z, of_z, slice_index_or, arith}
 use Rattle.std.proofs.lemmas.Int.{to_z-of_z}
 use Rattle.msr_record.proofs.DifferenceLemmas.{differences_more}
 use Rattle.msr_record.proofs.written_area.differences_of.Goals as goal

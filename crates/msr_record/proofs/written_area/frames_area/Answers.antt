@@ -1,8 +1,7 @@
-use Rattle.std.proofs.Common.{◌≡◌, ◌≤◌, ◌+◌, ◌*◌, ◌-◌, ◌/◌, ◌%◌, ◌^◌, length, map, pos, ℤ, ℕ, w32, SFits, FitsSigned, rules, arith, slice_index_or, ap, sym, ◌∙◌}
+use Rattle.std.proofs.Common.{◌≡◌, ◌-◌, ◌/◌, ◌^◌, length, map, pos, w32, FitsSigned, arith, ap, sym, ◌∙◌}
 use Rattle.std.proofs.lemmas.List.{length-map}
 use Rattle.std.proofs.lemmas.List.Elements.{All-get_or}
 use Rattle.msr_words.specs.Lengths.{bytes_of}
-use Rattle.msr_words.specs.Segment.{differences}
 use Rattle.msr_record.proofs.AreaLemmas.{whole_frames, room_for, frames_carry, frames_end}
 use Rattle.msr_record.specs.Written.{frame_count}
 use Rattle.msr_record.proofs.written_area.frames_area.Goals as goal

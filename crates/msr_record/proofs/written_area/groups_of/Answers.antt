@@ -1,4 +1,3 @@
-use Rattle.std.proofs.Common.{◌≡◌, ◌≤◌, rules, ◌∙◌}
 use Rattle.msr_record.proofs.written_area.groups_of.Goals as goal
 
 pub returns-clause-canonical : goal.returns-clause-canonical

@@ -1,5 +1,4 @@
-use Rattle.std.proofs.Common.{◌≡◌, ◌≤◌, ◌*◌, ◌-◌, length, pos, ℤ, ℕ, FitsSigned, w32, rules, arith, slice_index_or}
-use Rattle.std.proofs.lemmas.List.Elements.{All-from_get_or}
+use Rattle.std.proofs.Common.{arith}
 use Rattle.msr_record.proofs.AreaLemmas.{all_16, length-points}
 use Rattle.msr_record.proofs.written_area.written_area.Goals as goal
 

@@ -1,12 +1,10 @@
-use Rattle.std.proofs.Common.{◌≡◌, ◌<◌, ◌≤◌, ◌∷◌, ◌++◌, [], All, map, refl, sym, arith}
+use Rattle.std.proofs.Common.{◌∷◌, ◌++◌, [], map, refl, arith}
 use Rattle.std.proofs.lemmas.Result.{err_from_is_err_and}
 use Rattle.std.specs.Option.{option_to_list}
-use Rattle.msr_record.specs.declared.row.Record.{Record}
-use Rattle.msr_input.specs.Reading.{HasRead, HasReadAll, StopsReading, IsWritable}
 use Rattle.msr_output.specs.Output.{segment_of_packed}
 use Rattle.msr_tool.proofs.Lines.{front-of}
-use Rattle.msr_tool.proofs.Stops.{stops-after, read-failed, write-failed, read-tells_source, read-tells_sink, write-tells_source, write-tells_sink, ok-tells, steady-can_count, steady-then_few, as-answer}
-use Rattle.msr_tool.proofs.UnderWay.{UnderWay, more, done, last-writable, rest-writable, stops-at_end}
+use Rattle.msr_tool.proofs.Stops.{stops-after, read-failed, write-failed, read-tells_source, lined-tells_source, lined-tells_sink, ok-tells, steady-can_count, steady-then_few, as-answer}
+use Rattle.msr_tool.proofs.UnderWay.{more, done, last-writable, rest-writable, stops-at_end}
 use Rattle.msr_tool.proofs.engine.repack.Goals as goal
 
 pub segments-init : goal.segments-init
@@ -54,13 +52,13 @@ returns-in_err-write-clause-read g c =
     let u = c.segments.invariant in
     let r = rw c.in-Some.is at (c.in_ok-segment.ensures.read (g.R.Source.device c.args.source.now) u.records (map segment_of_packed u.packed) u.read) in
     let stops = c.in_err-write.ensures.written (g.W.Sink.device c.args.sink.now) u.packed u.lined in
-    rw (p.1, p.2) (write-tells_source _ (g.R.Source.device c.args.source.now) (g.R.Source.device c.next_segment.new.source) (g.W.Sink.device c.args.sink.now) (g.W.Sink.device c.write.new.sink) _ c.in_err-write.field-0.0 r.1.steady stops)
+    rw (p.1, p.2) (lined-tells_source _ (g.R.Source.device c.args.source.now) (g.R.Source.device c.next_segment.new.source) (g.W.Sink.device c.args.sink.now) (g.W.Sink.device c.write.new.sink) _ c.in_err-write.field-0.0 r.1.steady stops)
 
 pub returns-in_err-write-clause-write : goal.returns-in_err-write-clause-write
 returns-in_err-write-clause-write g c =
     let p = err_from_is_err_and c.from_residual-in_err-write.result c.from_residual-in_err-write.ensures.1 in
     let u = c.segments.invariant in
-    rw (p.1, p.2) (write-tells_sink _ (g.W.Sink.device c.args.sink.now) (g.W.Sink.device c.write.new.sink) _ c.in_err-write.field-0.0 (c.in_err-write.ensures.written (g.W.Sink.device c.args.sink.now) u.packed u.lined))
+    rw (p.1, p.2) (lined-tells_sink _ (g.W.Sink.device c.args.sink.now) (g.W.Sink.device c.write.new.sink) _ c.in_err-write.field-0.0 (c.in_err-write.ensures.written (g.W.Sink.device c.args.sink.now) u.packed u.lined))
 
 pub segments-preserved : goal.segments-preserved
 segments-preserved g c =
@@ -88,13 +86,13 @@ returns-in_err-write_last-clause-read g c =
     let p = err_from_is_err_and c.from_residual-in_err-write_last.result c.from_residual-in_err-write_last.ensures.1 in
     let u = c.segments.invariant in
     let end = rw c.in_default.is at (c.in_ok-segment.ensures.read (g.R.Source.device c.args.source.now) u.records (map segment_of_packed u.packed) u.read) in
-    rw (p.1, p.2) (write-tells_source _ (g.R.Source.device c.args.source.now) (g.R.Source.device c.next_segment.new.source) (g.W.Sink.device c.args.sink.now) (g.W.Sink.device c.write_last.new.sink) _ c.in_err-write_last.field-0.0 end.read.steady (c.in_err-write_last.ensures.written (g.W.Sink.device c.args.sink.now) u.packed u.lined))
+    rw (p.1, p.2) (lined-tells_source _ (g.R.Source.device c.args.source.now) (g.R.Source.device c.next_segment.new.source) (g.W.Sink.device c.args.sink.now) (g.W.Sink.device c.write_last.new.sink) _ c.in_err-write_last.field-0.0 end.read.steady (c.in_err-write_last.ensures.written (g.W.Sink.device c.args.sink.now) u.packed u.lined))
 
 pub returns-in_err-write_last-clause-write : goal.returns-in_err-write_last-clause-write
 returns-in_err-write_last-clause-write g c =
     let p = err_from_is_err_and c.from_residual-in_err-write_last.result c.from_residual-in_err-write_last.ensures.1 in
     let u = c.segments.invariant in
-    rw (p.1, p.2) (write-tells_sink _ (g.W.Sink.device c.args.sink.now) (g.W.Sink.device c.write_last.new.sink) _ c.in_err-write_last.field-0.0 (c.in_err-write_last.ensures.written (g.W.Sink.device c.args.sink.now) u.packed u.lined))
+    rw (p.1, p.2) (lined-tells_sink _ (g.W.Sink.device c.args.sink.now) (g.W.Sink.device c.write_last.new.sink) _ c.in_err-write_last.field-0.0 (c.in_err-write_last.ensures.written (g.W.Sink.device c.args.sink.now) u.packed u.lined))
 
 pub finish-requires-2 : goal.finish-requires-2
 finish-requires-2 g c =
@@ -118,14 +116,14 @@ returns-in_err-segments-clause-read g c =
     let u = c.segments.invariant in
     let end = rw c.in_default.is at (c.in_ok-segment.ensures.read (g.R.Source.device c.args.source.now) u.records (map segment_of_packed u.packed) u.read) in
     let wrote = c.in_ok-write_last.ensures.written (g.W.Sink.device c.args.sink.now) u.packed u.lined in
-    rw (p.1, p.2) (write-tells_source _ (g.R.Source.device c.args.source.now) (g.R.Source.device c.next_segment.new.source) (g.W.Sink.device c.args.sink.now) (g.W.Sink.device c.finish-2.new.sink) _ c.in_err-segments.field-0.0 end.read.steady (c.in_err-segments.ensures.written (g.W.Sink.device c.args.sink.now) wrote.all wrote.after))
+    rw (p.1, p.2) (lined-tells_source _ (g.R.Source.device c.args.source.now) (g.R.Source.device c.next_segment.new.source) (g.W.Sink.device c.args.sink.now) (g.W.Sink.device c.finish-2.new.sink) _ c.in_err-segments.field-0.0 end.read.steady (c.in_err-segments.ensures.written (g.W.Sink.device c.args.sink.now) wrote.all wrote.after))
 
 pub returns-in_err-segments-clause-write : goal.returns-in_err-segments-clause-write
 returns-in_err-segments-clause-write g c =
     let p = err_from_is_err_and c.from_residual-in_err-segments.result c.from_residual-in_err-segments.ensures.1 in
     let u = c.segments.invariant in
     let wrote = c.in_ok-write_last.ensures.written (g.W.Sink.device c.args.sink.now) u.packed u.lined in
-    rw (p.1, p.2) (write-tells_sink _ (g.W.Sink.device c.args.sink.now) (g.W.Sink.device c.finish-2.new.sink) _ c.in_err-segments.field-0.0 (c.in_err-segments.ensures.written (g.W.Sink.device c.args.sink.now) wrote.all wrote.after))
+    rw (p.1, p.2) (lined-tells_sink _ (g.W.Sink.device c.args.sink.now) (g.W.Sink.device c.finish-2.new.sink) _ c.in_err-segments.field-0.0 (c.in_err-segments.ensures.written (g.W.Sink.device c.args.sink.now) wrote.all wrote.after))
 
 pub returns-in_err-segments-clause-few_sink : goal.returns-in_err-segments-clause-few_sink
 returns-in_err-segments-clause-few_sink g c =
@@ -140,11 +138,11 @@ returns-clause-answer g c =
     let wrote = c.in_ok-write_last.ensures.written (g.W.Sink.device c.args.sink.now) u.packed u.lined in
     let all_written = c.in_ok-segments.ensures.written (g.W.Sink.device c.args.sink.now) wrote.all wrote.after in
     as-answer _ _ _ _ _ (done c.args.options (g.R.Source.device c.args.source.now) (g.R.Source.device c.next_segment.new.source) (g.W.Sink.device c.args.sink.now) (g.W.Sink.device c.finish-2.new.sink) c.next_segment.new.self c.write_last.new.self.writing u.packed wrote.all _ _
-        end (rw (← c.finish.ensures) wrote.same) all_written
-        (rw c.in_ok-segment.ensures.tolerance u.tolerance) (rw c.in_ok-write_last.ensures.size u.size)
-        (rw c.tolerance.ensures.same at c.tolerance.ensures.in_range.0) (rw c.tolerance.ensures.same at c.tolerance.ensures.in_range.1) (omega arith)
-        c.output_keeps_segments.ensures c.output_has_size.ensures
-        c.length-2.ensures.same c.tolerance-2.ensures.same c.counts-counts.ensures refl)
+    end (rw (← c.finish.ensures) wrote.same) all_written
+    (rw c.in_ok-segment.ensures.tolerance u.tolerance) (rw c.in_ok-write_last.ensures.size u.size)
+    (rw c.tolerance.ensures.same at c.tolerance.ensures.in_range.0) (rw c.tolerance.ensures.same at c.tolerance.ensures.in_range.1) (omega arith)
+    c.output_keeps_segments.ensures c.output_has_size.ensures
+    c.length-2.ensures.same c.tolerance-2.ensures.same c.counts-counts.ensures refl)
 
 pub returns-clause-read : goal.returns-clause-read
 returns-clause-read g c =

@@ -1,4 +1,4 @@
-use Rattle.std.proofs.Common.{ℕ, ◌∷◌, ◌++◌, [], ap, subst, ◌∙◌}
+use Rattle.std.proofs.Common.{ℕ, ◌∷◌, ◌++◌, [], ap, subst, ◌∙◌, arith}
 use Rattle.std.proofs.lemmas.List.{append-nil}
 use Rattle.std.proofs.lemmas.Result.{err_from_is_err_and}
 use Rattle.msr_devices.proofs.Chaining.{steady-steady}
@@ -40,6 +40,7 @@ records-preserved g c = record {
       let taken = c.in_ok-segment.ensures.read start (g.R.Source.device c.next_record.new.source) now.0 given filled in
       (now.0 ++ c.in-Some.found ∷ [], rw (c.in_default-2.is, append-nil given) at taken);
   tolerance = c.take.ensures.tolerance ∙ ap (λ (joining : Joining). joining.tolerance) c.next_record.ensures.joining ∙ c.records.invariant.tolerance;
+  left = omega (arith, c.records.invariant.left, c.in_ok-found.ensures.left, c.in_ok-segment.ensures.fewer);
   steady = steady-steady _ _ _ c.records.invariant.steady c.in_ok-found.ensures.steady;
 }
 

@@ -1,10 +1,11 @@
-use Rattle.std.proofs.Common.{◌≡◌, ◌+◌, ◌≤◌, ◌<◌, ◌∷◌, ◌++◌, [], length, drop, arith, rules, length-drop}
+use Rattle.std.proofs.Common.{◌≡◌, ◌+◌, ◌∷◌, ◌++◌, [], arith, length-drop}
 use Rattle.std.proofs.lemmas.Result.{err_from_is_err_and}
 use Rattle.msr_record.specs.Records.{IsRecordOf}
 use Rattle.msr_record.proofs.Shown.{record_fits}
 use Rattle.msr_input.specs.Reading.{Reading}
 use Rattle.msr_input.specs.Input.{counts_of}
-use Rattle.msr_input.proofs.Histories.{at_window, read-taken, join-stops, in-bounds}
+use Rattle.msr_input.specs.declared.fault.ReadFault.TheVariants.{Memory}
+use Rattle.msr_input.proofs.Histories.{at_window, read-taken, join-stops, join-memory, in-bounds}
 use Rattle.msr_input.proofs.reader.SegmentReader.take.Goals as goal
 
 pub returns-in_err-ended-clause-read : goal.returns-in_err-ended-clause-read
@@ -13,6 +14,12 @@ returns-in_err-ended-clause-read c =
     let old : Reading = at_window c.self.inside.buffer c.self.inside.joiner c.self.inside.counts c.self.inside.offset in
     let is : IsRecordOf old.waiting c.args.found = rw (← c.self.view_is) at c.requires.is_record in
     rw (p.1, p.2, ← c.self.view_is) (λ start now records given has. join-stops start now old records given c.args.found c.in_err-ended.field-0.0 has is c.in_err-ended.ensures.refused)
+
+pub returns-in_err-ended-clause-memory : goal.returns-in_err-ended-clause-memory
+returns-in_err-ended-clause-memory c =
+    let p = err_from_is_err_and c.from_residual.result c.from_residual.ensures.1 in
+    let why = c.in_err-ended.field-0.0 in
+    rw (p.1, p.2) (λ e. let memory : why ≡ Memory = cc in join-memory c.args.self.now.waiting c.self.inside.joiner c.args.found c.self.inside.offset why c.requires.is_record c.in_err-ended.ensures.refused memory)
 
 pub consume-requires : goal.consume-requires
 consume-requires c =

@@ -1,6 +1,4 @@
-use Rattle.std.proofs.Common.{sym, subst}
 use Rattle.std.proofs.lemmas.Result.{err_from_is_err_and}
-use Rattle.msr_output.specs.Writing.{Writing, HasWritten, HasWrittenAll, StopsWriting}
 use Rattle.msr_output.proofs.Progress.{written-all, stopped-all}
 use Rattle.msr_output.proofs.writer.SegmentWriter.finish.Goals as goal
 

@@ -1,4 +1,4 @@
-use Rattle.std.proofs.Common.{rules, ◌≡◌, ◌∙◌, length, refl, sym, ap, FitsSigned, w64, to_z-of_z}
+use Rattle.std.proofs.Common.{rules, refl, FitsSigned, w64, to_z-of_z}
 use Rattle.std.proofs.lemmas.Result.{err_from_is_err_and}
 use Rattle.msr_words.specs.Lengths.{bytes_of}
 use Rattle.msr_output.specs.Output.{Packed, IsPacked, cuts_of}

@@ -1,8 +1,8 @@
-use Rattle.std.proofs.Common.{◌≡◌, List, ℤ, ◌++◌, inl, inr, refl, sym, subst, ap, ◌∙◌, rules, FitsSigned, w64, to_z-of_z}
-use Rattle.std.specs.Prelude.{option_map, Option, None, Some}
-use Rattle.msr_segments.specs.Spans.{Following, Overruns, JoinsSegment}
+use Rattle.std.proofs.Common.{List, ℤ, ◌++◌, inl, inr, refl, sym, subst, ap, ◌∙◌, rules, FitsSigned, w64, to_z-of_z}
+use Rattle.std.specs.Prelude.{option_map, None}
+use Rattle.msr_segments.specs.Spans.{Following, Overruns}
 use Rattle.msr_segments.specs.Segments.{row_span}
-use Rattle.msr_segments.specs.Joining.{Joining, IsPush, JoinsRow, ContinuesLast, segment_at, following_of, joining_of}
+use Rattle.msr_segments.specs.Joining.{segment_at, following_of, joining_of}
 use Rattle.msr_segments.proofs.SpanLemmas.{moved_joins, moved_begins, counted_joins, following_same}
 use Rattle.msr_segments.proofs.StepLaws.{pushes_grow}
 use Rattle.msr_segments.proofs.joiner.Joiner.push.Goals as goal

@@ -1,4 +1,3 @@
-use Rattle.std.proofs.Common.{◌≡◌, ◌∷◌, ◌++◌, [], map, refl, sym, ap}
 use Rattle.std.proofs.lemmas.Result.{err_from_is_err_and}
 use Rattle.msr_tool.proofs.Lines.{stops-lining}
 use Rattle.msr_tool.proofs.output.LinedWriter.finish.Goals as goal

@@ -1,7 +1,4 @@
-use Rattle.std.proofs.Common.{◌≡◌, ◌∷◌, ◌++◌, [], map, refl, sym, ap}
 use Rattle.std.proofs.lemmas.Result.{err_from_is_err_and}
-use Rattle.msr_output.specs.Writing.{WritesSegment}
-use Rattle.msr_tool.specs.Writing.{HasLined}
 use Rattle.msr_tool.proofs.Lines.{stops-lining, stops-pushing, lines-more}
 use Rattle.msr_tool.proofs.output.LinedWriter.write.Goals as goal
 

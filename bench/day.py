@@ -1,0 +1,161 @@
+#!/usr/bin/env python3
+"""Times msrepack on a day of a channel with 100 samples a second, beside cat of the same file.
+
+    bench/day.py [--samples N] [--runs N] [--program FILE] [--keep FOLDER]
+
+The day is made up, the same one on every machine: noise, and events that die down. It is written as records of 32-bit
+integers (4096 bytes), as records of 16-bit integers (512 bytes), and, by the program itself, as Steim-2 (512 bytes).
+"""
+import argparse
+import array
+import math
+import os
+import random
+import re
+import shutil
+import struct
+import subprocess
+import sys
+import tempfile
+import time
+
+ROOT = os.path.dirname(os.path.dirname(os.path.realpath(__file__)))
+RATE = 100
+EVENTS = 24
+
+
+def made_up(count):
+    """Noise of some tens of counts, and events of up to some thousand, all within 16 bits."""
+    numbers = random.Random(1)
+    noise = [round(numbers.gauss(0, 25)) for _ in range(65521)]
+    samples = array.array("i", (noise[n % 65521] + noise[n * 7 % 65519] for n in range(count)))
+    for event in range(EVENTS):
+        begin = (2 * event + 1) * count // (2 * EVENTS)
+        height = numbers.uniform(300, 12000)
+        for n in range(min(60 * RATE, count - begin)):
+            samples[begin + n] += round(height * math.exp(-n / 900) * math.sin(n * n / (n + 400)))
+    return samples
+
+
+def record(number, length, encoding, start, samples):
+    """A big-endian record of channel XX.BENCH.00.HHZ that starts so many samples after 2020-01-01 00:00:00."""
+    code = {1: "h", 3: "i"}[encoding]
+    second, rest = divmod(start, RATE)
+    day, second = divmod(second, 86400)
+    header = struct.pack(">6sBB5s2s3s2s", b"%06d" % (number % 1_000_000), ord("D"), 32, b"BENCH", b"00", b"HHZ", b"XX")
+    header += struct.pack(">HHBBBBH", 2020, day + 1, second // 3600, second // 60 % 60, second % 60, 0, rest * 100)
+    header += struct.pack(">HhhBBBBiHH", len(samples), RATE, 1, 0, 0, 0, 2, 0, 64, 48)
+    header += struct.pack(">HHBBBB", 1000, 56, encoding, 1, length.bit_length() - 1, 0)
+    header += struct.pack(">HHBbBB", 1001, 0, 0, 0, 0, 0)
+    return (header + struct.pack(f">{len(samples)}{code}", *samples)).ljust(length, b"\0")
+
+
+def write_plain(name, length, encoding, samples):
+    each = (length - 64) // {1: 2, 3: 4}[encoding]
+    with open(name, "wb") as out:
+        for number, start in enumerate(range(0, len(samples), each), 1):
+            out.write(record(number, length, encoding, start, samples[start : start + each]))
+
+
+def run(words, to):
+    """Runs a command, its output to a file, and returns its seconds."""
+    with open(to, "wb") as out:
+        began = time.monotonic()
+        status = subprocess.run(words, stdin=subprocess.DEVNULL, stdout=out).returncode
+        seconds = time.monotonic() - began
+    if status:
+        sys.exit(f"{' '.join(words)} ended with status {status}")
+    return seconds
+
+
+def peak(words, folder):
+    """The peak memory of a command in KiB, by GNU time, which is small itself; None where it is not there."""
+    if not os.access("/usr/bin/time", os.X_OK):
+        return None
+    run(["/usr/bin/time", "-f", "%M", "-o", f"{folder}/peak", *words], f"{folder}/said")
+    with open(f"{folder}/peak", encoding="ascii") as it:
+        return int(it.read())
+
+
+def perf_counts():
+    words = ["perf", "stat", "-x,", "-e", "instructions:u", "true"]
+    if not shutil.which("perf"):
+        return False
+    said = subprocess.run(words, capture_output=True, text=True)
+    return said.returncode == 0 and re.search(r"^\d+,", said.stderr, re.M) is not None
+
+
+def instructions(words, folder):
+    """The instructions that a command runs, counted by perf, or else by callgrind; None where neither is there."""
+    if perf_counts():
+        words = ["perf", "stat", "-x,", "-e", "instructions:u", *words]
+        pattern = r"^(\d+),"
+    elif shutil.which("valgrind"):
+        words = ["valgrind", "--tool=callgrind", f"--callgrind-out-file={folder}/callgrind", *words]
+        pattern = r"Collected : (\d+)"
+    else:
+        return None
+    said = subprocess.run(words, stdin=subprocess.DEVNULL, stdout=subprocess.DEVNULL, stderr=subprocess.PIPE, text=True)
+    found = re.search(pattern, said.stderr, re.M)
+    return int(found[1]) if found and said.returncode == 0 else None
+
+
+def line(name, command, words, samples, few, folder, runs):
+    """Prints one row. The instructions a sample are the difference of two files, so that starting up does not count."""
+    seconds = min(run(words(name), f"{folder}/said") for _ in range(runs))
+    memory = peak(words(name), folder)
+    counts = [instructions(words(it), folder) for it in (few[0], few[1])]
+    each = f"{(counts[1] - counts[0]) / few[2]:.1f}" if None not in counts else "-"
+    size = os.path.getsize(name)
+    row = [os.path.basename(name), command, f"{seconds:.3f}", f"{samples / seconds:,.0f}", f"{size / seconds / 1e6:,.0f}", "-" if memory is None else f"{memory:,}", each]
+    print("| " + " | ".join(row) + " |", flush=True)
+
+
+def main():
+    words = argparse.ArgumentParser(description=__doc__.splitlines()[0])
+    words.add_argument("--samples", type=int, default=86400 * RATE)
+    words.add_argument("--runs", type=int, default=3, help="how often each is run; the shortest time counts")
+    words.add_argument("--program", default=f"{ROOT}/crates/msr_program/out/msr_program")
+    words.add_argument("--keep", help="a folder to leave the files in")
+    asked = words.parse_args()
+    if not os.access(asked.program, os.X_OK):
+        sys.exit(f"{asked.program} is not built: run ./msrepack --version")
+    folder = asked.keep or tempfile.mkdtemp(prefix="msrepack-bench-")
+    os.makedirs(folder, exist_ok=True)
+    try:
+        measure(asked, folder)
+    finally:
+        if not asked.keep:
+            shutil.rmtree(folder)
+
+
+def files_of(asked, folder, samples, part):
+    """The day, or a part of it, in its three encodings."""
+    names = [f"{folder}/{part}{it}" for it in ("int32-4096", "int16-512", "steim2-512")]
+    write_plain(names[0], 4096, 3, samples)
+    write_plain(names[1], 512, 1, samples)
+    run([asked.program, "repack", "--length", "512", names[0], names[2]], f"{folder}/report")
+    return names
+
+
+def measure(asked, folder):
+    samples = made_up(asked.samples)
+    tenth = max(len(samples) // 10, 2)
+    names = files_of(asked, folder, samples, "")
+    short = files_of(asked, folder, samples[: tenth // 2], "a-")
+    longer = files_of(asked, folder, samples[:tenth], "b-")
+    print(f"{len(samples):,} samples; the shortest of {asked.runs} runs\n")
+    print("| input | command | seconds | samples a second | MB a second read | peak KiB | instructions a sample |")
+    print("|---|---|---|---|---|---|---|")
+    out = f"{folder}/out"
+    for at, name in enumerate(names):
+        few = (short[at], longer[at], tenth - tenth // 2)
+        row = lambda command, words: line(name, command, words, len(samples), few, folder, asked.runs)
+        row("cat", lambda it: ["cat", it])
+        row("list", lambda it: [asked.program, "list", it])
+        for length in ("512", "4096"):
+            row(f"repack {length}", lambda it: [asked.program, "repack", "--length", length, it, out])
+
+
+if __name__ == "__main__":
+    main()

@@ -1,0 +1,38 @@
+-- What the words of a command line ask for.
+use Rattle.std.specs.Prelude.{◌≡◌, ◌≢◌, ◌⊎◌, ◌≤◌, ℕ, ⊤, List, Option, None, IfSome, codes}
+use Rattle.std.specs.Option.{option_map}
+use Rattle.msr_words.specs.Lengths.{bytes_of}
+use Rattle.msr_program.specs.declared.words.Task.{Task}
+use Rattle.msr_program.specs.declared.words.Task.TheVariants.{Repack, List as Listing}
+use Rattle.msr_program.specs.declared.words.NoTask.{NoTask}
+use Rattle.msr_program.specs.declared.words.NoTask.TheVariants.{Ending, Memory}
+
+-- 1 to 1,000,000 microseconds
+pub record IsTolerance (tolerance : ℕ) : Type 0 where
+  pub least : 1 ≤ tolerance
+  pub most : tolerance ≤ 1_000_000
+
+-- the tolerance that is asked for is in its range
+abbrev pub HasTolerance : Task → Type 0
+HasTolerance (Repack asked) = IsTolerance asked.tolerance
+HasTolerance (Listing asked) = IsTolerance asked.tolerance
+
+-- the output, where one is asked for, has another name than the input
+abbrev pub KeepsInput : Task → Type 0
+KeepsInput (Repack asked) = IfSome asked.output (λ name. name.now ≢ asked.input.now)
+KeepsInput (Listing asked) = ⊤
+
+-- a file is to be repacked with these choices
+abbrev pub IsRepacking : (bytes tolerance : ℕ) → (input : List ℕ) → (output : Option (List ℕ)) → Task → Type 0
+IsRepacking bytes tolerance input output (Repack asked) = (bytes_of asked.length ≡ bytes) × (asked.tolerance ≡ tolerance) × (asked.input.now ≡ input) × (option_map (λ name. name.now) asked.output ≡ output)
+IsRepacking bytes tolerance input output (Listing asked) = ⊥
+
+-- standard input is to be repacked to nowhere, with records of 512 bytes and a tolerance of 1000 microseconds
+abbrev pub IsDefault : Task → Type 0
+IsDefault (Repack asked) = (bytes_of asked.length ≡ 512) × (asked.tolerance ≡ 1000) × (asked.input.now ≡ codes "-") × (asked.output ≡ None)
+IsDefault (Listing asked) = ⊥
+
+-- no task, with status 0 for help and the version and 2 for a bad command line
+abbrev pub HasStatus : NoTask → Type 0
+HasStatus (Ending ending) = (ending.status ≡ 0) ⊎ (ending.status ≡ 2)
+HasStatus Memory = ⊤

@@ -1,0 +1,60 @@
+// The commands and options that the program knows.
+use crate::texts;
+use clap::{Arg, Command, value_parser};
+use std::alloc::{AllocError, Global};
+
+fn tolerance<'a>(alloc: Global) -> Arg<'a> {
+    Arg::new(alloc, "tolerance")
+        .long("tolerance")
+        .value_name("T")
+        .value_parser(value_parser!(u32).range(1..=1_000_000))
+        .default_value("1000")
+        .help(texts::TOLERANCE)
+        .long_help(texts::LONG_TOLERANCE)
+}
+
+fn length<'a>(alloc: Global) -> Arg<'a> {
+    Arg::new(alloc, "length")
+        .long("length")
+        .value_name("L")
+        .value_parser(value_parser!(u32))
+        .default_value("512")
+        .help(texts::LENGTH)
+}
+
+fn input<'a>(alloc: Global) -> Arg<'a> {
+    Arg::new(alloc, "IN").required(true).help(texts::IN)
+}
+
+fn repack<'a>(alloc: Global) -> Result<Command<'a>, AllocError> {
+    Command::new(alloc, "repack")
+        .about(texts::REPACK_ABOUT)
+        .long_about(texts::REPACK_LONG_ABOUT)
+        .after_long_help(texts::REPACK_AFTER)
+        .arg(length(alloc))?
+        .arg(tolerance(alloc))?
+        .arg(input(alloc))?
+        .arg(Arg::new(alloc, "OUT").help(texts::OUT))
+}
+
+fn list<'a>(alloc: Global) -> Result<Command<'a>, AllocError> {
+    Command::new(alloc, "list")
+        .about(texts::LIST_ABOUT)
+        .long_about(texts::LIST_LONG_ABOUT)
+        .after_long_help(texts::LIST_AFTER)
+        .arg(tolerance(alloc))?
+        .arg(input(alloc))
+}
+
+/// The command line of the program.
+pub fn command<'a>(alloc: Global) -> Result<Command<'a>, AllocError> {
+    Command::new(alloc, "msrepack")
+        .bin_name("msrepack")?
+        .version("0.1.0")
+        .about(texts::ABOUT)
+        .long_about(texts::LONG_ABOUT)
+        .after_long_help(texts::AFTER)
+        .subcommand_required(true)
+        .subcommand(repack(alloc)?)?
+        .subcommand(list(alloc)?)
+}

@@ -1,0 +1,82 @@
+// The texts of help, and of faults that clap does not find.
+
+pub const ABOUT: &str = "Repacks miniSEED into the fewest records of one length";
+
+pub const LONG_ABOUT: &str = "Repacks miniSEED into the fewest records of one length.
+
+msrepack joins the neighbouring records of a file into segments and writes each
+segment again in records of one length, as few as can hold it. Samples stay as they
+are. The report names samples of each segment, as many as its records, no two of
+which fit one record: so fewer records cannot hold it.
+
+It reads records with blockette 1000, with or without blockette 1001, in either byte
+order: 16-bit and 32-bit integers, Steim-1 and Steim-2. A file with anything else is
+refused with the place and the reason. No record is skipped.";
+
+pub const AFTER: &str = "With no words msrepack does what `msrepack repack -` does.
+
+Statuses:
+  0  done
+  1  refused: the input has a fault, or a file cannot be opened, read or written
+  2  the command line is wrong
+
+Example:
+  msrepack repack --length 4096 day.mseed packed.mseed > packed.txt";
+
+pub const REPACK_ABOUT: &str = "Writes the segments of a file in the fewest records, and a report";
+
+pub const REPACK_LONG_ABOUT: &str =
+    "Writes the segments of a file in the fewest records, and a report.
+
+The records go to OUT, the report to standard output. The records are big-endian,
+have blockettes 1000 and 1001 and 64 bytes before the data, and hold their samples as
+Steim-2, or else as Steim-1, 16-bit or 32-bit integers, whichever first fits. The time
+of each record is that of its first sample, counted from the start of its segment and
+rounded to the microsecond.
+
+The report has the length and the tolerance, how many records were read, how many of
+them had no samples, and in how many the last sample was not the reverse constant;
+then, for each segment, a line with its name, rate, start, samples and records, and a
+line of separators: samples, numbered from 0, no two of which fit one record.
+
+Where IN is refused, one line on standard error says at which byte and why, and OUT
+has only the front of the records: do not keep it.";
+
+pub const REPACK_AFTER: &str = "Examples:
+  msrepack repack day.mseed                     how few records of 512 bytes would do
+  msrepack repack --length 4096 day.mseed packed.mseed > packed.txt
+  cat day.mseed | msrepack repack - packed.mseed";
+
+pub const LIST_ABOUT: &str = "Lists the segments of a file";
+
+pub const LIST_LONG_ABOUT: &str = "Lists the segments of a file.
+
+Prints a line for each segment, with its name, quality, rate, flags, start and number
+of samples, and a last line that counts the records: all of them, those without
+samples, and those whose last sample is not the reverse constant.";
+
+pub const LIST_AFTER: &str = "Example:
+  msrepack list --tolerance 5000 day.mseed";
+
+pub const LENGTH: &str =
+    "Length of the records written, in bytes: 256, 512, 1024, 2048, 4096, 8192, 16384 or 32768";
+
+pub const TOLERANCE: &str =
+    "Microseconds by which a record may be early or late and still join a segment: 1 to 1000000";
+
+pub const LONG_TOLERANCE: &str =
+    "Microseconds by which a record may be early or late and still join a segment: 1 to
+1000000. The expected time is counted from the start of the segment, so that small
+errors do not add up";
+
+pub const IN: &str = "The file to read, or - for standard input";
+
+pub const OUT: &str = "The file to write the records to. Without it they are not kept";
+
+pub const NOT_A_LENGTH: &str = "msrepack: not a record length\n";
+
+pub const SAME_FILE: &str = "msrepack: the output is the input\n";
+
+pub const NO_COMMAND: &str = "error: no command\n";
+
+pub const NOT_UTF8: &str = "error: invalid UTF-8 was detected in one or more arguments\n";

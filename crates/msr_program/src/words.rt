@@ -1,0 +1,194 @@
+// The command line: what the words ask for.
+ghost use Rattle.std.specs.Prelude.{◌≡◌, ◌≢◌, ◌<◌, ◌↔◌, length, IfOk, IfErr, IfSome, IsOk, IsOkAnd};
+ghost use Rattle.std.specs.Option.{option_map};
+ghost use Rattle.msr_words.specs.RecordLength.{IsRecordLength};
+ghost use Rattle.msr_words.specs.Lengths.{bytes_of};
+ghost use Rattle.msr_program.specs.Tasks.{HasStatus, HasTolerance, IsDefault, IsRepacking, IsTolerance, KeepsInput};
+
+use crate::commands::command;
+use crate::texts;
+use clap::ArgMatches;
+use clap::error::ErrorKind;
+use msr_words::Length;
+use std::alloc::{AllocError, Global};
+
+/// A file to be repacked.
+#[derive(Clone, Copy, Debug, PartialEq, Eq)]
+pub struct Repacking<'a> {
+    /// The length of the records that are written.
+    pub length: Length,
+    /// The tolerance in microseconds.
+    pub tolerance: u32,
+    /// The name of a file, or `-` for standard input.
+    pub input: &'a str,
+    /// Where the records go, or nowhere.
+    pub output: Option<&'a str>,
+}
+
+/// A file whose segments are to be listed.
+#[derive(Clone, Copy, Debug, PartialEq, Eq)]
+pub struct Listing<'a> {
+    /// The tolerance in microseconds.
+    pub tolerance: u32,
+    /// The name of a file, or `-` for standard input.
+    pub input: &'a str,
+}
+
+/// What the program is asked to do.
+#[derive(Clone, Copy, Debug, PartialEq, Eq)]
+pub enum Task<'a> {
+    Repack(Repacking<'a>),
+    List(Listing<'a>),
+}
+
+/// The text to end with, and the status.
+#[derive(Debug, Drop)]
+pub struct Ending {
+    pub text: String,
+    pub status: u8,
+}
+
+/// Why there is no task.
+#[derive(Debug, Drop)]
+pub enum NoTask {
+    Ending(Ending),
+    Memory,
+}
+
+impl From<AllocError> for NoTask {
+    ghost use Rattle.msr_program.specs.declared.words.NoTask.TheVariants.{Memory};
+
+    ghost from_gives = { λ _ why. why ≡ Memory };
+
+    fn from(_error: AllocError) -> NoTask {
+        NoTask::Memory
+    }
+}
+
+/// The length of written records where none is asked for.
+pub fn default_length() -> Length
+    ensures { bytes_of result ≡ 512 }
+{
+    Length::new(512).unwrap()
+}
+
+// What is done where there are no words.
+fn default_task<'a>() -> Task<'a>
+    ensures default { IsDefault result }
+    ensures tolerance { HasTolerance result }
+    ensures keeps_input { KeepsInput result }
+{
+    Task::Repack(Repacking {
+        length: default_length(),
+        tolerance: 1000,
+        input: "-",
+        output: None,
+    })
+}
+
+// The answer to a wrong command line.
+fn wrong(alloc: Global, text: &str) -> NoTask
+    ensures { HasStatus result }
+{
+    match String::from_str(alloc, text) {
+        Ok(text) => NoTask::Ending(Ending { text, status: 2 }),
+        Err(AllocError) => NoTask::Memory,
+    }
+}
+
+// The answer to what clap found: a fault, or that help or the version is asked for.
+fn ending_of(alloc: Global, error: &clap::Error) -> NoTask
+    ensures { HasStatus result }
+{
+    if error.kind() == ErrorKind::OutOfMemory {
+        return NoTask::Memory;
+    }
+    match error.to_string(alloc) {
+        Ok(text) => NoTask::Ending(Ending {
+            text,
+            status: if error.use_stderr() { 2 } else { 0 },
+        }),
+        Err(AllocError) => NoTask::Memory,
+    }
+}
+
+fn tolerance_in(found: &ArgMatches<'_>) -> Option<u32>
+    ensures { IfSome result IsTolerance }
+{
+    let tolerance = found.get_one::<u32>("tolerance")?;
+    if tolerance < 1 || 1_000_000 < tolerance {
+        return None;
+    }
+    Some(tolerance)
+}
+
+// A file to be repacked, exactly where the length is one of a record and the output is not the input.
+fn repacking_of<'a>(
+    alloc: Global,
+    bytes: u32,
+    tolerance: u32,
+    input: &'a str,
+    output: Option<&'a str>,
+) -> Result<Task<'a>, NoTask>
+    requires { IsTolerance tolerance }
+    ensures ok { IsOk result ↔ (IsRecordLength bytes × IfSome output.entry (λ name. name.now ≢ input.now)) }
+    ensures asked { IfOk result (IsRepacking bytes tolerance input.now (option_map (λ name. name.now) output.entry)) }
+    ensures tolerance { IfOk result HasTolerance }
+    ensures keeps_input { IfOk result KeepsInput }
+    ensures status { IfErr result HasStatus }
+{
+    let Some(length) = Length::new(bytes) else {
+        return Err(wrong(alloc, texts::NOT_A_LENGTH));
+    };
+    if let Some(name) = output {
+        if name == input {
+            return Err(wrong(alloc, texts::SAME_FILE));
+        }
+    }
+    Ok(Task::Repack(Repacking {
+        length,
+        tolerance,
+        input,
+        output,
+    }))
+}
+
+// What clap found. It lets no line through without a command, its input and numbers in their ranges.
+fn task_of<'a>(alloc: Global, matches: &ArgMatches<'a>) -> Result<Task<'a>, NoTask>
+    ensures tolerance { IfOk result HasTolerance }
+    ensures keeps_input { IfOk result KeepsInput }
+    ensures status { IfErr result HasStatus }
+{
+    let Some((name, found)) = matches.subcommand() else {
+        return Err(wrong(alloc, texts::NO_COMMAND));
+    };
+    let Some(tolerance) = tolerance_in(found) else {
+        return Err(wrong(alloc, texts::NO_COMMAND));
+    };
+    let Some(input) = found.get_str("IN") else {
+        return Err(wrong(alloc, texts::NO_COMMAND));
+    };
+    if name == "list" {
+        return Ok(Task::List(Listing { tolerance, input }));
+    }
+    let Some(bytes) = found.get_one::<u32>("length") else {
+        return Err(wrong(alloc, texts::NO_COMMAND));
+    };
+    repacking_of(alloc, bytes, tolerance, input, found.get_str("OUT"))
+}
+
+/// The task that the words ask for, of which the first is the program's name.
+pub fn read_words<'a>(alloc: Global, words: &'a [&'a str]) -> Result<Task<'a>, NoTask>
+    ensures default { length words.now < 2 → IsOkAnd result IsDefault }
+    ensures tolerance { IfOk result HasTolerance }
+    ensures keeps_input { IfOk result KeepsInput }
+    ensures status { IfErr result HasStatus }
+{
+    if words.len() < 2 {
+        return Ok(default_task());
+    }
+    match command(alloc)?.try_get_matches_from(words) {
+        Ok(matches) => task_of(alloc, &matches),
+        Err(error) => Err(ending_of(alloc, &error)),
+    }
+}

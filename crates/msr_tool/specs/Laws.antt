@@ -1,0 +1,50 @@
+-- What follows from the answers: a readable input is refused by nothing but devices and memory, and an input has
+-- one output and one refusal.
+use Rattle.std.specs.Prelude.{◌≡◌, ◌≢◌, List, ℕ, Result, Err, IfErr}
+use Rattle.msr_record.specs.declared.row.Record.{Record}
+use Rattle.msr_segments.specs.declared.joiner.Segment.{Segment}
+use Rattle.msr_report.specs.declared.report.Counts.{Counts}
+use Rattle.msr_report.specs.declared.report.Report.{Report}
+use Rattle.msr_input.specs.Input.{IsReadable}
+use Rattle.msr_input.specs.declared.fault.Fault.{Fault}
+use Rattle.msr_output.specs.Output.{Packed}
+use Rattle.msr_tool.specs.Choice.{Choice}
+use Rattle.msr_tool.specs.Answer.{AreLinesOf, IsRepacked, IsRefusedAt, Answers}
+use Rattle.msr_tool.specs.Listing.{ListAnswers}
+use Rattle.msr_tool.specs.declared.fault.ToolFault.{ToolFault}
+use Rattle.msr_tool.specs.declared.fault.ToolFault.TheVariants.{Read, Write, Memory}
+
+-- where no device failed, a readable input is repacked, or there is no memory
+abbrev pub ReadableIsRepacked : Type 0
+ReadableIsRepacked =
+    (choice : Choice) (input written : List ℕ) (records : List Record) (segments : List Segment) (result : Result Report ToolFault)
+    → IsReadable choice.tolerance input records segments
+    → Answers choice input written result
+    → result ≢ Err Read → result ≢ Err Write
+    → IfErr result (λ fault. fault ≡ Memory)
+
+-- and so is it listed
+abbrev pub ReadableIsListed : Type 0
+ReadableIsListed =
+    (tolerance : ℕ) (input written : List ℕ) (records : List Record) (segments : List Segment) (result : Result Counts ToolFault)
+    → IsReadable tolerance input records segments
+    → ListAnswers tolerance input written result
+    → result ≢ Err Read → result ≢ Err Write
+    → IfErr result (λ fault. fault ≡ Memory)
+
+-- an input has one output, and the lines of its reports are those of the same packings
+abbrev pub OneRepacking : Type 0
+OneRepacking =
+    (choice : Choice) (input written other : List ℕ) (report another : Report)
+    → IsRepacked choice input written report
+    → IsRepacked choice input other another
+    → (written ≡ other) × (report.counts ≡ another.counts)
+    × ((packed : List Packed) × AreLinesOf packed report.segments.items × AreLinesOf packed another.segments.items)
+
+-- and one refusal
+abbrev pub OneRefusal : Type 0
+OneRefusal =
+    (choice : Choice) (input written other : List ℕ) (fault another : Fault)
+    → IsRefusedAt choice input written fault
+    → IsRefusedAt choice input other another
+    → fault ≡ another

@@ -1,0 +1,34 @@
+//! Laws of answers, each the contract of a function that does nothing.
+ghost use Rattle.msr_tool.specs.Laws.{OneRefusal, OneRepacking, ReadableIsListed, ReadableIsRepacked};
+
+use msr_input::{one_first_fault, one_list_of_records, readable_has_no_fault};
+use msr_output::one_output;
+
+/// On a readable input where no device fails `repack` succeeds, or answers want of memory.
+pub fn readable_is_repacked()
+    ensures { ReadableIsRepacked }
+{
+    readable_has_no_fault();
+}
+
+/// On a readable input where no device fails `list_segments` succeeds, or answers want of memory.
+pub fn readable_is_listed()
+    ensures { ReadableIsListed }
+{
+    readable_has_no_fault();
+}
+
+/// What `repack` writes where it succeeds is determined by the input and the options.
+pub fn one_repacking()
+    ensures { OneRepacking }
+{
+    one_list_of_records();
+    one_output();
+}
+
+/// And so is the fault where it refuses the input.
+pub fn one_refusal()
+    ensures { OneRefusal }
+{
+    one_first_fault();
+}

@@ -1,0 +1,203 @@
+//! Records worked out by hand, inputs made of samples, and one call of the engine.
+ghost use Rattle.std.specs.Prelude.{◌<◌, IfOk};
+ghost use Rattle.msr_report.specs.Proper.{IsProper};
+
+use crate::{Options, Report, TestSink, TestSource, ToolFault, repack};
+use msr_devices::Behavior;
+use msr_record::{Key, encode_record};
+use msr_time::{Rate, is_instant};
+use msr_words::{Kind, Length};
+use std::alloc::{AllocError, Global};
+use std::process::Abort;
+
+// 301 samples of 0 from 2020-01-01 00:00:00 at 20 per second, Steim-2, in a record of 256 bytes.
+const HEADER: [u8; 64] = [
+    0x30, 0x30, 0x30, 0x30, 0x30, 0x31, 0x44, 0x20, 0x54, 0x45, 0x53, 0x54, 0x20, 0x30, 0x30, 0x42,
+    0x48, 0x5a, 0x58, 0x58, 0x07, 0xe4, 0x00, 0x01, 0x00, 0x00, 0x00, 0x00, 0x00, 0x00, 0x01, 0x2d,
+    0x00, 0x14, 0x00, 0x01, 0x00, 0x00, 0x00, 0x02, 0x00, 0x00, 0x00, 0x00, 0x00, 0x40, 0x00, 0x30,
+    0x03, 0xe8, 0x00, 0x38, 0x0b, 0x01, 0x08, 0x00, 0x03, 0xe9, 0x00, 0x00, 0x00, 0x00, 0x00, 0x03,
+];
+
+/// The instant of 2020-01-01 00:00:00.
+pub const START: i64 = 1_577_836_800_000_000;
+
+/// Where bytes of a record are others, and which.
+pub type Edits<'a> = &'a [(usize, &'a [u8])];
+
+/// A device that moves all that it is given, and never fails.
+pub const PLAIN: Behavior = Behavior {
+    most: usize::MAX,
+    interruptions: 0,
+    fails_at: None,
+};
+
+/// Changes bytes of the record.
+pub fn edit(rt: &impl Abort, bytes: &mut [u8; 256], edits: Edits) {
+    for (at, values) in edits {
+        for (place, value) in values.iter().enumerate() {
+            match bytes.get_mut(at.saturating_add(place)) {
+                Some(byte) => *byte = *value,
+                None => panic!(rt; "no byte {at}"),
+            }
+        }
+    }
+}
+
+/// The record of 301 samples of 0, after some edits.
+pub fn steim(rt: &impl Abort, edits: Edits) -> [u8; 256] {
+    let mut bytes = [0; 256];
+    bytes[..64].copy_from_slice(&HEADER);
+    for word in 19..64 {
+        bytes[4 * word] = 0x80;
+    }
+    let codes: Edits = &[
+        (64, &[0x03, 0xff, 0xff, 0xff]),
+        (128, &[0x3f, 0xff, 0xff, 0xff]),
+        (192, &[0x3f, 0xff, 0xff, 0xff]),
+    ];
+    edit(rt, &mut bytes, codes);
+    edit(rt, &mut bytes, edits);
+    bytes
+}
+
+/// The header of that record before bytes of 0, after some edits.
+pub fn plain(rt: &impl Abort, edits: Edits) -> [u8; 256] {
+    let mut bytes = [0; 256];
+    bytes[..64].copy_from_slice(&HEADER);
+    edit(rt, &mut bytes, edits);
+    bytes
+}
+
+/// That header before three frames in which each data word is the same, after some edits.
+pub fn of_words(rt: &impl Abort, word: [u8; 4], edits: Edits) -> [u8; 256] {
+    let mut bytes = [0; 256];
+    bytes[..64].copy_from_slice(&HEADER);
+    for place in 19..64 {
+        bytes[4 * place..4 * place + 4].copy_from_slice(&word);
+    }
+    edit(rt, &mut bytes, edits);
+    bytes
+}
+
+/// The records, one after another.
+pub fn joined(alloc: Global, records: &[[u8; 256]]) -> Result<Vec<u8>, AllocError> {
+    let mut bytes = Vec::new(alloc);
+    for record in records {
+        bytes.extend_from_slice(record)?;
+    }
+    Ok(bytes)
+}
+
+/// The records of 301 samples of 0, each after its edits.
+pub fn edited(rt: &impl Abort, alloc: Global, records: &[Edits]) -> Result<Vec<u8>, AllocError> {
+    let mut bytes = Vec::new(alloc);
+    for edits in records {
+        bytes.extend_from_slice(&steim(rt, edits))?;
+    }
+    Ok(bytes)
+}
+
+/// The samples from 2020-01-01 00:00:00 on, in records of 4096 bytes with 1008 numbers of 32 bits in each.
+pub fn input_of(
+    rt: &impl Abort,
+    alloc: Global,
+    rate: Rate,
+    samples: &[i32],
+) -> Result<Vec<u8>, AllocError> {
+    let key = Key {
+        network: *b"XX",
+        station: *b"TEST ",
+        location: *b"00",
+        channel: *b"BHZ",
+        quality: b'D',
+        rate,
+        activity: 0,
+        clock: 0,
+        data_quality: 0,
+        correction: 0,
+        timing: 0,
+    };
+    let Some(record_length) = Length::new(4096) else {
+        panic!(rt; "no length")
+    };
+    let mut input = Vec::new(alloc);
+    for (number, run) in samples.chunks(1008).enumerate() {
+        assert!(rt; number < 999_999);
+        let Some(start) = rate.nominal(START, 1008 * number as u64) else {
+            panic!(rt; "no instant")
+        };
+        assert!(rt; is_instant(start));
+        assert!(rt; !run.is_empty());
+        assert!(rt; Kind::Int32.fits(None, run, record_length));
+        encode_record(
+            alloc,
+            &key,
+            start,
+            1 + number as u32,
+            None,
+            run,
+            Kind::Int32,
+            record_length,
+            &mut input,
+        )?;
+    }
+    Ok(input)
+}
+
+/// Records of so many bytes, joined by that tolerance.
+pub fn choice(rt: &impl Abort, bytes: u32, tolerance: u32) -> Options {
+    let Some(record_length) = Length::new(bytes) else {
+        panic!(rt; "no length")
+    };
+    let Some(options) = Options::new(record_length, tolerance) else {
+        panic!(rt; "no tolerance")
+    };
+    options
+}
+
+/// What a call answered, and the sink that it wrote to.
+#[derive(Drop)]
+pub struct Outcome {
+    pub answer: Result<Report, ToolFault>,
+    pub sink: TestSink,
+}
+
+/// The input repacked by a source and a sink that behave so.
+pub fn repacked_through(
+    alloc: Global,
+    input: &[u8],
+    options: Options,
+    reading: Behavior,
+    writing: Behavior,
+) -> Outcome
+    ensures proper { IfOk result.answer IsProper }
+{
+    let mut source = TestSource::new(input, reading);
+    let mut sink = TestSink::new(Vec::new(alloc), writing);
+    let answer = repack(alloc, &mut source, &mut sink, options);
+    Outcome { answer, sink }
+}
+
+/// The input repacked.
+pub fn repacked(alloc: Global, input: &[u8], options: Options) -> Outcome
+    ensures proper { IfOk result.answer IsProper }
+{
+    repacked_through(alloc, input, options, PLAIN, PLAIN)
+}
+
+/// How many samples each record of so many bytes has, and its encoding.
+pub fn shapes(alloc: Global, bytes: &[u8], size: usize) -> Result<Vec<(u16, u8)>, AllocError>
+    requires { 0 < size }
+{
+    let mut shapes = Vec::new(alloc);
+    for record in bytes.chunks(size) {
+        if let (Some(high), Some(low), Some(encoding)) = (
+            record.get(30),
+            record.get(31),
+            record.get(52),
+        ) {
+            shapes.push((u16::from_be_bytes([*high, *low]), *encoding))?;
+        }
+    }
+    Ok(shapes)
+}

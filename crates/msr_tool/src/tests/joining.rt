@@ -1,0 +1,298 @@
+//! Records that join or do not, and what a written header takes over from the ones that were read.
+use crate::Counts;
+use crate::tests::fixtures::{Edits, Outcome, START, choice, edited, repacked};
+use std::test::Fail;
+
+// 100 samples in place of 301.
+const SHORT: (usize, &[u8]) = (30, &[0x00, 0x64]);
+
+const THREE_READ: Counts = Counts {
+    read: 3,
+    empty: 0,
+    mismatched: 0,
+};
+
+const TWO_READ: Counts = Counts {
+    read: 2,
+    ..THREE_READ
+};
+
+const ONE_READ: Counts = Counts {
+    read: 1,
+    ..THREE_READ
+};
+
+// Records of 100 samples of 0 in 5 seconds, and the segments that they are joined into: how many microseconds each
+// begins after the first record, and how many samples it has.
+#[derive(Clone, Copy)]
+struct Joined {
+    name: &'static str,
+    tolerance: u32,
+    records: &'static [Edits<'static>],
+    counts: Counts,
+    segments: &'static [(i64, u64)],
+}
+
+const LATE: Joined = Joined {
+    name: "late by 700 microseconds, and then by 1400",
+    tolerance: 1000,
+    records: &[
+        &[SHORT],
+        &[SHORT, (26, &[0x05, 0x00, 0x00, 0x07])],
+        &[SHORT, (26, &[0x0a, 0x00, 0x00, 0x0e])],
+    ],
+    counts: THREE_READ,
+    segments: &[(0, 200), (10_001_400, 100)],
+};
+
+const TWO: Joined = Joined {
+    name: "late by as much as is tolerated",
+    records: &[&[SHORT], &[SHORT, (26, &[0x05, 0x00, 0x00, 0x0a])]],
+    counts: TWO_READ,
+    segments: &[(0, 200)],
+    ..LATE
+};
+
+const JOINED: [Joined; 9] = [
+    LATE,
+    TWO,
+    Joined {
+        name: "late by a microsecond more",
+        records: &[
+            &[SHORT],
+            &[SHORT, (26, &[0x05, 0x00, 0x00, 0x0a]), (61, &[0x01])],
+        ],
+        segments: &[(0, 100), (5_001_001, 100)],
+        ..TWO
+    },
+    Joined {
+        name: "early by as much as is tolerated",
+        records: &[&[SHORT], &[SHORT, (26, &[0x04, 0x00, 0x27, 0x06])]],
+        ..TWO
+    },
+    Joined {
+        name: "early by a microsecond more",
+        records: &[
+            &[SHORT],
+            &[SHORT, (26, &[0x04, 0x00, 0x27, 0x05]), (61, &[0x63])],
+        ],
+        segments: &[(0, 100), (4_998_999, 100)],
+        ..TWO
+    },
+    Joined {
+        name: "late by the least tolerance",
+        tolerance: 1,
+        records: &[
+            &[SHORT],
+            &[SHORT, (26, &[0x05, 0x00, 0x00, 0x00]), (61, &[0x01])],
+        ],
+        ..TWO
+    },
+    Joined {
+        name: "late by the greatest tolerance",
+        tolerance: 1_000_000,
+        records: &[&[SHORT], &[SHORT, (26, &[0x06, 0x00, 0x00, 0x00])]],
+        ..TWO
+    },
+    Joined {
+        name: "an empty record of another encoding between",
+        records: &[
+            &[SHORT],
+            &[(30, &[0x00, 0x00]), (52, &[0x00])],
+            &[SHORT, (26, &[0x05, 0x00, 0x00, 0x00])],
+        ],
+        counts: Counts {
+            empty: 1,
+            ..THREE_READ
+        },
+        ..TWO
+    },
+    Joined {
+        name: "the same rate as another factor and multiplier",
+        records: &[
+            &[SHORT],
+            &[
+                SHORT,
+                (26, &[0x05, 0x00, 0x00, 0x00]),
+                (32, &[0x00, 0xc8, 0xff, 0xf6]),
+            ],
+        ],
+        segments: &[(0, 100), (5_000_000, 100)],
+        ..TWO
+    },
+];
+
+#[test]
+fn joins(rt: HostRuntime) -> Result<(), Fail> {
+    let alloc = rt.alloc();
+    for Joined {
+        name,
+        tolerance,
+        records,
+        counts,
+        segments,
+    } in JOINED {
+        let input = edited(&rt, alloc, records)?;
+        let Outcome { answer, sink } = repacked(alloc, &input, choice(&rt, 256, tolerance));
+        let Ok(report) = answer else {
+            panic!(rt; "{name}: refused")
+        };
+        let lines = report.segments;
+        assert_eq!(rt; report.tolerance, tolerance, "{name}");
+        assert_eq!(rt; report.counts, counts, "{name}");
+        assert_eq!(rt; lines.len(), segments.len(), "{name}");
+        assert_eq!(rt; sink.bytes().chunks(256).count(), segments.len(), "{name}");
+        for (line, (late, samples)) in lines.iter().zip(segments) {
+            assert_eq!(rt; line.start, START.saturating_add(*late), "{name}");
+            assert_eq!(rt; line.samples, *samples, "{name}");
+        }
+    }
+    Ok(())
+}
+
+// Records, and those that are written for them.
+#[derive(Clone, Copy)]
+struct TakenOver {
+    name: &'static str,
+    read: &'static [Edits<'static>],
+    written: &'static [Edits<'static>],
+    counts: Counts,
+    // how many samples each segment has
+    segments: &'static [u64],
+}
+
+const CORRECTED: TakenOver = TakenOver {
+    name: "a correction that is not made yet",
+    read: &[&[(36, &[0x00]), (43, &[0x0c])]],
+    written: &[&[(28, &[0x00, 0x0c]), (36, &[0x02]), (43, &[0x0c])]],
+    counts: ONE_READ,
+    segments: &[301],
+};
+
+const TWICE: TakenOver = TakenOver {
+    name: "the same record twice",
+    read: &[&[], &[]],
+    written: &[&[], &[(5, &[0x32])]],
+    counts: TWO_READ,
+    segments: &[301, 301],
+};
+
+const TAKEN_OVER: [TakenOver; 10] = [
+    CORRECTED,
+    TakenOver {
+        name: "a correction that was made",
+        read: &[&[(36, &[0x02]), (43, &[0x0c])]],
+        written: &[&[(36, &[0x02]), (43, &[0x0c])]],
+        ..CORRECTED
+    },
+    TakenOver {
+        name: "a year that is one in both byte orders",
+        read: &[&[(20, &[0x08, 0x08, 0x00, 0x01])]],
+        written: &[&[(20, &[0x08, 0x08, 0x00, 0x01])]],
+        ..CORRECTED
+    },
+    TakenOver {
+        name: "a header in little-endian order",
+        read: &[&[
+            (20, &[0xe4, 0x07, 0x01, 0x00]),
+            (30, &[0x2d, 0x01, 0x14, 0x00, 0x01, 0x00]),
+            (44, &[0x40, 0x00, 0x30, 0x00, 0xe8, 0x03, 0x38, 0x00]),
+            (56, &[0xe9, 0x03]),
+        ]],
+        written: &[&[]],
+        ..CORRECTED
+    },
+    TakenOver {
+        name: "microseconds below 0",
+        read: &[&[(61, &[0xce])]],
+        written: &[&[
+            (
+                20,
+                &[0x07, 0xe3, 0x01, 0x6d, 0x17, 0x3b, 0x3b, 0x00, 0x27, 0x0f],
+            ),
+            (61, &[0x32]),
+        ]],
+        ..CORRECTED
+    },
+    TakenOver {
+        name: "second 60",
+        read: &[&[(20, &[0x07, 0xe3, 0x01, 0x6d, 0x17, 0x3b, 0x3c])]],
+        written: &[&[]],
+        ..CORRECTED
+    },
+    TakenOver {
+        name: "no blockette 1001",
+        read: &[&[(50, &[0x00, 0x00]), (60, &[0x63, 0x63])]],
+        written: &[&[]],
+        ..CORRECTED
+    },
+    TakenOver {
+        name: "another reverse constant",
+        read: &[&[(72, &[0x00, 0x00, 0x00, 0x01])]],
+        written: &[&[]],
+        counts: Counts {
+            mismatched: 1,
+            ..ONE_READ
+        },
+        ..CORRECTED
+    },
+    TWICE,
+    TakenOver {
+        name: "the last seconds of the last year, the second record late by a microsecond",
+        read: &[
+            &[(
+                20,
+                &[0x08, 0x34, 0x01, 0x6d, 0x17, 0x3b, 0x1d, 0x00, 0x23, 0x28],
+            )],
+            &[
+                (
+                    20,
+                    &[0x08, 0x34, 0x01, 0x6d, 0x17, 0x3b, 0x2c, 0x00, 0x25, 0x1c],
+                ),
+                (61, &[0x01]),
+            ],
+        ],
+        written: &[
+            &[(
+                20,
+                &[0x08, 0x34, 0x01, 0x6d, 0x17, 0x3b, 0x1d, 0x00, 0x23, 0x28],
+            )],
+            &[
+                (5, &[0x32]),
+                (
+                    20,
+                    &[0x08, 0x34, 0x01, 0x6d, 0x17, 0x3b, 0x2c, 0x00, 0x25, 0x1c],
+                ),
+            ],
+        ],
+        segments: &[602],
+        ..TWICE
+    },
+];
+
+#[test]
+fn written_headers(rt: HostRuntime) -> Result<(), Fail> {
+    let alloc = rt.alloc();
+    for TakenOver {
+        name,
+        read,
+        written,
+        counts,
+        segments,
+    } in TAKEN_OVER {
+        let input = edited(&rt, alloc, read)?;
+        let Outcome { answer, sink } = repacked(alloc, &input, choice(&rt, 256, 1000));
+        let Ok(report) = answer else {
+            panic!(rt; "{name}: refused")
+        };
+        let lines = report.segments;
+        assert_eq!(rt; report.counts, counts, "{name}");
+        assert_eq!(rt; lines.len(), segments.len(), "{name}");
+        for (line, samples) in lines.iter().zip(segments) {
+            assert_eq!(rt; line.samples, *samples, "{name}");
+        }
+        let want = edited(&rt, alloc, written)?;
+        assert!(rt; sink.bytes() == want.as_slice(), "{name}");
+    }
+    Ok(())
+}

@@ -1,0 +1,318 @@
+//! Samples in the fewest records: how many samples each has, and as what it stores them.
+use crate::Counts;
+use crate::tests::fixtures::{
+    Outcome, START, choice, edit, input_of, joined, of_words, plain, repacked, shapes, steim,
+};
+use msr_time::Rate;
+use std::alloc::Global;
+use std::process::Abort;
+use std::test::Fail;
+
+const INT16: u8 = 1;
+
+const INT32: u8 = 3;
+
+const STEIM1: u8 = 10;
+
+const STEIM2: u8 = 11;
+
+// What is written for samples.
+#[derive(Clone, Copy)]
+struct Worked {
+    name: &'static str,
+    factor: i16,
+    multiplier: i16,
+    // the length of the written records
+    bytes: u32,
+    // how many records are read
+    read: u64,
+    // of each written record the number of samples and the encoding
+    records: &'static [(u16, u8)],
+    separators: &'static [u64],
+}
+
+// Repacks the samples, compares all but the bytes, and gives these.
+fn packed(
+    rt: &impl Abort,
+    alloc: Global,
+    worked: Worked,
+    samples: &[i32],
+) -> Result<Vec<u8>, Fail> {
+    let Worked {
+        name,
+        factor,
+        multiplier,
+        bytes,
+        read,
+        records,
+        separators,
+    } = worked;
+    let rate = Rate::new(factor, multiplier).ok_or("no rate")?;
+    let input = input_of(rt, alloc, rate, samples)?;
+    let options = choice(rt, bytes, 1000);
+    let Outcome { answer, sink } = repacked(alloc, &input, options);
+    let Ok(report) = answer else {
+        panic!(rt; "{name}: refused")
+    };
+    let lines = report.segments;
+    assert_eq!(rt;
+        (report.length.bytes(), report.tolerance),
+        (bytes, 1000),
+        "{name}"
+    );
+    let want = Counts {
+        read,
+        empty: 0,
+        mismatched: 0,
+    };
+    assert_eq!(rt; report.counts, want, "{name}");
+    assert_eq!(rt; lines.len(), 1, "{name}");
+    for line in &lines {
+        assert_eq!(rt; line.key.rate, rate, "{name}");
+        assert_eq!(rt; line.start, START, "{name}");
+        assert_eq!(rt; line.samples, samples.len() as u64, "{name}");
+        assert_eq!(rt; line.records, records.len() as u64, "{name}");
+        assert_eq!(rt; line.separators.as_slice(), separators, "{name}");
+    }
+    let written = sink.bytes();
+    assert!(rt; bytes > 0);
+    assert_eq!(rt; written.len() % bytes as usize, 0, "{name}");
+    let found_shapes = shapes(alloc, written, bytes as usize)?;
+    assert_eq!(rt; found_shapes.as_slice(), records, "{name}");
+    let again = repacked(alloc, written, options);
+    assert!(rt; again.sink.bytes() == written, "{name}, again");
+    assert!(rt; again.answer.is_ok(), "{name}, again");
+    Ok(written.to_vec(alloc)?)
+}
+
+// 97 samples, in turn -20000 and 20000.
+fn swinging() -> [i32; 97] {
+    let mut samples = [-20_000; 97];
+    for pair in 0..48 {
+        samples[2 * pair + 1] = 20_000;
+    }
+    samples
+}
+
+// 87 samples that end with a word of three differences.
+fn ending_in_three() -> [i32; 87] {
+    let mut samples = [1_020_000; 87];
+    for pair in 0..42 {
+        samples[2 * pair] = 1_000_000;
+    }
+    samples
+}
+
+// 173 samples of which two records hold all only where the second begins one sample before the end that the first
+// can reach.
+fn with_a_pause() -> [i32; 173] {
+    let mut samples = [1_000_000; 173];
+    for pair in 0..86 {
+        if pair < 42 || pair >= 44 {
+            samples[2 * pair + 1] = 1_020_000;
+        }
+    }
+    samples
+}
+
+#[test]
+fn fewest_records(rt: HostRuntime) -> Result<(), Fail> {
+    let alloc = rt.alloc();
+    let zeros = [0; 53_641];
+    let swinging = swinging();
+    let with_a_pause = with_a_pause();
+    let longest = Worked {
+        name: "the longest record",
+        factor: 20,
+        multiplier: 1,
+        bytes: 32_768,
+        read: 54,
+        records: &[(53_641, STEIM2)],
+        separators: &[0],
+    };
+    let mixed = Worked {
+        name: "numbers of 16 bits, and then a difference that none of them holds",
+        bytes: 256,
+        read: 1,
+        records: &[(96, INT16), (1, STEIM2)],
+        separators: &[0, 96],
+        ..longest
+    };
+    let cut_early = Worked {
+        name: "a first run that ends before the greatest one does",
+        records: &[(85, STEIM1), (88, STEIM1)],
+        separators: &[0, 86],
+        ..mixed
+    };
+    let written = packed(&rt, alloc, longest, &zeros)?;
+    assert_eq!(rt;
+        written.get(63).copied(),
+        Some(0),
+        "more frames than a byte counts"
+    );
+    packed(&rt, alloc, mixed, &swinging)?;
+    packed(&rt, alloc, cut_early, &with_a_pause)?;
+    Ok(())
+}
+
+// 301 samples of 0, and one more.
+const FULL: Worked = Worked {
+    name: "one full record",
+    factor: 20,
+    multiplier: 1,
+    bytes: 256,
+    read: 1,
+    records: &[(301, STEIM2)],
+    separators: &[0],
+};
+
+const ONE_MORE: Worked = Worked {
+    name: "one sample more",
+    records: &[(301, STEIM2), (1, STEIM2)],
+    separators: &[0, 301],
+    ..FULL
+};
+
+// What differs in a record of one sample behind that of 301.
+const ONE_SAMPLE: [(usize, &[u8]); 5] = [
+    (5, &[0x32]),
+    (30, &[0x00, 0x01]),
+    (63, &[0x01]),
+    (64, &[0x02, 0x00, 0x00, 0x00]),
+    (76, &[0x40, 0x00, 0x00, 0x00]),
+];
+
+// 301 samples of 0 and then one: the rate in both records, and the time and the microseconds of the second.
+#[test]
+fn times_of_records(rt: HostRuntime) -> Result<(), Fail> {
+    let alloc = rt.alloc();
+    let zeros = [0; 302];
+    let alone = packed(&rt, alloc, FULL, &zeros[..301])?;
+    assert!(rt; alone.as_slice() == steim(&rt, &[]).as_slice());
+    for (worked, rate, time, micros) in [
+        (
+            ONE_MORE,
+            [0x00, 0x14, 0x00, 0x01],
+            [0x00, 0x00, 0x0f, 0x00, 0x01, 0xf4],
+            0x00,
+        ),
+        (
+            Worked {
+                name: "a period of a third of a second",
+                factor: 3,
+                ..ONE_MORE
+            },
+            [0x00, 0x03, 0x00, 0x01],
+            [0x00, 0x01, 0x28, 0x00, 0x0d, 0x05],
+            0x21,
+        ),
+        (
+            Worked {
+                name: "a period of 12.5 microseconds",
+                factor: 20_000,
+                multiplier: 4,
+                ..ONE_MORE
+            },
+            [0x4e, 0x20, 0x00, 0x04],
+            [0x00, 0x00, 0x00, 0x00, 0x00, 0x25],
+            0x3f,
+        ),
+    ] {
+        let written = packed(&rt, alloc, worked, &zeros)?;
+        let first = steim(&rt, &[(32, &rate)]);
+        let mut second = plain(&rt, &ONE_SAMPLE);
+        edit(
+            &rt,
+            &mut second,
+            &[(24, &time), (32, &rate), (61, &[micros])],
+        );
+        let want = joined(alloc, &[first, second])?;
+        let name = worked.name;
+        assert!(rt; written.as_slice() == want.as_slice(), "{name}");
+    }
+    Ok(())
+}
+
+#[test]
+fn three_differences_and_whole_numbers(rt: HostRuntime) -> Result<(), Fail> {
+    let alloc = rt.alloc();
+    let three = Worked {
+        name: "three differences in the last word",
+        records: &[(87, STEIM1)],
+        ..FULL
+    };
+    let want = of_words(
+        &rt,
+        [0xb1, 0xe0, 0x4e, 0x20],
+        &[
+            (30, &[0x00, 0x57]),
+            (52, &[0x0a]),
+            (64, &[0x02, 0xaa, 0xaa, 0xaa, 0x00, 0x0f, 0x42, 0x40]),
+            (72, &[0x00, 0x0f, 0x90, 0x60, 0x00, 0x00, 0x4e, 0x20]),
+            (128, &[0x2a, 0xaa, 0xaa, 0xaa]),
+            (192, &[0x2a, 0xaa, 0xaa, 0xa9]),
+            (252, &[0x00, 0x00, 0x00, 0x00]),
+        ],
+    );
+    let written = packed(&rt, alloc, three, &ending_in_three())?;
+    assert!(rt; written.as_slice() == want.as_slice());
+    let whole = Worked {
+        name: "a difference of 33 bits",
+        records: &[(2, INT32)],
+        ..FULL
+    };
+    let want = plain(
+        &rt,
+        &[
+            (30, &[0x00, 0x02]),
+            (52, &[0x03]),
+            (63, &[0x00]),
+            (64, &[0x80, 0x00, 0x00, 0x00, 0x7f, 0xff, 0xff, 0xff]),
+        ],
+    );
+    let written = packed(&rt, alloc, whole, &[i32::MIN, i32::MAX])?;
+    assert!(rt; written.as_slice() == want.as_slice());
+    Ok(())
+}
+
+// Samples at 100 a second, each 1 above the one before: 103 words with seven differences in each record.
+fn rising(
+    rt: &impl Abort,
+    alloc: Global,
+    samples: &[i32],
+    read: u64,
+    written: usize,
+    in_last: u16,
+) -> Result<(), Fail> {
+    let rate = Rate::new(100, 1).ok_or("no rate")?;
+    let input = input_of(rt, alloc, rate, samples)?;
+    let Outcome { answer, sink } = repacked(alloc, &input, choice(rt, 512, 1000));
+    let Ok(report) = answer else {
+        panic!(rt; "refused")
+    };
+    let lines = report.segments;
+    assert_eq!(rt; report.counts.read, read);
+    assert_eq!(rt; lines.len(), 1);
+    for line in &lines {
+        assert_eq!(rt; line.samples, samples.len() as u64);
+        assert_eq!(rt; line.records, written as u64);
+        assert_eq!(rt; line.separators.len(), written);
+        for (place, separator) in line.separators.iter().enumerate() {
+            assert_eq!(rt; Some(*separator), 721u64.checked_mul(place as u64));
+        }
+    }
+    let found = shapes(alloc, sink.bytes(), 512)?;
+    assert_eq!(rt; found.len(), written);
+    for (left, shape) in (0..written).rev().zip(&found) {
+        let count = if left == 0 { in_last } else { 721 };
+        assert_eq!(rt; *shape, (count, STEIM2), "{left} records before the last");
+    }
+    Ok(())
+}
+
+#[test]
+fn samples_that_rise(rt: HostRuntime) -> Result<(), Fail> {
+    let alloc = rt.alloc();
+    let samples = (0..864_000).collect::<Vec<i32>>(alloc)?;
+    rising(&rt, alloc, &samples, 858, 1199, 242)
+}

@@ -1,0 +1,177 @@
+//! Texts of reports, lists and faults, and which choices there are.
+use crate::tests::fixtures::{Edits, Outcome, PLAIN, choice, edited, input_of, repacked};
+use crate::{
+    Counts, Fault, Options, TestSink, TestSource, ToolFault, list_segments, one_refusal,
+    one_repacking, readable_is_listed, readable_is_repacked,
+};
+use msr_devices::Behavior;
+use msr_header::HeaderFault;
+use msr_record::FaultKind;
+use msr_time::Rate;
+use msr_words::Length;
+use std::alloc::Global;
+use std::process::Abort;
+use std::test::Fail;
+
+const NO_SEGMENTS: &str = "\
+msrepack 1
+length 512
+tolerance 1000
+read 0 empty 0 mismatched 0
+end 0 segments 0 records
+";
+
+const ONE_SEGMENT: &str = "\
+msrepack 1
+length 256
+tolerance 1000
+read 1 empty 0 mismatched 0
+segment XX.TEST_.00.BHZ D rate 20 1 flags 00 00 00 correction 0 timing 0 start 2020,001,00:00:00.000000 samples 302 records 2
+separators 0 301
+end 1 segments 2 records
+";
+
+#[test]
+fn reports(rt: HostRuntime) -> Result<(), Fail> {
+    let alloc = rt.alloc();
+    let rate = Rate::new(20, 1).ok_or("no rate")?;
+    let rows: [(&[i32], u32, usize, &str); 2] = [
+        (&[], 512, 0, NO_SEGMENTS),
+        (&[0; 302], 256, 512, ONE_SEGMENT),
+    ];
+    for (samples, bytes, written, text) in rows {
+        let input = input_of(&rt, alloc, rate, samples)?;
+        let Outcome { answer, sink } = repacked(alloc, &input, choice(&rt, bytes, 1000));
+        assert_eq!(rt; sink.bytes().len(), written);
+        let Ok(report) = answer else {
+            panic!(rt; "refused")
+        };
+        let mut sink = TestSink::new(Vec::new(alloc), PLAIN);
+        assert!(rt; report.write_text(alloc, &mut sink).is_ok());
+        assert_eq!(rt; sink.bytes(), text.as_bytes());
+    }
+    Ok(())
+}
+
+const LIST: &str = "\
+segment XX.TEST_.00.BHZ D rate 20 1 flags 00 00 00 correction 0 timing 0 start 2020,001,00:00:00.000000 samples 200
+segment XX.TEST_.00.BHZ D rate 20 1 flags 00 00 00 correction 0 timing 0 start 2020,001,00:00:10.001400 samples 100
+read 3 empty 0 mismatched 0
+";
+
+// 100 samples at 0, 5.0007 and 10.0014 seconds.
+const LISTED: [Edits<'static>; 3] = [
+    &[(30, &[0x00, 0x64])],
+    &[(26, &[0x05, 0x00, 0x00, 0x07, 0x00, 0x64])],
+    &[(26, &[0x0a, 0x00, 0x00, 0x0e, 0x00, 0x64])],
+];
+
+// Lists the input by devices that behave so. What was written is a front of the list; how many bytes of it are there?
+fn listed(
+    rt: &impl Abort,
+    alloc: Global,
+    input: &[u8],
+    reading: Behavior,
+    writing: Behavior,
+) -> (Result<Counts, ToolFault>, usize) {
+    let mut source = TestSource::new(input, reading);
+    let mut sink = TestSink::new(Vec::new(alloc), writing);
+    let answer = list_segments(alloc, &mut source, &mut sink, choice(rt, 256, 1000));
+    assert!(rt; LIST.as_bytes().starts_with(sink.bytes()));
+    (answer, sink.bytes().len())
+}
+
+#[test]
+fn lists(rt: HostRuntime) -> Result<(), Fail> {
+    let alloc = rt.alloc();
+    let mut input = edited(&rt, alloc, &LISTED)?;
+    let (answer, written) = listed(&rt, alloc, &input, PLAIN, PLAIN);
+    let counts = Counts {
+        read: 3,
+        empty: 0,
+        mismatched: 0,
+    };
+    assert_eq!(rt; (answer, written), (Ok(counts), LIST.len()));
+    for fails_at in 0u64..13 {
+        let failing = |most: usize| Behavior {
+            most,
+            interruptions: 1,
+            fails_at: Some(fails_at),
+        };
+        let (answer, _) = listed(&rt, alloc, &input, failing(64), PLAIN);
+        assert_eq!(rt; answer, Err(ToolFault::Read), "at {fails_at}");
+        let (answer, written) = listed(&rt, alloc, &input, PLAIN, failing(20));
+        assert_eq!(rt; answer, Err(ToolFault::Write), "at {fails_at}");
+        assert_eq!(rt; written as u64, 20 * fails_at);
+    }
+    input.extend_from_slice(&[0; 47])?;
+    let (answer, _) = listed(&rt, alloc, &input, PLAIN, PLAIN);
+    let fault = Fault {
+        offset: 768,
+        kind: FaultKind::Header(HeaderFault::Truncated),
+    };
+    assert_eq!(rt; answer, Err(ToolFault::Input(fault)));
+    Ok(())
+}
+
+#[test]
+fn laws_are_callable() {
+    one_refusal();
+    one_repacking();
+    readable_is_listed();
+    readable_is_repacked();
+}
+
+#[test]
+fn choices(rt: HostRuntime) -> Result<(), Fail> {
+    for bytes in [256, 512, 1024, 2048, 4096, 8192, 16_384, 32_768] {
+        let length = Length::new(bytes).ok_or("no length")?;
+        for (tolerance, taken) in [
+            (0, false),
+            (1, true),
+            (1000, true),
+            (1_000_000, true),
+            (1_000_001, false),
+            (u32::MAX, false),
+        ] {
+            let options = Options::new(length, tolerance);
+            assert_eq!(rt; options.is_some(), taken, "at {tolerance}");
+            if let Some(options) = options {
+                assert_eq!(rt;
+                    (options.length(), options.tolerance()),
+                    (length, tolerance)
+                );
+            }
+        }
+    }
+    Ok(())
+}
+
+#[test]
+fn faults(rt: HostRuntime) -> Result<(), Fail> {
+    let alloc = rt.alloc();
+    let other = FaultKind::Header(HeaderFault::OtherBlockette(500));
+    for (fault, text) in [
+        (
+            ToolFault::Input(Fault {
+                offset: 0,
+                kind: other,
+            }),
+            "offset 0: 5 OtherBlockette 500",
+        ),
+        (
+            ToolFault::Input(Fault {
+                offset: u64::MAX,
+                kind: FaultKind::BadCode(3),
+            }),
+            "offset 18446744073709551615: 13 BadCode 3",
+        ),
+        (ToolFault::Read, "read fault"),
+        (ToolFault::Write, "write fault"),
+        (ToolFault::Memory, "out of memory"),
+    ] {
+        assert_eq!(rt; format!(in alloc; "{fault}")?.as_str(), text);
+        assert_eq!(rt; fault.status(), 1, "{text}");
+    }
+    Ok(())
+}
