@@ -5,3 +5,4 @@ pub mod Writing
 pub mod Listing
 pub mod ListWriting
 pub mod Laws
+pub mod Shown

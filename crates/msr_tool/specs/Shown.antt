@@ -1,0 +1,30 @@
+-- What was repacked is readable, and its own report shows that it stands in the fewest records.
+use Rattle.std.specs.Prelude.{◌≡◌, ℕ, ◌-◌, ℤ, pos, ◌+ℤ◌, List, length, All}
+use Rattle.msr_time.specs.Instant.{IsInstant}
+use Rattle.msr_time.specs.SampleRate.{IsRoundedNominal}
+use Rattle.msr_record.specs.declared.row.Record.{Record}
+use Rattle.msr_segments.specs.declared.joiner.Segment.{Segment}
+use Rattle.msr_report.specs.declared.report.Report.{Report}
+use Rattle.msr_input.specs.Input.{IsReadable}
+use Rattle.msr_verdict.specs.Packed.{ShowsLeast}
+use Rattle.msr_tool.specs.Choice.{Choice}
+use Rattle.msr_tool.specs.Answer.{IsRepacked}
+
+-- The rounded instant of the segment's last sample, counted from its start, is not the last microsecond of the
+-- supported years: the one after it is of them too.
+pub record EndsBeforeTheLast (segment : Segment) : Type 0 where
+  pub last : ℤ
+  pub nominal : IsRoundedNominal segment.key.rate segment.start (length segment.samples - 1) last
+  pub before : IsInstant (last +ℤ pos 1)
+
+-- What was repacked is readable where no segment of the input ends in the last microsecond, and the report shows
+-- that each of its segments stands in the fewest records. A record begins at the rounded instant of its first
+-- sample, so its last sample, counted from there, may be rounded to one microsecond more than when it is counted
+-- from the segment's start.
+abbrev pub RepackedIsShown : Type 0
+RepackedIsShown =
+    (choice : Choice) (input written : List ℕ) (report : Report) (records : List Record) (segments : List Segment)
+    → IsRepacked choice input written report
+    → IsReadable choice.tolerance input records segments
+    → All EndsBeforeTheLast segments
+    → ShowsLeast report written
