@@ -1,11 +1,11 @@
 -- A sample of a segment lies in the supported years where the first and the last do.
-use Rattle.std.proofs.Common.{◌≡◌, refl, ℕ, ◌+◌, ◌*◌, ◌<◌, ◌≤◌, arith, ℤ, pos, ◌+ℤ◌, ◌-ℤ◌, ◌*ℤ◌, Option, None, Some}
+use Rattle.std.proofs.Common.{◌≡◌, refl, ℕ, ◌+◌, ◌*◌, ◌/◌, ◌<◌, ◌≤◌, arith, ℤ, pos, ◌+ℤ◌, ◌-ℤ◌, ◌*ℤ◌, Option, None, Some}
 use Rattle.std.specs.Prelude.{SomeIff, IsSome}
 use Rattle.std.proofs.Math.Nat.{mul-le-mul_right}
 use Rattle.jiff_core.proofs.SignedLemmas.{signed_arith}
 use Rattle.msr_time.specs.SampleRate.{SampleRate, period_of, IsRoundedNominal}
 use Rattle.msr_time.specs.Instant.{IsInstant}
-use Rattle.msr_time.proofs.RateLemmas.{scaled}
+use Rattle.msr_time.proofs.RateLemmas.{scaled, nominal_is, quotient_bounds}
 use borrow.Author.Differences.{up, down}
 
 -- the parts of a rounded instant, over naturals: times the denominator
@@ -64,3 +64,37 @@ some_where (Some x) P v h p = refl
 pub nominal_found : (rate : SampleRate) (t0 v : ℤ) (n : ℕ) (found : Option ℤ) → ((r : ℤ) × IsRoundedNominal rate t0 n r × SomeIff found (IsInstant r) r) → found ≡ Some v → IsRoundedNominal rate t0 n v
 nominal_found rate t0 v n None h e = absurd cc
 nominal_found rate t0 v n (Some x) h e = let is : x ≡ h.0 = h.2.1 in let same : v ≡ h.0 = cc in rw same h.1
+
+-- a sample counted from a rounded instant has one too
+nominal_on : (rate : SampleRate) (t0 r : ℤ) (n m : ℕ) → IsRoundedNominal rate t0 n r → (q : ℤ) × IsRoundedNominal rate r m q
+nominal_on rate t0 r n m h =
+    let num = (period_of rate).0 in
+    let den = (period_of rate).1 in
+    let a = rounded_parts rate t0 n r h in
+    let some : 0 < den = omega arith in
+    let twice : 0 < 2 * den = omega arith in
+    let q = (2 * (m * num) + den) / (2 * den) in
+    let bounds = quotient_bounds (2 * (m * num) + den) (2 * den) twice in
+    (r +ℤ pos q, nominal_is rate r m q bounds.0 bounds.1)
+
+-- counted so, it lies at most a microsecond behind where it does counted from the start
+not_far_after : (rate : SampleRate) (t0 r last q : ℤ) (n m k : ℕ) → n + m ≤ k → IsRoundedNominal rate t0 n r → IsRoundedNominal rate t0 k last → IsRoundedNominal rate r m q → up last + down q + 1 < up q + down last → ⊥
+not_far_after rate t0 r last q n m k later first end counted far =
+    let den = (period_of rate).1 in
+    let a = rounded_parts rate t0 n r first in
+    let b = rounded_parts rate t0 k last end in
+    let c = rounded_parts rate r m q counted in
+    let span : (n + m) * (period_of rate).0 ≤ k * (period_of rate).0 = mul-le-mul_right (period_of rate).0 later in
+    let step : (up last + down q + 2) * den ≤ (up q + down last) * den = mul-le-mul_right den (omega arith) in
+    omega arith
+
+-- the samples of a row that begins at a rounded instant lie in the supported years, where the segment's last sample
+-- is not in the last microsecond
+pub nominal_within : (rate : SampleRate) (t0 r last : ℤ) (n m k : ℕ) → n + m ≤ k → IsRoundedNominal rate t0 n r → IsRoundedNominal rate t0 k last → IsInstant t0 → IsInstant (last +ℤ pos 1) → (q : ℤ) × IsRoundedNominal rate r m q × IsInstant r × IsInstant q
+nominal_within rate t0 r last n m k later first end start before =
+    let on = nominal_on rate t0 r n m first in
+    let a : up r + down t0 < up t0 + down r → ⊥ = not_before_start rate t0 n r first in
+    let b : up on.0 + down r < up r + down on.0 → ⊥ = not_before_start rate r m on.0 on.1 in
+    let c : up last + down on.0 + 1 < up on.0 + down last → ⊥ = not_far_after rate t0 r last on.0 n m k later first end on.1 in
+    let d : up last + down r < up r + down last → ⊥ = not_after rate t0 n k r last (omega arith) first end in
+    (on.0, on.1, (omega (arith, signed_arith), omega (arith, signed_arith)), (omega (arith, signed_arith), omega (arith, signed_arith)))
