@@ -19,16 +19,16 @@ use Rattle.msr_output.proofs.Times.{nominal_first}
 use Rattle.msr_output.proofs.Once.{all-first, all-rest}
 
 -- the records of some cuts and of those behind them
-record Split (size n : ℕ) (xs ys : List Cut) (rows : List Row) : Type 0 where
-  first_rows : List Row
-  other_rows : List Row
-  first_bytes : List ℕ
-  other_bytes : List ℕ
-  whole : rows ≡ first_rows ++ other_rows
-  first : AreWritten size n xs first_rows first_bytes
-  others : AreWritten size (number_after n xs) ys other_rows other_bytes
+pub record Split (size n : ℕ) (xs ys : List Cut) (rows : List Row) : Type 0 where
+  pub first_rows : List Row
+  pub other_rows : List Row
+  pub first_bytes : List ℕ
+  pub other_bytes : List ℕ
+  pub whole : rows ≡ first_rows ++ other_rows
+  pub first : AreWritten size n xs first_rows first_bytes
+  pub others : AreWritten size (number_after n xs) ys other_rows other_bytes
 
-written-split : (size n : ℕ) (xs ys : List Cut) (rows : List Row) (bytes : List ℕ) → AreWritten size n (xs ++ ys) rows bytes → Split size n xs ys rows
+pub written-split : (size n : ℕ) (xs ys : List Cut) (rows : List Row) (bytes : List ℕ) → AreWritten size n (xs ++ ys) rows bytes → Split size n xs ys rows
 written-split size n [] ys rows bytes are = record { first_rows = []; other_rows = rows; first_bytes = []; other_bytes = bytes; whole = refl; first = (refl, refl); others = are }
 written-split size n (x ∷ xs) ys rows bytes are =
     let w = are.2 in
@@ -50,7 +50,7 @@ front segment n = record { key = segment.key; start = segment.start; samples = t
 take-range : (a b : ℕ) (xs : List ℤ) → a ≤ b → take a xs ++ slice_range xs a b ≡ take b xs
 take-range a b xs within = let e : a + (b - a) ≡ b = omega arith in rw e at (sym (take-add a (b - a) xs))
 
-abbrev IsFitting : ℕ → List ℤ → Run → Type 0
+abbrev pub IsFitting : ℕ → List ℤ → Run → Type 0
 IsFitting size samples run = IsRun (Fits run.kind size) samples run.start run.end
 
 same-segment : (a b : Segment) → a.key ≡ b.key → a.start ≡ b.start → a.samples ≡ b.samples → a ≡ b
