@@ -4,3 +4,5 @@ pub mod UnderWay
 pub mod Listed
 pub mod UnderList
 pub mod Consequences
+pub mod ShownRows
+pub mod ShownFronts
