@@ -6,3 +6,5 @@ pub mod UnderList
 pub mod Consequences
 pub mod ShownRows
 pub mod ShownFronts
+pub mod ShownParts
+pub mod ShownLeast

@@ -6,7 +6,7 @@ use Rattle.std.proofs.lemmas.List.{append-nil, map-append}
 use Rattle.msr_record.specs.declared.row.Row.{Row}
 use Rattle.msr_segments.specs.declared.joiner.Segment.{Segment}
 use Rattle.msr_segments.specs.Segments.{Part, rows_of, segment_of, ContinuesSegment, IsJoined, IsDivision, AreSegments}
-use Rattle.msr_segments.proofs.Divisions.{no_empty, cases_last, regroup, last_same}
+use Rattle.msr_segments.proofs.Divisions.{no_empty, cases_last, last_same}
 use Rattle.msr_segments.proofs.DivisionLaws.{one_list}
 
 -- a list that is split in two ways is cut first in one of them
@@ -81,9 +81,9 @@ cut-division tolerance rows parts front c d =
         | inl w ↦ subst (λ (q : Part). IsJoined tolerance q) w.2 last_joined
         | inr w ↦ d.joined before (w.0 ++ c.part ∷ c.after) p (c.whole ∙ ap (λ (ps : List Part). ps ++ c.part ∷ c.after) w.2 ∙ append_assoc before (p ∷ w.0) (c.part ∷ c.after))
       ];
-      apart = λ before after p next e h. elim (cases_last c.before (before ++ p ∷ []) after last next (e ∙ sym (regroup before after p next))) [
-        | inl w ↦ d.apart before c.after p c.part (c.whole ∙ ap (λ (ps : List Part). ps ++ c.part ∷ c.after) w.1 ∙ regroup before c.after p c.part) (subst (λ (q : Part). ContinuesSegment tolerance (segment_of p) q.0) (sym w.2) h)
-        | inr w ↦ d.apart before (w.0 ++ c.part ∷ c.after) p next (c.whole ∙ ap (λ (ps : List Part). ps ++ c.part ∷ c.after) (w.2 ∙ regroup before w.0 p next) ∙ append_assoc before (p ∷ next ∷ w.0) (c.part ∷ c.after)) h
+      apart = λ before after p next e h. elim (cases_last c.before (before ++ p ∷ []) after last next (e ∙ sym (append_assoc before (p ∷ []) (next ∷ after)))) [
+        | inl w ↦ d.apart before c.after p c.part (c.whole ∙ ap (λ (ps : List Part). ps ++ c.part ∷ c.after) w.1 ∙ append_assoc before (p ∷ []) (c.part ∷ c.after)) (subst (λ (q : Part). ContinuesSegment tolerance (segment_of p) q.0) (sym w.2) h)
+        | inr w ↦ d.apart before (w.0 ++ c.part ∷ c.after) p next (c.whole ∙ ap (λ (ps : List Part). ps ++ c.part ∷ c.after) (w.2 ∙ append_assoc before (p ∷ []) (next ∷ w.0)) ∙ append_assoc before (p ∷ next ∷ w.0) (c.part ∷ c.after)) h
       ];
     }
 

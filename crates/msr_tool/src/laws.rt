@@ -1,5 +1,6 @@
 //! Laws of answers, each the contract of a function that does nothing.
 ghost use Rattle.msr_tool.specs.Laws.{OneRefusal, OneRepacking, ReadableIsListed, ReadableIsRepacked};
+ghost use Rattle.msr_tool.specs.Shown.{RepackedIsShown};
 
 use msr_input::{one_first_fault, one_list_of_records, readable_has_no_fault};
 use msr_output::one_output;
@@ -31,4 +32,12 @@ pub fn one_refusal()
     ensures { OneRefusal }
 {
     one_first_fault();
+}
+
+/// What `repack` wrote is readable, and its own report shows that each of its segments stands in the fewest
+/// records, where no segment of the input ends in the last microsecond of the supported years.
+pub fn repacked_is_shown()
+    ensures { RepackedIsShown }
+{
+    one_list_of_records();
 }
