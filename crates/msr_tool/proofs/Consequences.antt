@@ -9,6 +9,7 @@ use Rattle.msr_tool.specs.declared.fault.ToolFault.TheVariants as fault
 pub readable-repacked : ReadableHasNoFault → ReadableIsRepacked
 readable-repacked law choice input written records segments (Ok report) readable answers not_read not_write = tt
 readable-repacked law choice input written records segments (Err (fault.Input found)) readable answers not_read not_write = absurd (law choice.tolerance input records answers.records segments found readable answers.first)
+readable-repacked law choice input written records segments (Err (fault.Report line)) readable answers not_read not_write = absurd answers
 readable-repacked law choice input written records segments (Err fault.Read) readable answers not_read not_write = absurd (not_read refl)
 readable-repacked law choice input written records segments (Err fault.Write) readable answers not_read not_write = absurd (not_write refl)
 readable-repacked law choice input written records segments (Err fault.Memory) readable answers not_read not_write = refl
@@ -16,6 +17,7 @@ readable-repacked law choice input written records segments (Err fault.Memory) r
 pub readable-listed : ReadableHasNoFault → ReadableIsListed
 readable-listed law tolerance input written records segments (Ok counts) readable answers not_read not_write = tt
 readable-listed law tolerance input written records segments (Err (fault.Input found)) readable answers not_read not_write = absurd (law tolerance input records answers.records segments found readable answers.first)
+readable-listed law tolerance input written records segments (Err (fault.Report line)) readable answers not_read not_write = absurd answers
 readable-listed law tolerance input written records segments (Err fault.Read) readable answers not_read not_write = absurd (not_read refl)
 readable-listed law tolerance input written records segments (Err fault.Write) readable answers not_read not_write = absurd (not_write refl)
 readable-listed law tolerance input written records segments (Err fault.Memory) readable answers not_read not_write = refl

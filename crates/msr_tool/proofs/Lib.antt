@@ -8,3 +8,4 @@ pub mod ShownRows
 pub mod ShownFronts
 pub mod ShownParts
 pub mod ShownLeast
+pub mod Checked

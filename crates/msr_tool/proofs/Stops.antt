@@ -92,6 +92,7 @@ read-failed choice source0 source sink0 sink given read.Memory h front =
 -- a segment is not written
 pub write-failed : (choice : Choice) (source0 sink0 sink : Device) (given : List Segment) (found : ToolFault) → StopsAfter choice.tolerance source0 given → StopsLining (size_of choice) sink0 sink given found → IsAnswered choice source0 sink0 sink (Err found)
 write-failed choice source0 sink0 sink given (fault.Input other) after h = absurd h
+write-failed choice source0 sink0 sink given (fault.Report line) after h = absurd h
 write-failed choice source0 sink0 sink given fault.Read after h = absurd h
 write-failed choice source0 sink0 sink given fault.Write after h =
     let s = stopped choice source0 sink0 sink given after h.0 in
@@ -115,6 +116,7 @@ read-tells_sink sink0 sink read.Memory steady = ((λ e. absurd cc), (λ has_fail
 -- the sink failed where writing says so
 write-tells_sink : {T : Type 0} (failed refused : Type 0) (sink0 sink : Device) (found : ToolFault) → StopsSink failed refused sink0 sink found → IsErrOf {T = T} (Err found) fault.Write ↔ HasFailed sink0 sink
 write-tells_sink failed refused sink0 sink (fault.Input other) h = absurd h
+write-tells_sink failed refused sink0 sink (fault.Report line) h = absurd h
 write-tells_sink failed refused sink0 sink fault.Read h = absurd h
 write-tells_sink failed refused sink0 sink fault.Write h = ((λ e. h.1), (λ has_failed. refl))
 write-tells_sink failed refused sink0 sink fault.Memory h = ((λ e. absurd cc), (λ has_failed. absurd (steady-sound sink0 sink h.1 has_failed)))
@@ -122,6 +124,7 @@ write-tells_sink failed refused sink0 sink fault.Memory h = ((λ e. absurd cc), 
 -- and the source did not
 write-tells_source : {T : Type 0} (failed refused : Type 0) (source0 source sink0 sink : Device) (found : ToolFault) → IsSteady source0 source → StopsSink failed refused sink0 sink found → IsErrOf {T = T} (Err found) fault.Read ↔ HasFailed source0 source
 write-tells_source failed refused source0 source sink0 sink (fault.Input other) steady h = absurd h
+write-tells_source failed refused source0 source sink0 sink (fault.Report line) steady h = absurd h
 write-tells_source failed refused source0 source sink0 sink fault.Read steady h = absurd h
 write-tells_source failed refused source0 source sink0 sink fault.Write steady h = ((λ e. absurd cc), (λ has_failed. absurd (steady-sound source0 source steady has_failed)))
 write-tells_source failed refused source0 source sink0 sink fault.Memory steady h = ((λ e. absurd cc), (λ has_failed. absurd (steady-sound source0 source steady has_failed)))

@@ -69,6 +69,7 @@ list-read_failed tolerance source0 source sink0 sink given read.Memory h front =
 -- a line is not written
 pub list-write_failed : (tolerance : ℕ) (source0 sink0 sink : Device) (given : List Segment) (found : ToolFault) → StopsAfter tolerance source0 given → StopsListing sink0 sink given found → IsListAnswered tolerance source0 sink0 sink (Err found)
 list-write_failed tolerance source0 sink0 sink given (fault.Input other) after h = absurd h
+list-write_failed tolerance source0 sink0 sink given (fault.Report line) after h = absurd h
 list-write_failed tolerance source0 sink0 sink given fault.Read after h = absurd h
 list-write_failed tolerance source0 sink0 sink given fault.Write after h =
     let s = stopped tolerance source0 sink0 sink given after h.0 in (s.input, s.written, s.left, s.takes, inl s.stopped)
@@ -101,6 +102,7 @@ read-all tolerance source0 source reading given last counts end same same_tolera
 pub list-all_failed : (tolerance : ℕ) (source0 source sink0 sink : Device) (reading : Reading) (given : List Segment) (last : Option Segment) (counts : Counts) (found : ToolFault) → HasReadAll source0 source reading given → last ≡ reading.joining.current → reading.joining.tolerance ≡ tolerance → counts ≡ reading.counts →
     StopsAfter tolerance source0 (given ++ option_to_list last) → StopsListingAll sink0 sink (given ++ option_to_list last) counts found → IsListAnswered tolerance source0 sink0 sink (Err found)
 list-all_failed tolerance source0 source sink0 sink reading given last counts (fault.Input other) end same same_tolerance same_counts after h = absurd h
+list-all_failed tolerance source0 source sink0 sink reading given last counts (fault.Report line) end same same_tolerance same_counts after h = absurd h
 list-all_failed tolerance source0 source sink0 sink reading given last counts fault.Read end same same_tolerance same_counts after h = absurd h
 list-all_failed tolerance source0 source sink0 sink reading given last counts fault.Write end same same_tolerance same_counts after h =
     let all = read-all tolerance source0 source reading given last counts end same same_tolerance same_counts in (

@@ -14,7 +14,7 @@ use Rattle.msr_output.specs.Writing.{IsLineOf}
 use Rattle.msr_output.specs.Output.{Packed, IsOutput, IsFrontOfOutput, segment_of_packed}
 use Rattle.msr_tool.specs.Choice.{Choice, size_of}
 use Rattle.msr_tool.specs.declared.fault.ToolFault.{ToolFault}
-use Rattle.msr_tool.specs.declared.fault.ToolFault.TheVariants.{Input, Read, Write, Memory}
+use Rattle.msr_tool.specs.declared.fault.ToolFault.TheVariants as fault
 
 -- each line is that of the packed segment at its place
 abbrev pub AreLinesOf : List Packed → List SegmentLine → Type 0
@@ -63,7 +63,8 @@ pub record IsStopped (choice : Choice) (input written : List ℕ) : Type 0 where
 -- what an answer says of the input and of what was written
 abbrev pub Answers : Choice → List ℕ → List ℕ → Result Report ToolFault → Type 0
 Answers choice input written (Ok report) = IsRepacked choice input written report
-Answers choice input written (Err (Input fault)) = IsRefusedAt choice input written fault
-Answers choice input written (Err Read) = IsStopped choice input written
-Answers choice input written (Err Write) = IsStopped choice input written
-Answers choice input written (Err Memory) = IsStopped choice input written
+Answers choice input written (Err (fault.Input found)) = IsRefusedAt choice input written found
+Answers choice input written (Err (fault.Report line)) = ⊥
+Answers choice input written (Err fault.Read) = IsStopped choice input written
+Answers choice input written (Err fault.Write) = IsStopped choice input written
+Answers choice input written (Err fault.Memory) = IsStopped choice input written

@@ -6,3 +6,4 @@ pub mod Listing
 pub mod ListWriting
 pub mod Laws
 pub mod Shown
+pub mod Checking

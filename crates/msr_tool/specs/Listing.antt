@@ -9,7 +9,7 @@ use Rattle.msr_report.specs.declared.report.Counts.{Counts}
 use Rattle.msr_input.specs.declared.fault.Fault.{Fault}
 use Rattle.msr_input.specs.Input.{AreRead, IsReadable, IsFirstFault, rows_of_records, counts_of}
 use Rattle.msr_tool.specs.declared.fault.ToolFault.{ToolFault}
-use Rattle.msr_tool.specs.declared.fault.ToolFault.TheVariants.{Input, Read, Write, Memory}
+use Rattle.msr_tool.specs.declared.fault.ToolFault.TheVariants.{Input, Report, Read, Write, Memory}
 
 -- the first of these segments has this line, and the others have these
 pub record ListsFirst (segment : Segment) (text others : List ℕ) : Type 0 where
@@ -69,6 +69,7 @@ pub record IsListCut (tolerance : ℕ) (input written : List ℕ) : Type 0 where
 abbrev pub ListAnswers : ℕ → List ℕ → List ℕ → Result Counts ToolFault → Type 0
 ListAnswers tolerance input written (Ok counts) = IsListed tolerance input written counts
 ListAnswers tolerance input written (Err (Input fault)) = IsListedTo tolerance input written fault
+ListAnswers tolerance input written (Err (Report line)) = ⊥
 ListAnswers tolerance input written (Err Read) = IsListStopped tolerance input written
 ListAnswers tolerance input written (Err Write) = IsListStopped tolerance input written ⊎ IsListCut tolerance input written
 ListAnswers tolerance input written (Err Memory) = IsListStopped tolerance input written

@@ -8,7 +8,7 @@ use Rattle.msr_output.specs.Output.{Packed, segment_of_packed}
 use Rattle.msr_output.specs.Writing.{Writing, HasWritten, HasWrittenAll, HasWrittenFront}
 use Rattle.msr_tool.specs.Answer.{AreLinesOf}
 use Rattle.msr_tool.specs.declared.fault.ToolFault.{ToolFault}
-use Rattle.msr_tool.specs.declared.fault.ToolFault.TheVariants.{Input, Read, Write, Memory}
+use Rattle.msr_tool.specs.declared.fault.ToolFault.TheVariants.{Input, Report, Read, Write, Memory}
 
 -- what a writer with the lines so far shows
 pub record Lined : Type 0 where
@@ -37,6 +37,7 @@ pub record LinesAll (start now : Device) (writing : Writing) (packed : List Pack
 -- The sink failed, and the first holds; or memory was refused, the sink did not fail, and the second holds.
 abbrev pub StopsSink : Type 0 → Type 0 → Device → Device → ToolFault → Type 0
 StopsSink failed refused start now (Input fault) = ⊥
+StopsSink failed refused start now (Report line) = ⊥
 StopsSink failed refused start now Read = ⊥
 StopsSink failed refused start now Write = failed × HasFailed start now
 StopsSink failed refused start now Memory = refused × IsSteady start now

@@ -1,8 +1,9 @@
 // Why the tool stops.
 ghost use Rattle.std.specs.Prelude.{◌≡◌};
-ghost use Rattle.msr_tool.specs.Fault.{fault_of_reading, fault_of_writing};
+ghost use Rattle.msr_tool.specs.Fault.{fault_of_reading, fault_of_report, fault_of_writing};
 ghost use Rattle.msr_tool.specs.declared.fault.ToolFault.TheVariants.{Write, Memory};
 
+use msr_certificate::ReportFault;
 use msr_devices::SinkFailed;
 use msr_input::{Fault, ReadFault};
 use msr_output::WriteFault;
@@ -15,7 +16,10 @@ pub enum ToolFault {
     /// The input has this first fault.
     #[error("{0}")]
     Input(Fault),
-    /// The source failed, or was interrupted 64 times in a row.
+    /// The text is no report, and this line, from 1, is the first at fault.
+    #[error("report line {0}")]
+    Report(u64),
+    /// A source failed, or was interrupted 64 times in a row.
     #[error("read fault")]
     Read,
     /// The sink failed, accepted nothing, or was interrupted 64 times in a row.
@@ -43,6 +47,18 @@ impl From<ReadFault> for ToolFault {
             ReadFault::Input(fault) => ToolFault::Input(fault),
             ReadFault::Read => ToolFault::Read,
             ReadFault::Memory => ToolFault::Memory,
+        }
+    }
+}
+
+impl From<ReportFault> for ToolFault {
+    ghost from_gives = { λ fault e. e ≡ fault_of_report fault };
+
+    fn from(fault: ReportFault) -> ToolFault {
+        match fault {
+            ReportFault::Line(line) => ToolFault::Report(line),
+            ReportFault::Read => ToolFault::Read,
+            ReportFault::Memory => ToolFault::Memory,
         }
     }
 }

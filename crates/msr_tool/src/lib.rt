@@ -2,6 +2,7 @@
 //! records of one length, with a report that shows that fewer do not suffice.
 #![tactic(auto)]
 
+mod check;
 mod engine;
 mod fault;
 mod laws;
@@ -10,6 +11,7 @@ mod list_writer;
 mod options;
 mod output;
 
+pub use check::check_packed;
 pub use engine::repack;
 pub use fault::ToolFault;
 pub use laws::{one_refusal, one_repacking, readable_is_listed, readable_is_repacked, repacked_is_shown};
@@ -17,6 +19,7 @@ pub use list::list_segments;
 pub use msr_devices::{FromRead, FromWrite, Sink, Source, TestSink, TestSource};
 pub use msr_input::Fault;
 pub use msr_report::{Counts, Report, SegmentLine, TextFault};
+pub use msr_verdict::Verdict;
 pub use options::Options;
 
 #[cfg(test)]
