@@ -1,4 +1,6 @@
-//! Whole inputs with the records and reports that were worked out for them, refusals, and devices that fail.
+//! Whole inputs with the records and reports that were worked out for them, refusals, checks
+//! with reports, and devices that fail.
+mod checking;
 mod devices;
 mod fixtures;
 mod joining;

@@ -13,7 +13,7 @@ use std::alloc::Global;
 use std::process::Abort;
 use std::test::Fail;
 
-const NO_SEGMENTS: &str = "\
+pub const NO_SEGMENTS: &str = "\
 msrepack 1
 length 512
 tolerance 1000
@@ -21,7 +21,7 @@ read 0 empty 0 mismatched 0
 end 0 segments 0 records
 ";
 
-const ONE_SEGMENT: &str = "\
+pub const ONE_SEGMENT: &str = "\
 msrepack 1
 length 256
 tolerance 1000
@@ -165,6 +165,11 @@ fn faults(rt: HostRuntime) -> Result<(), Fail> {
                 kind: FaultKind::BadCode(3),
             }),
             "offset 18446744073709551615: 13 BadCode 3",
+        ),
+        (ToolFault::Report(2), "report line 2"),
+        (
+            ToolFault::Report(u64::MAX),
+            "report line 18446744073709551615",
         ),
         (ToolFault::Read, "read fault"),
         (ToolFault::Write, "write fault"),

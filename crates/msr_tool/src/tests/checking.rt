@@ -1,0 +1,211 @@
+//! Packed records that are checked with reports typed by hand: each answer.
+use crate::tests::fixtures::{PLAIN, joined, plain, steim};
+use crate::tests::texts::{NO_SEGMENTS, ONE_SEGMENT};
+use crate::{TestSource, ToolFault, Verdict, check_packed};
+use msr_devices::Behavior;
+use std::alloc::{AllocError, Global};
+use std::process::Abort;
+use std::test::Fail;
+
+// 302 samples of 0 in two records, as `ONE_SEGMENT` tells of them.
+fn two_records(rt: &impl Abort, alloc: Global) -> Result<Vec<u8>, AllocError> {
+    let second = plain(
+        rt,
+        &[
+            (5, &[0x32]),
+            (26, &[0x0f, 0x00, 0x01, 0xf4]),
+            (30, &[0x00, 0x01]),
+            (63, &[0x01]),
+            (64, &[0x02, 0x00, 0x00, 0x00]),
+            (76, &[0x40, 0x00, 0x00, 0x00]),
+        ],
+    );
+    joined(alloc, &[steim(rt, &[]), second])
+}
+
+// The report of one segment with that length, those numbers of samples and records, and those separators.
+fn report_of(
+    alloc: Global,
+    length: &str,
+    samples: u64,
+    records: u64,
+    separators: &str,
+) -> Result<String, AllocError> {
+    format!(in alloc;
+        "msrepack 1\nlength {length}\ntolerance 1000\nread 1 empty 0 mismatched 0\nsegment XX.TEST_.00.BHZ D rate 20 1 flags 00 00 00 correction 0 timing 0 start 2020,001,00:00:00.000000 samples {samples} records {records}\nseparators{separators}\nend 1 segments {records} records\n"
+    )
+}
+
+// The answer where the records and the report come from sources that behave so.
+fn checked_through(
+    alloc: Global,
+    packed: &[u8],
+    text: &[u8],
+    reading: Behavior,
+    of_report: Behavior,
+) -> Result<Verdict, ToolFault> {
+    let mut packed = TestSource::new(packed, reading);
+    let mut report = TestSource::new(text, of_report);
+    check_packed(alloc, &mut packed, &mut report)
+}
+
+fn checked(alloc: Global, packed: &[u8], text: &[u8]) -> Result<Verdict, ToolFault> {
+    checked_through(alloc, packed, text, PLAIN, PLAIN)
+}
+
+#[test]
+fn verdicts(rt: HostRuntime) -> Result<(), Fail> {
+    let alloc = rt.alloc();
+    let two = two_records(&rt, alloc)?;
+    let none: &[u8] = &[];
+    for (packed, text, verdict) in [
+        (none, NO_SEGMENTS, Verdict::Least),
+        (two.as_slice(), ONE_SEGMENT, Verdict::Least),
+        (none, ONE_SEGMENT, Verdict::NotShown),
+        (two.as_slice(), NO_SEGMENTS, Verdict::NotShown),
+        (&two[..256], ONE_SEGMENT, Verdict::NotShown),
+    ] {
+        assert_eq!(rt;
+            checked(alloc, packed, text.as_bytes()),
+            Ok(verdict),
+            "{text}"
+        );
+    }
+    // One record holds the samples before number 301.
+    for (length, samples, records, separators, verdict) in [
+        ("256", 302u64, 2u64, " 0 301", Verdict::Least),
+        ("256", 302, 2, " 0 300", Verdict::NotShown),
+        ("256", 302, 2, " 0", Verdict::NotShown),
+        ("256", 302, 2, "", Verdict::NotShown),
+        ("256", 302, 2, " 0 301 301", Verdict::NotShown),
+        ("256", 301, 2, " 0 301", Verdict::NotShown),
+        ("256", 302, 3, " 0 301", Verdict::NotShown),
+        ("512", 302, 2, " 0 301", Verdict::NotShown),
+    ] {
+        let text = report_of(alloc, length, samples, records, separators)?;
+        let found = checked(alloc, &two, text.as_bytes());
+        assert_eq!(rt; found, Ok(verdict), "{text}");
+    }
+    Ok(())
+}
+
+// The records come from a source that fails at its first call, so that none is read.
+#[test]
+fn texts_that_are_no_reports(rt: HostRuntime) -> Result<(), Fail> {
+    let alloc = rt.alloc();
+    let failing = Behavior {
+        most: 64,
+        interruptions: 0,
+        fails_at: Some(0),
+    };
+    let rows: [(&str, &str); 13] = [
+        ("", "report line 1"),
+        ("msrepack 2\n", "report line 1"),
+        ("msrepack 1\nlength 0512\n", "report line 2"),
+        ("msrepack 1\nlength 500\n", "report line 2"),
+        ("msrepack 1\nlength 512\ntolerance 0\n", "report line 3"),
+        (
+            "msrepack 1\nlength 512\ntolerance 1000000\n",
+            "report line 4",
+        ),
+        (
+            "msrepack 1\nlength 512\ntolerance 1000\nread 0 empty 0 mismatched 0\n",
+            "report line 5",
+        ),
+        (
+            "msrepack 1\nlength 512\ntolerance 1000\nread 0 empty 0 mismatched 0\nend 0 segments 0 records",
+            "report line 5",
+        ),
+        (
+            "msrepack 1\nlength 512\ntolerance 1000\nread 0 empty 0 mismatched 0\nend 1 segments 0 records\n",
+            "report line 5",
+        ),
+        (
+            "msrepack 1\nlength 512\ntolerance 1000\nread 0 empty 0 mismatched 0\nend 0 segments 0 records\n\n",
+            "report line 6",
+        ),
+        (
+            "msrepack 1\nlength 0512\ntolerance 1000\nread 0 empty 0 mismatched 0\nend 0 segments 0 records\n",
+            "report line 2",
+        ),
+        (
+            "msrepack 1\nlength 512\ntolerance 1000000\nread 0 empty 0 mismatched 0\nend 0 segments 1 records\n",
+            "report line 5",
+        ),
+        (
+            "msrepack 1\r\nlength 512\ntolerance 1000\nread 0 empty 0 mismatched 0\nend 0 segments 0 records\n",
+            "report line 1",
+        ),
+    ];
+    for (text, want) in rows {
+        let Err(fault) = checked_through(alloc, &[], text.as_bytes(), failing, PLAIN) else {
+            panic!(rt; "read: {text}")
+        };
+        assert_eq!(rt; format!(in alloc; "{fault}")?.as_str(), want, "{text}");
+        assert!(rt; matches!(fault, ToolFault::Report(_)), "{text}");
+    }
+    let text = report_of(alloc, "256", 302, 2, " 0  301")?;
+    let found = checked_through(alloc, &[], text.as_bytes(), failing, PLAIN);
+    assert_eq!(rt; found, Err(ToolFault::Report(6)));
+    Ok(())
+}
+
+#[test]
+fn packed_records_that_are_refused(rt: HostRuntime) -> Result<(), Fail> {
+    let alloc = rt.alloc();
+    let mut cut = two_records(&rt, alloc)?;
+    cut.extend_from_slice(&[0; 47])?;
+    let of_no_encoding = steim(&rt, &[(52, &[0x04])]);
+    for (packed, text, want) in [
+        (&cut[512..], NO_SEGMENTS, "offset 0: 1 Truncated"),
+        (cut.as_slice(), ONE_SEGMENT, "offset 512: 1 Truncated"),
+        (cut.as_slice(), NO_SEGMENTS, "offset 512: 1 Truncated"),
+        (
+            of_no_encoding.as_slice(),
+            ONE_SEGMENT,
+            "offset 0: 15 OtherEncoding 4",
+        ),
+    ] {
+        let Err(fault) = checked(alloc, packed, text.as_bytes()) else {
+            panic!(rt; "read, and not {want}")
+        };
+        assert_eq!(rt; format!(in alloc; "{fault}")?.as_str(), want);
+        assert!(rt; matches!(fault, ToolFault::Input(_)), "{want}");
+    }
+    Ok(())
+}
+
+#[test]
+fn sources_that_fail(rt: HostRuntime) -> Result<(), Fail> {
+    let alloc = rt.alloc();
+    let packed = two_records(&rt, alloc)?;
+    let text = ONE_SEGMENT.as_bytes();
+    let failing = |fails_at: u64| Behavior {
+        most: 64,
+        interruptions: 1,
+        fails_at: Some(fails_at),
+    };
+    // The read behind the last byte, which finds the end, is one more.
+    for fails_at in 0..packed.len() as u64 / 64 + 1 {
+        let found = checked_through(alloc, &packed, text, failing(fails_at), PLAIN);
+        assert_eq!(rt; found, Err(ToolFault::Read), "at {fails_at}");
+    }
+    for fails_at in 0..text.len() as u64 / 64 + 1 {
+        let found = checked_through(alloc, &packed, text, PLAIN, failing(fails_at));
+        assert_eq!(rt; found, Err(ToolFault::Read), "at {fails_at}");
+    }
+    let patient = |interruptions: u32| Behavior {
+        most: 1,
+        interruptions,
+        fails_at: None,
+    };
+    for (reading, of_report, answer) in [
+        (63, 63, Ok(Verdict::Least)),
+        (64, 63, Err(ToolFault::Read)),
+        (63, 64, Err(ToolFault::Read)),
+    ] {
+        let found = checked_through(alloc, &packed, text, patient(reading), patient(of_report));
+        assert_eq!(rt; found, answer, "{reading}, {of_report}");
+    }
+    Ok(())
+}
