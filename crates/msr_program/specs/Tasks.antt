@@ -1,9 +1,11 @@
 -- What the words of a command line ask for.
-use Rattle.std.specs.Prelude.{◌≡◌, ◌≢◌, ◌⊎◌, ◌≤◌, ℕ, ⊤, List, Option, None, IfSome, codes}
+use Rattle.std.specs.Prelude.{◌≡◌, ◌≢◌, ◌⊎◌, ◌≤◌, ℕ, ⊤, List, Option, None, Some, IfSome, codes}
 use Rattle.std.specs.Option.{option_map}
 use Rattle.msr_words.specs.Lengths.{bytes_of}
 use Rattle.msr_program.specs.declared.words.Task.{Task}
-use Rattle.msr_program.specs.declared.words.Task.TheVariants.{Repack, List as Listing}
+use Rattle.msr_program.specs.declared.words.Task.TheVariants.{Repack, List as Listing, Check}
+use Rattle.msr_program.specs.declared.done.Done.{Done}
+use Rattle.msr_program.specs.declared.done.Done.TheVariants.{Written, Checked}
 use Rattle.msr_program.specs.declared.words.NoTask.{NoTask}
 use Rattle.msr_program.specs.declared.words.NoTask.TheVariants.{Ending, Memory}
 
@@ -12,27 +14,46 @@ pub record IsTolerance (tolerance : ℕ) : Type 0 where
   pub least : 1 ≤ tolerance
   pub most : tolerance ≤ 1_000_000
 
--- the tolerance that is asked for is in its range
+-- the tolerance that is asked for is in its range; a check takes that of the report
 abbrev pub HasTolerance : Task → Type 0
 HasTolerance (Repack asked) = IsTolerance asked.tolerance
 HasTolerance (Listing asked) = IsTolerance asked.tolerance
+HasTolerance (Check asked) = ⊤
 
 -- the output, where one is asked for, has another name than the input
 abbrev pub KeepsInput : Task → Type 0
 KeepsInput (Repack asked) = IfSome asked.output (λ name. name.now ≢ asked.input.now)
 KeepsInput (Listing asked) = ⊤
+KeepsInput (Check asked) = ⊤
 
 -- a file is to be repacked with these choices
 abbrev pub IsRepacking : (bytes tolerance : ℕ) → (input : List ℕ) → (output : Option (List ℕ)) → Task → Type 0
 IsRepacking bytes tolerance input output (Repack asked) = (bytes_of asked.length ≡ bytes) × (asked.tolerance ≡ tolerance) × (asked.input.now ≡ input) × (option_map (λ name. name.now) asked.output ≡ output)
 IsRepacking bytes tolerance input output (Listing asked) = ⊥
+IsRepacking bytes tolerance input output (Check asked) = ⊥
+
+-- the records of the first file are to be checked against the report in the second
+abbrev pub IsChecking : (packed report : Option (List ℕ)) → Task → Type 0
+IsChecking packed report (Repack asked) = ⊥
+IsChecking packed report (Listing asked) = ⊥
+IsChecking packed report (Check asked) = (packed ≡ Some asked.packed.now) × (report ≡ Some asked.report.now)
 
 -- standard input is to be repacked to nowhere, with records of 512 bytes and a tolerance of 1000 microseconds
 abbrev pub IsDefault : Task → Type 0
 IsDefault (Repack asked) = (bytes_of asked.length ≡ 512) × (asked.tolerance ≡ 1000) × (asked.input.now ≡ codes "-") × (asked.output ≡ None)
 IsDefault (Listing asked) = ⊥
+IsDefault (Check asked) = ⊥
 
 -- no task, with status 0 for help and the version and 2 for a bad command line
 abbrev pub HasStatus : NoTask → Type 0
 HasStatus (Ending ending) = (ending.status ≡ 0) ⊎ (ending.status ≡ 2)
 HasStatus Memory = ⊤
+
+-- a check ends with a verdict, and the other tasks without
+abbrev pub EndsTask : Task → Done → Type 0
+EndsTask (Repack asked) Written = ⊤
+EndsTask (Repack asked) (Checked verdict) = ⊥
+EndsTask (Listing asked) Written = ⊤
+EndsTask (Listing asked) (Checked verdict) = ⊥
+EndsTask (Check asked) Written = ⊥
+EndsTask (Check asked) (Checked verdict) = ⊤

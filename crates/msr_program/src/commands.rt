@@ -23,7 +23,11 @@ fn length<'a>(alloc: Global) -> Arg<'a> {
 }
 
 fn input<'a>(alloc: Global) -> Arg<'a> {
-    Arg::new(alloc, "IN").required(true).help(texts::IN)
+    file(alloc, "IN").help(texts::IN)
+}
+
+fn file<'a>(alloc: Global, name: &'a str) -> Arg<'a> {
+    Arg::new(alloc, name).required(true)
 }
 
 fn repack<'a>(alloc: Global) -> Result<Command<'a>, AllocError> {
@@ -46,6 +50,15 @@ fn list<'a>(alloc: Global) -> Result<Command<'a>, AllocError> {
         .arg(input(alloc))
 }
 
+fn check<'a>(alloc: Global) -> Result<Command<'a>, AllocError> {
+    Command::new(alloc, "check")
+        .about(texts::CHECK_ABOUT)
+        .long_about(texts::CHECK_LONG_ABOUT)
+        .after_long_help(texts::CHECK_AFTER)
+        .arg(file(alloc, "PACKED").help(texts::PACKED))?
+        .arg(file(alloc, "REPORT").help(texts::REPORT))
+}
+
 /// The command line of the program.
 pub fn command<'a>(alloc: Global) -> Result<Command<'a>, AllocError> {
     Command::new(alloc, "msrepack")
@@ -56,5 +69,6 @@ pub fn command<'a>(alloc: Global) -> Result<Command<'a>, AllocError> {
         .after_long_help(texts::AFTER)
         .subcommand_required(true)
         .subcommand(repack(alloc)?)?
-        .subcommand(list(alloc)?)
+        .subcommand(list(alloc)?)?
+        .subcommand(check(alloc)?)
 }

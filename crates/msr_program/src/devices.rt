@@ -18,10 +18,15 @@ impl Input {
         if name == "-" {
             return Ok(Input::Standard(rt.stdin()));
         }
-        match File::open(rt, name) {
-            Ok(file) => Ok(Input::File(file)),
-            Err(_) => Err(Stop::CannotOpen(name)),
-        }
+        Ok(Input::File(open_file(rt, name)?))
+    }
+}
+
+/// The file with this name, also where it is `-`.
+pub fn open_file<'a>(rt: &HostRuntime, name: &'a str) -> Result<File, Stop<'a>> {
+    match File::open(rt, name) {
+        Ok(file) => Ok(file),
+        Err(_) => Err(Stop::CannotOpen(name)),
     }
 }
 

@@ -1,10 +1,11 @@
-//! The program `msrepack`: reads its words, opens the input, then creates the output, and does what the words ask for.
+//! The program `msrepack`: reads its words, opens the inputs, then creates the output, and does what the words ask for.
 #![tactic(auto)]
 
 ghost use Rattle.std.specs.Prelude.{◌≡◌, ◌≤◌, ◌⊎◌};
 
 mod commands;
 mod devices;
+mod done;
 mod stop;
 mod tasks;
 #[cfg(test)]
@@ -43,11 +44,11 @@ fn end(rt: &HostRuntime, ending: &Ending) -> u8
 
 // Does what the words ask for, and gives the status.
 fn obey(rt: &HostRuntime, alloc: Global, words: &[&str]) -> u8
-    ensures { result ≤ 2 }
+    ensures { result ≤ 3 }
 {
     match read_words(alloc, words) {
         Ok(task) => match do_task(rt, alloc, task) {
-            Ok(()) => 0,
+            Ok(done) => done.status(),
             Err(stop) => {
                 eprintln!(rt; "msrepack: {stop}").ok();
                 1

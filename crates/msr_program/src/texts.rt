@@ -7,7 +7,8 @@ pub const LONG_ABOUT: &str = "Repacks miniSEED into the fewest records of one le
 msrepack joins the neighbouring records of a file into segments and writes each
 segment again in records of one length, as few as can hold it. Samples stay as they
 are. The report names samples of each segment, as many as its records, no two of
-which fit one record: so fewer records cannot hold it.
+which fit one record: so fewer records cannot hold it. Whoever has the records and the report
+can check that again.
 
 It reads records with blockette 1000, with or without blockette 1001, in either byte
 order: 16-bit and 32-bit integers, Steim-1 and Steim-2. A file with anything else is
@@ -17,11 +18,13 @@ pub const AFTER: &str = "With no words msrepack does what `msrepack repack -` do
 
 Statuses:
   0  done
-  1  refused: the input has a fault, or a file cannot be opened, read or written
+  1  refused: an input has a fault, or a file cannot be opened, read or written
   2  the command line is wrong
+  3  the report does not show that the records are the fewest
 
-Example:
-  msrepack repack --length 4096 day.mseed packed.mseed > packed.txt";
+Examples:
+  msrepack repack --length 4096 day.mseed packed.mseed > packed.txt
+  msrepack check packed.mseed packed.txt";
 
 pub const REPACK_ABOUT: &str = "Writes the segments of a file in the fewest records, and a report";
 
@@ -57,6 +60,35 @@ samples, and those whose last sample is not the reverse constant.";
 
 pub const LIST_AFTER: &str = "Example:
   msrepack list --tolerance 5000 day.mseed";
+
+pub const CHECK_ABOUT: &str = "Says whether a report shows that packed records are the fewest";
+
+pub const CHECK_LONG_ABOUT: &str =
+    "Says whether a report shows that packed records are the fewest.
+
+Reads the report and then the records, and prints one of two verdicts:
+
+least      Every segment of PACKED stands in the fewest records of the report's
+           length that can hold its samples, whoever made the records and the report.
+           Nothing has to be believed of the program that wrote them. Status 0.
+not shown  The report does not show that: a record has another length or no samples,
+           or a segment, its number of samples or records, or its separators do not
+           agree. It does not say that fewer records are possible. Status 3.
+
+Only what stands in the two files is compared. Whether PACKED has the samples of the
+file that it was made from is not: compare `msrepack list` of both for that.
+
+The report is read with the form that `msrepack repack` writes. Where it has another,
+one line on standard error names its first wrong line, counted from 1; where PACKED
+has a fault, one line says at which byte and why. Both have status 1, and no verdict.";
+
+pub const CHECK_AFTER: &str = "Example:
+  msrepack repack --length 4096 day.mseed packed.mseed > packed.txt
+  msrepack check packed.mseed packed.txt";
+
+pub const PACKED: &str = "The file with the packed records";
+
+pub const REPORT: &str = "The file with their report";
 
 pub const LENGTH: &str =
     "Length of the records written, in bytes: 256, 512, 1024, 2048, 4096, 8192, 16384 or 32768";

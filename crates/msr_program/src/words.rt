@@ -1,9 +1,10 @@
 // The command line: what the words ask for.
-ghost use Rattle.std.specs.Prelude.{◌≡◌, ◌≢◌, ◌<◌, ◌↔◌, length, IfOk, IfErr, IfSome, IsOk, IsOkAnd};
+ghost use Rattle.std.specs.Prelude.{◌≡◌, ◌≢◌, ◌<◌, ◌↔◌, length, codes, IfOk, IfErr, IfSome, IsSome, IsOk, IsOkAnd};
 ghost use Rattle.std.specs.Option.{option_map};
 ghost use Rattle.msr_words.specs.RecordLength.{IsRecordLength};
 ghost use Rattle.msr_words.specs.Lengths.{bytes_of};
-ghost use Rattle.msr_program.specs.Tasks.{HasStatus, HasTolerance, IsDefault, IsRepacking, IsTolerance, KeepsInput};
+ghost use Rattle.clap.specs.Words.{first_value, found_of};
+ghost use Rattle.msr_program.specs.Tasks.{HasStatus, HasTolerance, IsChecking, IsDefault, IsRepacking, IsTolerance, KeepsInput};
 
 use crate::commands::command;
 use crate::texts;
@@ -34,11 +35,21 @@ pub struct Listing<'a> {
     pub input: &'a str,
 }
 
+/// Packed records to be checked against a report.
+#[derive(Clone, Copy, Debug, PartialEq, Eq)]
+pub struct Checking<'a> {
+    /// The name of the file with the records.
+    pub packed: &'a str,
+    /// The name of the file with the report.
+    pub report: &'a str,
+}
+
 /// What the program is asked to do.
 #[derive(Clone, Copy, Debug, PartialEq, Eq)]
 pub enum Task<'a> {
     Repack(Repacking<'a>),
     List(Listing<'a>),
+    Check(Checking<'a>),
 }
 
 /// The text to end with, and the status.
@@ -153,7 +164,19 @@ fn repacking_of<'a>(
     }))
 }
 
-// What clap found. It lets no line through without a command, its input and numbers in their ranges.
+// Packed records to be checked: first the file with the records, then that with the report.
+fn checking_of<'a>(found: &ArgMatches<'a>) -> Option<Task<'a>>
+    ensures asked { IfSome result (IsChecking (first_value (found_of found.now) (codes "PACKED")) (first_value (found_of found.now) (codes "REPORT"))) }
+    ensures given { IsSome (first_value (found_of found.now) (codes "PACKED")) → IsSome (first_value (found_of found.now) (codes "REPORT")) → IsSome result }
+    ensures tolerance { IfSome result HasTolerance }
+    ensures keeps_input { IfSome result KeepsInput }
+{
+    let packed = found.get_str("PACKED")?;
+    let report = found.get_str("REPORT")?;
+    Some(Task::Check(Checking { packed, report }))
+}
+
+// What clap found. It lets no line through without a command, its inputs and numbers in their ranges.
 fn task_of<'a>(alloc: Global, matches: &ArgMatches<'a>) -> Result<Task<'a>, NoTask>
     ensures tolerance { IfOk result HasTolerance }
     ensures keeps_input { IfOk result KeepsInput }
@@ -162,6 +185,12 @@ fn task_of<'a>(alloc: Global, matches: &ArgMatches<'a>) -> Result<Task<'a>, NoTa
     let Some((name, found)) = matches.subcommand() else {
         return Err(wrong(alloc, texts::NO_COMMAND));
     };
+    if name == "check" {
+        return match checking_of(found) {
+            Some(task) => Ok(task),
+            None => Err(wrong(alloc, texts::NO_COMMAND)),
+        };
+    }
     let Some(tolerance) = tolerance_in(found) else {
         return Err(wrong(alloc, texts::NO_COMMAND));
     };
