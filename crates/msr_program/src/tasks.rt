@@ -6,7 +6,9 @@ use crate::devices::{Input, Output, open_file, standard_output};
 use crate::done::Done;
 use crate::stop::Stop;
 use crate::words::{Checking, Listing, Repacking, Task, default_length};
-use msr_tool::{FromRead, FromWrite, Options, ToolFault, Verdict, check_packed, list_segments, repack};
+use msr_tool::{
+    FromRead, FromWrite, Options, ToolFault, Verdict, check_packed, list_segments, repack,
+};
 use msr_words::Length;
 use std::alloc::Global;
 use std::io::Write;

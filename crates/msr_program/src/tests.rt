@@ -1,5 +1,5 @@
 // What command lines are read as, and the text and status that the others end with.
-use crate::words::{Ending, Listing, NoTask, Repacking, Task, read_words};
+use crate::words::{Checking, Ending, Listing, NoTask, Repacking, Task, read_words};
 use msr_words::Length;
 use std::alloc::{AllocError, Global};
 use std::test::Fail;
@@ -81,6 +81,22 @@ fn reads_list(rt: HostRuntime) -> Result<(), Fail> {
     Ok(())
 }
 
+// Both are names of files, also where they are `-`, and may be one name.
+#[test]
+fn reads_check(rt: HostRuntime) -> Result<(), Fail> {
+    let rows: [(&'static [&'static str], &'static str, &'static str); 4] = [
+        (&["msrepack", "check", "a", "b"], "a", "b"),
+        (&["msrepack", "check", "a", "a"], "a", "a"),
+        (&["msrepack", "check", "-", "b"], "-", "b"),
+        (&["msrepack", "check", "--", "-a", "--help"], "-a", "--help"),
+    ];
+    for (words, packed, report) in rows {
+        let want = Some(Task::Check(Checking { packed, report }));
+        assert_eq!(&rt; read_words(rt.alloc(), words).ok(), want, "at {words:?}");
+    }
+    Ok(())
+}
+
 // Faults that clap finds come first, then a wrong length, then an output that is the input.
 #[test]
 fn refuses_with_a_text_of_its_own(rt: HostRuntime) -> Result<(), Fail> {
@@ -110,16 +126,12 @@ fn refuses_with_a_text_of_its_own(rt: HostRuntime) -> Result<(), Fail> {
 
 #[test]
 fn refuses_with_the_text_of_clap(rt: HostRuntime) -> Result<(), Fail> {
-    let rows: [(&'static [&'static str], &'static str); 14] = [
+    let rows: [(&'static [&'static str], &'static str); 18] = [
         (
             &["msrepack", "--"],
             "error: 'msrepack' requires a subcommand but one was not provided\n",
         ),
         (&["msrepack", "a"], "error: unrecognized subcommand 'a'\n"),
-        (
-            &["msrepack", "check", "a", "b"],
-            "error: unrecognized subcommand 'check'\n",
-        ),
         (
             &["msrepack", "archive", "a", "b", "c"],
             "error: unrecognized subcommand 'archive'\n",
@@ -147,6 +159,26 @@ fn refuses_with_the_text_of_clap(rt: HostRuntime) -> Result<(), Fail> {
         (
             &["msrepack", "list", "--tolerance", "0", "a"],
             "error: invalid value '0' for '--tolerance <T>': 0 is not in 1..=1000000\n",
+        ),
+        (
+            &["msrepack", "check"],
+            "error: the following required arguments were not provided:\n  <PACKED>\n  <REPORT>\n",
+        ),
+        (
+            &["msrepack", "check", "a"],
+            "error: the following required arguments were not provided:\n  <REPORT>\n",
+        ),
+        (
+            &["msrepack", "check", "a", "b", "c"],
+            "error: unexpected argument 'c' found\n",
+        ),
+        (
+            &["msrepack", "check", "--length", "512", "a", "b"],
+            "error: unexpected argument '--length' found\n",
+        ),
+        (
+            &["msrepack", "check", "a", "b", "--tolerance=5"],
+            "error: unexpected argument '--tolerance' found\n",
         ),
         (
             &["msrepack", "repack", "--tolerance", "1000001", "a"],
@@ -181,7 +213,7 @@ fn refuses_with_the_text_of_clap(rt: HostRuntime) -> Result<(), Fail> {
 
 #[test]
 fn helps(rt: HostRuntime) -> Result<(), Fail> {
-    let rows: [(&'static [&'static str], &'static str); 8] = [
+    let rows: [(&'static [&'static str], &'static str); 13] = [
         (&["msrepack", "--help"], "Usage: msrepack <COMMAND>\n"),
         (&["msrepack", "--help"], "\nStatuses:\n  0  done\n"),
         (
@@ -203,6 +235,26 @@ fn helps(rt: HostRuntime) -> Result<(), Fail> {
         (
             &["msrepack", "repack", "-h"],
             "1 to 1000000 [default: 1000]\n",
+        ),
+        (
+            &["msrepack", "--help"],
+            "\n  check   Says whether a report shows that packed records are the fewest\n",
+        ),
+        (
+            &["msrepack", "--help"],
+            "\n  3  the report does not show that the records are the fewest\n",
+        ),
+        (
+            &["msrepack", "check", "--help"],
+            "Usage: msrepack check <PACKED> <REPORT>\n",
+        ),
+        (
+            &["msrepack", "check", "-h"],
+            "Usage: msrepack check <PACKED> <REPORT>\n",
+        ),
+        (
+            &["msrepack", "help", "check"],
+            "\nnot shown  The report does not show that: ",
         ),
         (&["msrepack", "--version"], "msrepack 0.1.0\n"),
     ];

@@ -63,8 +63,7 @@ pub const LIST_AFTER: &str = "Example:
 
 pub const CHECK_ABOUT: &str = "Says whether a report shows that packed records are the fewest";
 
-pub const CHECK_LONG_ABOUT: &str =
-    "Says whether a report shows that packed records are the fewest.
+pub const CHECK_LONG_ABOUT: &str = "Says whether a report shows that packed records are the fewest.
 
 Reads the report and then the records, and prints one of two verdicts:
 
