@@ -5,6 +5,7 @@
 
 The day is made up, the same one on every machine: noise, and events that die down. It is written as records of 32-bit
 integers (4096 bytes), as records of 16-bit integers (512 bytes), and, by the program itself, as Steim-2 (512 bytes).
+The first of them is repacked, and what came of it is checked against its report.
 """
 import argparse
 import array
@@ -22,6 +23,7 @@ import time
 ROOT = os.path.dirname(os.path.dirname(os.path.realpath(__file__)))
 RATE = 100
 EVENTS = 24
+LENGTHS = ("512", "4096")
 
 
 def made_up(count):
@@ -138,6 +140,13 @@ def files_of(asked, folder, samples, part):
     return names
 
 
+def packed_of(asked, folder, name, part, length):
+    """The file repacked, with its report beside it."""
+    packed = f"{folder}/{part}packed-{length}"
+    run([asked.program, "repack", "--length", length, name, packed], f"{packed}.txt")
+    return packed
+
+
 def measure(asked, folder):
     samples = made_up(asked.samples)
     tenth = max(len(samples) // 10, 2)
@@ -153,8 +162,14 @@ def measure(asked, folder):
         row = lambda command, words: line(name, command, words, len(samples), few, folder, asked.runs)
         row("cat", lambda it: ["cat", it])
         row("list", lambda it: [asked.program, "list", it])
-        for length in ("512", "4096"):
+        for length in LENGTHS:
             row(f"repack {length}", lambda it: [asked.program, "repack", "--length", length, it, out])
+    for length in LENGTHS:
+        parts = ((names[0], ""), (short[0], "a-"), (longer[0], "b-"))
+        packed = [packed_of(asked, folder, name, part, length) for name, part in parts]
+        few = (packed[1], packed[2], tenth - tenth // 2)
+        words = lambda it: [asked.program, "check", it, f"{it}.txt"]
+        line(packed[0], "check", words, len(samples), few, folder, asked.runs)
 
 
 if __name__ == "__main__":
