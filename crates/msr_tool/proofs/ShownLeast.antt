@@ -1,21 +1,18 @@
 -- What was repacked is readable and shown by its report.
-use Rattle.std.proofs.Common.{◌≡◌, ℕ, ◌+◌, ◌-◌, ◌≤◌, List, [], ◌∷◌, ◌++◌, ◌∙◌, length, map, arith, refl, sym, ap, subst, append_assoc, ℤ, Some}
+use Rattle.std.proofs.Common.{◌≡◌, ℕ, ◌+◌, ◌-◌, ◌≤◌, List, [], ◌∷◌, ◌++◌, ◌∙◌, length, map, arith, refl, sym, ap, subst, append_assoc, ℤ}
 use Rattle.std.specs.List.{flat_map}
 use Rattle.std.specs.Prelude.{All}
 use Rattle.std.specs.Option.{option_to_list}
-use Rattle.msr_time.specs.Instant.{IsInstant}
 use Rattle.msr_time.specs.SampleRate.{IsRoundedNominal}
-use Rattle.msr_words.specs.Lengths.{bytes_of}
 use Rattle.msr_record.specs.declared.row.Key.{Key}
 use Rattle.msr_record.specs.declared.row.Row.{Row}
 use Rattle.msr_record.specs.declared.row.Record.{Record}
 use Rattle.msr_segments.specs.Spans.{EndsOutOfRange}
-use Rattle.msr_segments.specs.Segments.{Part, segment_of, segment_span, IsDivision, AreSegments, LastEndsOutOfRange}
+use Rattle.msr_segments.specs.Segments.{Part, segment_of, segment_span, IsDivision, LastEndsOutOfRange}
 use Rattle.msr_segments.specs.declared.joiner.Segment.{Segment}
 use Rattle.msr_segments.proofs.Histories.{no_segments}
-use Rattle.msr_report.specs.declared.report.Report.{Report}
 use Rattle.msr_input.specs.Input.{AreRead, NoneOverruns, OneListOfRecords, rows_of_records}
-use Rattle.msr_output.specs.Output.{Packed, cuts_of, segment_of_packed}
+use Rattle.msr_output.specs.Output.{cuts_of, segment_of_packed}
 use Rattle.msr_output.proofs.Times.{nominal_within}
 use Rattle.msr_verdict.specs.Packed.{IsFull, AreShownBy}
 use Rattle.msr_tool.specs.Choice.{size_of}

@@ -1,5 +1,5 @@
 -- The parts of the rows of an output are its segments, in their runs.
-use Rattle.std.proofs.Common.{◌≡◌, ℕ, ◌+◌, ◌-◌, ◌<◌, ◌≤◌, List, [], ◌∷◌, ◌++◌, ◌∙◌, length, map, arith, refl, sym, ap, subst, length-append, ℤ}
+use Rattle.std.proofs.Common.{◌≡◌, ℕ, ◌+◌, ◌-◌, List, [], ◌∷◌, ◌++◌, ◌∙◌, length, map, arith, refl, sym, ap, subst, length-append}
 use Rattle.std.specs.List.{flat_map}
 use Rattle.std.specs.Prelude.{All}
 use Rattle.msr_words.specs.declared.kinds.Kind.{Kind}
@@ -10,7 +10,7 @@ use Rattle.msr_segments.specs.declared.joiner.Segment.{Segment}
 use Rattle.msr_segments.specs.Segments.{Part, rows_of, segment_of}
 use Rattle.msr_segments.proofs.Divisions.{no_empty}
 use Rattle.msr_report.specs.declared.report.SegmentLine.{SegmentLine}
-use Rattle.msr_output.specs.Output.{Packed, IsPacked, Cut, AreWritten, next_number, number_after, cuts_at, cuts_of, segment_of_packed}
+use Rattle.msr_output.specs.Output.{Packed, IsPacked, AreWritten, next_number, number_after, cuts_at, cuts_of, segment_of_packed}
 use Rattle.msr_output.specs.Writing.{IsLineOf}
 use Rattle.msr_output.proofs.Cutting.{IsFitting, written-split}
 use Rattle.msr_output.proofs.Once.{all-first, all-rest}

@@ -1,5 +1,5 @@
 -- The rows of an output are in time, and its bytes begin with their records.
-use Rattle.std.proofs.Common.{◌≡◌, ℕ, zero, suc, ◌+◌, ◌-◌, ◌<◌, ◌≤◌, List, [], ◌∷◌, ◌++◌, ◌∙◌, length, take, drop, map, arith, refl, sym, ap, subst, length-take, length-drop, ℤ, pos, ◌+ℤ◌, Some, true}
+use Rattle.std.proofs.Common.{◌≡◌, ℕ, zero, suc, ◌+◌, ◌-◌, ◌<◌, ◌≤◌, List, [], ◌∷◌, ◌++◌, ◌∙◌, length, drop, map, arith, refl, sym, ap, subst, length-take, length-drop, ℤ, Some, true}
 use Rattle.std.specs.List.{flat_map}
 use Rattle.std.specs.Prelude.{All, slice_range}
 use Rattle.std.proofs.lemmas.List.{drop_at}

@@ -1,5 +1,5 @@
 -- What was repacked is readable, and its own report shows that it stands in the fewest records.
-use Rattle.std.specs.Prelude.{◌≡◌, ℕ, ◌-◌, ℤ, pos, ◌+ℤ◌, List, length, All}
+use Rattle.std.specs.Prelude.{ℕ, ◌-◌, ℤ, pos, ◌+ℤ◌, List, length, All}
 use Rattle.msr_time.specs.Instant.{IsInstant}
 use Rattle.msr_time.specs.SampleRate.{IsRoundedNominal}
 use Rattle.msr_record.specs.declared.row.Record.{Record}

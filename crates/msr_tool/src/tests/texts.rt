@@ -2,7 +2,7 @@
 use crate::tests::fixtures::{Edits, Outcome, PLAIN, choice, edited, input_of, repacked};
 use crate::{
     Counts, Fault, Options, TestSink, TestSource, ToolFault, list_segments, one_refusal,
-    one_repacking, readable_is_listed, readable_is_repacked,
+    one_repacking, readable_is_listed, readable_is_repacked, repacked_is_shown,
 };
 use msr_devices::Behavior;
 use msr_header::HeaderFault;
@@ -120,6 +120,7 @@ fn laws_are_callable() {
     one_repacking();
     readable_is_listed();
     readable_is_repacked();
+    repacked_is_shown();
 }
 
 #[test]
