@@ -57,13 +57,14 @@ fn checked(alloc: Global, packed: &[u8], text: &[u8]) -> Result<Verdict, ToolFau
 fn verdicts(rt: HostRuntime) -> Result<(), Fail> {
     let alloc = rt.alloc();
     let two = two_records(&rt, alloc)?;
+    let one = steim(&rt, &[]);
     let none: &[u8] = &[];
     for (packed, text, verdict) in [
         (none, NO_SEGMENTS, Verdict::Least),
         (two.as_slice(), ONE_SEGMENT, Verdict::Least),
         (none, ONE_SEGMENT, Verdict::NotShown),
         (two.as_slice(), NO_SEGMENTS, Verdict::NotShown),
-        (&two[..256], ONE_SEGMENT, Verdict::NotShown),
+        (one.as_slice(), ONE_SEGMENT, Verdict::NotShown),
     ] {
         assert_eq!(rt;
             checked(alloc, packed, text.as_bytes()),
@@ -154,10 +155,11 @@ fn texts_that_are_no_reports(rt: HostRuntime) -> Result<(), Fail> {
 fn packed_records_that_are_refused(rt: HostRuntime) -> Result<(), Fail> {
     let alloc = rt.alloc();
     let mut cut = two_records(&rt, alloc)?;
-    cut.extend_from_slice(&[0; 47])?;
+    let end: &[u8] = &[0; 47];
+    cut.extend_from_slice(end)?;
     let of_no_encoding = steim(&rt, &[(52, &[0x04])]);
     for (packed, text, want) in [
-        (&cut[512..], NO_SEGMENTS, "offset 0: 1 Truncated"),
+        (end, NO_SEGMENTS, "offset 0: 1 Truncated"),
         (cut.as_slice(), ONE_SEGMENT, "offset 512: 1 Truncated"),
         (cut.as_slice(), NO_SEGMENTS, "offset 512: 1 Truncated"),
         (
