@@ -1,0 +1,10 @@
+pub mod Digits
+pub mod Padded
+pub mod Bytes
+pub mod Instants
+pub mod Separators
+pub mod Sums
+pub mod Feeds
+pub mod Faults
+pub mod Segments
+pub mod Going

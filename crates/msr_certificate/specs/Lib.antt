@@ -1,0 +1,6 @@
+pub mod Fields
+pub mod Form
+pub mod Fault
+pub mod Ending
+pub mod Rest
+pub mod TextFault
