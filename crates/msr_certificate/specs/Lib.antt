@@ -4,3 +4,4 @@ pub mod Fault
 pub mod Ending
 pub mod Rest
 pub mod TextFault
+pub mod Reading

@@ -2,8 +2,8 @@
 use Rattle.std.specs.Prelude.{ℕ, ◌<◌, ◌≤◌, ◌^◌, List}
 use Rattle.msr_certificate.specs.Form.{Form, IsForm, IsFormText, form_records}
 use Rattle.msr_certificate.specs.Fault.{IsFaultLine}
-use Rattle.msr_certificate.specs.declared.reports.ReportFault.{ReportFault}
-use Rattle.msr_certificate.specs.declared.reports.ReportFault.TheVariants.{Line, Read, Memory}
+use Rattle.msr_certificate.specs.declared.fault.ReportFault.{ReportFault}
+use Rattle.msr_certificate.specs.declared.fault.ReportFault.TheVariants.{Line, Read, Memory}
 
 -- no report has the text
 pub record IsNoReport (text : List ℕ) : Type 0 where

@@ -1,13 +1,17 @@
 //! A report read from its text.
 #![tactic(auto)]
 
+mod fault;
 mod fields;
 mod keys;
 mod lines;
+mod reading;
 mod reports;
 mod times;
 
-pub use reports::{ReportFault, report_of};
+pub use fault::ReportFault;
+pub use reading::read_report;
+pub use reports::report_of;
 
 #[cfg(test)]
 mod tests;

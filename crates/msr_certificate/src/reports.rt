@@ -11,13 +11,13 @@ ghost use Rattle.msr_report.specs.Proper.{IsProper};
 ghost use Rattle.msr_report.specs.Text.{IsReportText};
 ghost use Rattle.msr_certificate.specs.Ending.{IsEnding};
 ghost use Rattle.msr_certificate.specs.TextFault.{IsTextFault};
-ghost use Rattle.msr_certificate.specs.declared.reports.ReportFault.TheVariants.{Line, Read, Memory};
 
+use crate::fault::ReportFault;
 use crate::fields::after;
 use crate::lines::{counted, counts, end, opening, record_length, title, tolerance};
 use msr_report::{Counts, Report, SegmentLine};
 use msr_words::Length;
-use std::alloc::{AllocError, AllocFailed, Global};
+use std::alloc::{AllocError, Global};
 
 // Takes the separators from the second line of a segment, and answers the text behind it.
 fn push_separators<'a>(
@@ -111,33 +111,6 @@ fn read_end(text: &[u8], segments: &[SegmentLine]) -> Ending
         Ending::Last
     } else {
         Ending::More
-    }
-}
-
-/// Why a report was not read.
-#[derive(Clone, Copy, Debug, PartialEq, Eq)]
-pub enum ReportFault {
-    /// The number of the first line, from 1, that no report has behind the lines before it.
-    Line(u64),
-    /// The source failed, or was interrupted 64 times in a row.
-    Read,
-    /// Memory was refused.
-    Memory,
-}
-
-impl From<AllocError> for ReportFault {
-    ghost from_gives = { λ _ e. e ≡ Memory };
-
-    fn from(_: AllocError) -> ReportFault {
-        ReportFault::Memory
-    }
-}
-
-impl<T: Drop> From<AllocFailed<T>> for ReportFault {
-    ghost from_gives = { λ _ e. e ≡ Memory };
-
-    fn from(_: AllocFailed<T>) -> ReportFault {
-        ReportFault::Memory
     }
 }
 
