@@ -8,3 +8,4 @@ pub mod Feeds
 pub mod Faults
 pub mod Segments
 pub mod Going
+pub mod Stopped
