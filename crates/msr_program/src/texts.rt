@@ -7,8 +7,8 @@ pub const LONG_ABOUT: &str = "Repacks miniSEED into the fewest records of one le
 msrepack joins the neighbouring records of a file into segments and writes each
 segment again in records of one length, as few as can hold it. Samples stay as they
 are. The report names samples of each segment, as many as its records, no two of
-which fit one record: so fewer records cannot hold it. Whoever has the records and the report
-can check that again.
+which fit one record: so fewer records cannot hold it. Whoever has the records and the
+report can check that again.
 
 It reads records with blockette 1000, with or without blockette 1001, in either byte
 order: 16-bit and 32-bit integers, Steim-1 and Steim-2. A file with anything else is
@@ -74,8 +74,8 @@ not shown  The report does not show that: a record has another length or no samp
            or a segment, its number of samples or records, or its separators do not
            agree. It does not say that fewer records are possible. Status 3.
 
-Only what stands in the two files is compared. Whether PACKED has the samples of the
-file that it was made from is not: compare `msrepack list` of both for that.
+Nothing is said of the file that PACKED was made from. Where msrepack made it, repack
+that file again with the same options: the same input gives the same records.
 
 The report is read with the form that `msrepack repack` writes. Where it has another,
 one line on standard error names its first wrong line, counted from 1; where PACKED
