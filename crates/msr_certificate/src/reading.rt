@@ -9,8 +9,8 @@ use msr_devices::{FillFault, ReadBuffer, Source};
 use msr_report::Report;
 use std::alloc::Global;
 
-// All bytes of the source, which a buffer keeps. Each time it wants more than stand there, and twice as many, so
-// that few of them are moved often.
+// A buffer with all bytes that the source has left. Each turn wants twice as many as stand there and one more, so
+// that none is moved often.
 fn read_all<Q: Source>(alloc: Global, source: &mut Q) -> Result<ReadBuffer, FillFault>
     requires { CanCountCall (Q.device source.old) }
     ensures all { IfOk result (λ buffer. HasLeft (Q.device source.old) buffer.bytes) }

@@ -1,4 +1,4 @@
-use Rattle.std.proofs.Common.{rules, ◌≡◌, [], false, true, refl, ap, arith}
+use Rattle.std.proofs.Common.{rules, ◌≡◌, false}
 use Rattle.msr_devices.proofs.Chaining.{gives-append, calm-calm, steady-steady}
 use Rattle.msr_certificate.proofs.reading.read_all.Goals as goal
 
