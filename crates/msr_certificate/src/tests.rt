@@ -1,5 +1,7 @@
-use super::{ReportFault, report_of};
-use std::alloc::Global;
+use super::{ReportFault, read_report, report_of};
+use msr_devices::{Behavior, TestSource};
+use msr_report::Report;
+use std::alloc::{AllocError, Global};
 
 const EMPTY: &str =
     "msrepack 1\nlength 512\ntolerance 1000\nread 0 empty 0 mismatched 0\nend 0 segments 0 records\n";
@@ -61,4 +63,44 @@ fn names_the_line(rt: HostRuntime) {
     assert_eq!(rt; edited(alloc, "2 records\n", "2 records\n\n"), 8);
     assert_eq!(rt; edited(alloc, "2 records\n", "2 records\nmore"), 8);
     assert_eq!(rt; fault_line(alloc, ""), 1);
+}
+
+// Reads a report from a source that gives 7 bytes at a time, each after an interruption.
+fn read_from(alloc: Global, text: &str, fails_at: Option<u64>) -> Result<Report, ReportFault> {
+    let behavior = Behavior {
+        most: 7,
+        interruptions: 1,
+        fails_at,
+    };
+    read_report(alloc, &mut TestSource::new(text.as_bytes(), behavior))
+}
+
+#[test]
+fn reads_from_a_source(rt: HostRuntime) {
+    let alloc = rt.alloc();
+    let Ok(report) = read_from(alloc, SEGMENT, None) else {
+        panic!(rt; "no report")
+    };
+    assert_eq!(rt; report.segments.len(), 1);
+    assert_eq!(rt;
+        read_from(alloc, "", None).err(),
+        Some(ReportFault::Line(1))
+    );
+    assert_eq!(rt;
+        read_from(alloc, SEGMENT, Some(20)).err(),
+        Some(ReportFault::Read)
+    );
+}
+
+#[test]
+fn shows_faults(rt: HostRuntime) -> Result<(), AllocError> {
+    let texts = [
+        (ReportFault::Line(7), "report line 7"),
+        (ReportFault::Read, "read fault"),
+        (ReportFault::Memory, "out of memory"),
+    ];
+    for (fault, text) in texts {
+        assert_eq!(rt; format!(in rt.alloc(); "{fault}")?.as_str(), text);
+    }
+    Ok(())
 }
