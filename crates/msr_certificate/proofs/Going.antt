@@ -4,14 +4,14 @@ use Rattle.std.proofs.lemmas.List.{append-nil, append_cancel_left}
 use Rattle.msr_words.specs.Lengths.{bytes_of}
 use Rattle.msr_header.specs.Reading.{is_quality}
 use Rattle.msr_report.specs.Proper.{records_of, IsProper, IsProperLine}
-use Rattle.msr_report.specs.Text.{segment_line, segment_words, separators_line, end_line, counts_line, first_lines, IsSegmentText, AreSegmentTexts, IsReportText}
+use Rattle.msr_report.specs.Text.{separators_line, end_line, counts_line, first_lines, IsSegmentText, AreSegmentTexts, IsReportText}
 use Rattle.msr_report.specs.declared.report.Counts.{Counts}
 use Rattle.msr_report.specs.declared.report.SegmentLine.{SegmentLine}
 use Rattle.msr_report.specs.declared.report.Report.{Report}
 use Rattle.msr_certificate.specs.Form.{Form, FormLine, IsForm, IsFirst, IsFormLine, IsFormText, IsFormLineText, AreFormLineTexts, IsOpening, IsKey, form_records, form_line, first_then}
 use Rattle.msr_certificate.specs.Fault.{IsOneLine, AreLines, BeginsReport, IsFaultLine}
 use Rattle.msr_certificate.specs.Rest.{AtLine, InFirst, tail_5}
-use Rattle.msr_certificate.proofs.Segments.{Tail, tail_from_first, words_then, start_then, texts_long}
+use Rattle.msr_certificate.proofs.Segments.{Tail, tail_from_first, line_then, words_then, start_then, texts_long}
 use Rattle.msr_certificate.proofs.Feeds.{same_cons}
 use Rattle.msr_certificate.proofs.Sums.{records-append}
 
@@ -70,15 +70,10 @@ going_more text bytes tolerance counts segments segments' segment rest rest' wor
 }
 
 -- the same in a report's own words
-line_whole : (s : SegmentLine) (word : List ℕ)
-    → segment_words s.key word s.samples (codes " records " ++ (decimal s.records ++ (10 ∷ separators_line s.separators.items)))
-    ≡ segment_line s word ++ separators_line s.separators.items
-line_whole s word = simp append_assoc
-
 texts_of : (segments : List SegmentLine) (text : List ℕ) → AreFormLineTexts (map form_line segments) text → AreSegmentTexts segments text
 texts_of [] text are = are
 texts_of (s ∷ segments) text are =
-    (are.0, (are.1.0, (record { start_text = are.1.1.0.word; time = are.1.1.0.time; is = are.1.1.0.is ∙ line_whole s are.1.1.0.word }, texts_of segments are.1.0 are.1.1.1, are.1.1.2)))
+    (are.0, (are.1.0, (record { start_text = are.1.1.0.word; time = are.1.1.0.time; is = are.1.1.0.is ∙ sym (line_then s.key are.1.1.0.word s.samples s.records (separators_line s.separators.items)) }, texts_of segments are.1.0 are.1.1.1, are.1.1.2)))
 
 records_same : (segments : List SegmentLine) → form_records (map form_line segments) ≡ records_of segments
 records_same [] = refl

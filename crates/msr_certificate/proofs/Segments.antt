@@ -120,6 +120,17 @@ words_then key word samples records separators more =
     ∙ ap (key_then key) (start_append word samples (codes " records " ++ (decimal records ++ (10 ∷ separators_line separators))) more
     ∙ ap (start_then word samples) (records_append records (separators_line separators) more))
 
+-- more text behind the first line of a segment
+pub line_then : (key : Key) (word : List ℕ) (samples records : ℕ) (more : List ℕ)
+    → segment_words key word samples (codes " records " ++ (decimal records ++ (10 ∷ []))) ++ more
+    ≡ segment_words key word samples (codes " records " ++ (decimal records ++ (10 ∷ more)))
+line_then key word samples records more =
+    ap (λ (l : List ℕ). l ++ more) (words_key key word samples (codes " records " ++ (decimal records ++ (10 ∷ []))))
+    ∙ key_append key (start_then word samples (codes " records " ++ (decimal records ++ (10 ∷ [])))) more
+    ∙ ap (key_then key) (start_append word samples (codes " records " ++ (decimal records ++ (10 ∷ []))) more
+    ∙ ap (start_then word samples) (records_append records [] more))
+    ∙ sym (words_key key word samples (codes " records " ++ (decimal records ++ (10 ∷ more))))
+
 -- the two lines of a segment at the front of a text
 pub line_text : (line : FormLine) (text more rest : List ℕ) → (opening : IsOpening line.key line.start line.samples line.records more text) → more ≡ separators_line line.separators ++ rest
     → (word : List ℕ) × (IsFormLineText line word × (text ≡ word ++ rest))
