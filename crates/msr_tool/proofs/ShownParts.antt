@@ -16,7 +16,7 @@ use Rattle.msr_output.proofs.Cutting.{IsFitting, written-split}
 use Rattle.msr_output.proofs.Once.{all-first, all-rest}
 use Rattle.msr_verdict.specs.Packed.{runs_of_rows, IsShownAs, IsShownBy, AreShownBy}
 use Rattle.msr_verdict.proofs.Runs.{samples_of, segment-samples}
-use Rattle.msr_tool.specs.Writing.{AreLinesOf}
+use Rattle.msr_tool.specs.Answer.{AreLinesOf}
 use Rattle.msr_tool.proofs.ShownRows.{IsSound, AreSound, range-length}
 
 sound-first : (xs ys : List Row) → AreSound (xs ++ ys) → AreSound xs

@@ -18,7 +18,7 @@ use Rattle.msr_output.proofs.Cutting.{IsFitting}
 use Rattle.msr_output.proofs.Once.{all-first, all-rest}
 use Rattle.msr_output.proofs.Times.{nominal_within}
 use Rattle.msr_verdict.specs.Packed.{IsFull}
-use Rattle.msr_tool.specs.Writing.{AreLinesOf}
+use Rattle.msr_tool.specs.Answer.{AreLinesOf}
 use Rattle.msr_tool.specs.Shown.{EndsBeforeTheLast}
 
 -- the segment begins in the supported years, and ends before their last microsecond
