@@ -1,4 +1,4 @@
-use Rattle.std.proofs.Common.{◌≡◌, ◌∙◌, ap, sym, refl, arith, ℕ, ◌<◌, List, [], ◌∷◌, ◌++◌, append_assoc, length, All}
+use Rattle.std.proofs.Common.{◌≡◌, refl, arith, ℕ, ◌<◌, List, [], ◌∷◌, ◌++◌, append_assoc}
 use Rattle.msr_report.specs.Text.{byte_text, field_text}
 use Rattle.msr_certificate.specs.Fields.{AreBytes}
 

@@ -1,14 +1,13 @@
 -- From the lines that were read to the rest of the text.
-use Rattle.std.proofs.Common.{◌≡◌, ◌∙◌, ap, sym, refl, rules, arith, ℕ, zero, suc, ◌+◌, ◌-◌, ◌<◌, ◌≤◌, ◌^◌, List, [], ◌∷◌, ◌++◌, append_assoc, length, decimal, codes, All}
-use Rattle.std.proofs.lemmas.List.{append-nil, append_cancel_left}
+use Rattle.std.proofs.Common.{◌≡◌, ◌∙◌, ap, sym, refl, rules, arith, ℕ, suc, ◌-◌, ◌<◌, ◌≤◌, ◌^◌, List, [], ◌∷◌, ◌++◌, append_assoc, length, decimal, codes}
 use Rattle.std.proofs.Math.Nat.{pow-le-pow_right}
 use Rattle.msr_words.specs.RecordLength.{IsRecordLength}
 use Rattle.msr_report.specs.Text.{counts_line, end_line}
 use Rattle.msr_report.specs.declared.report.Counts.{Counts}
-use Rattle.msr_certificate.specs.Form.{Form, FormLine, IsForm, IsFirst, IsFormLine, IsFormText, AreFormLineTexts, form_records, first_then}
+use Rattle.msr_certificate.specs.Form.{Form, IsForm, IsFirst, IsFormText, form_records, first_then}
 use Rattle.msr_certificate.specs.Fault.{IsOneLine, AreLines, BeginsReport, IsFaultLine}
 use Rattle.msr_certificate.specs.Rest.{Begins, InFirst, AtLine, body_1, body_2, body_3, body_4, counts_body, tail_1, tail_2, tail_3, tail_4, tail_5}
-use Rattle.msr_certificate.proofs.Feeds.{Peeled, peel, one-append, decimal_is_one}
+use Rattle.msr_certificate.proofs.Feeds.{peel, one-append, decimal_is_one}
 
 -- a text of a language begins with a line, and goes on in another language
 pub record Step (V : ℕ → List ℕ → Type 0) (L : ℕ → List ℕ → Type 0 → Type 0) (w : List ℕ) (P : Type 0) : Type 0 where

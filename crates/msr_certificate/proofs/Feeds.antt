@@ -1,18 +1,14 @@
 -- Lines have no line feed inside.
-use Rattle.std.proofs.Common.{◌≡◌, ◌∙◌, ap, sym, refl, rules, arith, ℕ, zero, suc, ◌+◌, ◌<◌, ◌≤◌, ◌^◌, ◌/◌, ◌%◌, ◌==◌, Bool, true, false, ◌&&◌, List, [], ◌∷◌, ◌++◌, append_assoc, ℤ, pos, negsuc, length, decimal, codes, flat_map, cond, All, slice_index}
+use Rattle.std.proofs.Common.{◌≡◌, ◌∙◌, ap, sym, refl, arith, ℕ, suc, ◌<◌, ◌≤◌, ◌^◌, ◌/◌, ◌%◌, ◌==◌, Bool, true, false, List, [], ◌∷◌, ◌++◌, append_assoc, ℤ, pos, negsuc, decimal, flat_map, cond, All, slice_index}
 use Rattle.std.specs.Char.{is_ascii_digit, is_ascii_alphanumeric}
 use Rattle.std.specs.Fmt.{signed_decimal, digit_glyph}
 use Rattle.std.specs.Str.{all_ascii_digits}
-use Rattle.std.specs.Int.{w32}
-use Rattle.std.specs.Int.RustNames.{FitsSigned}
 use Rattle.std.proofs.lemmas.Bool.Decides.{nat_tests}
-use Rattle.std.proofs.lemmas.Grind.{common_steps}
 use lib.Signed.{mag}
-use Rattle.msr_report.specs.Text.{hex_text, byte_text, field_text, padded_decimal, separators_line}
-use Rattle.msr_certificate.specs.Fields.{AreBytes, split_then}
+use Rattle.msr_report.specs.Text.{hex_text, byte_text, field_text, padded_decimal}
 use Rattle.msr_certificate.specs.Fault.{IsOneLine, AreLines}
-use Rattle.msr_certificate.proofs.Digits.{both_true, decimal_is_digits, short}
-use Rattle.msr_certificate.proofs.Padded.{IsPadded, reads_padded}
+use Rattle.msr_certificate.proofs.Digits.{both_true, decimal_is_digits}
+use Rattle.msr_certificate.proofs.Padded.{reads_padded}
 
 pub one-append : (a b : List ℕ) → IsOneLine a → IsOneLine b → IsOneLine (a ++ b)
 one-append [] b one_a one_b = one_b

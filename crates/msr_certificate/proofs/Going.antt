@@ -1,17 +1,15 @@
 -- So many segments were read, and the rest of the text may go on.
-use Rattle.std.proofs.Common.{◌≡◌, ◌∙◌, ap, sym, refl, rules, arith, ℕ, zero, suc, ◌+◌, ◌-◌, ◌*◌, ◌<◌, ◌≤◌, ◌^◌, List, [], ◌∷◌, ◌++◌, append_assoc, length, decimal, codes, All, flat_map, map, IsTrue, slice_index, length-append}
+use Rattle.std.proofs.Common.{◌≡◌, ◌∙◌, ap, sym, refl, arith, ℕ, zero, suc, ◌+◌, ◌*◌, ◌<◌, ◌≤◌, ◌^◌, List, [], ◌∷◌, ◌++◌, append_assoc, length, All, map, slice_index, length-append}
 use Rattle.std.proofs.lemmas.List.{append-nil, append_cancel_left}
 use Rattle.msr_words.specs.Lengths.{bytes_of}
-use Rattle.msr_header.specs.Reading.{is_quality}
 use Rattle.msr_report.specs.Proper.{records_of, IsProper, IsProperLine}
-use Rattle.msr_report.specs.Text.{separators_line, end_line, counts_line, first_lines, IsSegmentText, AreSegmentTexts, IsReportText}
+use Rattle.msr_report.specs.Text.{separators_line, end_line, first_lines, AreSegmentTexts, IsReportText}
 use Rattle.msr_report.specs.declared.report.Counts.{Counts}
 use Rattle.msr_report.specs.declared.report.SegmentLine.{SegmentLine}
 use Rattle.msr_report.specs.declared.report.Report.{Report}
-use Rattle.msr_certificate.specs.Form.{Form, FormLine, IsForm, IsFirst, IsFormLine, IsFormText, IsFormLineText, AreFormLineTexts, IsOpening, IsKey, form_records, form_line, first_then}
-use Rattle.msr_certificate.specs.Fault.{IsOneLine, AreLines, BeginsReport, IsFaultLine}
+use Rattle.msr_certificate.specs.Form.{Form, FormLine, IsForm, IsFirst, IsFormLine, IsFormText, IsFormLineText, AreFormLineTexts, IsOpening, form_records, form_line, first_then}
 use Rattle.msr_certificate.specs.Rest.{AtLine, InFirst, tail_5}
-use Rattle.msr_certificate.proofs.Segments.{Tail, tail_from_first, line_then, words_then, start_then, texts_long}
+use Rattle.msr_certificate.proofs.Segments.{Tail, tail_from_first, line_then, words_then, texts_long}
 use Rattle.msr_certificate.proofs.Feeds.{same_cons}
 use Rattle.msr_certificate.proofs.Sums.{records-append}
 

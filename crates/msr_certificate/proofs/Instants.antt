@@ -1,10 +1,10 @@
-use Rattle.std.proofs.Common.{◌≡◌, ◌∙◌, ap, sym, refl, arith, ℕ, ◌+◌, ◌*◌, ◌<◌, ◌≤◌, List, ◌++◌, append_assoc, ℤ, pos, ◌+ℤ◌, to_z, of_z, to_z-of_z, FitsSigned, w64}
+use Rattle.std.proofs.Common.{◌≡◌, refl, arith, ℕ, ◌<◌, ◌≤◌, List, ◌++◌, append_assoc, ℤ, pos, ◌+ℤ◌, to_z, of_z, FitsSigned, w64}
 use Rattle.std.proofs.lemmas.Int.{ints}
 use Rattle.jiff_core.proofs.SignedLemmas.{signed_arith}
 use Rattle.msr_time.specs.declared.btime.BTime.{BTime}
 use Rattle.msr_time.specs.Instant.{IsTime, IsInstant, IsSplit, instant_of}
 use Rattle.msr_time.proofs.TimeLemmas.{split_in_range}
-use Rattle.msr_report.specs.Text.{split_text, IsTimeText}
+use Rattle.msr_report.specs.Text.{split_text}
 use Rattle.msr_certificate.specs.Fields.{split_then}
 
 pub split_same : (time : BTime) (micros : ℕ) (more : List ℕ) → split_text time micros ++ more ≡ split_then time micros more

@@ -1,19 +1,9 @@
 -- The lines of the segments: from the lines that were read to the rest of the text.
-use Rattle.std.proofs.Common.{◌≡◌, ◌∙◌, ap, sym, refl, rules, arith, ℕ, zero, suc, ◌+◌, ◌-◌, ◌*◌, ◌<◌, ◌≤◌, ◌^◌, List, [], ◌∷◌, ◌++◌, append_assoc, length, decimal, codes, All, flat_map, map, ℤ, length-append}
-use Rattle.std.specs.Fmt.{signed_decimal}
-use Rattle.std.proofs.lemmas.List.{append-nil, append_cancel_left}
+use Rattle.std.proofs.Common.{◌≡◌, ◌∙◌, ap, sym, refl, arith, ℕ, zero, suc, ◌+◌, ◌*◌, ◌<◌, ◌≤◌, ◌^◌, List, [], ◌∷◌, ◌++◌, append_assoc, length, decimal, codes, All, ℤ, length-append}
 use Rattle.msr_record.specs.declared.row.Key.{Key}
-use Rattle.msr_report.specs.Proper.{records_of}
-use Rattle.msr_report.specs.Text.{segment_words, separators_line, end_line, IsTimeText, split_text, hex_text, field_text, name_text, settings_text, words_after_quality}
-use Rattle.msr_report.specs.declared.report.Counts.{Counts}
-use Rattle.msr_report.specs.declared.report.SegmentLine.{SegmentLine}
-use Rattle.msr_certificate.specs.Fields.{split_then, name_then, rate_then, flags_then}
-use Rattle.msr_certificate.specs.Form.{Form, FormLine, IsForm, IsKey, IsFirst, IsFormLine, IsFormText, IsFormLineText, AreFormLineTexts, IsOpening, key_then, form_records, form_line, first_then}
-use Rattle.msr_certificate.specs.Fault.{IsOneLine, AreLines, BeginsReport, IsFaultLine}
-use Rattle.msr_certificate.specs.Rest.{Begins, InFirst, AtLine, tail_5}
-use Rattle.msr_certificate.proofs.Feeds.{one-append, decimal_is_one, signed_is_one, padded_is_one, hex_is_one, field_is_one, separators_are_one}
-use Rattle.msr_certificate.proofs.Digits.{short}
-use Rattle.msr_certificate.proofs.Faults.{Step, not_empty}
+use Rattle.msr_report.specs.Text.{segment_words, separators_line, end_line, IsTimeText}
+use Rattle.msr_certificate.specs.Form.{FormLine, IsKey, IsFormLine, IsFormLineText, AreFormLineTexts, IsOpening, key_then, form_records}
+use Rattle.msr_certificate.specs.Rest.{InFirst, AtLine, tail_5}
 
 -- the lines of segments behind so many segments with so many records, and the last line
 pub record Tail (segments records : ℕ) (w : List ℕ) (P : Type 0) : Type 0 where

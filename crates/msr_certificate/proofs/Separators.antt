@@ -1,6 +1,5 @@
 use Rattle.std.proofs.Common.{◌≡◌, ◌∙◌, ap, sym, refl, arith, ℕ, suc, ◌<◌, ◌^◌, List, [], ◌∷◌, ◌++◌, append_assoc, All, codes, decimal, flat_map}
 use Rattle.std.proofs.lemmas.List.{append-nil, append_cancel_left}
-use Rattle.std.proofs.lemmas.Grind.{flat_map-append}
 use Rattle.msr_report.specs.Text.{separators_line}
 use Rattle.msr_certificate.specs.Fields.{EndsNumber}
 

@@ -1,4 +1,4 @@
-use Rattle.std.proofs.Common.{◌≡◌, ◌∙◌, ap, sym, arith, ◌+◌, ◌<◌, ◌≤◌, ◌^◌, take, take_all, rules, Fits, w64}
+use Rattle.std.proofs.Common.{◌∙◌, ap, sym, arith, ◌+◌, ◌<◌, ◌^◌, take_all}
 use Rattle.msr_report.specs.Proper.{records_of}
 use Rattle.msr_certificate.proofs.Sums.{records_more, records_front}
 use Rattle.msr_certificate.proofs.reports.all_records.Goals as goal

@@ -1,7 +1,5 @@
-use Rattle.std.proofs.Common.{◌≡◌, ◌∙◌, ap, sym, refl, rules, ℕ, List, ◌++◌, ◌∷◌, codes, decimal, append_assoc}
+use Rattle.std.proofs.Common.{◌∙◌, ap, sym, rules, ℕ, List, ◌++◌, ◌∷◌, codes, decimal}
 use Rattle.msr_words.specs.Lengths.{bytes_of}
-use Rattle.msr_report.specs.Text.{counts_line}
-use Rattle.msr_certificate.specs.Form.{Form}
 use Rattle.msr_certificate.specs.Rest.{InFirst, AtLine, tail_1, tail_2, tail_3, tail_4, tail_5, body_1, body_2, body_3, body_4}
 use Rattle.msr_certificate.proofs.Faults.{before_1, before_2, before_3, before_4, fault_at, at_first, next_line, step_1, step_2, step_3, step_4, IsBody, counts_split, counts_then}
 use Rattle.msr_certificate.proofs.reports.first_lines.Goals as goal

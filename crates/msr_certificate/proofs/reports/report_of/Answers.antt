@@ -1,12 +1,12 @@
-use Rattle.std.proofs.Common.{◌≡◌, ◌∙◌, ap, sym, refl, arith, rules, ◌++◌, ◌+◌, ◌*◌, ◌<◌, ◌≤◌, ◌^◌, [], List, ℕ, length, length-append, All, Fits, w64, FitsSigned, to_z-of_z, slice_index}
+use Rattle.std.proofs.Common.{◌≡◌, ◌∙◌, ap, sym, arith, rules, ◌++◌, ◌+◌, ◌*◌, ◌<◌, ◌^◌, [], List, ℕ, length, length-append, w64, FitsSigned, to_z-of_z}
 use Rattle.std.proofs.lemmas.List.{append-nil, nil_from_length}
 use Rattle.msr_words.specs.Lengths.{bytes_of}
 use Rattle.msr_report.specs.Proper.{records_of}
 use Rattle.msr_report.specs.Text.{end_line}
-use Rattle.msr_certificate.specs.Form.{FormLine, IsFormLine, form_line, first_then}
+use Rattle.msr_certificate.specs.Form.{FormLine, IsFormLine, form_line}
 use Rattle.msr_report.specs.declared.report.SegmentLine.{SegmentLine}
-use Rattle.msr_certificate.proofs.Segments.{line_text, line_long, texts_long}
-use Rattle.msr_certificate.proofs.Going.{going_start, going_more, found_report, Going, all_from_places, next_tail, none_tail, second_tail, opening_not_end, going_long, something_left}
+use Rattle.msr_certificate.proofs.Segments.{line_text, line_long}
+use Rattle.msr_certificate.proofs.Going.{going_start, going_more, found_report, all_from_places, next_tail, none_tail, second_tail, opening_not_end, going_long, something_left}
 use Rattle.msr_certificate.proofs.reports.report_of.Goals as goal
 
 pub loop-line-init : goal.loop-line-init

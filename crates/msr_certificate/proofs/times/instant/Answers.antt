@@ -1,9 +1,9 @@
-use Rattle.std.proofs.Common.{◌≡◌, ◌∙◌, ap, sym, refl, arith, ◌<◌, ◌≤◌, ◌++◌, List, ℕ, ℤ, pos, ◌+ℤ◌, rules}
+use Rattle.std.proofs.Common.{◌≡◌, ◌∙◌, ap, sym, refl, arith, ◌++◌, List, ℕ, pos, ◌+ℤ◌}
 use Rattle.msr_time.specs.declared.btime.BTime.{BTime}
 use Rattle.msr_time.specs.Instant.{IsTime, instant_of}
-use Rattle.msr_report.specs.Text.{split_text, IsTimeText}
+use Rattle.msr_report.specs.Text.{split_text}
 use Rattle.msr_certificate.specs.Fields.{split_then}
-use Rattle.msr_certificate.proofs.Instants.{split_same, IsSum, sum_is}
+use Rattle.msr_certificate.proofs.Instants.{split_same, sum_is}
 use Rattle.msr_certificate.proofs.times.instant.Goals as goal
 
 pub returns-then-time-gt59-clause-only : goal.returns-then-time-gt59-clause-only

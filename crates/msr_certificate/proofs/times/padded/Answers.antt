@@ -1,5 +1,4 @@
-use Rattle.std.proofs.Common.{◌≡◌, ◌∙◌, ◌<◌, ◌^◌, ◌++◌, ap, sym, ℕ, List, true, arith, take-append-drop}
-use Rattle.std.specs.Str.{all_ascii_digits}
+use Rattle.std.proofs.Common.{◌≡◌, ◌∙◌, ◌++◌, ap, sym, ℕ, List, arith, take-append-drop}
 use Rattle.std.proofs.lemmas.Str.Parse.{digits_value_short}
 use Rattle.msr_report.specs.Text.{padded_decimal}
 use Rattle.msr_certificate.specs.Fields.{number_after}

@@ -1,4 +1,4 @@
-use Rattle.std.proofs.Common.{◌≡◌, true, false}
+use Rattle.std.proofs.Common.{◌≡◌, true}
 use Rattle.std.specs.Char.{is_ascii_digit}
 use Rattle.std.proofs.Common.{slice_index_or, arith, refl, sym, ◌∙◌}
 use Rattle.msr_certificate.proofs.Padded.{reads_more, all_are_digits}
