@@ -81,13 +81,13 @@ counts_then counts more = simp append_assoc
 pub record_length_small : (n : ℕ) → IsRecordLength n → n ≤ 32768
 record_length_small n is = rw is.power (pow-le-pow_right {n = 2} (omega arith) {i = is.exponent} {j = 15} is.most)
 
-one_2 : (form : Form) → IsForm form → IsOneLine (body_2 form)
+pub one_2 : (form : Form) → IsForm form → IsOneLine (body_2 form)
 one_2 form is = one-append (codes "length ") (decimal form.bytes) (refl, (refl, (refl, (refl, (refl, (refl, (refl, tt))))))) (decimal_is_one form.bytes (omega (arith, record_length_small form.bytes is.first.is_length)))
 
-one_3 : (form : Form) → IsForm form → IsOneLine (body_3 form)
+pub one_3 : (form : Form) → IsForm form → IsOneLine (body_3 form)
 one_3 form is = one-append (codes "tolerance ") (decimal form.tolerance) (search rules) (decimal_is_one form.tolerance (omega (arith, is.first.most)))
 
-one_4 : (form : Form) → IsForm form → IsOneLine (body_4 form)
+pub one_4 : (form : Form) → IsForm form → IsOneLine (body_4 form)
 one_4 form is =
     one-append (codes "read ") (decimal form.counts.read ++ (codes " empty " ++ (decimal form.counts.empty ++ (codes " mismatched " ++ decimal form.counts.mismatched)))) (search rules)
     (one-append (decimal form.counts.read) (codes " empty " ++ (decimal form.counts.empty ++ (codes " mismatched " ++ decimal form.counts.mismatched))) (decimal_is_one form.counts.read is.first.read)

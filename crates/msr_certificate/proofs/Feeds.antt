@@ -33,7 +33,7 @@ signed_is_one (negsuc n) small = (refl, decimal_is_one (suc n) (omega arith))
 pub padded_is_one : (width n : ℕ) → 1 ≤ width → n < 10 ^ width → n < 10 ^ 6 → IsOneLine (padded_decimal width n)
 padded_is_one width n some fits small = digits_are_one (padded_decimal width n) (reads_padded width n some fits small).all
 
-glyph_is_no_feed : (n : ℕ) → n < 16 → (digit_glyph false n == 10) ≡ false
+pub glyph_is_no_feed : (n : ℕ) → n < 16 → (digit_glyph false n == 10) ≡ false
 glyph_is_no_feed n small = grind (arith, nat_tests)
 
 pub hex_is_one : (n : ℕ) → n < 256 → IsOneLine (hex_text n)

@@ -8,4 +8,7 @@ pub mod Feeds
 pub mod Faults
 pub mod Segments
 pub mod Going
+pub mod OneLines
+pub mod Steps
+pub mod Befores
 pub mod Stopped

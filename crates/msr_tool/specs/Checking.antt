@@ -3,8 +3,7 @@ use Rattle.std.specs.Prelude.{ℕ, List, Result, Ok, Err}
 use Rattle.msr_report.specs.Proper.{IsProper}
 use Rattle.msr_report.specs.Text.{IsReportText}
 use Rattle.msr_report.specs.declared.report.Report.{Report}
-use Rattle.msr_certificate.specs.TextFault.{IsTextFault}
-use Rattle.msr_certificate.specs.declared.fault.ReportFault.TheVariants as report
+use Rattle.msr_certificate.specs.Fault.{IsFaultLine}
 use Rattle.msr_input.specs.declared.fault.ReadFault.{ReadFault}
 use Rattle.msr_input.specs.declared.fault.ReadFault.TheVariants as read
 use Rattle.msr_verdict.specs.Packed.{Answers}
@@ -25,7 +24,7 @@ pub record IsChecked (input text : List ℕ) (answer : Result Verdict ReadFault)
 abbrev pub CheckAnswers : List ℕ → List ℕ → Result Verdict ToolFault → Type 0
 CheckAnswers input text (Ok verdict) = IsChecked input text (Ok verdict)
 CheckAnswers input text (Err (fault.Input found)) = IsChecked input text (Err (read.Input found))
-CheckAnswers input text (Err (fault.Report line)) = IsTextFault text (report.Line line)
+CheckAnswers input text (Err (fault.Report line)) = IsFaultLine text line
 CheckAnswers input text (Err fault.Read) = Unit {0}
 CheckAnswers input text (Err fault.Write) = ⊥
 CheckAnswers input text (Err fault.Memory) = Unit {0}
