@@ -3,13 +3,13 @@ use Rattle.std.proofs.Common.{◌≡◌, ◌∙◌, ap, sym, refl, arith, ℕ, z
 use Rattle.std.proofs.lemmas.List.{append-nil}
 use Rattle.msr_words.specs.Lengths.{bytes_of}
 use Rattle.msr_report.specs.Proper.{records_of, IsProper, IsProperLine}
-use Rattle.msr_report.specs.Text.{end_line, first_lines, AreSegmentTexts, IsReportText}
+use Rattle.msr_report.specs.Text.{separators_line, end_line, first_lines, AreSegmentTexts, IsReportText}
 use Rattle.msr_report.specs.declared.report.Counts.{Counts}
 use Rattle.msr_report.specs.declared.report.SegmentLine.{SegmentLine}
 use Rattle.msr_report.specs.declared.report.Report.{Report}
 use Rattle.msr_certificate.specs.Form.{FormLine, IsFirst, IsFormLine, IsFormLineText, AreFormLineTexts, IsOpening, form_records, form_line, first_then}
 use Rattle.msr_certificate.specs.Rest.{AtLine, InFirst, tail_5}
-use Rattle.msr_certificate.proofs.Segments.{opening_then, Tail, tail_from_first, at_map, texts_long}
+use Rattle.msr_certificate.proofs.Segments.{first_line_then, Tail, tail_from_first, at_map, texts_long}
 use Rattle.msr_certificate.proofs.Feeds.{same_cons}
 use Rattle.msr_certificate.proofs.Sums.{records-append}
 
@@ -72,7 +72,7 @@ going_more text bytes tolerance counts segments segments' segment rest rest' wor
 texts_of : (segments : List SegmentLine) (text : List ℕ) → AreFormLineTexts (map form_line segments) text → AreSegmentTexts segments text
 texts_of [] text are = are
 texts_of (s ∷ segments) text are =
-    (are.0, (are.1.0, (record { start_text = are.1.1.0.word; time = are.1.1.0.time; is = are.1.1.0.is ∙ sym (opening_then s.key are.1.1.0.word s.samples s.records (separators_line s.separators.items)) }, texts_of segments are.1.0 are.1.1.1, are.1.1.2)))
+    (are.0, (are.1.0, (record { start_text = are.1.1.0.word; time = are.1.1.0.time; is = are.1.1.0.is ∙ sym (first_line_then s.key are.1.1.0.word s.samples s.records (separators_line s.separators.items)) }, texts_of segments are.1.0 are.1.1.1, are.1.1.2)))
 
 pub records_same : (segments : List SegmentLine) → form_records (map form_line segments) ≡ records_of segments
 records_same [] = refl

@@ -110,11 +110,11 @@ words_then key word samples records separators more =
     ∙ ap (key_then key) (start_append word samples (codes " records " ++ (decimal records ++ (10 ∷ separators_line separators))) more
     ∙ ap (start_then word samples) (records_append records (separators_line separators) more))
 
--- more text behind the first line of a segment
-pub opening_then : (key : Key) (word : List ℕ) (samples records : ℕ) (more : List ℕ)
+-- more text behind the first line of a segment, in the words of its line
+pub first_line_then : (key : Key) (word : List ℕ) (samples records : ℕ) (more : List ℕ)
     → segment_words key word samples (codes " records " ++ (decimal records ++ (10 ∷ []))) ++ more
     ≡ segment_words key word samples (codes " records " ++ (decimal records ++ (10 ∷ more)))
-opening_then key word samples records more =
+first_line_then key word samples records more =
     ap (λ (l : List ℕ). l ++ more) (words_key key word samples (codes " records " ++ (decimal records ++ (10 ∷ []))))
     ∙ key_append key (start_then word samples (codes " records " ++ (decimal records ++ (10 ∷ [])))) more
     ∙ ap (key_then key) (start_append word samples (codes " records " ++ (decimal records ++ (10 ∷ []))) more
