@@ -4,8 +4,6 @@ use Rattle.std.specs.Option.{option_map}
 use Rattle.msr_words.specs.Lengths.{bytes_of}
 use Rattle.msr_program.specs.declared.words.Task.{Task}
 use Rattle.msr_program.specs.declared.words.Task.TheVariants.{Repack, List as Listing, Check}
-use Rattle.msr_program.specs.declared.done.Done.{Done}
-use Rattle.msr_program.specs.declared.done.Done.TheVariants.{Written, Checked}
 use Rattle.msr_program.specs.declared.words.NoTask.{NoTask}
 use Rattle.msr_program.specs.declared.words.NoTask.TheVariants.{Ending, Memory}
 
@@ -48,12 +46,3 @@ IsDefault (Check asked) = ⊥
 abbrev pub HasStatus : NoTask → Type 0
 HasStatus (Ending ending) = (ending.status ≡ 0) ⊎ (ending.status ≡ 2)
 HasStatus Memory = ⊤
-
--- a check ends with a verdict, and the other tasks without
-abbrev pub EndsTask : Task → Done → Type 0
-EndsTask (Repack asked) Written = ⊤
-EndsTask (Repack asked) (Checked verdict) = ⊥
-EndsTask (Listing asked) Written = ⊤
-EndsTask (Listing asked) (Checked verdict) = ⊥
-EndsTask (Check asked) Written = ⊥
-EndsTask (Check asked) (Checked verdict) = ⊤

@@ -1,5 +1,6 @@
-// What a task that was done ends with.
+//! What a task that was done ends with.
 ghost use Rattle.std.specs.Prelude.{◌≡◌};
+ghost use Rattle.msr_program.specs.Ends.{status_of_done};
 
 use msr_tool::Verdict;
 
@@ -15,9 +16,7 @@ pub enum Done {
 impl Done {
     /// The exit status of a program that ends so.
     pub fn status(&self) -> u8
-        ensures written { self.now ≡ Done.Written → result ≡ 0 }
-        ensures least { self.now ≡ Done.Checked Verdict.Least → result ≡ 0 }
-        ensures not_shown { self.now ≡ Done.Checked Verdict.NotShown → result ≡ 3 }
+        ensures { result ≡ status_of_done self.now }
     {
         match self {
             Done::Written => 0,

@@ -1,16 +1,47 @@
-use msr_tool::{TextFault, ToolFault};
+//! Why a task ends before it is done.
+use msr_tool::ToolFault;
 use thiserror::Error;
 
 /// Why a task ended before it was done.
 #[derive(Debug, Drop, Error)]
 pub enum Stop<'a> {
-    /// The file with this name could not be opened or made.
+    /// The file with this name could not be opened, or not be made.
     #[error("cannot open {0}")]
     CannotOpen(&'a str),
+    /// The output is the input, by another name or a link.
+    #[error("the output is the input")]
+    SameFile,
+    /// Standard output is closed.
+    #[error("write fault")]
+    Closed,
     /// The engine ended.
     #[error("{0}")]
-    Tool(#[from] ToolFault),
-    /// The report was not written.
-    #[error("{0}")]
-    Text(#[from] TextFault),
+    Tool(ToolFault),
+}
+
+impl<'a> Stop<'a> {
+    ghost use Rattle.std.specs.Prelude.{◌≡◌};
+    ghost use Rattle.msr_program.specs.Ends.{status_of_stop};
+
+    /// The exit status of a program that ends so.
+    pub fn status(&self) -> u8
+        ensures { result ≡ status_of_stop self.now }
+    {
+        match self {
+            Stop::CannotOpen(_) | Stop::Closed => 1,
+            Stop::SameFile => 2,
+            Stop::Tool(fault) => fault.status(),
+        }
+    }
+}
+
+impl<'a> From<ToolFault> for Stop<'a> {
+    ghost use Rattle.std.specs.Prelude.{◌≡◌};
+    ghost use Rattle.msr_program.specs.declared.stop.Stop.TheVariants.{Tool};
+
+    ghost from_gives = { λ fault stop. stop ≡ Tool fault };
+
+    fn from(fault: ToolFault) -> Stop<'a> {
+        Stop::Tool(fault)
+    }
 }

@@ -1,73 +1,159 @@
-// The tasks of the program over files and standard input and output.
-ghost use Rattle.std.specs.Prelude.{◌≤◌, IfOk};
-ghost use Rattle.msr_program.specs.Tasks.{EndsTask, IsTolerance, HasTolerance};
+//! The tasks of the program, over the system's files, and over any source and sink in the place of standard input and
+//! output.
+ghost use Rattle.std.specs.Prelude.{◌≡◌};
+ghost use Rattle.msr_devices.specs.Device.{CanCountCall};
+ghost use Rattle.msr_program.specs.Tasks.{IsTolerance, HasTolerance};
+ghost use Rattle.msr_program.specs.Ends.{choice_of, Checks, Does, ListsNamed, OpensOutput, Repacks, RepacksNamed};
 
-use crate::devices::{Input, Output, open_file, standard_output};
 use crate::done::Done;
+use crate::files::{
+    FileId, create_output, id_of_standard_input, open_file, settle, settle_standard_output,
+};
 use crate::stop::Stop;
 use crate::words::{Checking, Listing, Repacking, Task, default_length};
 use msr_tool::{
-    FromRead, FromWrite, Options, ToolFault, Verdict, check_packed, list_segments, repack,
+    FromRead, FromWrite, Options, Sink, Source, check_and_tell, list_segments, repack_and_report,
 };
 use msr_words::Length;
 use std::alloc::Global;
-use std::io::Write;
+use std::io;
+use std::rt::Files;
 
-/// Does what was asked for.
-pub fn do_task<'a>(rt: &HostRuntime, alloc: Global, task: Task<'a>) -> Result<Done, Stop<'a>>
-    requires { HasTolerance task }
-    ensures { IfOk result (EndsTask task.entry) }
+/// Does what was asked for: reads files, and `input` where a name is `-`; writes files, and to `output` what is to be
+/// printed.
+pub fn do_task<'a, R: Files, I: Source, O: Sink>(
+    rt: &R,
+    alloc: Global,
+    task: Task<'a>,
+    input: &mut I,
+    output: &mut O,
+) -> Result<Done, Stop<'a>>
+    requires tolerance { HasTolerance task }
+    requires input { CanCountCall (I.device input.old) }
+    requires output { CanCountCall (O.device output.old) }
+    ensures { Does task.entry (I.device input.old) (O.device output.old) (O.device output.new) result }
 {
-    match task {
-        Task::Repack(asked) => repack_file(rt, alloc, asked)?,
-        Task::List(asked) => list_file(rt, alloc, asked)?,
-        Task::Check(asked) => return Ok(Done::Checked(check_files(rt, alloc, asked)?)),
+    require_open(output)?;
+    let done = match task {
+        Task::Repack(asked) => repack_file(rt, alloc, asked, input, output)?,
+        Task::List(asked) => list_file(rt, alloc, asked, input, output)?,
+        Task::Check(asked) => check_files(rt, alloc, asked, output)?,
+    };
+    settle_standard_output(rt)?;
+    Ok(done)
+}
+
+// Nothing can be printed where standard output is closed, and a file that is made would stand in its place and get
+// the text.
+fn require_open<'a, O: Sink>(output: &mut O) -> Result<(), Stop<'a>>
+    requires { CanCountCall (O.device output.old) }
+    ensures { OpensOutput (O.device output.old) (O.device output.new) result }
+{
+    match output.write(&[]) {
+        Ok(_) => Ok(()),
+        Err(_) => Err(Stop::Closed),
     }
-    Ok(Done::Written)
 }
 
 // Opens the input before the output is made, so that a wrong input leaves an old output as it is.
-fn repack_file<'a>(rt: &HostRuntime, alloc: Global, asked: Repacking<'a>) -> Result<(), Stop<'a>>
-    requires { IsTolerance asked.tolerance }
+fn repack_file<'a, R: Files, I: Source, O: Sink>(
+    rt: &R,
+    alloc: Global,
+    asked: Repacking<'a>,
+    input: &mut I,
+    output: &mut O,
+) -> Result<Done, Stop<'a>>
+    requires tolerance { IsTolerance asked.tolerance }
+    requires input { CanCountCall (I.device input.old) }
+    requires output { CanCountCall (O.device output.old) }
+    ensures { RepacksNamed (choice_of asked.length asked.tolerance) asked.input.now (I.device input.old)
+        (O.device output.old) (O.device output.new) result }
 {
-    let options = options_of(asked.length, asked.tolerance);
-    let mut source = FromRead::new(Input::open(rt, asked.input)?);
-    let mut text = FromWrite::new(standard_output(rt)?);
-    let mut records = FromWrite::new(Output::create(rt, asked.output)?);
-    let report = repack(alloc, &mut source, &mut records, options)?;
-    report.write_text(alloc, &mut text)?;
-    Ok(())
+    if asked.input == "-" {
+        let id = id_of_standard_input(rt);
+        return repack_from(rt, alloc, asked, input, id, output);
+    }
+    let opened = open_file(rt, asked.input)?;
+    let mut source = FromRead::new(opened.file);
+    repack_from(rt, alloc, asked, &mut source, opened.id, output)
 }
 
-fn list_file<'a>(rt: &HostRuntime, alloc: Global, asked: Listing<'a>) -> Result<(), Stop<'a>>
-    requires { IsTolerance asked.tolerance }
+// Repacks the source, which is the file with that id if it is one.
+fn repack_from<'a, R: Files, I: Source, O: Sink>(
+    rt: &R,
+    alloc: Global,
+    asked: Repacking<'a>,
+    source: &mut I,
+    id: Option<FileId>,
+    output: &mut O,
+) -> Result<Done, Stop<'a>>
+    requires tolerance { IsTolerance asked.tolerance }
+    requires source { CanCountCall (I.device source.old) }
+    requires output { CanCountCall (O.device output.old) }
+    ensures { Repacks (choice_of asked.length asked.tolerance) (I.device source.old)
+        (O.device output.old) (O.device output.new) result }
+{
+    let options = options_of(asked.length, asked.tolerance);
+    let Some(name) = asked.output else {
+        let mut nowhere = FromWrite::new(io::sink());
+        repack_and_report(alloc, source, &mut nowhere, output, options)?;
+        return Ok(Done::Written);
+    };
+    let mut file = create_output(rt, name, id)?;
+    repack_and_report(
+        alloc,
+        source,
+        &mut FromWrite::new(&mut file),
+        output,
+        options,
+    )?;
+    settle(&file)?;
+    Ok(Done::Written)
+}
+
+fn list_file<'a, R: Files, I: Source, O: Sink>(
+    rt: &R,
+    alloc: Global,
+    asked: Listing<'a>,
+    input: &mut I,
+    output: &mut O,
+) -> Result<Done, Stop<'a>>
+    requires tolerance { IsTolerance asked.tolerance }
+    requires input { CanCountCall (I.device input.old) }
+    requires output { CanCountCall (O.device output.old) }
+    ensures { ListsNamed asked.tolerance asked.input.now (I.device input.old)
+        (O.device output.old) (O.device output.new) result }
 {
     // No record is written, so any length serves.
     let options = options_of(default_length(), asked.tolerance);
-    let mut source = FromRead::new(Input::open(rt, asked.input)?);
-    let mut lines = FromWrite::new(standard_output(rt)?);
-    list_segments(alloc, &mut source, &mut lines, options)?;
-    Ok(())
+    if asked.input == "-" {
+        list_segments(alloc, input, output, options)?;
+        return Ok(Done::Written);
+    }
+    let mut source = FromRead::new(open_file(rt, asked.input)?.file);
+    list_segments(alloc, &mut source, output, options)?;
+    Ok(Done::Written)
 }
 
 // Opens both inputs before either is read.
-fn check_files<'a>(
-    rt: &HostRuntime,
+fn check_files<'a, R: Files, O: Sink>(
+    rt: &R,
     alloc: Global,
     asked: Checking<'a>,
-) -> Result<Verdict, Stop<'a>> {
-    let mut packed = FromRead::new(open_file(rt, asked.packed)?);
-    let mut report = FromRead::new(open_file(rt, asked.report)?);
-    let mut out = standard_output(rt)?;
-    let verdict = check_packed(alloc, &mut packed, &mut report)?;
-    match writeln!(out, "{verdict}") {
-        Ok(()) => Ok(verdict),
-        Err(_) => Err(Stop::Tool(ToolFault::Write)),
-    }
+    output: &mut O,
+) -> Result<Done, Stop<'a>>
+    requires { CanCountCall (O.device output.old) }
+    ensures { Checks (O.device output.old) (O.device output.new) result }
+{
+    let mut packed = FromRead::new(open_file(rt, asked.packed)?.file);
+    let mut report = FromRead::new(open_file(rt, asked.report)?.file);
+    let verdict = check_and_tell(alloc, &mut packed, &mut report, output)?;
+    Ok(Done::Checked(verdict))
 }
 
 fn options_of(length: Length, tolerance: u32) -> Options
     requires { IsTolerance tolerance }
+    ensures { result ≡ choice_of length tolerance }
 {
     Options::new(length, tolerance).unwrap()
 }

@@ -7,3 +7,4 @@ pub mod ListWriting
 pub mod Laws
 pub mod Shown
 pub mod Checking
+pub mod Tasks

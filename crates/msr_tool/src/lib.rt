@@ -10,6 +10,7 @@ mod list;
 mod list_writer;
 mod options;
 mod output;
+mod tasks;
 
 pub use check::check_packed;
 pub use engine::repack;
@@ -18,11 +19,14 @@ pub use laws::{
     one_refusal, one_repacking, readable_is_listed, readable_is_repacked, repacked_is_shown,
 };
 pub use list::list_segments;
-pub use msr_devices::{FromRead, FromWrite, Sink, Source, TestSink, TestSource};
+pub use msr_devices::{
+    Behavior, FromRead, FromWrite, Sink, Source, TestSink, TestSource, write_all,
+};
 pub use msr_input::Fault;
 pub use msr_report::{Counts, Report, SegmentLine, TextFault};
 pub use msr_verdict::Verdict;
 pub use options::Options;
+pub use tasks::{check_and_tell, repack_and_report};
 
 #[cfg(test)]
 mod tests;

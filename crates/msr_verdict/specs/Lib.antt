@@ -1,2 +1,3 @@
 pub mod Packed
 pub mod Compared
+pub mod Texts

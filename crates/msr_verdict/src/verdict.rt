@@ -26,6 +26,11 @@ impl Verdict {
 }
 
 impl fmt::Display for Verdict {
+    ghost use Rattle.std.specs.Prelude.{Some};
+    ghost use Rattle.msr_verdict.specs.Texts.{text_of};
+
+    ghost output = { λ verdict. Some (text_of verdict) };
+
     fn fmt<W: fmt::Write>(&self, f: &mut fmt::Formatter<W>) -> fmt::Result {
         f.write_str(match self {
             Verdict::Least => "least",

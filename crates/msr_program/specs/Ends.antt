@@ -1,0 +1,156 @@
+-- How a task ends: what was read and printed, for what the files of the system hold.
+use Rattle.std.specs.Prelude.{◌≡◌, ◌⊎◌, ◌<◌, ◌≤◌, ℕ, ⊤, List, [], length, codes, string_bytes, Result, Ok, Err}
+use Rattle.msr_words.specs.declared.lengths.Length.{Length}
+use Rattle.msr_devices.specs.Device.{Device, HasFailed, HasLeft, Takes}
+use Rattle.msr_report.specs.declared.report.Counts.{Counts}
+use Rattle.msr_report.specs.declared.report.Report.{Report}
+use Rattle.msr_tool.specs.Choice.{Choice}
+use Rattle.msr_tool.specs.Listing.{IsListed, ListAnswers}
+use Rattle.msr_tool.specs.Tasks.{IsReported, ReportAnswers, VerdictAnswers}
+use Rattle.msr_verdict.specs.declared.verdict.Verdict.{Verdict}
+use Rattle.msr_verdict.specs.declared.verdict.Verdict.TheVariants.{Least, NotShown}
+use Rattle.msr_tool.specs.declared.fault.ToolFault.{ToolFault}
+use Rattle.msr_program.specs.declared.done.Done.{Done}
+use Rattle.msr_program.specs.declared.done.Done.TheVariants.{Written, Checked}
+use Rattle.msr_program.specs.declared.stop.Stop.{Stop}
+use Rattle.msr_program.specs.declared.stop.Stop.TheVariants.{CannotOpen, SameFile, Closed, Tool}
+use Rattle.msr_program.specs.declared.words.NoTask.{NoTask}
+use Rattle.msr_program.specs.declared.words.NoTask.TheVariants.{Ending, Memory}
+use Rattle.msr_program.specs.declared.words.Task.{Task}
+use Rattle.msr_program.specs.declared.words.Task.TheVariants.{Repack, List as Listing, Check}
+use Rattle.msr_program.specs.Tasks.{HasStatus, IsDefault}
+
+-- 0 for what was written or is least, 3 for what is not shown
+abbrev pub status_of_done : Done → ℕ
+status_of_done Written = 0
+status_of_done (Checked Least) = 0
+status_of_done (Checked NotShown) = 3
+
+-- 2 where the output is the input, which is a wrong command line, and else 1
+abbrev pub status_of_stop : Stop → ℕ
+status_of_stop (CannotOpen name) = 1
+status_of_stop SameFile = 2
+status_of_stop Closed = 1
+status_of_stop (Tool fault) = 1
+
+abbrev pub status_of : Result Done Stop → ℕ
+status_of (Ok done) = status_of_done done
+status_of (Err stop) = status_of_stop stop
+
+-- the length and the tolerance that are asked for
+abbrev pub choice_of : (record_length : Length) → (tolerance : ℕ) → Choice
+choice_of record_length tolerance = record { record_length = record_length; tolerance = tolerance }
+
+-- The input was repacked into some records, and what was printed is the text of its report.
+pub record WritesReport (choice : Choice) (input printed : List ℕ) : Type 0 where
+  pub written : List ℕ
+  pub report : Report
+  pub reported : IsReported choice input written printed report
+
+-- The engine stopped at this fault, after some records.
+pub record StopsReport (choice : Choice) (input printed : List ℕ) (fault : ToolFault) : Type 0 where
+  pub written : List ℕ
+  pub answers : ReportAnswers choice input written printed (Err fault)
+
+abbrev pub RepackEnds : Choice → (input printed : List ℕ) → Result Done Stop → Type 0
+RepackEnds choice input printed (Ok Written) = WritesReport choice input printed
+RepackEnds choice input printed (Ok (Checked verdict)) = ⊥
+RepackEnds choice input printed (Err (CannotOpen name)) = printed ≡ []
+RepackEnds choice input printed (Err SameFile) = printed ≡ []
+RepackEnds choice input printed (Err Closed) = printed ≡ []
+RepackEnds choice input printed (Err (Tool fault)) = StopsReport choice input printed fault
+
+-- Repacking a source, and what was printed.
+pub record Repacks (choice : Choice) (source out0 out : Device) (result : Result Done Stop) : Type 0 where
+  pub input : List ℕ
+  pub printed : List ℕ
+  pub left : HasLeft source input
+  pub prints : Takes out0 out printed
+  pub ends : RepackEnds choice input printed result
+
+-- The input was listed with these counts.
+pub record WritesList (tolerance : ℕ) (input printed : List ℕ) : Type 0 where
+  pub counts : Counts
+  pub listed : IsListed tolerance input printed counts
+
+abbrev pub ListEnds : ℕ → (input printed : List ℕ) → Result Done Stop → Type 0
+ListEnds tolerance input printed (Ok Written) = WritesList tolerance input printed
+ListEnds tolerance input printed (Ok (Checked verdict)) = ⊥
+ListEnds tolerance input printed (Err (CannotOpen name)) = printed ≡ []
+ListEnds tolerance input printed (Err SameFile) = ⊥
+ListEnds tolerance input printed (Err Closed) = printed ≡ []
+ListEnds tolerance input printed (Err (Tool fault)) = ListAnswers tolerance input printed (Err fault)
+
+-- Listing a source, and what was printed.
+pub record Lists (tolerance : ℕ) (source out0 out : Device) (result : Result Done Stop) : Type 0 where
+  pub input : List ℕ
+  pub printed : List ℕ
+  pub left : HasLeft source input
+  pub prints : Takes out0 out printed
+  pub ends : ListEnds tolerance input printed result
+
+abbrev pub CheckEnds : (input text printed : List ℕ) → Result Done Stop → Type 0
+CheckEnds input text printed (Ok Written) = ⊥
+CheckEnds input text printed (Ok (Checked verdict)) = VerdictAnswers input text printed (Ok verdict)
+CheckEnds input text printed (Err (CannotOpen name)) = printed ≡ []
+CheckEnds input text printed (Err SameFile) = ⊥
+CheckEnds input text printed (Err Closed) = printed ≡ []
+CheckEnds input text printed (Err (Tool fault)) = VerdictAnswers input text printed (Err fault)
+
+-- Checking some records with some report, and what was printed.
+pub record Checks (out0 out : Device) (result : Result Done Stop) : Type 0 where
+  pub input : List ℕ
+  pub text : List ℕ
+  pub printed : List ℕ
+  pub prints : Takes out0 out printed
+  pub ends : CheckEnds input text printed result
+
+-- Standard output was tried, and nothing was printed: it is open, and counts as before; or it is closed.
+abbrev pub OpensOutput : (out0 out : Device) → Result (Unit {0}) Stop → Type 0
+OpensOutput out0 out (Ok open_now) = Takes out0 out [] × (out.failures ≡ out0.failures) × (out.interruptions ≡ 0)
+OpensOutput out0 out (Err stop) = Takes out0 out [] × (stop ≡ Closed)
+
+-- The source of a name: standard input for `-`, and a file of which nothing is known for another.
+pub record IsSourceOf (name : List ℕ) (standard source : Device) : Type 0 where
+  pub dash : name ≡ codes "-" → source ≡ standard
+
+-- Repacking the file of a name.
+pub record RepacksNamed (choice : Choice) (name : List ℕ) (standard out0 out : Device) (result : Result Done Stop) : Type 0 where
+  pub source : Device
+  pub named : IsSourceOf name standard source
+  pub repacks : Repacks choice source out0 out result
+
+-- Listing the file of a name.
+pub record ListsNamed (tolerance : ℕ) (name : List ℕ) (standard out0 out : Device) (result : Result Done Stop) : Type 0 where
+  pub source : Device
+  pub named : IsSourceOf name standard source
+  pub lists : Lists tolerance source out0 out result
+
+-- what doing a task reads and prints, and how it ends
+abbrev pub Does : Task → (standard out0 out : Device) → Result Done Stop → Type 0
+Does (Repack asked) standard out0 out result =
+    RepacksNamed (choice_of asked.length asked.tolerance) asked.input.now standard out0 out result
+Does (Listing asked) standard out0 out result = ListsNamed asked.tolerance asked.input.now standard out0 out result
+Does (Check asked) standard out0 out result = Checks out0 out result
+
+-- The words ask for a task, with none for the default, and it ended with this status.
+pub record EndsTask (words : ℕ) (standard out0 out : Device) (status : ℕ) : Type 0 where
+  pub task : Task
+  pub outcome : Result Done Stop
+  pub default : words < 2 → IsDefault task
+  pub does : Does task standard out0 out outcome
+  pub status : status ≡ status_of outcome
+
+-- A text was printed whole for status 0. Status 2 is for a text on standard error, and status 1 where the text was
+-- not printed or there is no memory.
+abbrev pub EndsText : NoTask → (out0 out : Device) → (status : ℕ) → Type 0
+EndsText (Ending ending) out0 out status =
+    ((status ≡ ending.status) × (status ≡ 0 → Takes out0 out (string_bytes ending.text))) ⊎ ((status ≡ 1) × HasFailed out0 out)
+EndsText Memory out0 out status = status ≡ 1
+
+-- The words ask for no task.
+pub record EndsWithoutTask (words : ℕ) (out0 out : Device) (status : ℕ) : Type 0 where
+  pub why : NoTask
+  pub some : 2 ≤ words
+  pub has_status : HasStatus why
+  pub ends : EndsText why out0 out status

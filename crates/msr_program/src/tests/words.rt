@@ -1,0 +1,271 @@
+//! What command lines are read as, and the text and status that the others end with.
+use crate::words::{Checking, Ending, Listing, NoTask, Repacking, Task, read_words};
+use msr_words::Length;
+use std::alloc::{AllocError, Global};
+use std::test::Fail;
+
+// The text and status of a line that asks for no task; status 255 where it asks for one.
+fn ending(alloc: Global, words: &'static [&'static str]) -> Result<Ending, AllocError> {
+    match read_words(alloc, words) {
+        Ok(_) => Ok(Ending {
+            text: String::new(alloc),
+            status: 255,
+        }),
+        Err(NoTask::Ending(ending)) => Ok(ending),
+        Err(NoTask::Memory) => Err(AllocError),
+    }
+}
+
+fn repacking(
+    bytes: u32,
+    tolerance: u32,
+    input: &'static str,
+    output: Option<&'static str>,
+) -> Option<Task<'static>> {
+    let length = Length::new(bytes)?;
+    Some(Task::Repack(Repacking {
+        length,
+        tolerance,
+        input,
+        output,
+    }))
+}
+
+#[test]
+fn reads_repack(rt: HostRuntime) -> Result<(), Fail> {
+    let rows: [(&'static [&'static str], Option<Task<'static>>); 8] = [
+        (&[], repacking(512, 1000, "-", None)),
+        (&["msrepack"], repacking(512, 1000, "-", None)),
+        (
+            &["msrepack", "repack", "-"],
+            repacking(512, 1000, "-", None),
+        ),
+        (
+            &["msrepack", "repack", "a", "b"],
+            repacking(512, 1000, "a", Some("b")),
+        ),
+        (
+            &["msrepack", "repack", "--length", "4096", "a", "b"],
+            repacking(4096, 1000, "a", Some("b")),
+        ),
+        (
+            &["msrepack", "repack", "a", "-", "--length=256"],
+            repacking(256, 1000, "a", Some("-")),
+        ),
+        (
+            &["msrepack", "repack", "--tolerance", "1000000", "a"],
+            repacking(512, 1_000_000, "a", None),
+        ),
+        (
+            &["msrepack", "repack", "--tolerance", "1", "--", "-a"],
+            repacking(512, 1, "-a", None),
+        ),
+    ];
+    for (words, want) in rows {
+        assert_eq!(&rt; read_words(rt.alloc(), words).ok(), want, "at {words:?}");
+    }
+    Ok(())
+}
+
+#[test]
+fn reads_list(rt: HostRuntime) -> Result<(), Fail> {
+    let rows: [(&'static [&'static str], u32, &'static str); 3] = [
+        (&["msrepack", "list", "a"], 1000, "a"),
+        (&["msrepack", "list", "-"], 1000, "-"),
+        (&["msrepack", "list", "--tolerance", "7", "a"], 7, "a"),
+    ];
+    for (words, tolerance, input) in rows {
+        let want = Some(Task::List(Listing { tolerance, input }));
+        assert_eq!(&rt; read_words(rt.alloc(), words).ok(), want, "at {words:?}");
+    }
+    Ok(())
+}
+
+// Both are names of files, also where they are `-`, and may be one name.
+#[test]
+fn reads_check(rt: HostRuntime) -> Result<(), Fail> {
+    let rows: [(&'static [&'static str], &'static str, &'static str); 4] = [
+        (&["msrepack", "check", "a", "b"], "a", "b"),
+        (&["msrepack", "check", "a", "a"], "a", "a"),
+        (&["msrepack", "check", "-", "b"], "-", "b"),
+        (&["msrepack", "check", "--", "-a", "--help"], "-a", "--help"),
+    ];
+    for (words, packed, report) in rows {
+        let want = Some(Task::Check(Checking { packed, report }));
+        assert_eq!(&rt; read_words(rt.alloc(), words).ok(), want, "at {words:?}");
+    }
+    Ok(())
+}
+
+// Faults that clap finds come first, then a wrong length, then an output that is the input.
+#[test]
+fn refuses_with_a_text_of_its_own(rt: HostRuntime) -> Result<(), Fail> {
+    let length = "msrepack: not a record length\n";
+    let same = "msrepack: the output is the input\n";
+    let rows: [(&'static [&'static str], &'static str); 9] = [
+        (&["msrepack", "repack", "--length", "300", "a"], length),
+        (&["msrepack", "repack", "--length", "0", "a"], length),
+        (&["msrepack", "repack", "--length", "128", "a"], length),
+        (&["msrepack", "repack", "--length", "65536", "a"], length),
+        (
+            &["msrepack", "repack", "--length", "4294967295", "a"],
+            length,
+        ),
+        (&["msrepack", "repack", "--length", "300", "a", "a"], length),
+        (&["msrepack", "repack", "a", "a"], same),
+        (&["msrepack", "repack", "-", "-"], same),
+        (&["msrepack", "repack", "--length", "256", "a", "a"], same),
+    ];
+    for (words, want) in rows {
+        let ending = ending(rt.alloc(), words)?;
+        assert_eq!(&rt; ending.status, 2, "at {words:?}");
+        assert_eq!(&rt; ending.text.as_str(), want, "at {words:?}");
+    }
+    Ok(())
+}
+
+#[test]
+fn refuses_with_the_text_of_clap(rt: HostRuntime) -> Result<(), Fail> {
+    let rows: [(&'static [&'static str], &'static str); 18] = [
+        (
+            &["msrepack", "--"],
+            "error: 'msrepack' requires a subcommand but one was not provided\n",
+        ),
+        (&["msrepack", "a"], "error: unrecognized subcommand 'a'\n"),
+        (
+            &["msrepack", "archive", "a", "b", "c"],
+            "error: unrecognized subcommand 'archive'\n",
+        ),
+        (
+            &["msrepack", "feed", "a"],
+            "error: unrecognized subcommand 'feed'\n",
+        ),
+        (
+            &["msrepack", "--strict"],
+            "error: unexpected argument '--strict' found\n",
+        ),
+        (
+            &["msrepack", "list"],
+            "error: the following required arguments were not provided:\n  <IN>\n",
+        ),
+        (
+            &["msrepack", "list", "a", "b"],
+            "error: unexpected argument 'b' found\n",
+        ),
+        (
+            &["msrepack", "list", "--length", "512", "a"],
+            "error: unexpected argument '--length' found\n",
+        ),
+        (
+            &["msrepack", "list", "--tolerance", "0", "a"],
+            "error: invalid value '0' for '--tolerance <T>': 0 is not in 1..=1000000\n",
+        ),
+        (
+            &["msrepack", "check"],
+            "error: the following required arguments were not provided:\n  <PACKED>\n  <REPORT>\n",
+        ),
+        (
+            &["msrepack", "check", "a"],
+            "error: the following required arguments were not provided:\n  <REPORT>\n",
+        ),
+        (
+            &["msrepack", "check", "a", "b", "c"],
+            "error: unexpected argument 'c' found\n",
+        ),
+        (
+            &["msrepack", "check", "--length", "512", "a", "b"],
+            "error: unexpected argument '--length' found\n",
+        ),
+        (
+            &["msrepack", "check", "a", "b", "--tolerance=5"],
+            "error: unexpected argument '--tolerance' found\n",
+        ),
+        (
+            &["msrepack", "repack", "--tolerance", "1000001", "a"],
+            "error: invalid value '1000001' for '--tolerance <T>': 1000001 is not in 1..=1000000\n",
+        ),
+        (
+            &["msrepack", "repack", "--length", "x", "a", "a"],
+            "error: invalid value 'x' for '--length <L>': invalid digit found in string\n",
+        ),
+        (
+            &["msrepack", "repack", "--length", "4294967296", "a"],
+            "error: invalid value '4294967296' for '--length <L>': 4294967296 is not in 0..=4294967295\n",
+        ),
+        (
+            &[
+                "msrepack", "repack", "--length", "512", "--length", "512", "a",
+            ],
+            "error: the argument '--length <L>' cannot be used multiple times\n",
+        ),
+    ];
+    for (words, want) in rows {
+        let ending = ending(rt.alloc(), words)?;
+        assert_eq!(&rt; ending.status, 2, "at {words:?}");
+        assert!(&rt;
+            ending.text.starts_with(want),
+            "at {words:?}: {}",
+            ending.text.as_str()
+        );
+    }
+    Ok(())
+}
+
+#[test]
+fn helps(rt: HostRuntime) -> Result<(), Fail> {
+    let rows: [(&'static [&'static str], &'static str); 13] = [
+        (&["msrepack", "--help"], "Usage: msrepack <COMMAND>\n"),
+        (&["msrepack", "--help"], "\nStatuses:\n  0  done\n"),
+        (
+            &["msrepack", "help", "list"],
+            "Usage: msrepack list [OPTIONS] <IN>\n",
+        ),
+        (
+            &["msrepack", "list", "--help"],
+            "Usage: msrepack list [OPTIONS] <IN>\n",
+        ),
+        (
+            &["msrepack", "repack", "--help"],
+            "Usage: msrepack repack [OPTIONS] <IN> [OUT]\n",
+        ),
+        (
+            &["msrepack", "repack", "--help"],
+            "256, 512, 1024, 2048, 4096, 8192, 16384 or 32768\n          \n          [default: 512]\n",
+        ),
+        (
+            &["msrepack", "repack", "-h"],
+            "1 to 1000000 [default: 1000]\n",
+        ),
+        (
+            &["msrepack", "--help"],
+            "\n  check   Says whether a report shows that packed records are the fewest\n",
+        ),
+        (
+            &["msrepack", "--help"],
+            "\n  3  the report does not show that the records are the fewest\n",
+        ),
+        (
+            &["msrepack", "check", "--help"],
+            "Usage: msrepack check <PACKED> <REPORT>\n",
+        ),
+        (
+            &["msrepack", "check", "-h"],
+            "Usage: msrepack check <PACKED> <REPORT>\n",
+        ),
+        (
+            &["msrepack", "help", "check"],
+            "\nnot shown  The report does not show that: ",
+        ),
+        (&["msrepack", "--version"], "msrepack 0.1.0\n"),
+    ];
+    for (words, part) in rows {
+        let ending = ending(rt.alloc(), words)?;
+        assert_eq!(&rt; ending.status, 0, "at {words:?}");
+        assert!(&rt;
+            ending.text.contains(part),
+            "at {words:?}: {}",
+            ending.text.as_str()
+        );
+    }
+    Ok(())
+}

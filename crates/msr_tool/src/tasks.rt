@@ -1,0 +1,78 @@
+//! Tasks that also write a text: a repack with the text of its report, a check with the line of its verdict.
+ghost use Rattle.std.specs.Prelude.{◌≡◌, ◌⊎◌, ◌↔◌, IsErrOf, OnErr};
+ghost use Rattle.msr_devices.specs.Device.{CanCountCall, CountsFew, HasFailed, IsCalm};
+ghost use Rattle.msr_input.specs.declared.fault.Fault.{Fault as FirstFault};
+ghost use Rattle.msr_tool.specs.Tasks.{Reports, Tells};
+
+use crate::check::check_packed;
+use crate::engine::repack;
+use crate::fault::ToolFault;
+use crate::options::Options;
+use msr_devices::{Sink, Source, write_all};
+use msr_report::Report;
+use msr_verdict::Verdict;
+use std::alloc::Global;
+
+/// Repacks as `repack` does, and then writes the text of this very report to `text`. Nothing goes there before the
+/// sink has accepted all records. The first device that fails ends the call, so no two have failed.
+pub fn repack_and_report<R: Source, W: Sink, T: Sink>(
+    alloc: Global,
+    source: &mut R,
+    records: &mut W,
+    text: &mut T,
+    options: Options,
+) -> Result<Report, ToolFault>
+    requires source { CanCountCall (R.device source.old) }
+    requires records { CanCountCall (W.device records.old) }
+    requires text { CanCountCall (T.device text.old) }
+
+    // What was written and what is answered, for the bytes that the source has.
+    ensures answer { Reports options (R.device source.old) (W.device records.old) (W.device records.new)
+        (T.device text.old) (T.device text.new) result }
+
+    // A failure of a device is answered as such, and nothing else is.
+    ensures read { IsErrOf result ToolFault.Read ↔ HasFailed (R.device source.old) (R.device source.new) }
+    ensures write { IsErrOf result ToolFault.Write ↔ (HasFailed (W.device records.old) (W.device records.new)
+        ⊎ HasFailed (T.device text.old) (T.device text.new)) }
+
+    // Where the input or its device is at fault, or the records are, no call was made for the text.
+    ensures untold_at_fault { (fault : FirstFault) → result ≡ Err (ToolFault.Input fault) → text.new ≡ text.old }
+    ensures untold_at_read { HasFailed (R.device source.old) (R.device source.new) → text.new ≡ text.old }
+    ensures untold_at_write { HasFailed (W.device records.old) (W.device records.new) → text.new ≡ text.old }
+    ensures few_source { CountsFew (R.device source.old) (R.device source.new) }
+    ensures few_records { CountsFew (W.device records.old) (W.device records.new) }
+    ensures few_text { CountsFew (T.device text.old) (T.device text.new) }
+{
+    let report = repack(alloc, source, records, options)?;
+    report.write_text(alloc, text)?;
+    Ok(report)
+}
+
+/// Checks as `check_packed` does, and then writes the line of the verdict to `out`.
+pub fn check_and_tell<R: Source, Q: Source, T: Sink>(
+    alloc: Global,
+    packed: &mut R,
+    report: &mut Q,
+    out: &mut T,
+) -> Result<Verdict, ToolFault>
+    requires packed { CanCountCall (R.device packed.old) }
+    requires report { CanCountCall (Q.device report.old) }
+    requires out { CanCountCall (T.device out.old) }
+
+    // What was written and what is answered, for the bytes that the sources have.
+    ensures answer { Tells (R.device packed.old) (Q.device report.old) (T.device out.old) (T.device out.new) result }
+
+    // A failure of a device is answered as such, and nothing else is.
+    ensures read { IsErrOf result ToolFault.Read ↔ (HasFailed (R.device packed.old) (R.device packed.new)
+        ⊎ HasFailed (Q.device report.old) (Q.device report.new)) }
+    ensures write { IsErrOf result ToolFault.Write ↔ HasFailed (T.device out.old) (T.device out.new) }
+    ensures untold { OnErr result (result ≡ Err ToolFault.Write ⊎ (out.new ≡ out.old)) }
+    ensures few_packed { CountsFew (R.device packed.old) (R.device packed.new) }
+    ensures few_report { CountsFew (Q.device report.old) (Q.device report.new) }
+    ensures few_out { CountsFew (T.device out.old) (T.device out.new) }
+{
+    let verdict = check_packed(alloc, packed, report)?;
+    let line = format!(in alloc; "{verdict}\n")?;
+    write_all(out, line.as_bytes())?;
+    Ok(verdict)
+}
