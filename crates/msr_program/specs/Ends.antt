@@ -81,14 +81,6 @@ ListEnds tolerance input printed (Err SameFile) = ⊥
 ListEnds tolerance input printed (Err Closed) = printed ≡ []
 ListEnds tolerance input printed (Err (Tool fault)) = ListAnswers tolerance input printed (Err fault)
 
--- Listing a source, and what was printed.
-pub record Lists (tolerance : ℕ) (source out0 out : Device) (result : Result Done Stop) : Type 0 where
-  pub input : List ℕ
-  pub printed : List ℕ
-  pub left : HasLeft source input
-  pub prints : Takes out0 out printed
-  pub ends : ListEnds tolerance input printed result
-
 abbrev pub CheckEnds : (input text printed : List ℕ) → Result Done Stop → Type 0
 CheckEnds input text printed (Ok Written) = ⊥
 CheckEnds input text printed (Ok (Checked verdict)) = VerdictAnswers input text printed (Ok verdict)
@@ -110,21 +102,35 @@ abbrev pub OpensOutput : (out0 out : Device) → Result (Unit {0}) Stop → Type
 OpensOutput out0 out (Ok open_now) = Takes out0 out [] × (out.failures ≡ out0.failures) × (out.interruptions ≡ 0)
 OpensOutput out0 out (Err stop) = Takes out0 out [] × (stop ≡ Closed)
 
--- The source of a name: standard input for `-`, and a file of which nothing is known for another.
-pub record IsSourceOf (name : List ℕ) (standard source : Device) : Type 0 where
-  pub dash : name ≡ codes "-" → source ≡ standard
+-- a file could not be opened
+abbrev pub IsUnopened : Stop → Type 0
+IsUnopened (CannotOpen name) = ⊤
+IsUnopened SameFile = ⊥
+IsUnopened Closed = ⊥
+IsUnopened (Tool fault) = ⊥
 
--- Repacking the file of a name.
+-- a file could not be made, or is the input
+abbrev pub IsUncreated : Stop → Type 0
+IsUncreated (CannotOpen name) = ⊤
+IsUncreated SameFile = ⊤
+IsUncreated Closed = ⊥
+IsUncreated (Tool fault) = ⊥
+
+-- Repacking the file of a name, which is standard input for `-`. What another name's file holds is not known.
 pub record RepacksNamed (choice : Choice) (name : List ℕ) (standard out0 out : Device) (result : Result Done Stop) : Type 0 where
-  pub source : Device
-  pub named : IsSourceOf name standard source
-  pub repacks : Repacks choice source out0 out result
+  pub input : List ℕ
+  pub printed : List ℕ
+  pub left : name ≡ codes "-" → HasLeft standard input
+  pub prints : Takes out0 out printed
+  pub ends : RepackEnds choice input printed result
 
 -- Listing the file of a name.
 pub record ListsNamed (tolerance : ℕ) (name : List ℕ) (standard out0 out : Device) (result : Result Done Stop) : Type 0 where
-  pub source : Device
-  pub named : IsSourceOf name standard source
-  pub lists : Lists tolerance source out0 out result
+  pub input : List ℕ
+  pub printed : List ℕ
+  pub left : name ≡ codes "-" → HasLeft standard input
+  pub prints : Takes out0 out printed
+  pub ends : ListEnds tolerance input printed result
 
 -- what doing a task reads and prints, and how it ends
 abbrev pub Does : Task → (standard out0 out : Device) → Result Done Stop → Type 0
@@ -139,7 +145,7 @@ pub record EndsTask (words : ℕ) (standard out0 out : Device) (status : ℕ) : 
   pub outcome : Result Done Stop
   pub default : words < 2 → IsDefault task
   pub does : Does task standard out0 out outcome
-  pub status : status ≡ status_of outcome
+  pub ended : status ≡ status_of outcome
 
 -- A text was printed whole for status 0. Status 2 is for a text on standard error, and status 1 where the text was
 -- not printed or there is no memory.

@@ -1,4 +1,7 @@
 //! Files that are opened, created and made to last.
+ghost use Rattle.std.specs.Prelude.{◌≡◌, IfErr};
+ghost use Rattle.msr_program.specs.Ends.{IsUncreated, IsUnopened};
+
 use crate::stop::Stop;
 use msr_tool::ToolFault;
 use std::fs;
@@ -33,7 +36,9 @@ pub struct OpenedFile<F> {
 }
 
 /// Opens the file with this name, also where it is `-`.
-pub fn open_file<'a, R: Files>(rt: &R, name: &'a str) -> Result<OpenedFile<R::File>, Stop<'a>> {
+pub fn open_file<'a, R: Files>(rt: &R, name: &'a str) -> Result<OpenedFile<R::File>, Stop<'a>>
+    ensures { IfErr result IsUnopened }
+{
     let Ok(file) = File::open(rt, name) else {
         return Err(Stop::CannotOpen(name));
     };
@@ -60,7 +65,9 @@ pub fn create_output<'a, R: Files>(
     rt: &R,
     name: &'a str,
     input: Option<FileId>,
-) -> Result<R::File, Stop<'a>> {
+) -> Result<R::File, Stop<'a>>
+    ensures { IfErr result IsUncreated }
+{
     let Ok(file) = OpenOptions::new().write(true).create(true).open(rt, name) else {
         return Err(Stop::CannotOpen(name));
     };
@@ -81,7 +88,9 @@ pub fn create_output<'a, R: Files>(
 
 /// Waits until the system has stored what was written to a regular file: a disk that is full, or a file server that
 /// lost it, may tell it only now. A file system that cannot wait for that tells nothing.
-pub fn settle<F: OpenFile>(file: &F) -> Result<(), ToolFault> {
+pub fn settle<F: OpenFile>(file: &F) -> Result<(), ToolFault>
+    ensures { IfErr result (λ fault. fault ≡ ToolFault.Write) }
+{
     let Ok(metadata) = file.metadata() else {
         return Err(ToolFault::Write);
     };
@@ -98,7 +107,9 @@ pub fn settle<F: OpenFile>(file: &F) -> Result<(), ToolFault> {
 }
 
 /// The same for standard output, where it is redirected to a regular file that can be opened once more.
-pub fn settle_standard_output<R: Files>(rt: &R) -> Result<(), ToolFault> {
+pub fn settle_standard_output<R: Files>(rt: &R) -> Result<(), ToolFault>
+    ensures { IfErr result (λ fault. fault ≡ ToolFault.Write) }
+{
     let Ok(metadata) = fs::metadata(rt, "/dev/stdout") else {
         return Ok(());
     };

@@ -8,7 +8,7 @@ ghost use Rattle.msr_program.specs.declared.words.NoTask.TheVariants.{Ending as 
 use crate::stop::Stop;
 use crate::tasks::do_task;
 use crate::words::{Ending, NoTask, read_words};
-use msr_tool::{Sink, Source, write_all};
+use msr_devices::{Sink, Source, write_all};
 use std::alloc::Global;
 use std::io::Write;
 use std::rt::Files;

@@ -34,13 +34,29 @@ pub fn do_task<'a, R: Files, I: Source, O: Sink>(
     ensures { Does task.entry (I.device input.old) (O.device output.old) (O.device output.new) result }
 {
     require_open(output)?;
-    let done = match task {
-        Task::Repack(asked) => repack_file(rt, alloc, asked, input, output)?,
-        Task::List(asked) => list_file(rt, alloc, asked, input, output)?,
-        Task::Check(asked) => check_files(rt, alloc, asked, output)?,
-    };
+    let done = do_open(rt, alloc, task, input, output)?;
     settle_standard_output(rt)?;
     Ok(done)
+}
+
+// Does it where standard output is open.
+fn do_open<'a, R: Files, I: Source, O: Sink>(
+    rt: &R,
+    alloc: Global,
+    task: Task<'a>,
+    input: &mut I,
+    output: &mut O,
+) -> Result<Done, Stop<'a>>
+    requires tolerance { HasTolerance task }
+    requires input { CanCountCall (I.device input.old) }
+    requires output { CanCountCall (O.device output.old) }
+    ensures { Does task.entry (I.device input.old) (O.device output.old) (O.device output.new) result }
+{
+    match task {
+        Task::Repack(asked) => repack_file(rt, alloc, asked, input, output),
+        Task::List(asked) => list_file(rt, alloc, asked, input, output),
+        Task::Check(asked) => check_files(rt, alloc, asked, output),
+    }
 }
 
 // Nothing can be printed where standard output is closed, and a file that is made would stand in its place and get
@@ -66,7 +82,7 @@ fn repack_file<'a, R: Files, I: Source, O: Sink>(
     requires tolerance { IsTolerance asked.tolerance }
     requires input { CanCountCall (I.device input.old) }
     requires output { CanCountCall (O.device output.old) }
-    ensures { RepacksNamed (choice_of asked.length asked.tolerance) asked.input.now (I.device input.old)
+    ensures { RepacksNamed (choice_of asked.entry.length asked.entry.tolerance) asked.entry.input.now (I.device input.old)
         (O.device output.old) (O.device output.new) result }
 {
     if asked.input == "-" {
@@ -90,7 +106,7 @@ fn repack_from<'a, R: Files, I: Source, O: Sink>(
     requires tolerance { IsTolerance asked.tolerance }
     requires source { CanCountCall (I.device source.old) }
     requires output { CanCountCall (O.device output.old) }
-    ensures { Repacks (choice_of asked.length asked.tolerance) (I.device source.old)
+    ensures { Repacks (choice_of asked.entry.length asked.entry.tolerance) (I.device source.old)
         (O.device output.old) (O.device output.new) result }
 {
     let options = options_of(asked.length, asked.tolerance);
@@ -121,7 +137,7 @@ fn list_file<'a, R: Files, I: Source, O: Sink>(
     requires tolerance { IsTolerance asked.tolerance }
     requires input { CanCountCall (I.device input.old) }
     requires output { CanCountCall (O.device output.old) }
-    ensures { ListsNamed asked.tolerance asked.input.now (I.device input.old)
+    ensures { ListsNamed asked.entry.tolerance asked.entry.input.now (I.device input.old)
         (O.device output.old) (O.device output.new) result }
 {
     // No record is written, so any length serves.
