@@ -2,6 +2,7 @@
 use crate::run::run;
 use msr_tool::{Behavior, TestSink, TestSource};
 use std::alloc::{AllocError, Global};
+use std::rt::Files;
 use std::test::Fail;
 use std::{env, fs, process};
 
@@ -21,8 +22,8 @@ pub struct Ran {
 }
 
 /// Runs the program with these words behind its name; standard input and output are devices that behave so.
-pub fn run_through(
-    rt: &HostRuntime,
+pub fn run_through<R: Files + AllocGlobal>(
+    rt: &R,
     words: &[&str],
     input: &[u8],
     reading: Behavior,
@@ -33,7 +34,7 @@ pub fn run_through(
     all.push("msrepack")?;
     all.extend_from_slice(words)?;
     let mut source = TestSource::new(input, reading);
-    let mut sink = TestSink::new(Vec::new(alloc), writing, false);
+    let mut sink = TestSink::new(Vec::new(alloc), writing);
     let mut complaint = Vec::new(alloc);
     let status = run(
         rt,
@@ -51,7 +52,11 @@ pub fn run_through(
 }
 
 /// The same with devices that never fail.
-pub fn run_on(rt: &HostRuntime, words: &[&str], input: &[u8]) -> Result<Ran, AllocError> {
+pub fn run_on<R: Files + AllocGlobal>(
+    rt: &R,
+    words: &[&str],
+    input: &[u8],
+) -> Result<Ran, AllocError> {
     run_through(rt, words, input, PLAIN, PLAIN)
 }
 

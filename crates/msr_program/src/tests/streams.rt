@@ -3,6 +3,7 @@ use crate::tests::fixtures::{
     LIST_OF_ZEROS, PLAIN, REPORT_OF_NOTHING, REPORT_OF_ZEROS, Ran, run_on, run_through, zeros,
 };
 use msr_tool::Behavior;
+use std::process::Abort;
 use std::test::Fail;
 
 // Moves so many bytes in a call, and fails at one.
@@ -37,7 +38,7 @@ fn repacks_and_lists_standard_input(rt: HostRuntime) -> Result<(), Fail> {
     Ok(())
 }
 
-fn complains(rt: &HostRuntime, ran: &Ran, want: &str) {
+fn complains(rt: &impl Abort, ran: &Ran, want: &str) {
     assert_eq!(rt; ran.status, 1);
     assert_eq!(rt; ran.complaint.as_slice(), want.as_bytes());
 }

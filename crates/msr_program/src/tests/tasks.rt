@@ -5,11 +5,13 @@ use crate::tests::fixtures::{
 };
 use std::fs;
 use std::os::unix::fs::symlink;
+use std::process::Abort;
+use std::rt::Files;
 use std::test::Fail;
 
 // A run with these words has this status, and prints and complains so.
-fn ends(
-    rt: &HostRuntime,
+fn ends<R: Files + AllocGlobal + Abort>(
+    rt: &R,
     words: &[&str],
     status: u8,
     printed: &str,
