@@ -1,0 +1,3 @@
+pub mod AddLemmas
+pub mod FirstNameLemmas
+pub mod RowLemmas

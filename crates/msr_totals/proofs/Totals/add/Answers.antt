@@ -1,0 +1,29 @@
+use Rattle.std.proofs.Common.{◌≡◌, ap, ◌∙◌, unwrap_or}
+use Rattle.std.specs.Map.{lookup}
+use Rattle.std.specs.Str.{bytes_eq}
+use Rattle.indexmap.specs.IndexMap.{insert_entry}
+use Rattle.msr_totals.specs.Entries.{named}
+use Rattle.msr_totals.specs.Totals.{Add, totals_of}
+use Rattle.msr_totals.proofs.AddLemmas.{none, IsPlus, insert_entry-totals}
+use Rattle.msr_totals.proofs.RowLemmas.{lookup-named, named-insert_entry}
+use Rattle.msr_totals.proofs.Totals.add.Goals as goal
+
+pub returns-clause-added : goal.returns-clause-added
+returns-clause-added c adds was =
+    let name = c.args.name.now in
+    let add : Add = record { name = name; read = c.args.read; written = c.args.written } in
+    let old = c.self.inside.by_name.entries in
+    let after = c.plus.result in
+    let rows : named old ≡ totals_of adds = c.self.view_is ∙ was in
+    let found =
+    c.copied.ensures ∙ c.get.ensures.value ∙ lookup-named name old ∙ ap (lookup (bytes_eq name)) rows in
+    let before = c.unwrap_or-before.ensures ∙ ap (λ o. unwrap_or o none) found in
+    let plus : IsPlus c.unwrap_or-before.result add after = record {
+      files = c.plus.ensures.files;
+      read = c.plus.ensures.read;
+      written = c.plus.ensures.written;
+    } in
+    let more = insert_entry-totals adds add after (rw before at plus) in
+    let key = c.in_ok-name.name in
+    ap named c.in_ok-insert.ensures.entries ∙ named-insert_entry old key after
+    ∙ (λ i. insert_entry bytes_eq (rows i) (c.in_ok-name.ensures.ok i) after) ∙ more
