@@ -12,3 +12,5 @@ pub mod OneLines
 pub mod Steps
 pub mod Befores
 pub mod Stopped
+pub mod SameFields
+pub mod OneForm

@@ -4,12 +4,14 @@
 mod fault;
 mod fields;
 mod keys;
+mod laws;
 mod lines;
 mod reading;
 mod reports;
 mod times;
 
 pub use fault::ReportFault;
+pub use laws::{one_report, text_is_read_back};
 pub use reading::read_report;
 pub use reports::report_of;
 
