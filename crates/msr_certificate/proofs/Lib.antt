@@ -14,3 +14,4 @@ pub mod Befores
 pub mod Stopped
 pub mod SameFields
 pub mod OneForm
+pub mod Forms
