@@ -1,6 +1,7 @@
 -- What checking packed records with their report answers.
 use Rattle.std.specs.Prelude.{ℕ, List, Result, Ok, Err}
 use Rattle.msr_report.specs.declared.report.Report.{Report}
+use Rattle.msr_devices.specs.Device.{Device, HasLeft}
 use Rattle.msr_certificate.specs.Fault.{IsFaultLine}
 use Rattle.msr_certificate.specs.Reading.{IsReadFrom}
 use Rattle.msr_input.specs.declared.fault.ReadFault.{ReadFault}
@@ -26,3 +27,10 @@ CheckAnswers input text (Err (fault.Report line)) = IsFaultLine text line
 CheckAnswers input text (Err fault.Read) = Unit {0}
 CheckAnswers input text (Err fault.Write) = ⊥
 CheckAnswers input text (Err fault.Memory) = Unit {0}
+
+-- the source's bytes are the text of a report
+pub record GivesReport (source : Device) : Type 0 where
+  pub text : List ℕ
+  pub left : HasLeft source text
+  pub report : Report
+  pub read : IsReadFrom report text
