@@ -1,11 +1,10 @@
 -- Two reports with the same text say the same.
-use Rattle.std.proofs.Common.{◌≡◌, ◌∙◌, ap, sym, refl, arith, ℕ, zero, suc, ◌<◌, ◌≤◌, ◌^◌, List, [], ◌∷◌, ◌++◌, append_assoc, length, decimal, codes, flat_map, All, map, ℤ, Ok, Err}
+use Rattle.std.proofs.Common.{◌≡◌, ◌∙◌, ap, sym, refl, arith, ℕ, suc, ◌<◌, ◌^◌, List, [], ◌∷◌, ◌++◌, append_assoc, decimal, codes, flat_map, All, map, Ok, Err}
 use Rattle.std.proofs.lemmas.List.{append-nil, append_cancel_left}
 use Rattle.std.specs.Fmt.{signed_decimal}
 use Rattle.msr_time.specs.SampleRate.{SampleRate}
 use Rattle.msr_record.specs.declared.row.Key.{Key}
-use Rattle.msr_words.specs.RecordLength.{IsRecordLength}
-use Rattle.msr_report.specs.Text.{IsTimeText, segment_line, separators_line, end_line, first_lines, AreSegmentTexts, IsReportText}
+use Rattle.msr_report.specs.Text.{separators_line, end_line, AreSegmentTexts, IsReportText}
 use Rattle.msr_report.specs.declared.report.Counts.{Counts}
 use Rattle.msr_report.specs.declared.report.SegmentLine.{SegmentLine}
 use Rattle.msr_report.specs.declared.report.Report.{Report}

@@ -11,7 +11,7 @@ use Rattle.jiff_core.proofs.CalendarLemmas.{days_in_year_bounds}
 use Rattle.msr_time.specs.declared.btime.BTime.{BTime}
 use Rattle.msr_time.specs.Instant.{IsTime, instant_of}
 use Rattle.msr_report.specs.Text.{hex_text, byte_text, field_text, padded_decimal, IsTimeText}
-use Rattle.msr_certificate.specs.Fields.{EndsNumber, AreBytes, signed_len, number_after, date_then, clock_then, split_then}
+use Rattle.msr_certificate.specs.Fields.{EndsNumber, AreBytes, signed_len, number_after, clock_then, split_then}
 use Rattle.msr_certificate.proofs.Digits.{parts, signed_parts, short, decimal_is_digits}
 use Rattle.msr_certificate.proofs.Feeds.{same_cons}
 use Rattle.msr_certificate.proofs.Instants.{split_same}

@@ -1,6 +1,5 @@
 use Rattle.std.proofs.Common.{◌≡◌, ◌∙◌, sym, arith, get_or, below_more}
 use Rattle.std.proofs.lemmas.List.{get_or_default}
-use Rattle.msr_report.specs.declared.report.SegmentLine.{SegmentLine}
 use Rattle.msr_certificate.proofs.Forms.{is_length, forms_from}
 use Rattle.msr_certificate.proofs.laws.report_has_form.Goals as goal
 
