@@ -9,3 +9,4 @@ pub mod ShownFronts
 pub mod ShownParts
 pub mod ShownLeast
 pub mod Checked
+pub mod RepackedLeast

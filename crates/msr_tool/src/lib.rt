@@ -15,7 +15,8 @@ pub use check::check_packed;
 pub use engine::repack;
 pub use fault::ToolFault;
 pub use laws::{
-    one_refusal, one_repacking, readable_is_listed, readable_is_repacked, repacked_is_shown,
+    one_refusal, one_repacking, readable_is_listed, readable_is_repacked, repacked_is_least,
+    repacked_is_shown,
 };
 pub use list::list_segments;
 pub use msr_devices::{FromRead, FromWrite, Sink, Source, TestSink, TestSource};
