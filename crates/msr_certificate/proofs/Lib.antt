@@ -15,3 +15,4 @@ pub mod Stopped
 pub mod SameFields
 pub mod OneForm
 pub mod Forms
+pub mod WholeLines

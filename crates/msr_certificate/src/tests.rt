@@ -92,6 +92,22 @@ fn reads_from_a_source(rt: HostRuntime) {
     );
 }
 
+// Where a line at fault has come, nothing behind it is read: the source would fail there.
+#[test]
+fn stops_at_the_line_at_fault(rt: HostRuntime) {
+    let alloc = rt.alloc();
+    let edits = [("msrepack 1", "msrepack 2", 1), ("length 256", "length 0256", 2)];
+    for (part, by, line) in edits {
+        let Ok(text) = SEGMENT.replace(alloc, part, by) else {
+            panic!(rt; "no memory")
+        };
+        assert_eq!(rt;
+            read_from(alloc, text.as_str(), Some(20)).err(),
+            Some(ReportFault::Line(line))
+        );
+    }
+}
+
 #[test]
 fn shows_faults(rt: HostRuntime) -> Result<(), AllocError> {
     let texts = [
