@@ -19,7 +19,8 @@ pub use laws::{
     repacked_is_shown,
 };
 pub use list::list_segments;
-pub use msr_devices::{FromRead, FromWrite, Sink, Source, TestSink, TestSource};
+pub use msr_certificate::{ReportFault, read_report};
+pub use msr_devices::{Behavior, FromRead, FromWrite, Sink, Source, TestSink, TestSource};
 pub use msr_input::Fault;
 pub use msr_report::{Counts, Report, SegmentLine, TextFault};
 pub use msr_verdict::Verdict;
