@@ -2,12 +2,13 @@
 use Rattle.std.proofs.Common.{◌≡◌, ◌∙◌, ap, sym, refl, arith, ℕ, zero, suc, ◌+◌, ◌*◌, ◌<◌, ◌≤◌, ◌^◌, List, [], ◌∷◌, ◌++◌, append_assoc, length, All, map, slice_index, length-append}
 use Rattle.std.proofs.lemmas.List.{append-nil}
 use Rattle.msr_words.specs.Lengths.{bytes_of}
-use Rattle.msr_report.specs.Proper.{records_of, IsProper, IsProperLine}
-use Rattle.msr_report.specs.Text.{separators_line, end_line, first_lines, AreSegmentTexts, IsReportText}
+use Rattle.msr_report.specs.Proper.{records_of, IsProperLine}
+use Rattle.msr_report.specs.Text.{separators_line, end_line, first_lines, AreSegmentTexts}
 use Rattle.msr_report.specs.declared.report.Counts.{Counts}
 use Rattle.msr_report.specs.declared.report.SegmentLine.{SegmentLine}
 use Rattle.msr_report.specs.declared.report.Report.{Report}
 use Rattle.msr_certificate.specs.Form.{FormLine, IsFirst, IsFormLine, IsFormLineText, AreFormLineTexts, IsOpening, form_records, form_line, first_then}
+use Rattle.msr_certificate.specs.Reading.{IsReadFrom}
 use Rattle.msr_certificate.specs.Rest.{AtLine, InFirst, tail_5}
 use Rattle.msr_certificate.proofs.Segments.{first_line_then, Tail, tail_from_first, at_map, texts_long}
 use Rattle.msr_certificate.proofs.Feeds.{same_cons}
@@ -84,21 +85,22 @@ proper_lines (s ∷ segments) all zero d within =
     let is : IsFormLine (form_line s) = all 0 (form_line s) (omega arith) in record { quality = is.key.quality; start = is.start }
 proper_lines (s ∷ segments) all (suc k) d within = proper_lines segments (λ j e w. all (suc j) e (omega arith)) k d (omega arith)
 
-first_same : (report : Report) (more : List ℕ) → first_lines report ++ more ≡ first_then (bytes_of report.length) report.tolerance report.counts more
+pub first_same : (report : Report) (more : List ℕ) → first_lines report ++ more ≡ first_then (bytes_of report.length) report.tolerance report.counts more
 first_same report more = simp append_assoc
 
 pub found_report : (report : Report) (text rest : List ℕ) → Going text (bytes_of report.length) report.tolerance report.counts report.segments.items rest
     → records_of report.segments.items < 2 ^ 64 → rest ≡ end_line (length report.segments.items) (records_of report.segments.items)
-    → IsProper report × IsReportText report text
-found_report report text rest going fits is = (
-  record { least = going.is_first.least; most = going.is_first.most; lines = proper_lines report.segments.items going.each; records = fits },
-  record {
+    → IsReadFrom report text
+found_report report text rest going fits is = record {
+  proper = record { least = going.is_first.least; most = going.is_first.most; lines = proper_lines report.segments.items going.each; records = fits };
+  is_form = record { first = going.is_first; segments = going.each };
+  is_text = record {
     segments = going.lines;
     are = texts_of report.segments.items going.lines going.are;
     is = going.shown ∙ ap (λ (t : List ℕ). first_then (bytes_of report.length) report.tolerance report.counts (going.lines ++ t)) is
         ∙ sym (first_same report (going.lines ++ end_line (length report.segments.items) (records_of report.segments.items)));
-  },
-)
+  };
+}
 
 pub all_from_places : (ns : List ℕ) → ((k : ℕ) → slice_index ns k < 2 ^ 64) → All (λ n. n < 2 ^ 64) ns
 all_from_places [] each k d within = absurd (omega arith)

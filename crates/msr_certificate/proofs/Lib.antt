@@ -12,3 +12,7 @@ pub mod OneLines
 pub mod Steps
 pub mod Befores
 pub mod Stopped
+pub mod SameFields
+pub mod OneForm
+pub mod Forms
+pub mod WholeLines

@@ -42,7 +42,7 @@ one_more (m ∷ ns) n more =
 other_byte : (xs ys : List ℕ) → 32 ∷ xs ≡ 10 ∷ ys → ⊥
 other_byte xs ys e = cc
 
-ends_number : (ns more : List ℕ) → EndsNumber (flat_map spaced ns ++ (10 ∷ more))
+pub ends_number : (ns more : List ℕ) → EndsNumber (flat_map spaced ns ++ (10 ∷ more))
 ends_number [] more = refl
 ends_number (n ∷ ns) more = refl
 

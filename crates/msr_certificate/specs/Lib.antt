@@ -5,3 +5,4 @@ pub mod Ending
 pub mod Rest
 pub mod TextFault
 pub mod Reading
+pub mod Laws

@@ -4,12 +4,14 @@
 mod fault;
 mod fields;
 mod keys;
+mod laws;
 mod lines;
 mod reading;
 mod reports;
 mod times;
 
 pub use fault::ReportFault;
+pub use laws::{line_has_form, one_report, report_has_form, text_is_read_back};
 pub use reading::read_report;
 pub use reports::report_of;
 

@@ -7,9 +7,8 @@ ghost use Rattle.msr_report.specs.Text.{separators_line, end_line};
 ghost use Rattle.msr_certificate.specs.Form.{first_then, IsFirst};
 ghost use Rattle.msr_certificate.specs.Rest.{AtLine, InFirst, tail_5};
 ghost use Rattle.msr_certificate.specs.Fault.{IsFaultLine};
-ghost use Rattle.msr_report.specs.Proper.{IsProper};
-ghost use Rattle.msr_report.specs.Text.{IsReportText};
 ghost use Rattle.msr_certificate.specs.Ending.{IsEnding};
+ghost use Rattle.msr_certificate.specs.Reading.{IsReadFrom};
 ghost use Rattle.msr_certificate.specs.TextFault.{IsTextFault};
 
 use crate::fault::ReportFault;
@@ -116,7 +115,7 @@ fn read_end(text: &[u8], segments: &[SegmentLine]) -> Ending
 
 /// The report whose text it is.
 pub fn report_of(alloc: Global, text: &[u8]) -> Result<Report, ReportFault>
-    ensures found { IfOk result (λ report. IsProper report × IsReportText report text.now) }
+    ensures found { IfOk result (λ report. IsReadFrom report text.now) }
     ensures fault { IfErr result (IsTextFault text.now) }
 {
     let (first, mut rest) = match first_lines(text) {

@@ -1,4 +1,7 @@
-use super::{ReportFault, read_report, report_of};
+use super::{
+    ReportFault, line_has_form, one_report, read_report, report_has_form, report_of,
+    text_is_read_back,
+};
 use msr_devices::{Behavior, TestSource};
 use msr_report::Report;
 use std::alloc::{AllocError, Global};
@@ -40,6 +43,14 @@ fn reads_reports(rt: HostRuntime) {
     assert_eq!(rt; line.start, 1_577_836_800_000_000);
     assert_eq!(rt; line.samples, 302);
     assert_eq!(rt; line.separators.len(), 2);
+    line_has_form(line);
+    report_has_form(&report);
+}
+
+#[test]
+fn laws_are_callable() {
+    one_report();
+    text_is_read_back();
 }
 
 #[test]
@@ -90,6 +101,22 @@ fn reads_from_a_source(rt: HostRuntime) {
         read_from(alloc, SEGMENT, Some(20)).err(),
         Some(ReportFault::Read)
     );
+}
+
+// Where a line at fault has come, nothing behind it is read: the source would fail there.
+#[test]
+fn stops_at_the_line_at_fault(rt: HostRuntime) {
+    let alloc = rt.alloc();
+    let edits = [("msrepack 1", "msrepack 2", 1), ("length 256", "length 0256", 2)];
+    for (part, by, line) in edits {
+        let Ok(text) = SEGMENT.replace(alloc, part, by) else {
+            panic!(rt; "no memory")
+        };
+        assert_eq!(rt;
+            read_from(alloc, text.as_str(), Some(20)).err(),
+            Some(ReportFault::Line(line))
+        );
+    }
 }
 
 #[test]

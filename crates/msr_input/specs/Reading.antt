@@ -29,9 +29,13 @@ pub record Reading : Type 0 where
 abbrev pub left_to_read : Device → Reading → ℕ
 left_to_read source reading = (2 ^ 64 - source.moved) + length reading.waiting
 
+-- for how many bytes a reader takes memory: those of two records of the longest kind, and a piece of 64 KiB behind
+abbrev pub room_ahead : ℕ
+room_ahead = 2_162_688
+
 -- Memory is taken: once for the bytes that are read ahead, and for the samples of the next record.
 abbrev pub TakesMemoryNext : Reading → Type 0
-TakesMemoryNext reading = (reading.room < 2_162_688) ⊎ TakesMemory reading.waiting
+TakesMemoryNext reading = (reading.room < room_ahead) ⊎ TakesMemory reading.waiting
 
 -- the segment can be written: its quality is D, R, Q or M, its correction in normal form, its samples are of
 -- the supported years, and it has some

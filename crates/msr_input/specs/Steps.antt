@@ -13,6 +13,7 @@ use Rattle.msr_segments.specs.Spans.{Overruns}
 use Rattle.msr_segments.specs.Segments.{row_span}
 use Rattle.msr_segments.specs.Joining.{Joining, following_of, IsPush}
 use Rattle.msr_segments.specs.declared.joiner.Segment.{Segment}
+use Rattle.msr_input.specs.Reading.{room_ahead}
 use Rattle.msr_input.specs.declared.fault.ReadFault.{ReadFault}
 use Rattle.msr_input.specs.declared.fault.ReadFault.TheVariants as fault
 
@@ -31,7 +32,7 @@ fault_at offset kind = fault.Input (record { offset = offset; kind = kind })
 abbrev pub StopsBefore : Device → Device → Window → Window → ReadFault → Type 0
 StopsBefore old new before after (fault.Input f) = ⊥
 StopsBefore old new before after fault.Read = HasFailed old new × (before.ended ≡ false)
-StopsBefore old new before after fault.Memory = (new ≡ old) × (after ≡ before) × (before.room < 2_162_688)
+StopsBefore old new before after fault.Memory = (new ≡ old) × (after ≡ before) × (before.room < room_ahead)
 
 -- why no record was decoded: the one at that offset is refused, also with more behind as many bytes as the longest
 -- record has; or there was no memory

@@ -27,6 +27,6 @@ report-fails packed0 report0 text report.Memory left reads = let p = left-of pac
 -- the packed records are not
 pub verify-fails : (packed0 report0 : Device) (input text : List ℕ) (found : Report) (why : ReadFault) → HasLeft packed0 input → HasLeft report0 text → ReadsReport text (Ok found) → Answers found input (Err why) → IsCheckAnswered packed0 report0 (Err (fault_of_reading why))
 verify-fails packed0 report0 input text found (read.Input other) left left_text reads answers =
-    (input, text, left, left_text, record { report = found; is_text = reads.1; proper = reads.0; answers = answers })
+    (input, text, left, left_text, record { report = found; read = reads; answers = answers })
 verify-fails packed0 report0 input text found read.Read left left_text reads answers = (input, text, left, left_text, tt)
 verify-fails packed0 report0 input text found read.Memory left left_text reads answers = (input, text, left, left_text, tt)

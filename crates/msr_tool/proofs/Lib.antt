@@ -10,3 +10,4 @@ pub mod ShownParts
 pub mod ShownLeast
 pub mod Checked
 pub mod Told
+pub mod RepackedLeast

@@ -1,11 +1,14 @@
 -- Segments written one behind another, and their lines.
-use Rattle.std.proofs.Common.{◌≡◌, ℕ, List, [], ◌∷◌, ◌++◌, ◌∙◌, map, refl, sym, ap, arith, append_assoc}
+use Rattle.std.proofs.Common.{◌≡◌, ℕ, List, [], ◌∷◌, ◌++◌, ◌∙◌, map, refl, sym, ap, arith, append_assoc, All}
 use Rattle.std.proofs.lemmas.List.{map-append, append-nil}
 use Rattle.msr_record.specs.declared.row.Row.{Row}
 use Rattle.msr_segments.specs.declared.joiner.Segment.{Segment}
 use Rattle.msr_devices.specs.Device.{Device}
 use Rattle.msr_report.specs.declared.report.SegmentLine.{SegmentLine}
-use Rattle.msr_report.specs.Proper.{records_of}
+use Rattle.msr_report.specs.Proper.{IsProperLine, records_of}
+use Rattle.msr_input.specs.Reading.{IsWritable}
+use Rattle.msr_certificate.specs.Form.{IsFormLine, form_line}
+use Rattle.msr_certificate.proofs.Going.{all_more}
 use Rattle.msr_output.specs.Output.{Packed, segment_of_packed, count_of_runs}
 use Rattle.msr_output.specs.Writing.{Writing, IsLineOf, HasWritten, HasWrittenFront, WritesSegment, StopsWriting}
 use Rattle.msr_output.specs.declared.fault.WriteFault.{WriteFault}
@@ -70,11 +73,27 @@ stops-pushing start now writing packed segment line size same_size h = (
   h.written.calm.steady,
 )
 
-pub lines-more : (start now : Device) (writing : Writing) (old new : List SegmentLine) (packed : List Packed) (segment : Segment) (line : SegmentLine) → AreLinesOf packed old → WritesSegment start now writing packed segment line → new ≡ old ++ line ∷ [] → LinesMore start now (record { writing = writing; lines = new }) packed (segment ∷ [])
-lines-more start now writing old new packed segment line are h pushed = record {
+-- what reading says of a segment is so of its line
+pub line-proper : (start now : Device) (writing : Writing) (packed : List Packed) (segment : Segment) (line : SegmentLine) → WritesSegment start now writing packed segment line → IsWritable segment → IsProperLine line
+line-proper start now writing packed segment line h writable =
+    let key : line.key ≡ segment.key = h.is_line.key ∙ ap (λ (s : Segment). s.key) h.same in
+    let at : line.start ≡ segment.start = h.is_line.start ∙ ap (λ (s : Segment). s.start) h.same in
+    record { quality = rw key writable.quality; start = rw at writable.in_time.first_in }
+
+forms-snoc : (lines : List SegmentLine) (line : SegmentLine) → All IsFormLine (map form_line lines) → IsFormLine (form_line line) → All IsFormLine (map form_line (lines ++ line ∷ []))
+forms-snoc lines line forms is = rw (map-append form_line lines (line ∷ [])) (all_more (map form_line lines) (form_line line) forms is)
+
+pub lines-more : (start now : Device) (writing : Writing) (old new : List SegmentLine) (packed : List Packed) (segment : Segment) (line : SegmentLine) → AreLinesOf packed old → All IsFormLine (map form_line old)
+    → WritesSegment start now writing packed segment line → IsFormLine (form_line line) → new ≡ old ++ line ∷ [] → LinesMore start now (record { writing = writing; lines = new }) packed (segment ∷ [])
+lines-more start now writing old new packed segment line are forms h is_form pushed = record {
   all = packed ++ h.more ∷ [];
   same = same-more packed h.more segment h.same;
-  after = record { rows = h.rows; written = h.written; are_lines = rw pushed (lines-snoc packed old h.more line are h.is_line) };
+  after = record {
+    rows = h.rows;
+    written = h.written;
+    are_lines = rw pushed (lines-snoc packed old h.more line are h.is_line);
+    forms = rw pushed (forms-snoc old line forms is_form);
+  };
 }
 
 pub no-more : (start now : Device) (lined : Lined) (packed : List Packed) → HasLined start now lined packed → LinesMore start now lined packed []

@@ -3,6 +3,7 @@ use Rattle.std.proofs.Common.{◌≡◌, ℕ, zero, suc, ◌*◌, ◌^◌, ◌<�
 use Rattle.std.proofs.lemmas.List.{append-nil}
 use Rattle.std.proofs.Math.Nat.{mul-le-mul_right}
 use Rattle.std.specs.Option.{option_to_list}
+use Rattle.msr_words.specs.Lengths.{bytes_of}
 use Rattle.msr_record.specs.declared.row.Record.{Record}
 use Rattle.msr_segments.specs.declared.joiner.Segment.{Segment}
 use Rattle.msr_segments.specs.Segments.{AreSegments}
@@ -10,6 +11,7 @@ use Rattle.msr_devices.specs.Device.{Device}
 use Rattle.msr_report.specs.declared.report.Report.{Report}
 use Rattle.msr_report.specs.declared.report.SegmentLine.{SegmentLine}
 use Rattle.msr_report.specs.Proper.{IsProperLine}
+use Rattle.msr_certificate.specs.Form.{IsFirst}
 use Rattle.msr_input.specs.Input.{rows_of_records}
 use Rattle.msr_input.specs.Reading.{Reading, IsWritable, HasRead, HasReadAll, StopsAfter}
 use Rattle.msr_output.specs.Output.{Packed, OutputKeepsSegments, OutputHasSize, segment_of_packed, count_of_runs}
@@ -76,8 +78,8 @@ few-runs size runs bytes some are short =
 pub done : (choice : Choice) (source0 source sink0 sink : Device) (reading : Reading) (writing : Writing) (packed all : List Packed) (lines : List SegmentLine) (report : Report) →
     HasReadAll source0 source reading (map segment_of_packed packed) → map segment_of_packed all ≡ map segment_of_packed packed ++ option_to_list reading.joining.current → LinesAll sink0 sink writing all lines →
     reading.joining.tolerance ≡ choice.tolerance → writing.size ≡ size_of choice → 1 ≤ choice.tolerance → choice.tolerance ≤ 1_000_000 → 1 ≤ size_of choice → OutputKeepsSegments → OutputHasSize →
-    report.length ≡ choice.record_length → report.tolerance ≡ choice.tolerance → report.counts ≡ reading.counts → report.segments.items ≡ lines → IsAnswered choice source0 sink0 sink (Ok report)
-done choice source0 source sink0 sink reading writing packed all lines report end same wrote tolerance size least most some keeps has_size same_length same_tolerance same_counts same_lines =
+    report.length ≡ choice.record_length → report.tolerance ≡ choice.tolerance → report.counts ≡ reading.counts → report.segments.items ≡ lines → IsFirst (bytes_of report.length) report.tolerance report.counts → IsAnswered choice source0 sink0 sink (Ok report)
+done choice source0 source sink0 sink reading writing packed all lines report end same wrote tolerance size least most some keeps has_size same_length same_tolerance same_counts same_lines is_first =
     let came = end.read.came [] (end.read.end end.ended) in
     let writable : All IsWritable (map segment_of_packed all) = rw same end.read.writable in
     let segments : AreSegments choice.tolerance (rows_of_records end.records) (map segment_of_packed all) = rw (same, ← tolerance) end.read.joined.segments in
@@ -108,6 +110,7 @@ done choice source0 source sink0 sink reading writing packed all lines report en
             lines = rw same_lines (proper-lines all lines writable wrote.are_lines);
             records = rw (same_lines, records-of_lines all lines wrote.are_lines) (few-runs writing.size (count_of_runs all) (length wrote.written.bytes) (rw size some) bytes wrote.written.short);
           };
+          is_form = record { first = is_first; segments = rw same_lines wrote.forms };
         };
       };
     }

@@ -8,6 +8,7 @@ use Rattle.msr_segments.specs.declared.joiner.Segment.{Segment}
 use Rattle.msr_report.specs.Proper.{IsProper}
 use Rattle.msr_report.specs.declared.report.SegmentLine.{SegmentLine}
 use Rattle.msr_report.specs.declared.report.Report.{Report}
+use Rattle.msr_certificate.specs.Form.{IsForm, form_of}
 use Rattle.msr_input.specs.declared.fault.Fault.{Fault}
 use Rattle.msr_input.specs.Input.{AreRead, IsReadable, IsFirstFault, rows_of_records, counts_of}
 use Rattle.msr_output.specs.Writing.{IsLineOf}
@@ -29,6 +30,7 @@ pub record IsReportOf (choice : Choice) (records : List Record) (packed : List P
   pub counts : report.counts ≡ counts_of records
   pub lines : AreLinesOf packed report.segments.items
   pub proper : IsProper report
+  pub is_form : IsForm (form_of report)
 
 -- The input was repacked. It is readable; what was written is the output of its segments, each packed in the
 -- fewest records with the separators that show it; the rows that were written have the same segments; and the

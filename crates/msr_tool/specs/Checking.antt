@@ -1,9 +1,9 @@
 -- What checking packed records with their report answers.
 use Rattle.std.specs.Prelude.{ℕ, List, Result, Ok, Err}
-use Rattle.msr_report.specs.Proper.{IsProper}
-use Rattle.msr_report.specs.Text.{IsReportText}
 use Rattle.msr_report.specs.declared.report.Report.{Report}
+use Rattle.msr_devices.specs.Device.{Device, HasLeft}
 use Rattle.msr_certificate.specs.Fault.{IsFaultLine}
+use Rattle.msr_certificate.specs.Reading.{IsReadFrom}
 use Rattle.msr_input.specs.declared.fault.ReadFault.{ReadFault}
 use Rattle.msr_input.specs.declared.fault.ReadFault.TheVariants as read
 use Rattle.msr_verdict.specs.Packed.{Answers}
@@ -11,13 +11,12 @@ use Rattle.msr_verdict.specs.declared.verdict.Verdict.{Verdict}
 use Rattle.msr_tool.specs.declared.fault.ToolFault.{ToolFault}
 use Rattle.msr_tool.specs.declared.fault.ToolFault.TheVariants as fault
 
--- The text is that of a report, and by this report the input has that answer: the report shows that each segment
--- stands in the fewest records; or the input is readable and the report does not show it; or the input has a first
--- fault.
+-- The text is that of a report, each of whose fields is in the range of its type, and by this report the input has
+-- that answer: the report shows that each segment stands in the fewest records; or the input is readable and the
+-- report does not show it; or the input has a first fault.
 pub record IsChecked (input text : List ℕ) (answer : Result Verdict ReadFault) : Type 0 where
   pub report : Report
-  pub is_text : IsReportText report text
-  pub proper : IsProper report
+  pub read : IsReadFrom report text
   pub answers : Answers report input answer
 
 -- what an answer says of the packed records and of the text
@@ -28,3 +27,10 @@ CheckAnswers input text (Err (fault.Report line)) = IsFaultLine text line
 CheckAnswers input text (Err fault.Read) = Unit {0}
 CheckAnswers input text (Err fault.Write) = ⊥
 CheckAnswers input text (Err fault.Memory) = Unit {0}
+
+-- the source's bytes are the text of a report
+pub record GivesReport (source : Device) : Type 0 where
+  pub text : List ℕ
+  pub left : HasLeft source text
+  pub report : Report
+  pub read : IsReadFrom report text

@@ -1,14 +1,20 @@
 -- What was repacked is readable, and its own report shows that it stands in the fewest records.
-use Rattle.std.specs.Prelude.{ℕ, ◌-◌, ℤ, pos, ◌+ℤ◌, List, length, All}
+use Rattle.std.specs.Prelude.{◌≡◌, ◌≢◌, ℕ, ◌-◌, ℤ, pos, ◌+ℤ◌, List, length, All, Result, Ok, Err}
 use Rattle.msr_time.specs.Instant.{IsInstant}
 use Rattle.msr_time.specs.SampleRate.{IsRoundedNominal}
 use Rattle.msr_record.specs.declared.row.Record.{Record}
 use Rattle.msr_segments.specs.declared.joiner.Segment.{Segment}
+use Rattle.msr_report.specs.Text.{IsReportText}
 use Rattle.msr_report.specs.declared.report.Report.{Report}
 use Rattle.msr_input.specs.Input.{IsReadable}
 use Rattle.msr_verdict.specs.Packed.{ShowsLeast}
+use Rattle.msr_verdict.specs.declared.verdict.Verdict.{Verdict}
+use Rattle.msr_verdict.specs.declared.verdict.Verdict.TheVariants.{Least}
 use Rattle.msr_tool.specs.Choice.{Choice}
 use Rattle.msr_tool.specs.Answer.{IsRepacked}
+use Rattle.msr_tool.specs.Checking.{CheckAnswers}
+use Rattle.msr_tool.specs.declared.fault.ToolFault.{ToolFault}
+use Rattle.msr_tool.specs.declared.fault.ToolFault.TheVariants.{Read, Memory}
 
 -- The rounded instant of the segment's last sample, counted from its start, is not the last microsecond of the
 -- supported years: the one after it is of them too.
@@ -28,3 +34,16 @@ RepackedIsShown =
     → IsReadable choice.tolerance input records segments
     → All EndsBeforeTheLast segments
     → ShowsLeast report written
+
+-- What was repacked, checked with the text of its own report, stands in the fewest records by every answer but that a
+-- source failed or that memory was refused.
+abbrev pub RepackedIsLeast : Type 0
+RepackedIsLeast =
+    (choice : Choice) (input written text : List ℕ) (report : Report) (records : List Record) (segments : List Segment) (answer : Result Verdict ToolFault)
+    → IsRepacked choice input written report
+    → IsReadable choice.tolerance input records segments
+    → All EndsBeforeTheLast segments
+    → IsReportText report text
+    → CheckAnswers written text answer
+    → answer ≢ Err Read → answer ≢ Err Memory
+    → answer ≡ Ok Least

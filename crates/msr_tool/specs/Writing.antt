@@ -1,9 +1,10 @@
 -- What writing the segments with their lines does.
-use Rattle.std.specs.Prelude.{◌≡◌, ℕ, List, ◌++◌, map}
+use Rattle.std.specs.Prelude.{◌≡◌, ℕ, List, ◌++◌, map, All}
 use Rattle.msr_devices.specs.Device.{Device, HasFailed, IsSteady}
 use Rattle.msr_record.specs.declared.row.Row.{Row}
 use Rattle.msr_segments.specs.declared.joiner.Segment.{Segment}
 use Rattle.msr_report.specs.declared.report.SegmentLine.{SegmentLine}
+use Rattle.msr_certificate.specs.Form.{IsFormLine, form_line}
 use Rattle.msr_output.specs.Output.{Packed, segment_of_packed}
 use Rattle.msr_output.specs.Writing.{Writing, HasWritten, HasWrittenAll, HasWrittenFront}
 use Rattle.msr_tool.specs.Answer.{AreLinesOf}
@@ -16,11 +17,12 @@ pub record Lined : Type 0 where
   pub lines : List SegmentLine
 
 -- From the one state of the sink to the other a front of the output of these segments was written; the rest waits,
--- and each has its line.
+-- and each has its line, whose fields are in the ranges of their types.
 pub record HasLined (start now : Device) (lined : Lined) (packed : List Packed) : Type 0 where
   pub rows : List Row
   pub written : HasWritten start now lined.writing packed rows
   pub are_lines : AreLinesOf packed lined.lines
+  pub forms : All IsFormLine (map form_line lined.lines)
 
 -- these segments stand behind the others, each with its line
 pub record LinesMore (start now : Device) (lined : Lined) (packed : List Packed) (more : List Segment) : Type 0 where
@@ -33,6 +35,7 @@ pub record LinesAll (start now : Device) (writing : Writing) (packed : List Pack
   pub rows : List Row
   pub written : HasWrittenAll start now writing packed rows
   pub are_lines : AreLinesOf packed lines
+  pub forms : All IsFormLine (map form_line lines)
 
 -- The sink failed, and the first holds; or memory was refused, the sink did not fail, and the second holds.
 abbrev pub StopsSink : Type 0 → Type 0 → Device → Device → ToolFault → Type 0

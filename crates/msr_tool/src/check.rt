@@ -1,7 +1,7 @@
 // Checking packed records with their report.
 ghost use Rattle.std.specs.Prelude.{◌≡◌, ◌⊎◌, ◌↔◌, List, ℕ, IsErrOf};
 ghost use Rattle.msr_devices.specs.Device.{CanCountCall, CountsFew, HasFailed, HasLeft};
-ghost use Rattle.msr_tool.specs.Checking.{CheckAnswers};
+ghost use Rattle.msr_tool.specs.Checking.{CheckAnswers, GivesReport};
 
 use crate::fault::ToolFault;
 use msr_certificate::read_report;
@@ -25,8 +25,11 @@ pub fn check_packed<R: Source, Q: Source>(
     // A failure of a source is answered as such, and nothing else is.
     ensures read { IsErrOf result ToolFault.Read ↔ (HasFailed (R.device packed.old) (R.device packed.new) ⊎ HasFailed (Q.device report.old) (Q.device report.new)) }
 
-    // Where the text is no report, no record was read.
+    // The report is read first: where the text is none, where its source fails, and where memory is refused while it
+    // is read, no record was read.
     ensures untouched { (line : ℕ) → result ≡ Err (ToolFault.Report line) → packed.new ≡ packed.old }
+    ensures unread { HasFailed (Q.device report.old) (Q.device report.new) → packed.new ≡ packed.old }
+    ensures report_first { (packed.new ≡ packed.old) ⊎ GivesReport (Q.device report.old) }
     ensures few_packed { CountsFew (R.device packed.old) (R.device packed.new) }
     ensures few_report { CountsFew (Q.device report.old) (Q.device report.new) }
 {

@@ -1,9 +1,11 @@
 //! Laws of answers, each the contract of a function that does nothing.
 ghost use Rattle.msr_tool.specs.Laws.{OneRefusal, OneRepacking, ReadableIsListed, ReadableIsRepacked};
-ghost use Rattle.msr_tool.specs.Shown.{RepackedIsShown};
+ghost use Rattle.msr_tool.specs.Shown.{RepackedIsLeast, RepackedIsShown};
 
+use msr_certificate::{one_report, text_is_read_back};
 use msr_input::{one_first_fault, one_list_of_records, readable_has_no_fault};
 use msr_output::one_output;
+use msr_verdict::shown_is_fewest;
 
 /// On a readable input where no device fails `repack` succeeds, or answers want of memory.
 pub fn readable_is_repacked()
@@ -40,4 +42,16 @@ pub fn repacked_is_shown()
     ensures { RepackedIsShown }
 {
     one_list_of_records();
+}
+
+/// `check_packed` of what `repack` wrote and of its report's text answers `Least` where no source fails and no memory
+/// is refused, under the condition of [`repacked_is_shown`].
+pub fn repacked_is_least()
+    ensures { RepackedIsLeast }
+{
+    repacked_is_shown();
+    shown_is_fewest();
+    one_report();
+    text_is_read_back();
+    readable_has_no_fault();
 }

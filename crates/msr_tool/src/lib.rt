@@ -16,12 +16,12 @@ pub use check::check_packed;
 pub use engine::repack;
 pub use fault::ToolFault;
 pub use laws::{
-    one_refusal, one_repacking, readable_is_listed, readable_is_repacked, repacked_is_shown,
+    one_refusal, one_repacking, readable_is_listed, readable_is_repacked, repacked_is_least,
+    repacked_is_shown,
 };
 pub use list::list_segments;
-pub use msr_devices::{
-    Behavior, FromRead, FromWrite, Sink, Source, TestSink, TestSource, write_all,
-};
+pub use msr_certificate::{ReportFault, read_report};
+pub use msr_devices::{Behavior, FromRead, FromWrite, Sink, Source, TestSink, TestSource};
 pub use msr_input::Fault;
 pub use msr_report::{Counts, Report, SegmentLine, TextFault};
 pub use msr_verdict::Verdict;

@@ -1,5 +1,6 @@
 // A writer of segments with their lines.
 use crate::fault::ToolFault;
+use msr_certificate::line_has_form;
 use msr_devices::Sink;
 use msr_output::SegmentWriter;
 use msr_report::SegmentLine;
@@ -56,6 +57,7 @@ impl LinedWriter {
         ensures few { CountsFew (W.device sink.old) (W.device sink.new) }
     {
         let line = self.writer.write_segment(sink, segment)?;
+        line_has_form(&line);
         self.lines.push(line)?;
         Ok(())
     }

@@ -2,7 +2,8 @@
 use crate::tests::fixtures::{Edits, Outcome, PLAIN, choice, edited, input_of, repacked};
 use crate::{
     Counts, Fault, Options, TestSink, TestSource, ToolFault, list_segments, one_refusal,
-    one_repacking, readable_is_listed, readable_is_repacked, repacked_is_shown,
+    one_repacking, read_report, readable_is_listed, readable_is_repacked, repacked_is_least,
+    repacked_is_shown,
 };
 use msr_devices::Behavior;
 use msr_header::HeaderFault;
@@ -49,6 +50,10 @@ fn reports(rt: HostRuntime) -> Result<(), Fail> {
         let mut sink = TestSink::new(Vec::new(alloc), PLAIN);
         assert!(rt; report.write_text(alloc, &mut sink).is_ok());
         assert_eq!(rt; sink.bytes(), text.as_bytes());
+        let Ok(again) = read_report(alloc, &mut TestSource::new(text.as_bytes(), PLAIN)) else {
+            panic!(rt; "not read")
+        };
+        assert_eq!(rt; again.segments.len(), report.segments.len());
     }
     Ok(())
 }
@@ -121,6 +126,7 @@ fn laws_are_callable() {
     readable_is_listed();
     readable_is_repacked();
     repacked_is_shown();
+    repacked_is_least();
 }
 
 #[test]

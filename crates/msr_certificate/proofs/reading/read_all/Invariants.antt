@@ -3,8 +3,8 @@ use Rattle.msr_devices.specs.Device.{Gives, HasLeft, IsCalm, IsSteady}
 use Rattle.msr_certificate.proofs.reading.read_all.Given as goal
 
 -- the bytes that came so far stand there
-abbrev pub invariant-loop-buffer : goal.invariant-loop-buffer
-invariant-loop-buffer g l = record {
+abbrev pub invariant-reading : goal.invariant-reading
+invariant-reading g l = record {
   came : Gives (g.Q.Source.device l.fn.source) (g.Q.Source.device l.source) l.buffer.bytes;
   end : l.buffer.ended ≡ true → HasLeft (g.Q.Source.device l.source) [];
   calm : l.buffer.ended ≡ false → IsCalm (g.Q.Source.device l.fn.source) (g.Q.Source.device l.source);
@@ -12,5 +12,5 @@ invariant-loop-buffer g l = record {
 }
 
 -- each turn ends, or brings bytes, of which few enough come to be counted
-abbrev pub decreases-loop-buffer : goal.decreases-loop-buffer
-decreases-loop-buffer g l = (if l.buffer.ended then 0 else (2 ^ 64 - (g.Q.Source.device l.source).moved) + 1)
+abbrev pub decreases-reading : goal.decreases-reading
+decreases-reading g l = (if l.buffer.ended then 0 else (2 ^ 64 - (g.Q.Source.device l.source).moved) + 1)

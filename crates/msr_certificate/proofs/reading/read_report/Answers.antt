@@ -1,8 +1,7 @@
 use Rattle.std.proofs.lemmas.Result.{err_from_is_err_and}
-use Rattle.msr_certificate.proofs.Stopped.{stopped}
 use Rattle.msr_certificate.proofs.reading.read_report.Goals as goal
 
 pub returns-in_err-buffer-clause-answer : goal.returns-in_err-buffer-clause-answer
 returns-in_err-buffer-clause-answer g c =
     let p = err_from_is_err_and c.from_residual.result c.from_residual.ensures.1 in
-    rw (p.1, p.2) (stopped (g.Q.Source.device c.args.source.now) c.in_err-buffer.field-0.0)
+    rw (p.1, p.2) c.in_err-buffer.ensures.fault

@@ -1,6 +1,9 @@
-use Rattle.std.proofs.Common.{◌∷◌, ◌++◌, [], map, refl, arith}
+use Rattle.std.proofs.Common.{◌∷◌, ◌++◌, [], map, refl, arith, rules}
 use Rattle.std.proofs.lemmas.Result.{err_from_is_err_and}
 use Rattle.std.specs.Option.{option_to_list}
+use Rattle.msr_words.specs.Lengths.{bytes_of}
+use Rattle.msr_certificate.specs.Form.{IsFirst}
+use Rattle.msr_certificate.proofs.Forms.{is_length}
 use Rattle.msr_output.specs.Output.{segment_of_packed}
 use Rattle.msr_tool.proofs.Lines.{front-of}
 use Rattle.msr_tool.proofs.Stops.{stops-after, read-failed, write-failed, read-tells_source, lined-tells_source, lined-tells_sink, ok-tells, steady-can_count, steady-then_few, as-answer}
@@ -137,12 +140,20 @@ returns-clause-answer g c =
     let end = rw c.in_default.is at (c.in_ok-segment.ensures.read (g.R.Source.device c.args.source.now) u.records (map segment_of_packed u.packed) u.read) in
     let wrote = c.in_ok-write_last.ensures.written (g.W.Sink.device c.args.sink.now) u.packed u.lined in
     let all_written = c.in_ok-segments.ensures.written (g.W.Sink.device c.args.sink.now) wrote.all wrote.after in
+    let is_first : IsFirst (bytes_of c.length-2.result) c.tolerance-2.result c.counts-counts.result = record {
+      is_length = is_length c.length-2.result;
+      least = c.tolerance-2.ensures.in_range.0;
+      most = c.tolerance-2.ensures.in_range.1;
+      read = search rules;
+      empty = search rules;
+      mismatched = search rules;
+    } in
     as-answer _ _ _ _ _ (done c.args.options (g.R.Source.device c.args.source.now) (g.R.Source.device c.next_segment.new.source) (g.W.Sink.device c.args.sink.now) (g.W.Sink.device c.finish-2.new.sink) c.next_segment.new.self c.write_last.new.self.writing u.packed wrote.all _ _
     end (rw (← c.finish.ensures) wrote.same) all_written
     (rw c.in_ok-segment.ensures.tolerance u.tolerance) (rw c.in_ok-write_last.ensures.size u.size)
     (rw c.tolerance.ensures.same at c.tolerance.ensures.in_range.0) (rw c.tolerance.ensures.same at c.tolerance.ensures.in_range.1) (omega arith)
     c.output_keeps_segments.ensures c.output_has_size.ensures
-    c.length-2.ensures.same c.tolerance-2.ensures.same c.counts-counts.ensures refl)
+    c.length-2.ensures.same c.tolerance-2.ensures.same c.counts-counts.ensures refl is_first)
 
 pub returns-clause-read : goal.returns-clause-read
 returns-clause-read g c =
