@@ -1,5 +1,6 @@
 pub mod Certificate
 pub mod Choosing
+pub mod Greedy
 pub mod Parts
 pub mod Plain
 pub mod Pushes
