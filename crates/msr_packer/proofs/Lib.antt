@@ -2,3 +2,4 @@ pub mod Least
 pub mod Search
 pub mod Better
 pub mod Canonical
+pub mod Narrow

@@ -1,13 +1,20 @@
 -- Steps from a frontier with records of some kinds.
-use Rattle.std.specs.Prelude.{◌≡◌, ℕ, ◌<◌, ◌≤◌, ◌⊎◌, ℤ, List, [], ◌∷◌}
+use Rattle.std.specs.Prelude.{◌≡◌, ℕ, ◌+◌, ◌<◌, ◌≤◌, ◌⊎◌, min, ℤ, List, [], ◌∷◌, length, All}
 use Rattle.msr_words.specs.declared.kinds.Kind.{Kind}
+use Rattle.msr_words.specs.declared.kinds.Kind.TheVariants.{Steim1, Steim2}
 use Rattle.msr_words.specs.Fit.{Fits, IsRun}
+use Rattle.msr_words.specs.Laws.{IsNarrow}
+use Rattle.msr_words.specs.Segment.{run_points}
 use Rattle.msr_packer.specs.declared.step.Step.{Step}
 
 -- the kind is one of these
 abbrev pub Among : List Kind → Kind → Type 0
 Among [] kind = ⊥
 Among (first ∷ kinds) kind = (kind ≡ first) ⊎ Among kinds kind
+
+-- the kinds of records of differences
+abbrev pub steim_kinds : List Kind
+steim_kinds = Steim1 ∷ Steim2 ∷ []
 
 -- with records of these kinds the step reaches as far as any run that starts at or before the frontier g, from the last start that does
 pub record IsStepAmong (kinds : List Kind) (bytes : ℕ) (samples : List ℤ) (g : ℕ) (step : Step) : Type 0 where
@@ -20,3 +27,11 @@ pub record IsStepAmong (kinds : List Kind) (bytes : ℕ) (samples : List ℤ) (g
 -- a step reaches at least as far as another, and starts no earlier where it reaches as far
 pub record NotLess (step other : Step) : Type 0 where
   pub further : (other.end < step.end) ⊎ ((other.end ≡ step.end) × (other.start ≤ step.start))
+
+-- the differences of the samples a to b-1 are narrow
+abbrev pub AreNarrow : List ℤ → ℕ → ℕ → Type 0
+AreNarrow samples a b = All (λ p. IsNarrow p.1) (run_points samples a b)
+
+-- and that of the sample b, where there is one
+abbrev pub AreNarrowThrough : List ℤ → ℕ → ℕ → Type 0
+AreNarrowThrough samples a b = AreNarrow samples a (min (b + 1) (length samples))

@@ -1,13 +1,15 @@
 //! One record more: how far a record reaches that starts at or before a frontier.
 
-ghost use Rattle.std.specs.Prelude.{◌≡◌, ℕ, ◌≤◌, ◌⊎◌, ◌∷◌, [], length, List};
+ghost use Rattle.std.specs.Prelude.{◌≡◌, ℕ, ◌≤◌, ◌⊎◌, ◌∷◌, [], length, List, IsTrue};
 ghost use Rattle.msr_words.specs.declared.kinds.Kind.{Kind};
 ghost use Rattle.msr_words.specs.Lengths.{bytes_of};
 ghost use Rattle.msr_words.specs.Fit.{Fits, FitsAny, IsRun};
 ghost use Rattle.msr_words.specs.Packing.{IsStep};
-ghost use Rattle.msr_packer.specs.Steps.{IsStepAmong, NotLess};
+ghost use Rattle.msr_packer.specs.Steps.{AreNarrowThrough, IsStepAmong, NotLess, steim_kinds};
 
-use msr_words::{Codec, Int16, Int32, Kind, Length, Steim1, Steim2, Tracker, difference};
+use msr_words::{
+    Codec, Int16, Int32, Kind, Length, Steim1, Steim2, Tracker, difference, is_narrow,
+};
 
 /// One record more: it starts at `start`, reaches to `end`, and is of that kind.
 #[derive(Clone, Copy, Debug, PartialEq, Eq)]
@@ -45,6 +47,35 @@ fn furthest<C: Tracker + Drop>(samples: &[i32], record_length: Length, start: us
         }
     }
     samples.len()
+}
+
+/// The greatest end of a run, and whether all differences of the run and the one behind it are narrow.
+#[derive(Clone, Copy, Debug)]
+struct Reach {
+    end: usize,
+    narrow: bool,
+}
+
+/// The greatest end of a run from `start` on that fits, with a look at each difference that was pushed.
+fn reach_of<C: Tracker + Drop>(samples: &[i32], record_length: Length, start: usize) -> Reach
+    requires { start ≤ length samples.now }
+    ensures fits { IsRun (C.fits (bytes_of record_length)) samples.now start result.end }
+    ensures furthest { (end : ℕ) → IsRun (C.fits (bytes_of record_length)) samples.now start end → end ≤ result.end }
+    ensures narrow { IsTrue result.narrow → AreNarrowThrough samples.now start result.end }
+{
+    let mut tracker = C::start(record_length);
+    let mut narrow = true;
+    for at in start..samples.len() {
+        let diff = difference(samples, at);
+        narrow = narrow && is_narrow(diff);
+        if !tracker.push(samples[at], diff) {
+            return Reach { end: at, narrow };
+        }
+    }
+    Reach {
+        end: samples.len(),
+        narrow,
+    }
 }
 
 /// The step from a frontier with records of one kind: it tries as many starts before the frontier as its codec needs.
@@ -89,14 +120,31 @@ fn better_of<C: Codec + Drop>(
     best.or(step_of::<C>(kind, samples, record_length, frontier))
 }
 
+/// The step from a frontier with records of Steim-2 and of Steim-1. Where Steim-2 met narrow differences alone,
+/// Steim-1 reaches no further and is not tried.
+fn steim_step(samples: &[i32], record_length: Length, frontier: usize) -> Step
+    requires { frontier ≤ length samples.now }
+    ensures { IsStepAmong steim_kinds (bytes_of record_length) samples.now frontier result }
+{
+    let reach = reach_of::<Steim2>(samples, record_length, frontier);
+    let step = Step {
+        start: frontier,
+        end: reach.end,
+        kind: Kind::Steim2,
+    };
+    if reach.narrow {
+        return step;
+    }
+    better_of::<Steim1>(step, Kind::Steim1, samples, record_length, frontier)
+}
+
 /// The step from a frontier, over all kinds. The one that mostly reaches furthest comes first.
 pub fn step_from(samples: &[i32], record_length: Length, frontier: usize) -> Step
     requires { frontier ≤ length samples.now }
     ensures step { IsStep (FitsAny (bytes_of record_length)) samples.now frontier result.end result.start }
     ensures kind { IsRun (Fits result.kind (bytes_of record_length)) samples.now result.start result.end }
 {
-    let step = step_of::<Steim2>(Kind::Steim2, samples, record_length, frontier);
-    let step = better_of::<Steim1>(step, Kind::Steim1, samples, record_length, frontier);
+    let step = steim_step(samples, record_length, frontier);
     let step = better_of::<Int16>(step, Kind::Int16, samples, record_length, frontier);
     better_of::<Int32>(step, Kind::Int32, samples, record_length, frontier)
 }

@@ -1,5 +1,6 @@
 pub mod Certificate
 pub mod Choosing
+pub mod Dominance
 pub mod Greedy
 pub mod Parts
 pub mod Plain

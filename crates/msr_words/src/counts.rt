@@ -5,6 +5,7 @@ ghost use Rattle.msr_steim.specs.declared.word.Version.TheVariants.{One};
 ghost use Rattle.msr_steim.specs.Word.{FitsBits};
 ghost use Rattle.msr_words.specs.Counts.{EndsIn, IsStretch};
 ghost use Rattle.msr_words.specs.Groups.{IsCapacity, IsOneBelow};
+ghost use Rattle.msr_words.specs.Laws.{IsNarrow};
 
 /// Whether a number is one of `width` bits.
 pub fn fits_bits(number: i64, width: u32) -> bool
@@ -153,4 +154,15 @@ pub fn steim2_capacity(diff: i64) -> u8
     let wide = one_below(size, 536_870_912) + one_below(size, 16_384) + one_below(size, 512);
     let narrow = one_below(size, 32) + one_below(size, 16) + one_below(size, 8);
     wide + one_below(size, 128) + narrow
+}
+
+/// Whether a difference has as much room in Steim-2 as in Steim-1: it is not of exactly 16 bits, nor of more than 30.
+pub fn is_narrow(diff: i64) -> bool
+    ensures { IsTrue result ↔ IsNarrow diff }
+{
+    let size = magnitude(diff);
+    if 16_384 <= size && size < 32_768 {
+        return false;
+    }
+    size < 536_870_912
 }

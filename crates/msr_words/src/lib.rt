@@ -12,6 +12,7 @@ mod tests;
 
 pub use any_kind::AnyKind;
 pub use codecs::{Codec, Int16, Int32, Steim1, Steim2, Tracker};
+pub use counts::is_narrow;
 pub use division::{groups, one_division};
-pub use kinds::{Kind, Run, any_fits, difference, first_kind, run_fits};
+pub use kinds::{Kind, Run, any_fits, difference, first_kind, run_fits, steim2_dominates};
 pub use lengths::Length;
