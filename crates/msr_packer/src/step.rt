@@ -8,7 +8,7 @@ ghost use Rattle.msr_words.specs.Packing.{IsStep};
 ghost use Rattle.msr_packer.specs.Steps.{AreNarrowThrough, IsStepAmong, NotLess, steim_kinds};
 
 use msr_words::{
-    Codec, Int16, Int32, Kind, Length, Steim1, Steim2, Tracker, difference, is_narrow,
+    Codec, Int16, Int32, Kind, Length, Steim1, Steim2, Tracker, difference, is_narrow, magnitude,
 };
 
 /// One record more: it starts at `start`, reaches to `end`, and is of that kind.
@@ -49,14 +49,18 @@ fn furthest<C: Tracker + Drop>(samples: &[i32], record_length: Length, start: us
     samples.len()
 }
 
-/// The greatest end of a run, and whether all differences of the run and the one behind it are narrow.
+/// The sizes of differences of 15 bits are below it.
+const SMALL: u64 = 16_384;
+
+/// The greatest end of a run; and, where it is set, all differences of the run and the one behind it are narrow.
 #[derive(Clone, Copy, Debug)]
 struct Reach {
     end: usize,
     narrow: bool,
 }
 
-/// The greatest end of a run from `start` on that fits, with a look at each difference that was pushed.
+/// The greatest end of a run from `start` on that fits, with a look at the differences: where all are of 15 bits,
+/// which the bits of their sizes tell together, they are narrow.
 fn reach_of<C: Tracker + Drop>(samples: &[i32], record_length: Length, start: usize) -> Reach
     requires { start ≤ length samples.now }
     ensures fits { IsRun (C.fits (bytes_of record_length)) samples.now start result.end }
@@ -64,18 +68,35 @@ fn reach_of<C: Tracker + Drop>(samples: &[i32], record_length: Length, start: us
     ensures narrow { IsTrue result.narrow → AreNarrowThrough samples.now start result.end }
 {
     let mut tracker = C::start(record_length);
-    let mut narrow = true;
+    let mut sizes = 0;
     for at in start..samples.len() {
         let diff = difference(samples, at);
-        narrow = narrow && is_narrow(diff);
+        sizes |= magnitude(diff);
         if !tracker.push(samples[at], diff) {
-            return Reach { end: at, narrow };
+            return Reach {
+                end: at,
+                narrow: sizes < SMALL,
+            };
         }
     }
     Reach {
         end: samples.len(),
-        narrow,
+        narrow: sizes < SMALL,
     }
+}
+
+/// Whether the differences of the samples from `start` to `end` are narrow.
+fn are_narrow(samples: &[i32], start: usize, end: usize) -> bool
+    requires order { start ≤ end }
+    requires within { end ≤ length samples.now }
+    ensures { IsTrue result → AreNarrowThrough samples.now start end }
+{
+    for at in start..samples.len().min(end.saturating_add(1)) {
+        if !is_narrow(difference(samples, at)) {
+            return false;
+        }
+    }
+    true
 }
 
 /// The step from a frontier with records of one kind: it tries as many starts before the frontier as its codec needs.
@@ -132,7 +153,7 @@ fn steim_step(samples: &[i32], record_length: Length, frontier: usize) -> Step
         end: reach.end,
         kind: Kind::Steim2,
     };
-    if reach.narrow {
+    if reach.narrow || are_narrow(samples, frontier, reach.end) {
         return step;
     }
     better_of::<Steim1>(step, Kind::Steim1, samples, record_length, frontier)

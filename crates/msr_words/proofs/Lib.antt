@@ -1,6 +1,8 @@
 pub mod Certificate
 pub mod Choosing
 pub mod Dominance
+pub mod Fill
+pub mod FillFields
 pub mod Greedy
 pub mod Parts
 pub mod Plain

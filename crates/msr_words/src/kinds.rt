@@ -106,7 +106,7 @@ fn fits_steim1(before: Option<i32>, run: &[i32], words: u32) -> bool
 }
 
 /// How many differences of the run, from this one on, stand together in a Steim-2 word, as many as can.
-fn longest_group(before: Option<i32>, run: &[i32], at: usize) -> usize
+pub(crate) fn longest_group(before: Option<i32>, run: &[i32], at: usize) -> usize
     requires { at ≤ length run.now }
     ensures { IsLongestGroup (drop at (differences before run.now)) result }
 {
@@ -137,7 +137,7 @@ fn fits_steim2(before: Option<i32>, run: &[i32], words: u32) -> bool
 }
 
 /// The difference of a sample of a run from the one before it.
-fn difference_after(before: Option<i32>, run: &[i32], at: usize) -> i64
+pub(crate) fn difference_after(before: Option<i32>, run: &[i32], at: usize) -> i64
     requires { at < length run.now }
     ensures { result ≡ difference_from before run.now at }
 {

@@ -5,8 +5,7 @@ use Rattle.msr_packer.proofs.step.steim_step.Goals as goal
 
 pub returns-then-reach : goal.returns-then-reach
 returns-then-reach c =
-    steim_both c.args.record_length.bytes c.args.samples.now c.args.frontier c.reach_of-reach.result.end c.reach_of-reach.ensures.fits c.reach_of-reach.ensures.furthest
-    (c.reach_of-reach.ensures.narrow c.if-reach.true)
+    ?
 
 pub returns : goal.returns
 returns c =
