@@ -3,6 +3,7 @@ pub mod Choosing
 pub mod Dominance
 pub mod Fill
 pub mod FillFields
+pub mod FillSizes
 pub mod Greedy
 pub mod Parts
 pub mod Plain

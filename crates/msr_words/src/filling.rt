@@ -1,6 +1,6 @@
 //! The Steim-2 words of a run, written in place.
 
-ghost use Rattle.std.specs.Prelude.{◌≡◌, ◌<◌, ◌≤◌, ◌+◌, ◌-◌, ◌*◌, ◌/◌, ◌%◌, ◌^◌, ◌++◌, ℕ, ℤ, List, Some, length, drop, take, pos, slice_index_or};
+ghost use Rattle.std.specs.Prelude.{◌≡◌, ◌<◌, ◌≤◌, ◌+◌, ◌-◌, ◌*◌, ◌/◌, ◌%◌, ◌^◌, ◌++◌, ℕ, ℤ, List, Option, Some, length, drop, take, pos, slice_index_or};
 ghost use Rattle.std.specs.Int.{cast_unsigned, w32};
 ghost use Rattle.std.specs.List.{AllByRecursion};
 ghost use Rattle.byteorder.specs.Endian.{big_bytes};
@@ -9,8 +9,9 @@ ghost use Rattle.msr_steim.specs.Word.{FitsBits, group_code, group_top, group_wi
 ghost use Rattle.msr_steim.specs.Frames.{frame_bytes};
 ghost use Rattle.msr_words.specs.Canonical.{IsCanonicalDivision};
 ghost use Rattle.msr_words.specs.Groups.{IsLongestGroup};
-ghost use Rattle.msr_words.specs.Segment.{differences};
+ghost use Rattle.msr_words.specs.Segment.{difference_at, differences};
 
+use crate::counts::magnitude;
 use crate::kinds::{difference_after, longest_group};
 use byteorder::{BigEndian, ByteOrder};
 
@@ -80,6 +81,49 @@ fn form_of(size: usize) -> Form
         _ => (3, 2, 4),
     };
     Form { code, top, width }
+}
+
+/// The difference of a sample that is not the first.
+fn difference_inside(run: &[i32], at: usize) -> i64
+    requires some { 0 < at }
+    requires within { at < length run.now }
+    ensures { result ≡ difference_at run.now at }
+{
+    run[at] as i64 - run[at - 1] as i64
+}
+
+/// How many differences of the run, from this one on, stand together in a word, as many as can, where there are
+/// seven behind the first: by the bits that are set in the size of any of them.
+fn longest_inside(run: &[i32], at: usize) -> usize
+    requires some { 0 < at }
+    requires within { at + 7 ≤ length run.now }
+    ensures { (before : Option ℤ) → IsLongestGroup (drop at (differences before run.now)) result }
+{
+    let one = magnitude(difference_inside(run, at));
+    let two = one | magnitude(difference_inside(run, at + 1));
+    let three = two | magnitude(difference_inside(run, at + 2));
+    if three >= 512 {
+        if two < 16_384 {
+            return 2;
+        }
+        return if one < 536_870_912 { 1 } else { 0 };
+    }
+    let four = three | magnitude(difference_inside(run, at + 3));
+    if four >= 128 {
+        return 3;
+    }
+    let five = four | magnitude(difference_inside(run, at + 4));
+    let six = five | magnitude(difference_inside(run, at + 5));
+    let seven = six | magnitude(difference_inside(run, at + 6));
+    if seven < 8 {
+        7
+    } else if six < 16 {
+        6
+    } else if five < 32 {
+        5
+    } else {
+        4
+    }
 }
 
 /// The word of the longest group from that difference on.
