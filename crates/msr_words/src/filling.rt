@@ -97,7 +97,8 @@ fn difference_inside(run: &[i32], at: usize) -> i64
 fn longest_inside(run: &[i32], at: usize) -> usize
     requires some { 0 < at }
     requires within { at + 7 ≤ length run.now }
-    ensures { (before : Option ℤ) → IsLongestGroup (drop at (differences before run.now)) result }
+    ensures longest { (before : Option ℤ) → IsLongestGroup (drop at (differences before run.now)) result }
+    ensures most { result ≤ 7 }
 {
     let one = magnitude(difference_inside(run, at));
     let two = one | magnitude(difference_inside(run, at + 1));
@@ -126,6 +127,75 @@ fn longest_inside(run: &[i32], at: usize) -> usize
     }
 }
 
+/// The fields of so many differences of the run side by side, where none is that of its first sample.
+fn fields_inside(run: &[i32], at: usize, size: usize, width: u32) -> u32
+    requires some { 0 < at }
+    requires positive { 0 < width }
+    requires within { size * width ≤ 32 }
+    requires room { at + size ≤ length run.now }
+    requires fit { AllByRecursion (FitsBits width) (take size (drop at (differences None run.now))) }
+    ensures same { result ≡ joined_fields width (take size (drop at (differences None run.now))) }
+    ensures few { result < 2 ^ (size * width) }
+{
+    let mut fields: u64 = 0;
+    for next in at..at + size {
+        fields = (fields << width) | field_of(difference_inside(run, next), width);
+    }
+    fields as u32
+}
+
+/// The word of this longest group, of this form, where no difference is that of the first sample.
+fn formed(run: &[i32], at: usize, size: usize, form: Form) -> NextWord
+    requires some { 0 < at }
+    requires room { at + 7 ≤ length run.now }
+    requires full { 1 ≤ size }
+    requires most { size ≤ 7 }
+    requires longest { IsLongestGroup (drop at (differences None run.now)) size }
+    requires width { group_width Two size ≡ Some form.width }
+    requires positive { 0 < form.width }
+    requires within { size * form.width ≤ 32 }
+    requires code { form.code ≡ group_code Two size }
+    requires small { form.code < 4 }
+    requires top { form.top ≡ group_top Two size }
+    requires space { form.top * 2 ^ 30 + 2 ^ (size * form.width) ≤ 2 ^ 32 }
+    ensures longest { IsLongestGroup (drop at (differences None run.now)) result.size }
+    ensures code { result.code ≡ group_code Two result.size }
+    ensures small { result.code < 4 }
+    ensures word { result.word ≡ group_word Two (take result.size (drop at (differences None run.now))) }
+{
+    let fields = fields_inside(run, at, size, form.width);
+    NextWord {
+        size,
+        code: form.code,
+        word: (form.top << 30) + fields,
+    }
+}
+
+/// The word of the longest group from that difference on, where there are seven behind the first.
+fn word_inside(run: &[i32], at: usize) -> NextWord
+    requires some { 0 < at }
+    requires room { at + 7 ≤ length run.now }
+    ensures longest { IsLongestGroup (drop at (differences None run.now)) result.size }
+    ensures code { result.code ≡ group_code Two result.size }
+    ensures small { result.code < 4 }
+    ensures word { result.word ≡ group_word Two (take result.size (drop at (differences None run.now))) }
+{
+    match longest_inside(run, at) {
+        1 => formed(run, at, 1, form_of(1)),
+        2 => formed(run, at, 2, form_of(2)),
+        3 => formed(run, at, 3, form_of(3)),
+        4 => formed(run, at, 4, form_of(4)),
+        5 => formed(run, at, 5, form_of(5)),
+        6 => formed(run, at, 6, form_of(6)),
+        7 => formed(run, at, 7, form_of(7)),
+        _ => NextWord {
+            size: 0,
+            code: 0,
+            word: 0,
+        },
+    }
+}
+
 /// The word of the longest group from that difference on.
 fn next_word(before: Option<i32>, run: &[i32], at: usize) -> NextWord
     requires { at ≤ length run.now }
@@ -134,6 +204,9 @@ fn next_word(before: Option<i32>, run: &[i32], at: usize) -> NextWord
     ensures small { result.code < 4 }
     ensures word { result.word ≡ group_word Two (take result.size (drop at (differences before run.now))) }
 {
+    if 0 < at && run.len() - at >= 7 {
+        return word_inside(run, at);
+    }
     let size = longest_group(before, run, at);
     if size == 0 {
         return NextWord {

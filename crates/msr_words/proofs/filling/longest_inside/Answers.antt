@@ -6,8 +6,8 @@ use Rattle.msr_words.specs.Groups.{IsLongestGroup}
 use Rattle.msr_words.proofs.FillSizes.{HasSize, from_inside, longest_0, longest_1, longest_2, longest_3, longest_4, longest_5, longest_6, longest_7, seven_at}
 use Rattle.msr_words.proofs.filling.longest_inside.Goals as goal
 
-pub returns-then-two-lt16384 : goal.returns-then-two-lt16384
-returns-then-two-lt16384 c = λ before.
+pub returns-then-two-lt16384-clause-longest : goal.returns-then-two-lt16384-clause-longest
+returns-then-two-lt16384-clause-longest c = λ before.
     let run = c.args.run.now in
     let at = c.args.at in
     let room : c.args.at + 7 ≤ length c.args.run.now = c.requires.within in
@@ -24,8 +24,8 @@ returns-then-two-lt16384 c = λ before.
     let whole = seven_at before c.args.run.now c.args.at c.difference_inside.result c.difference_inside-2.result c.difference_inside-3.result (difference_from before c.args.run.now (c.args.at + 3)) (difference_from before c.args.run.now (c.args.at + 4)) (difference_from before c.args.run.now (c.args.at + 5)) (difference_from before c.args.run.now (c.args.at + 6)) room ea eb ec refl refl refl refl in
     subst (λ xs. IsLongestGroup xs 2) whole (longest_2 c.difference_inside.result c.difference_inside-2.result c.difference_inside-3.result ((difference_from before c.args.run.now (c.args.at + 3)) ∷ (difference_from before c.args.run.now (c.args.at + 4)) ∷ (difference_from before c.args.run.now (c.args.at + 5)) ∷ (difference_from before c.args.run.now (c.args.at + 6)) ∷ drop 7 (drop c.args.at (differences before c.args.run.now))) c.magnitude-one.result c.magnitude.result c.magnitude-2.result ha hb hc (omega (arith, c.if-two-lt16384.true)) (omega (arith, c.if-three-ge512.true)))
 
-pub returns-then-one-lt536870912 : goal.returns-then-one-lt536870912
-returns-then-one-lt536870912 c = λ before.
+pub returns-then-one-lt536870912-clause-longest : goal.returns-then-one-lt536870912-clause-longest
+returns-then-one-lt536870912-clause-longest c = λ before.
     let run = c.args.run.now in
     let at = c.args.at in
     let room : c.args.at + 7 ≤ length c.args.run.now = c.requires.within in
@@ -39,8 +39,8 @@ returns-then-one-lt536870912 c = λ before.
     let whole = seven_at before c.args.run.now c.args.at c.difference_inside.result c.difference_inside-2.result (difference_from before c.args.run.now (c.args.at + 2)) (difference_from before c.args.run.now (c.args.at + 3)) (difference_from before c.args.run.now (c.args.at + 4)) (difference_from before c.args.run.now (c.args.at + 5)) (difference_from before c.args.run.now (c.args.at + 6)) room ea eb refl refl refl refl refl in
     subst (λ xs. IsLongestGroup xs 1) whole (longest_1 c.difference_inside.result c.difference_inside-2.result ((difference_from before c.args.run.now (c.args.at + 2)) ∷ (difference_from before c.args.run.now (c.args.at + 3)) ∷ (difference_from before c.args.run.now (c.args.at + 4)) ∷ (difference_from before c.args.run.now (c.args.at + 5)) ∷ (difference_from before c.args.run.now (c.args.at + 6)) ∷ drop 7 (drop c.args.at (differences before c.args.run.now))) c.magnitude-one.result c.magnitude.result ha hb (omega (arith, c.if-one-lt536870912.true)) (omega (arith, c.if-two-lt16384.false)))
 
-pub returns-else-one-lt536870912 : goal.returns-else-one-lt536870912
-returns-else-one-lt536870912 c = λ before.
+pub returns-else-one-lt536870912-clause-longest : goal.returns-else-one-lt536870912-clause-longest
+returns-else-one-lt536870912-clause-longest c = λ before.
     let run = c.args.run.now in
     let at = c.args.at in
     let room : c.args.at + 7 ≤ length c.args.run.now = c.requires.within in
@@ -51,8 +51,8 @@ returns-else-one-lt536870912 c = λ before.
     let whole = seven_at before c.args.run.now c.args.at c.difference_inside.result (difference_from before c.args.run.now (c.args.at + 1)) (difference_from before c.args.run.now (c.args.at + 2)) (difference_from before c.args.run.now (c.args.at + 3)) (difference_from before c.args.run.now (c.args.at + 4)) (difference_from before c.args.run.now (c.args.at + 5)) (difference_from before c.args.run.now (c.args.at + 6)) room ea refl refl refl refl refl refl in
     subst (λ xs. IsLongestGroup xs 0) whole (longest_0 c.difference_inside.result ((difference_from before c.args.run.now (c.args.at + 1)) ∷ (difference_from before c.args.run.now (c.args.at + 2)) ∷ (difference_from before c.args.run.now (c.args.at + 3)) ∷ (difference_from before c.args.run.now (c.args.at + 4)) ∷ (difference_from before c.args.run.now (c.args.at + 5)) ∷ (difference_from before c.args.run.now (c.args.at + 6)) ∷ drop 7 (drop c.args.at (differences before c.args.run.now))) c.magnitude-one.result ha (omega (arith, c.if-one-lt536870912.false)))
 
-pub returns-then-four-ge128 : goal.returns-then-four-ge128
-returns-then-four-ge128 c = λ before.
+pub returns-then-four-ge128-clause-longest : goal.returns-then-four-ge128-clause-longest
+returns-then-four-ge128-clause-longest c = λ before.
     let run = c.args.run.now in
     let at = c.args.at in
     let room : c.args.at + 7 ≤ length c.args.run.now = c.requires.within in
@@ -72,8 +72,8 @@ returns-then-four-ge128 c = λ before.
     let whole = seven_at before c.args.run.now c.args.at c.difference_inside.result c.difference_inside-2.result c.difference_inside-3.result c.difference_inside-4.result (difference_from before c.args.run.now (c.args.at + 4)) (difference_from before c.args.run.now (c.args.at + 5)) (difference_from before c.args.run.now (c.args.at + 6)) room ea eb ec ed refl refl refl in
     subst (λ xs. IsLongestGroup xs 3) whole (longest_3 c.difference_inside.result c.difference_inside-2.result c.difference_inside-3.result c.difference_inside-4.result ((difference_from before c.args.run.now (c.args.at + 4)) ∷ (difference_from before c.args.run.now (c.args.at + 5)) ∷ (difference_from before c.args.run.now (c.args.at + 6)) ∷ drop 7 (drop c.args.at (differences before c.args.run.now))) c.magnitude-one.result c.magnitude.result c.magnitude-2.result c.magnitude-3.result ha hb hc hd (omega (arith, c.if-three-ge512.false)) (omega (arith, c.if-four-ge128.true)))
 
-pub returns-then-seven-lt8 : goal.returns-then-seven-lt8
-returns-then-seven-lt8 c = λ before.
+pub returns-then-seven-lt8-clause-longest : goal.returns-then-seven-lt8-clause-longest
+returns-then-seven-lt8-clause-longest c = λ before.
     let run = c.args.run.now in
     let at = c.args.at in
     let room : c.args.at + 7 ≤ length c.args.run.now = c.requires.within in
@@ -102,8 +102,8 @@ returns-then-seven-lt8 c = λ before.
     let whole = seven_at before c.args.run.now c.args.at c.difference_inside.result c.difference_inside-2.result c.difference_inside-3.result c.difference_inside-4.result c.difference_inside-5.result c.difference_inside-6.result c.difference_inside-7.result room ea eb ec ed ee ef eg in
     subst (λ xs. IsLongestGroup xs 7) whole (longest_7 c.difference_inside.result c.difference_inside-2.result c.difference_inside-3.result c.difference_inside-4.result c.difference_inside-5.result c.difference_inside-6.result c.difference_inside-7.result (drop 7 (drop c.args.at (differences before c.args.run.now))) c.magnitude-one.result c.magnitude.result c.magnitude-2.result c.magnitude-3.result c.magnitude-4.result c.magnitude-5.result c.magnitude-6.result ha hb hc hd he hf hg (omega (arith, c.if-seven-lt8.true)))
 
-pub returns-then-six-lt16 : goal.returns-then-six-lt16
-returns-then-six-lt16 c = λ before.
+pub returns-then-six-lt16-clause-longest : goal.returns-then-six-lt16-clause-longest
+returns-then-six-lt16-clause-longest c = λ before.
     let run = c.args.run.now in
     let at = c.args.at in
     let room : c.args.at + 7 ≤ length c.args.run.now = c.requires.within in
@@ -132,8 +132,8 @@ returns-then-six-lt16 c = λ before.
     let whole = seven_at before c.args.run.now c.args.at c.difference_inside.result c.difference_inside-2.result c.difference_inside-3.result c.difference_inside-4.result c.difference_inside-5.result c.difference_inside-6.result c.difference_inside-7.result room ea eb ec ed ee ef eg in
     subst (λ xs. IsLongestGroup xs 6) whole (longest_6 c.difference_inside.result c.difference_inside-2.result c.difference_inside-3.result c.difference_inside-4.result c.difference_inside-5.result c.difference_inside-6.result c.difference_inside-7.result (drop 7 (drop c.args.at (differences before c.args.run.now))) c.magnitude-one.result c.magnitude.result c.magnitude-2.result c.magnitude-3.result c.magnitude-4.result c.magnitude-5.result c.magnitude-6.result ha hb hc hd he hf hg (omega (arith, c.if-six-lt16.true)) (omega (arith, c.if-seven-lt8.false)))
 
-pub returns-then-five-lt32 : goal.returns-then-five-lt32
-returns-then-five-lt32 c = λ before.
+pub returns-then-five-lt32-clause-longest : goal.returns-then-five-lt32-clause-longest
+returns-then-five-lt32-clause-longest c = λ before.
     let run = c.args.run.now in
     let at = c.args.at in
     let room : c.args.at + 7 ≤ length c.args.run.now = c.requires.within in
@@ -159,8 +159,8 @@ returns-then-five-lt32 c = λ before.
     let whole = seven_at before c.args.run.now c.args.at c.difference_inside.result c.difference_inside-2.result c.difference_inside-3.result c.difference_inside-4.result c.difference_inside-5.result c.difference_inside-6.result (difference_from before c.args.run.now (c.args.at + 6)) room ea eb ec ed ee ef refl in
     subst (λ xs. IsLongestGroup xs 5) whole (longest_5 c.difference_inside.result c.difference_inside-2.result c.difference_inside-3.result c.difference_inside-4.result c.difference_inside-5.result c.difference_inside-6.result ((difference_from before c.args.run.now (c.args.at + 6)) ∷ drop 7 (drop c.args.at (differences before c.args.run.now))) c.magnitude-one.result c.magnitude.result c.magnitude-2.result c.magnitude-3.result c.magnitude-4.result c.magnitude-5.result ha hb hc hd he hf (omega (arith, c.if-five-lt32.true)) (omega (arith, c.if-six-lt16.false)))
 
-pub returns-else-five-lt32 : goal.returns-else-five-lt32
-returns-else-five-lt32 c = λ before.
+pub returns-else-five-lt32-clause-longest : goal.returns-else-five-lt32-clause-longest
+returns-else-five-lt32-clause-longest c = λ before.
     let run = c.args.run.now in
     let at = c.args.at in
     let room : c.args.at + 7 ≤ length c.args.run.now = c.requires.within in
