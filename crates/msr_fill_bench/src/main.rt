@@ -73,8 +73,11 @@ fn write_one(
         timing: 0,
     };
     out.clear();
-    if only || run.is_empty() || !is_instant(start) || !kind.fits(before, run, record_length) {
+    if run.is_empty() || !is_instant(start) || !kind.fits(before, run, record_length) {
         return Ok(());
+    }
+    if only {
+        return Ok(out.push(1)?);
     }
     encode_record(alloc, &key, start, 1, before, run, kind, record_length, out)
 }
@@ -111,7 +114,15 @@ fn write_all(
         if size == 0 {
             return Ok(sum);
         }
-        write_one(alloc, before, &rest[..size], kind, record_length, only, &mut out)?;
+        write_one(
+            alloc,
+            before,
+            &rest[..size],
+            kind,
+            record_length,
+            only,
+            &mut out,
+        )?;
         sum = sum.wrapping_mul(31).wrapping_add(sum_of(&out));
         before = rest.get(size - 1).copied();
         start += size;
@@ -120,9 +131,19 @@ fn write_all(
 }
 
 fn main(rt: HostRuntime) -> io::Result<()> {
-    let count = env::args(&rt)?.nth(1).and_then(|word| word.parse().ok()).unwrap_or(1000);
-    let spread = env::args(&rt)?.nth(2).and_then(|word| word.parse().ok()).unwrap_or(64u64).max(1);
-    let code = env::args(&rt)?.nth(3).and_then(|word| word.parse().ok()).unwrap_or(11u8);
+    let count = env::args(&rt)?
+        .nth(1)
+        .and_then(|word| word.parse().ok())
+        .unwrap_or(1000);
+    let spread = env::args(&rt)?
+        .nth(2)
+        .and_then(|word| word.parse().ok())
+        .unwrap_or(64u64)
+        .max(1);
+    let code = env::args(&rt)?
+        .nth(3)
+        .and_then(|word| word.parse().ok())
+        .unwrap_or(11u8);
     let only = env::args(&rt)?.nth(4).is_some();
     let Some(record_length) = Length::new(512) else {
         return Ok(());

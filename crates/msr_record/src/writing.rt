@@ -114,9 +114,7 @@ fn fill_record(
     let frames = fill_area(alloc, before, run, kind, record_length, &mut bytes[64..])?;
     let count = run.len() as u16;
     let exponent = record_length.exponent();
-    let header = header_for(
-        key, time, micros, sequence, count, kind, exponent, frames,
-    );
+    let header = header_for(key, time, micros, sequence, count, kind, exponent, frames);
     put_header(bytes, &write_header(&header));
     Ok(())
 }

@@ -191,4 +191,3 @@ longest_7 a b c d e f g rest ma mb mc md me mf mg ha hb hc hd he hf hg fits = re
   group = λ some. (group_7 a b c d e f g ma mb mc md me mf mg ha hb hc hd he hf hg).0 fits;
   no_more = λ less is. too_long a b c d e f g rest less is;
 }
-

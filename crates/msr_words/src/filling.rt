@@ -114,17 +114,15 @@ fn longest_inside(run: &[i32], at: usize) -> usize
         return 3;
     }
     let five = four | magnitude(difference_inside(run, at + 4));
-    let six = five | magnitude(difference_inside(run, at + 5));
-    let seven = six | magnitude(difference_inside(run, at + 6));
-    if seven < 8 {
-        7
-    } else if six < 16 {
-        6
-    } else if five < 32 {
-        5
-    } else {
-        4
+    if five >= 32 {
+        return 4;
     }
+    let six = five | magnitude(difference_inside(run, at + 5));
+    if six >= 16 {
+        return 5;
+    }
+    let seven = six | magnitude(difference_inside(run, at + 6));
+    if seven >= 8 { 6 } else { 7 }
 }
 
 /// The fields of so many differences of the run side by side, where none is that of its first sample.
