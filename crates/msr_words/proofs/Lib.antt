@@ -2,6 +2,7 @@ pub mod Certificate
 pub mod Choosing
 pub mod Dominance
 pub mod Greedy
+pub mod GreedyReach
 pub mod Parts
 pub mod Plain
 pub mod Pushes
@@ -11,3 +12,4 @@ pub mod Steim1Counts
 pub mod Steim1Pushes
 pub mod Steim2Groups
 pub mod Steim2Pushes
+pub mod WordRoom

@@ -128,7 +128,7 @@ impl LeastCounts {
 }
 
 /// How far a number is from 0, or from -1 where it is negative.
-fn magnitude(number: i64) -> u64
+pub fn magnitude(number: i64) -> u64
     ensures { (width : ℕ) → (FitsBits width number ↔ result < 2 ^ (width - 1)) }
 {
     if number < 0 {

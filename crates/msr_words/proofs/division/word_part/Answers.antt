@@ -1,6 +1,5 @@
 use Rattle.std.proofs.Common.{w32, w64, SFits, ap, ◌∙◌, to_z, of_z}
 use Rattle.std.proofs.lemmas.Int.{to_z-of_z}
-use Rattle.msr_words.specs.Groups.{IsCapacity}
 use Rattle.msr_words.proofs.Greedy.{in_word}
 use Rattle.msr_words.proofs.division.word_part.Goals as goal
 
