@@ -1,14 +1,18 @@
 //! One record more: how far a record reaches that starts at or before a frontier.
 
-ghost use Rattle.std.specs.Prelude.{◌≡◌, ℕ, ◌≤◌, ◌⊎◌, ◌∷◌, [], length, List, IsTrue};
+ghost use Rattle.std.specs.Prelude.{◌≡◌, ℕ, ◌+◌, ◌-◌, ◌^◌, ◌<◌, ◌≤◌, ◌⊎◌, ◌∷◌, [], length, List, IsTrue, IsFalse, map, sum_by};
 ghost use Rattle.msr_words.specs.declared.kinds.Kind.{Kind};
+ghost use Rattle.msr_words.specs.declared.kinds.Kind.TheVariants.{Int16 as Integers16, Int32 as Integers32, Steim1 as FirstSteim, Steim2 as SecondSteim};
+ghost use Rattle.msr_words.specs.Bounds.{BeginsWithFour, IsEnd, quarters};
 ghost use Rattle.msr_words.specs.Lengths.{bytes_of};
 ghost use Rattle.msr_words.specs.Fit.{Fits, FitsAny, IsRun};
 ghost use Rattle.msr_words.specs.Packing.{IsStep};
-ghost use Rattle.msr_packer.specs.Steps.{AreNarrowThrough, IsStepAmong, NotLess, steim_kinds};
+ghost use Rattle.msr_words.specs.Segment.{run_points};
+ghost use Rattle.msr_packer.specs.Steps.{AreEnds, AreNarrowThrough, IsStepAmong, NonePast, NotLess};
 
 use msr_words::{
-    Codec, Int16, Int32, Kind, Length, Steim1, Steim2, Tracker, difference, is_narrow,
+    Int16, Int32, Kind, Length, Steim1, Steim2, Tracker, difference, fits_bits, is_narrow,
+    magnitude, quarters_of,
 };
 
 /// One record more: it starts at `start`, reaches to `end`, and is of that kind.
@@ -34,6 +38,21 @@ impl Step {
     }
 }
 
+/// Ends of runs from a frontier, by their kind. One that is not needed is the frontier itself.
+#[derive(Clone, Copy, Debug, PartialEq, Eq)]
+pub struct Ends {
+    pub steim2: usize,
+    pub steim1: usize,
+    pub int16: usize,
+}
+
+/// A step, with the ends that tell the kind of its run where that is cut.
+#[derive(Clone, Copy, Debug, PartialEq, Eq)]
+pub struct Found {
+    pub step: Step,
+    pub ends: Ends,
+}
+
 /// The greatest end of a run from `start` on that fits.
 fn furthest<C: Tracker + Drop>(samples: &[i32], record_length: Length, start: usize) -> usize
     requires { start ≤ length samples.now }
@@ -49,14 +68,18 @@ fn furthest<C: Tracker + Drop>(samples: &[i32], record_length: Length, start: us
     samples.len()
 }
 
-/// The greatest end of a run, and whether all differences of the run and the one behind it are narrow.
+/// The sizes of differences of 15 bits are below it.
+const SMALL: u64 = 16_384;
+
+/// The greatest end of a run; and, where it is set, all differences of the run and the one behind it are narrow.
 #[derive(Clone, Copy, Debug)]
 struct Reach {
     end: usize,
     narrow: bool,
 }
 
-/// The greatest end of a run from `start` on that fits, with a look at each difference that was pushed.
+/// The greatest end of a run from `start` on that fits, with a look at the differences: where all are of 15 bits,
+/// which the bits of their sizes tell together, they are narrow.
 fn reach_of<C: Tracker + Drop>(samples: &[i32], record_length: Length, start: usize) -> Reach
     requires { start ≤ length samples.now }
     ensures fits { IsRun (C.fits (bytes_of record_length)) samples.now start result.end }
@@ -64,87 +87,194 @@ fn reach_of<C: Tracker + Drop>(samples: &[i32], record_length: Length, start: us
     ensures narrow { IsTrue result.narrow → AreNarrowThrough samples.now start result.end }
 {
     let mut tracker = C::start(record_length);
-    let mut narrow = true;
+    let mut sizes = 0;
     for at in start..samples.len() {
         let diff = difference(samples, at);
-        narrow = narrow && is_narrow(diff);
+        sizes |= magnitude(diff);
         if !tracker.push(samples[at], diff) {
-            return Reach { end: at, narrow };
+            return Reach {
+                end: at,
+                narrow: sizes < SMALL,
+            };
         }
     }
     Reach {
         end: samples.len(),
-        narrow,
+        narrow: sizes < SMALL,
     }
 }
 
-/// The step from a frontier with records of one kind: it tries as many starts before the frontier as its codec needs.
-fn step_of<C: Codec + Drop>(
-    kind: Kind,
-    samples: &[i32],
-    record_length: Length,
-    frontier: usize,
-) -> Step
-    requires within { frontier ≤ length samples.now }
-    requires same { C.kind ≡ kind }
-    ensures { IsStepAmong (kind ∷ []) (bytes_of record_length) samples.now frontier result }
+/// Whether the differences of the samples from `start` to `end` are narrow.
+fn are_narrow(samples: &[i32], start: usize, end: usize) -> bool
+    requires order { start ≤ end }
+    requires within { end ≤ length samples.now }
+    ensures { IsTrue result → AreNarrowThrough samples.now start end }
 {
-    let mut start = frontier;
-    let mut end = furthest::<C>(samples, record_length, frontier);
-    let most = frontier.min(C::LOOK_BACK);
-    for back in 1..most + 1 {
-        let reached = furthest::<C>(samples, record_length, frontier - back);
-        if reached > end {
-            start = frontier - back;
-            end = reached;
+    for at in start..samples.len().min(end.saturating_add(1)) {
+        if !is_narrow(difference(samples, at)) {
+            return false;
         }
     }
-    Step { start, end, kind }
+    true
 }
 
-/// The better of a step and that of one more kind, which is not tried where its longest run would not reach as far.
-fn better_of<C: Codec + Drop>(
-    best: Step,
-    kind: Kind,
+/// The end of a run of 16-bit integers from the frontier on; where none is long enough to reach behind `end`, the frontier.
+fn int16_end(samples: &[i32], record_length: Length, frontier: usize, end: usize) -> usize
+    requires order { frontier ≤ end }
+    requires within { end ≤ length samples.now }
+    ensures fits { IsRun (Fits Integers16 (bytes_of record_length)) samples.now frontier result }
+    ensures past { NonePast Integers16 (bytes_of record_length) samples.now frontier result end }
+{
+    if end - frontier >= Int16::most(record_length) {
+        return frontier;
+    }
+    furthest::<Int16>(samples, record_length, frontier)
+}
+
+/// The step from the frontier with records of 32-bit integers.
+fn int32_step(samples: &[i32], record_length: Length, frontier: usize) -> Step
+    requires { frontier ≤ length samples.now }
+    ensures { IsStepAmong (Integers32 ∷ []) (bytes_of record_length) samples.now frontier result }
+{
+    let left = samples.len() - frontier;
+    Step {
+        start: frontier,
+        end: frontier + left.min(Int32::most(record_length)),
+        kind: Kind::Int32,
+    }
+}
+
+/// Whether the differences of the samples from `start` to `end - 1` take more than so many quarters of a Steim-1 word.
+fn take_more(samples: &[i32], start: usize, end: usize, most: usize) -> bool
+    requires order { start ≤ end }
+    requires within { end ≤ length samples.now }
+    requires few { end - start ≤ 2 ^ 40 }
+    ensures { IsTrue result → most < sum_by quarters (map (λ p. p.1) (run_points samples.now start end)) }
+{
+    let mut used = 0;
+    for at in start..end {
+        used += usize::from(quarters_of(difference(samples, at)));
+    }
+    used > most
+}
+
+/// Whether no Steim-1 record that starts at or before the frontier reaches behind the end of Steim-2 and close to `end`.
+/// It does not where the differences are narrow, where there are too many, and where they take more quarters of words
+/// than there are.
+fn steim1_is_short(
     samples: &[i32],
     record_length: Length,
     frontier: usize,
-) -> Step
-    requires within { frontier ≤ length samples.now }
-    requires same { C.kind ≡ kind }
-    ensures { (tried : List Kind) → IsStepAmong tried (bytes_of record_length) samples.now frontier best → IsStepAmong (kind ∷ tried) (bytes_of record_length) samples.now frontier result }
+    reach: Reach,
+    end: usize,
+) -> bool
+    requires fits { IsRun (Fits SecondSteim (bytes_of record_length)) samples.now frontier reach.end }
+    requires furthest { (end : ℕ) → IsRun (Fits SecondSteim (bytes_of record_length)) samples.now frontier end → end ≤ reach.end }
+    requires narrow { IsTrue reach.narrow → AreNarrowThrough samples.now frontier reach.end }
+    requires order { reach.end ≤ end }
+    requires within { end ≤ length samples.now }
+    ensures { IsTrue result → (s b : ℕ) → s ≤ frontier → IsRun (Fits FirstSteim (bytes_of record_length)) samples.now s b → (b ≤ reach.end) ⊎ (b + 1 < end) }
 {
-    if best.end.saturating_sub(frontier) > C::most(record_length) {
-        return best;
+    let words = record_length.data_words() as usize;
+    if reach.narrow {
+        return true;
     }
-    best.or(step_of::<C>(kind, samples, record_length, frontier))
+    if end - frontier > 4 * words + 1 {
+        return true;
+    }
+    if are_narrow(samples, frontier, reach.end) {
+        return true;
+    }
+    if end == frontier {
+        return false;
+    }
+    take_more(samples, frontier, end - 1, 4 * words)
 }
 
-/// The step from a frontier with records of Steim-2 and of Steim-1. Where Steim-2 met narrow differences alone,
-/// Steim-1 reaches no further and is not tried.
-fn steim_step(samples: &[i32], record_length: Length, frontier: usize) -> Step
+/// Whether the difference of a sample and those of the next three are of 8 bits.
+fn begins_with_four(samples: &[i32], start: usize) -> bool
+    requires { start < length samples.now }
+    ensures { IsFalse result → (b : ℕ) → start ≤ b → b ≤ length samples.now → BeginsWithFour (map (λ p. p.1) (run_points samples.now start b)) → ⊥ }
+{
+    if samples.len() - start < 4 {
+        return false;
+    }
+    for at in start..start + 4 {
+        if !fits_bits(difference(samples, at), 8) {
+            return false;
+        }
+    }
+    true
+}
+
+/// The step from a frontier with records of Steim-1, where the end of its run from there is known. One that starts
+/// before the frontier can reach further only where its first difference shares a word with three others.
+fn steim1_step(samples: &[i32], record_length: Length, frontier: usize, end: usize) -> Step
+    requires within { frontier ≤ length samples.now }
+    requires end { IsEnd FirstSteim (bytes_of record_length) samples.now frontier end }
+    ensures { IsStepAmong (FirstSteim ∷ []) (bytes_of record_length) samples.now frontier result }
+{
+    let here = Step {
+        start: frontier,
+        end,
+        kind: Kind::Steim1,
+    };
+    if frontier == 0 {
+        return here;
+    }
+    if !begins_with_four(samples, frontier - 1) {
+        return here;
+    }
+    let before = furthest::<Steim1>(samples, record_length, frontier - 1);
+    if before > end {
+        return Step {
+            start: frontier - 1,
+            end: before,
+            kind: Kind::Steim1,
+        };
+    }
+    here
+}
+
+/// The step from a frontier, over all kinds.
+pub fn step_from(samples: &[i32], record_length: Length, frontier: usize) -> Found
     requires { frontier ≤ length samples.now }
-    ensures { IsStepAmong steim_kinds (bytes_of record_length) samples.now frontier result }
+    ensures step { IsStep (FitsAny (bytes_of record_length)) samples.now frontier result.step.end result.step.start }
+    ensures kind { IsRun (Fits result.step.kind (bytes_of record_length)) samples.now result.step.start result.step.end }
+    ensures ends { AreEnds (bytes_of record_length) samples.now frontier result.step.end result.ends }
 {
     let reach = reach_of::<Steim2>(samples, record_length, frontier);
-    let step = Step {
+    let int16 = int16_end(samples, record_length, frontier, reach.end);
+    let by_steim2 = Step {
         start: frontier,
         end: reach.end,
         kind: Kind::Steim2,
     };
-    if reach.narrow {
-        return step;
+    let by_int16 = Step {
+        start: frontier,
+        end: int16,
+        kind: Kind::Int16,
+    };
+    let best = by_steim2.or(by_int16);
+    let by_int32 = int32_step(samples, record_length, frontier);
+    if steim1_is_short(samples, record_length, frontier, reach, best.end) {
+        return Found {
+            step: best.or(by_int32),
+            ends: Ends {
+                steim2: reach.end,
+                steim1: frontier,
+                int16,
+            },
+        };
     }
-    better_of::<Steim1>(step, Kind::Steim1, samples, record_length, frontier)
-}
-
-/// The step from a frontier, over all kinds. The one that mostly reaches furthest comes first.
-pub fn step_from(samples: &[i32], record_length: Length, frontier: usize) -> Step
-    requires { frontier ≤ length samples.now }
-    ensures step { IsStep (FitsAny (bytes_of record_length)) samples.now frontier result.end result.start }
-    ensures kind { IsRun (Fits result.kind (bytes_of record_length)) samples.now result.start result.end }
-{
-    let step = steim_step(samples, record_length, frontier);
-    let step = better_of::<Int16>(step, Kind::Int16, samples, record_length, frontier);
-    better_of::<Int32>(step, Kind::Int32, samples, record_length, frontier)
+    let steim1 = furthest::<Steim1>(samples, record_length, frontier);
+    let by_steim1 = steim1_step(samples, record_length, frontier, steim1);
+    Found {
+        step: best.or(by_steim1).or(by_int32),
+        ends: Ends {
+            steim2: reach.end,
+            steim1,
+            int16,
+        },
+    }
 }

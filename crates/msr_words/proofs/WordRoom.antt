@@ -1,24 +1,32 @@
 -- What the differences of a run tell of the records that hold it.
-use Rattle.std.specs.Prelude.{◌≡◌, ℕ, suc, ◌*◌, ◌≤◌, ℤ, pos, negsuc, true, cond, List, [], ◌∷◌, ◌++◌, length, take, drop, flat_map, sum_by}
+use Rattle.std.specs.Prelude.{◌≡◌, ◌↔◌, ℕ, zero, suc, ◌+◌, ◌-◌, ◌*◌, ◌^◌, ◌<◌, ◌≤◌, None, get_or, map, slice_index_or, ℤ, pos, negsuc, true, cond, List, [], ◌∷◌, ◌++◌, length, take, drop, flat_map, sum_by}
 use Rattle.std.specs.List.{AllByRecursion}
 use Rattle.std.proofs.Common.{arith, refl, sym, ap, ◌∙◌, subst, lit≤}
 use Rattle.std.proofs.lemmas.Bool.Decides.{nat_tests}
+use Rattle.std.proofs.lemmas.List.{get_or-drop, get_or-take, length-map}
 use Rattle.std.proofs.lemmas.List.Sums.{sum_by-append}
 use Rattle.msr_steim.specs.declared.word.Version.{Version}
 use Rattle.msr_steim.specs.declared.word.Version.TheVariants.{One, Two}
 use Rattle.msr_steim.specs.Word.{AreGroups, FitsBits, IsGroup}
-use Rattle.msr_words.specs.Bounds.{EndLaw, LookBackLaw, QuarterLaw, WideLaw, is_wide, quarters}
+use Rattle.msr_words.specs.Bounds.{BeginsWithFour, EndLaw, LookBackLaw, QuarterLaw, WideLaw, is_wide, quarters}
 use Rattle.msr_words.specs.Division.{CanDivide}
 use Rattle.msr_words.specs.Fit.{Fits}
-use Rattle.msr_words.specs.Lemmas.KindLaws.{prefix_kind}
+use Rattle.msr_words.specs.Groups.{IsOneBelow}
+use Rattle.msr_words.specs.Segment.{difference_at, points, run_points}
+use Rattle.msr_words.specs.declared.kinds.Kind.{Kind}
+use Rattle.msr_words.specs.declared.kinds.Kind.TheVariants.{Int16, Int32, Steim1, Steim2}
+use Rattle.msr_words.specs.Laws.{EmptyLaw}
+use Rattle.msr_words.specs.RecordLength.{words_of}
+use Rattle.msr_words.specs.Lemmas.KindLaws.{empty_int16, empty_int32, empty_steim, prefix_kind}
 use Rattle.msr_words.specs.Lemmas.LeastCounts.{a_group_has_few}
 use Rattle.msr_words.specs.Lemmas.SteimLaws.{all_more, head_group, one_has_few, tail_groups}
 use Rattle.msr_words.proofs.Choosing.{inner_first}
-use Rattle.msr_words.proofs.Runs.{prefix_run}
+use Rattle.msr_words.proofs.Plain.{second}
+use Rattle.msr_words.proofs.Runs.{length_run_points, points_at, prefix_run}
 
 -- ---- quarters
 
-quarters_any : (d : ℤ) → quarters d ≤ 4
+pub quarters_any : (d : ℤ) → quarters d ≤ 4
 quarters_any (pos n) = grind (arith, nat_tests)
 quarters_any (negsuc n) = grind (arith, nat_tests)
 
@@ -130,3 +138,49 @@ end_law kind bytes samples a end is c le = (
   λ run. is.furthest c run,
   λ less. prefix_run (Fits kind bytes) (prefix_kind kind bytes) samples a c end le less is.fits,
 )
+
+-- ---- the size of a difference
+
+module _ (size a b : ℕ) (a_is : IsOneBelow size 32768 a) (b_is : IsOneBelow size 128 b) where
+  pub quarters_is : (d : ℤ) → ((width : ℕ) → (FitsBits width d ↔ size < 2 ^ (width - 1))) → 4 - 2 * a - b ≡ quarters d
+  quarters_is (pos n) size_is = let p = size_is 8 in let q = size_is 16 in let am = a_is.most in let ab = a_is.below in let bm = b_is.most in let bb = b_is.below in grind (arith, nat_tests)
+  quarters_is (negsuc n) size_is = let p = size_is 8 in let q = size_is 16 in let am = a_is.most in let ab = a_is.below in let bm = b_is.most in let bb = b_is.below in grind (arith, nat_tests)
+
+-- ---- the first four differences
+
+four_each : (ds : List ℤ) (k : ℕ) → BeginsWithFour ds → k < 4 → FitsBits 8 (get_or ds k (pos 0))
+four_each [] k four less = let e = four.enough in absurd (omega arith)
+four_each (a ∷ []) k four less = let e = four.enough in absurd (omega arith)
+four_each (a ∷ b ∷ []) k four less = let e = four.enough in absurd (omega arith)
+four_each (a ∷ b ∷ c ∷ []) k four less = let e = four.enough in absurd (omega arith)
+four_each (a ∷ b ∷ c ∷ d ∷ ds) zero four less = four.small.0
+four_each (a ∷ b ∷ c ∷ d ∷ ds) (suc zero) four less = four.small.1.0
+four_each (a ∷ b ∷ c ∷ d ∷ ds) (suc (suc zero)) four less = four.small.1.1.0
+four_each (a ∷ b ∷ c ∷ d ∷ ds) (suc (suc (suc zero))) four less = four.small.1.1.1.0
+four_each (a ∷ b ∷ c ∷ d ∷ ds) (suc (suc (suc (suc k)))) four less = absurd (omega arith)
+
+-- each of the four differences with which a run begins
+pub four_begin : (samples : List ℤ) (a b at : ℕ) → a ≤ at → at < a + 4 → a ≤ b → b ≤ length samples → BeginsWithFour (map (λ p. p.1) (run_points samples a b)) → FitsBits 8 (difference_at samples at)
+four_begin samples a b at le less order within four =
+    let d : ℤ × ℤ = (pos 0, pos 0) in
+    let enough = four.enough in
+    let l = length-map (run_points samples a b) (λ (p : ℤ × ℤ). p.1) in
+    let long = length_run_points samples a b order within in
+    let in' : at < b = omega arith in
+    let here : get_or (run_points samples a b) (at - a) d ≡ (slice_index_or samples at (pos 0), difference_at samples at) =
+        get_or-take (b - a) (drop a (points None samples)) (at - a) d (omega arith) ∙ get_or-drop a (points None samples) (at - a) d ∙ ap (λ n. get_or (points None samples) n d) (omega arith) ∙ points_at samples at d (omega arith) in
+    subst (FitsBits 8) (second (run_points samples a b) (at - a) d ∙ ap (λ (p : ℤ × ℤ). p.1) here) (four_each (map (λ p. p.1) (run_points samples a b)) (at - a) four (omega arith))
+
+-- ---- for the runs of a record
+
+pub quarters_of_run : (bytes : ℕ) (run : List (ℤ × ℤ)) → Fits Steim1 bytes run → sum_by quarters (map (λ p. p.1) run) ≤ 4 * words_of bytes
+quarters_of_run bytes run fits = quarter_law (words_of bytes) (map (λ p. p.1) run) fits
+
+pub rest_of_run : (bytes : ℕ) (p : ℤ × ℤ) (run : List (ℤ × ℤ)) → (BeginsWithFour (map (λ q. q.1) (p ∷ run)) → ⊥) → Fits Steim1 bytes (p ∷ run) → Fits Steim1 bytes run
+rest_of_run bytes p run apart fits = look_back_law (words_of bytes) p.1 (map (λ q. q.1) run) apart fits
+
+pub empty_kind : (kind : Kind) → EmptyLaw (Fits kind)
+empty_kind Int16 = empty_int16
+empty_kind Int32 = empty_int32
+empty_kind Steim1 = empty_steim One
+empty_kind Steim2 = empty_steim Two

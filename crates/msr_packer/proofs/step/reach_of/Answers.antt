@@ -1,13 +1,15 @@
-use Rattle.std.proofs.Common.{rules, ◌≡◌, ◌+◌, ◌<◌, IsTrue, min, subst, length, slice_index_or, pos, w32, w64, SFits, arith, inl, inr}
+use Rattle.std.proofs.Common.{rules, ◌≡◌, ◌+◌, ◌<◌, ◌≤◌, bit_or, min, subst, length, slice_index_or, pos, w32, w64, SFits, arith, inl, inr}
 use Rattle.std.proofs.lemmas.Bool.{cases_lt}
+use Rattle.std.proofs.lemmas.Bool.Decides.{nat_tests}
 use Rattle.std.proofs.lemmas.Int.{to_z-of_z}
+use Rattle.std.proofs.lemmas.Nat.{le_or_l, le_or_r}
 use Rattle.msr_words.specs.Laws.{IsNarrow}
 use Rattle.msr_words.specs.Segment.{difference_at, run_points}
+use Rattle.msr_words.proofs.Dominance.{narrow_yes}
 use Rattle.msr_words.proofs.Runs.{run_points_more, prefix_run}
 use Rattle.msr_packer.specs.Steps.{AreNarrow}
-use Rattle.msr_packer.proofs.Narrow.{none_narrow, one_narrow}
+use Rattle.msr_packer.proofs.Narrow.{one_narrow}
 use Rattle.msr_packer.proofs.step.reach_of.Goals as goal
-use Rattle.msr_packer.proofs.step.reach_of.Goals.{then-narrow, else-narrow}
 
 pub returns-then-not-push-clause-furthest : goal.returns-then-not-push-clause-furthest
 returns-then-not-push-clause-furthest g c end run =
@@ -31,16 +33,15 @@ pub returns-then-not-push-clause-narrow : goal.returns-then-not-push-clause-narr
 returns-then-not-push-clause-narrow g c =
     let samples = c.args.samples.now in
     let less : c.loop-at.at < length c.args.samples.now = omega arith in
-    let still : IsTrue c.if-narrow.narrow → AreNarrow c.args.samples.now c.args.start (c.loop-at.at + 1) = λ t. elim c.if-narrow.branch [
-      | then-narrow w ↦
-          let size : SFits w64 c.difference-diff.result = search rules in
-          let is = simp to_z-of_z at w.is_narrow-narrow.ensures in
-          let here : IsNarrow (difference_at c.args.samples.now c.loop-at.at) = subst IsNarrow c.difference-diff.ensures (is.0 (let e = w.narrow-is in cc)) in
-          one_narrow c.args.samples.now c.args.start c.loop-at.at (omega arith) less here (c.loop-at.invariant.narrow w.if-narrow.true)
-      | else-narrow w ↦ absurd (let e = w.narrow-is in let f = w.if-narrow.false in cc)
-    ] in
+    let still : bit_or c.loop-at.sizes c.magnitude-sizes.result < 16384 → AreNarrow c.args.samples.now c.args.start (c.loop-at.at + 1) = λ t.
+    let size : SFits w64 c.difference-diff.result = search rules in
+    let is = simp to_z-of_z at c.magnitude-sizes.ensures in
+    let before : c.loop-at.sizes ≤ bit_or c.loop-at.sizes c.magnitude-sizes.result = le_or_l c.loop-at.sizes c.magnitude-sizes.result in
+    let new : c.magnitude-sizes.result ≤ bit_or c.loop-at.sizes c.magnitude-sizes.result = le_or_r c.loop-at.sizes c.magnitude-sizes.result in
+    let here : IsNarrow (difference_at c.args.samples.now c.loop-at.at) = subst IsNarrow c.difference-diff.ensures (narrow_yes c.difference-diff.result c.magnitude-sizes.result is (inl (omega arith)) (omega arith)) in
+    one_narrow c.args.samples.now c.args.start c.loop-at.at (omega arith) less here (c.loop-at.invariant.small (omega arith)) in
     let all : c.loop-at.at + 1 ≡ min (c.loop-at.at + 1) (length c.args.samples.now) = omega arith in
-    λ t. subst (AreNarrow c.args.samples.now c.args.start) all (still t)
+    λ t. subst (AreNarrow c.args.samples.now c.args.start) all (still (let h = t in grind (arith, nat_tests)))
 
 pub loop-at-preserved : goal.loop-at-preserved
 loop-at-preserved g c =
@@ -52,17 +53,16 @@ loop-at-preserved g c =
     let pushed = rw (c.difference-diff.ensures, ← more) at push in
     let samples = c.args.samples.now in
     let less : c.loop-at.at < length c.args.samples.now = omega arith in
-    let still : IsTrue c.if-narrow.narrow → AreNarrow c.args.samples.now c.args.start (c.loop-at.at + 1) = λ t. elim c.if-narrow.branch [
-      | then-narrow w ↦
-          let size : SFits w64 c.difference-diff.result = search rules in
-          let is = simp to_z-of_z at w.is_narrow-narrow.ensures in
-          let here : IsNarrow (difference_at c.args.samples.now c.loop-at.at) = subst IsNarrow c.difference-diff.ensures (is.0 (let e = w.narrow-is in cc)) in
-          one_narrow c.args.samples.now c.args.start c.loop-at.at (omega arith) less here (c.loop-at.invariant.narrow w.if-narrow.true)
-      | else-narrow w ↦ absurd (let e = w.narrow-is in let f = w.if-narrow.false in cc)
-    ] in
-    record { pushed = pushed.0; fits = pushed.1.0 c.if-not-push.false; narrow = still }
+    let still : bit_or c.loop-at.sizes c.magnitude-sizes.result < 16384 → AreNarrow c.args.samples.now c.args.start (c.loop-at.at + 1) = λ t.
+    let size : SFits w64 c.difference-diff.result = search rules in
+    let is = simp to_z-of_z at c.magnitude-sizes.ensures in
+    let before : c.loop-at.sizes ≤ bit_or c.loop-at.sizes c.magnitude-sizes.result = le_or_l c.loop-at.sizes c.magnitude-sizes.result in
+    let new : c.magnitude-sizes.result ≤ bit_or c.loop-at.sizes c.magnitude-sizes.result = le_or_r c.loop-at.sizes c.magnitude-sizes.result in
+    let here : IsNarrow (difference_at c.args.samples.now c.loop-at.at) = subst IsNarrow c.difference-diff.ensures (narrow_yes c.difference-diff.result c.magnitude-sizes.result is (inl (omega arith)) (omega arith)) in
+    one_narrow c.args.samples.now c.args.start c.loop-at.at (omega arith) less here (c.loop-at.invariant.small (omega arith)) in
+    record { pushed = pushed.0; fits = pushed.1.0 c.if-not-push.false; small = still }
 
 pub returns-clause-narrow : goal.returns-clause-narrow
 returns-clause-narrow g c =
     let all : c.loop-at.at ≡ min (length c.args.samples.now + 1) (length c.args.samples.now) = omega arith in
-    λ t. subst (AreNarrow c.args.samples.now c.args.start) all (c.loop-at.invariant.narrow t)
+    λ t. subst (AreNarrow c.args.samples.now c.args.start) all (c.loop-at.invariant.small (let h = t in grind (arith, nat_tests)))
