@@ -121,16 +121,28 @@ module _ (bytes : ℕ) (samples : List ℤ) (g : ℕ) where
   }
 
   -- with records of all kinds
-  pub all_kinds : (step : Step) → IsStepAmong (Int32 ∷ Steim1 ∷ Int16 ∷ Steim2 ∷ []) bytes samples g step → IsStep (FitsAny bytes) samples g step.end step.start
-  all_kinds step is = record {
+  pub every_kind : (kinds : List Kind) → ((kind : Kind) → Among kinds kind) → (step : Step) → IsStepAmong kinds bytes samples g step → IsStep (FitsAny bytes) samples g step.end step.start
+  every_kind kinds each step is = record {
     before = is.before;
     reached = let run = is.reached in (run.0, run.1, (step.kind, run.2));
     furthest = λ s b le run. is.furthest run.2.0 (each run.2.0) s b le (run.0, run.1, run.2.1);
     last = λ s le run. is.last run.2.0 (each run.2.0) s le (run.0, run.1, run.2.1);
   }
+
+  pub all_kinds : (step : Step) → IsStepAmong (Int32 ∷ Steim1 ∷ Int16 ∷ Steim2 ∷ []) bytes samples g step → IsStep (FitsAny bytes) samples g step.end step.start
+  all_kinds step is = every_kind (Int32 ∷ Steim1 ∷ Int16 ∷ Steim2 ∷ []) each step is
     where
       each : (kind : Kind) → Among (Int32 ∷ Steim1 ∷ Int16 ∷ Steim2 ∷ []) kind
       each Int32 = inl refl
       each Steim1 = inr (inl refl)
       each Int16 = inr (inr (inl refl))
       each Steim2 = inr (inr (inr (inl refl)))
+
+  pub integers_first : (step : Step) → IsStepAmong (Int32 ∷ Steim1 ∷ Steim2 ∷ Int16 ∷ []) bytes samples g step → IsStep (FitsAny bytes) samples g step.end step.start
+  integers_first step is = every_kind (Int32 ∷ Steim1 ∷ Steim2 ∷ Int16 ∷ []) each step is
+    where
+      each : (kind : Kind) → Among (Int32 ∷ Steim1 ∷ Steim2 ∷ Int16 ∷ []) kind
+      each Int32 = inl refl
+      each Steim1 = inr (inl refl)
+      each Steim2 = inr (inr (inl refl))
+      each Int16 = inr (inr (inr (inl refl)))

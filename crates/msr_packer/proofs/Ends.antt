@@ -1,12 +1,12 @@
 -- The ends of runs from a frontier, by kind.
 use Rattle.std.proofs.Common.{◌≡◌, ℕ, ◌+◌, ◌-◌, ◌*◌, ◌<◌, ◌≤◌, ◌⊎◌, min, ℤ, pos, List, [], ◌∷◌, ◌++◌, length, map, arith, refl, sym, ap, ◌∙◌, subst, inl, inr}
-use Rattle.std.specs.Prelude.{slice_index_or, sum_by}
+use Rattle.std.specs.Prelude.{slice_index_or, sum_by, cond, count_by}
 use Rattle.std.proofs.lemmas.Bool.{cases_lt}
 use Rattle.std.proofs.lemmas.List.{map-append}
 use Rattle.std.proofs.lemmas.List.Sums.{sum_by-append, sum_by_push}
 use Rattle.msr_words.specs.declared.kinds.Kind.{Kind}
 use Rattle.msr_words.specs.declared.kinds.Kind.TheVariants.{Int16, Int32, Steim1, Steim2}
-use Rattle.msr_words.specs.Bounds.{BeginsWithFour, IsEnd, quarters}
+use Rattle.msr_words.specs.Bounds.{BeginsWithFour, IsEnd, is_wide, quarters}
 use Rattle.msr_words.specs.Fit.{Fits, IsRun, IsFirstKind, rank}
 use Rattle.msr_words.specs.Laws.{BackStepLaw, most_of}
 use Rattle.msr_words.specs.RecordLength.{words_of}
@@ -29,6 +29,17 @@ quarters_more samples a i le less =
     let parts : map (λ (q : ℤ × ℤ). q.1) (run_points samples a (i + 1)) ≡ map (λ q. q.1) (run_points samples a i) ++ p.1 ∷ [] =
     ap (map (λ (q : ℤ × ℤ). q.1)) (run_points_more samples a i le less) ∙ map-append (λ (q : ℤ × ℤ). q.1) (run_points samples a i) (p ∷ []) in
     ap (sum_by quarters) parts ∙ sum_by_push quarters (map (λ q. q.1) (run_points samples a i)) p.1
+
+pub no_wide : (samples : List ℤ) (a : ℕ) → 0 ≡ count_by is_wide (map (λ p. p.1) (run_points samples a a))
+no_wide samples a = rw run_points_none refl
+
+pub wide_more : (samples : List ℤ) (a i : ℕ) → a ≤ i → i < length samples →
+    count_by is_wide (map (λ p. p.1) (run_points samples a (i + 1))) ≡ count_by is_wide (map (λ p. p.1) (run_points samples a i)) + cond (is_wide (difference_at samples i)) 1 0
+wide_more samples a i le less =
+    let p : ℤ × ℤ = (slice_index_or samples i (pos 0), difference_at samples i) in
+    let parts : map (λ (q : ℤ × ℤ). q.1) (run_points samples a (i + 1)) ≡ map (λ q. q.1) (run_points samples a i) ++ p.1 ∷ [] =
+    ap (map (λ (q : ℤ × ℤ). q.1)) (run_points_more samples a i le less) ∙ map-append (λ (q : ℤ × ℤ). q.1) (run_points samples a i) (p ∷ []) in
+    ap (count_by is_wide) parts ∙ sum_by_push (λ d. cond (is_wide d) 1 0) (map (λ q. q.1) (run_points samples a i)) p.1
 
 module _ (bytes : ℕ) (samples : List ℤ) (g : ℕ) where
   -- no samples
@@ -79,6 +90,26 @@ module _ (bytes : ℕ) (samples : List ℤ) (g : ℕ) where
         let sum = ap (sum_by quarters) parts ∙ sum_by-append quarters (map (λ p. p.1) (run_points samples s g)) (map (λ p. p.1) (run_points samples g e)) in
         absurd (omega arith)
   ]
+
+  -- no record has room for more wide differences than two a word, where that holds of its kind
+  pub none_with_wide : (kind : Kind) → ((run : List (ℤ × ℤ)) → Fits kind bytes run → count_by is_wide (map (λ p. p.1) run) ≤ 2 * words_of bytes) → (e : ℕ) → g ≤ e →
+      2 * words_of bytes < count_by is_wide (map (λ p. p.1) (run_points samples g e)) → (s b : ℕ) → s ≤ g → IsRun (Fits kind bytes) samples s b → b < e
+  none_with_wide kind two e order more s b le run = elim (cases_lt b e) [
+    | inl less ↦ less
+    | inr not ↦
+        let shorter = prefix_run (Fits kind bytes) (prefix_kind kind bytes) samples s e b (omega arith) not run in
+        let all = two (run_points samples s e) shorter.2 in
+        let parts : map (λ p. p.1) (run_points samples s e) ≡ map (λ p. p.1) (run_points samples s g) ++ map (λ p. p.1) (run_points samples g e) =
+        ap (map (λ (p : ℤ × ℤ). p.1)) (sym (run_points_cut samples s g e le order)) ∙ map-append (λ (p : ℤ × ℤ). p.1) (run_points samples s g) (run_points samples g e) in
+        let sum = ap (count_by is_wide) parts ∙ sum_by-append (λ d. cond (is_wide d) 1 0) (map (λ p. p.1) (run_points samples s g)) (map (λ p. p.1) (run_points samples g e)) in
+        absurd (omega arith)
+  ]
+
+  -- the step with records of 16-bit integers
+  pub longest_int16 : (h : ℕ) → IsRun (Fits Int16 bytes) samples g h → ((b : ℕ) → IsRun (Fits Int16 bytes) samples g b → b ≤ h) → IsStepAmong (Int16 ∷ []) bytes samples g (record { start = g; end = h; kind = Int16 })
+  longest_int16 h run most =
+      one_kind bytes samples g (Fits Int16 bytes) Int16 Int16 (λ r. (λ f. f, λ f. f)) refl h g run.0
+      (step_found (Fits Int16 bytes) samples g 0 (back_step_kind Int16 bytes) 1 h g (omega arith) (best_first (Fits Int16 bytes) samples g h run most))
 
   -- Steim-1 from the frontier, and from the sample before it
   module _ (end : ℕ) (is : IsEnd Steim1 bytes samples g end) where
@@ -147,6 +178,18 @@ module _ (bytes : ℕ) (samples : List ℤ) (g : ℕ) where
     past_steim2 = λ c near run. most c run;
     past_steim1 = λ c near run. inl (furthest c run);
     past_int16 = λ c near run. past g c (omega arith) run;
+  }
+
+  pub ends_integers : (end e16 : ℕ) → e16 ≤ end → g < e16 → IsRun (Fits Int16 bytes) samples g e16 → ((b : ℕ) → IsRun (Fits Int16 bytes) samples g b → b ≤ e16) → 64 ≤ bytes →
+      ((s b : ℕ) → s ≤ g → IsRun (Fits Steim2 bytes) samples s b → b < e16 - 1) → ((s b : ℕ) → s ≤ g → IsRun (Fits Steim1 bytes) samples s b → b < e16 - 1) →
+      AreEnds bytes samples g end (record { steim2 = g; steim1 = g; int16 = e16 })
+  ends_integers end e16 over some sixteen furthest header none2 none1 = record {
+    steim2 = (let in' = sixteen.1 in empty_run bytes samples g Steim2 header (omega arith));
+    steim1 = (let in' = sixteen.1 in empty_run bytes samples g Steim1 header (omega arith));
+    int16 = sixteen;
+    past_steim2 = λ c near run. (let less = none2 g c (omega arith) run in absurd (omega arith));
+    past_steim1 = λ c near run. (let less = none1 g c (omega arith) run in absurd (omega arith));
+    past_int16 = λ c near run. inl (furthest c run);
   }
 
 -- ---- the kind of a run that is cut

@@ -15,7 +15,7 @@ ghost use Rattle.msr_words.specs.Packing.{IsPacking, IsSeparating, IsLeast, IsCa
 
 use msr_words::{Kind, Length, Run, first_kind};
 use std::alloc::{AllocError, Global};
-use step::{Found, step_from};
+use step::{Found, next_step};
 
 /// Runs that join to a segment, and samples that show that no packing has fewer.
 #[derive(Debug, Drop, PartialEq, Eq)]
@@ -84,9 +84,9 @@ pub fn pack(alloc: Global, samples: &[i32], record_length: Length) -> Result<Pac
         return Ok(Packing { runs, separators });
     }
     let mut frontier = 0;
-    let mut found = step_from(samples, record_length, 0);
+    let mut found = next_step(samples, record_length, 0, Kind::Steim2);
     while found.step.end < samples.len() {
-        let next = step_from(samples, record_length, found.step.end);
+        let next = next_step(samples, record_length, found.step.end, found.step.kind);
         runs.push(run_of(samples, record_length, frontier, found, next.step.start))?;
         separators.push(frontier as u64)?;
         frontier = found.step.end;

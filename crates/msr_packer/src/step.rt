@@ -1,9 +1,9 @@
 //! One record more: how far a record reaches that starts at or before a frontier.
 
-ghost use Rattle.std.specs.Prelude.{◌≡◌, ℕ, ◌+◌, ◌-◌, ◌^◌, ◌<◌, ◌≤◌, ◌⊎◌, ◌∷◌, [], length, List, IsTrue, IsFalse, map, sum_by};
+ghost use Rattle.std.specs.Prelude.{◌≡◌, ℕ, ◌+◌, ◌-◌, ◌^◌, ◌<◌, ◌≤◌, ◌⊎◌, ◌∷◌, [], length, List, IsTrue, IsFalse, IfSome, map, count_by, sum_by};
 ghost use Rattle.msr_words.specs.declared.kinds.Kind.{Kind};
 ghost use Rattle.msr_words.specs.declared.kinds.Kind.TheVariants.{Int16 as Integers16, Int32 as Integers32, Steim1 as FirstSteim, Steim2 as SecondSteim};
-ghost use Rattle.msr_words.specs.Bounds.{BeginsWithFour, IsEnd, quarters};
+ghost use Rattle.msr_words.specs.Bounds.{BeginsWithFour, IsEnd, is_wide, quarters};
 ghost use Rattle.msr_words.specs.Lengths.{bytes_of};
 ghost use Rattle.msr_words.specs.Fit.{Fits, FitsAny, IsRun};
 ghost use Rattle.msr_words.specs.Packing.{IsStep};
@@ -12,7 +12,7 @@ ghost use Rattle.msr_packer.specs.Steps.{AreEnds, AreNarrowThrough, IsStepAmong,
 
 use msr_words::{
     Int16, Int32, Kind, Length, Steim1, Steim2, Tracker, difference, fits_bits, is_narrow,
-    magnitude, quarters_of,
+    magnitude, quarters_of, wide_one,
 };
 
 /// One record more: it starts at `start`, reaches to `end`, and is of that kind.
@@ -234,6 +234,66 @@ fn steim1_step(samples: &[i32], record_length: Length, frontier: usize, end: usi
         };
     }
     here
+}
+
+/// Whether more than so many of the differences of the samples from `start` to `end - 1` are of more than 10 bits.
+fn has_more_wide(samples: &[i32], start: usize, end: usize, most: usize) -> bool
+    requires order { start ≤ end }
+    requires within { end ≤ length samples.now }
+    ensures { IsTrue result → most < count_by is_wide (map (λ p. p.1) (run_points samples.now start end)) }
+{
+    let mut wide = 0;
+    for at in start..end {
+        wide += usize::from(wide_one(difference(samples, at)));
+    }
+    wide > most
+}
+
+/// The step from a frontier with records of integers alone, where those of 16 bits reach so far that too many of the
+/// differences up to there are of more than 10 bits for a record of differences.
+fn integers_alone(samples: &[i32], record_length: Length, frontier: usize) -> Option<Found>
+    requires { frontier ≤ length samples.now }
+    ensures step { IfSome result (λ found. IsStep (FitsAny (bytes_of record_length)) samples.now frontier found.step.end found.step.start) }
+    ensures kind { IfSome result (λ found. IsRun (Fits found.step.kind (bytes_of record_length)) samples.now found.step.start found.step.end) }
+    ensures ends { IfSome result (λ found. AreEnds (bytes_of record_length) samples.now frontier found.step.end found.ends) }
+{
+    let int16 = furthest::<Int16>(samples, record_length, frontier);
+    if int16 == frontier {
+        return None;
+    }
+    let words = record_length.data_words() as usize;
+    if !has_more_wide(samples, frontier, int16 - 1, 2 * words) {
+        return None;
+    }
+    let by_int16 = Step {
+        start: frontier,
+        end: int16,
+        kind: Kind::Int16,
+    };
+    Some(Found {
+        step: by_int16.or(int32_step(samples, record_length, frontier)),
+        ends: Ends {
+            steim2: frontier,
+            steim1: frontier,
+            int16,
+        },
+    })
+}
+
+/// The step from a frontier. `likely` is the kind that is tried first where it is Int16; the step is the same whatever it is.
+pub fn next_step(samples: &[i32], record_length: Length, frontier: usize, likely: Kind) -> Found
+    requires { frontier ≤ length samples.now }
+    ensures step { IsStep (FitsAny (bytes_of record_length)) samples.now frontier result.step.end result.step.start }
+    ensures kind { IsRun (Fits result.step.kind (bytes_of record_length)) samples.now result.step.start result.step.end }
+    ensures ends { AreEnds (bytes_of record_length) samples.now frontier result.step.end result.ends }
+{
+    if likely == Kind::Int16 {
+        match integers_alone(samples, record_length, frontier) {
+            Some(found) => return found,
+            None => {}
+        }
+    }
+    step_from(samples, record_length, frontier)
 }
 
 /// The step from a frontier, over all kinds.

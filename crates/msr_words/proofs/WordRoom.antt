@@ -1,5 +1,5 @@
 -- What the differences of a run tell of the records that hold it.
-use Rattle.std.specs.Prelude.{◌≡◌, ◌↔◌, ℕ, zero, suc, ◌+◌, ◌-◌, ◌*◌, ◌^◌, ◌<◌, ◌≤◌, None, get_or, map, slice_index_or, ℤ, pos, negsuc, true, cond, List, [], ◌∷◌, ◌++◌, length, take, drop, flat_map, sum_by}
+use Rattle.std.specs.Prelude.{◌≡◌, ◌↔◌, ℕ, zero, suc, ◌+◌, ◌-◌, ◌*◌, ◌^◌, ◌<◌, ◌≤◌, None, get_or, map, slice_index_or, ℤ, pos, negsuc, true, cond, List, [], ◌∷◌, ◌++◌, length, take, drop, flat_map, sum_by, count_by}
 use Rattle.std.specs.List.{AllByRecursion}
 use Rattle.std.proofs.Common.{arith, refl, sym, ap, ◌∙◌, subst, lit≤}
 use Rattle.std.proofs.lemmas.Bool.Decides.{nat_tests}
@@ -146,6 +146,14 @@ module _ (size a b : ℕ) (a_is : IsOneBelow size 32768 a) (b_is : IsOneBelow si
   quarters_is (pos n) size_is = let p = size_is 8 in let q = size_is 16 in let am = a_is.most in let ab = a_is.below in let bm = b_is.most in let bb = b_is.below in grind (arith, nat_tests)
   quarters_is (negsuc n) size_is = let p = size_is 8 in let q = size_is 16 in let am = a_is.most in let ab = a_is.below in let bm = b_is.most in let bb = b_is.below in grind (arith, nat_tests)
 
+module _ (size a : ℕ) (a_is : IsOneBelow size 512 a) where
+  pub wide_is : (d : ℤ) → ((width : ℕ) → (FitsBits width d ↔ size < 2 ^ (width - 1))) → 1 - a ≡ cond (is_wide d) 1 0
+  wide_is (pos n) size_is = let p = size_is 10 in let am = a_is.most in let ab = a_is.below in grind (arith, nat_tests)
+  wide_is (negsuc n) size_is = let p = size_is 10 in let am = a_is.most in let ab = a_is.below in grind (arith, nat_tests)
+
+pub wide_one_at_most : (d : ℤ) → cond (is_wide d) 1 0 ≤ 1
+wide_one_at_most d = grind (arith, nat_tests)
+
 -- ---- the first four differences
 
 four_each : (ds : List ℤ) (k : ℕ) → BeginsWithFour ds → k < 4 → FitsBits 8 (get_or ds k (pos 0))
@@ -168,13 +176,19 @@ four_begin samples a b at le less order within four =
     let long = length_run_points samples a b order within in
     let in' : at < b = omega arith in
     let here : get_or (run_points samples a b) (at - a) d ≡ (slice_index_or samples at (pos 0), difference_at samples at) =
-        get_or-take (b - a) (drop a (points None samples)) (at - a) d (omega arith) ∙ get_or-drop a (points None samples) (at - a) d ∙ ap (λ n. get_or (points None samples) n d) (omega arith) ∙ points_at samples at d (omega arith) in
+    get_or-take (b - a) (drop a (points None samples)) (at - a) d (omega arith) ∙ get_or-drop a (points None samples) (at - a) d ∙ ap (λ n. get_or (points None samples) n d) (omega arith) ∙ points_at samples at d (omega arith) in
     subst (FitsBits 8) (second (run_points samples a b) (at - a) d ∙ ap (λ (p : ℤ × ℤ). p.1) here) (four_each (map (λ p. p.1) (run_points samples a b)) (at - a) four (omega arith))
 
 -- ---- for the runs of a record
 
 pub quarters_of_run : (bytes : ℕ) (run : List (ℤ × ℤ)) → Fits Steim1 bytes run → sum_by quarters (map (λ p. p.1) run) ≤ 4 * words_of bytes
 quarters_of_run bytes run fits = quarter_law (words_of bytes) (map (λ p. p.1) run) fits
+
+pub wide_of_steim2 : (bytes : ℕ) (run : List (ℤ × ℤ)) → Fits Steim2 bytes run → count_by is_wide (map (λ p. p.1) run) ≤ 2 * words_of bytes
+wide_of_steim2 bytes run fits = wide_law Two (words_of bytes) (map (λ p. p.1) run) fits
+
+pub wide_of_steim1 : (bytes : ℕ) (run : List (ℤ × ℤ)) → Fits Steim1 bytes run → count_by is_wide (map (λ p. p.1) run) ≤ 2 * words_of bytes
+wide_of_steim1 bytes run fits = wide_law One (words_of bytes) (map (λ p. p.1) run) fits
 
 pub rest_of_run : (bytes : ℕ) (p : ℤ × ℤ) (run : List (ℤ × ℤ)) → (BeginsWithFour (map (λ q. q.1) (p ∷ run)) → ⊥) → Fits Steim1 bytes (p ∷ run) → Fits Steim1 bytes run
 rest_of_run bytes p run apart fits = look_back_law (words_of bytes) p.1 (map (λ q. q.1) run) apart fits

@@ -10,9 +10,9 @@ run_of-requires c =
       ends = c.loop-found.invariant.ends;
       fits = cut_fits c.args.record_length.bytes c.args.samples.now (omega arith) c.loop-found.frontier c.loop-found.found.step.end c.loop-found.found.step.start
           far.within far.step c.loop-found.found.step.kind far.reached
-          c.step_from-next.result.step.end c.step_from-next.result.step.start (omega arith) c.step_from-next.ensures.step;
+          c.next_step-next.result.step.end c.next_step-next.result.step.start (omega arith) c.next_step-next.ensures.step;
       near = cut_near c.args.record_length.bytes c.args.samples.now (omega arith) c.loop-found.frontier c.loop-found.found.step.end c.loop-found.found.step.start
-          far.within far.step c.step_from-next.result.step.end c.step_from-next.result.step.start (omega arith) c.step_from-next.ensures.step;
+          far.within far.step c.next_step-next.result.step.end c.next_step-next.result.step.start (omega arith) c.next_step-next.ensures.step;
     }
 
 pub run_of-requires-2 : goal.run_of-requires-2
@@ -30,8 +30,8 @@ run_of-requires-2 c =
 pub loop-found-smaller : goal.loop-found-smaller
 loop-found-smaller c =
     let more : c.loop-found.found.step.end < length c.args.samples.now = omega arith in
-    let on = goes_on c.args.record_length.bytes c.args.samples.now (omega arith) c.loop-found.found.step.end c.step_from-next.result.step.end c.step_from-next.result.step.start more c.step_from-next.ensures.step in
-    let inside = c.step_from-next.ensures.step.reached.1 in
+    let on = goes_on c.args.record_length.bytes c.args.samples.now (omega arith) c.loop-found.found.step.end c.next_step-next.result.step.end c.next_step-next.result.step.start more c.next_step-next.ensures.step in
+    let inside = c.next_step-next.ensures.step.reached.1 in
     omega arith
 
 pub loop-found-preserved : goal.loop-found-preserved
@@ -39,9 +39,9 @@ loop-found-preserved c =
     rw (c.in_ok-push.ensures.items, c.in_ok-push-2.ensures.items)
     (let more = one_more c.args.record_length.bytes c.args.samples.now c.loop-found.runs.items c.loop-found.separators.items
     c.loop-found.frontier c.loop-found.found.step.end c.loop-found.found.step.start c.loop-found.found.step.kind c.loop-found.invariant.so_far c.run_of.result c.run_of.ensures.start
-    c.step_from-next.result.step.end c.step_from-next.result.step.start c.step_from-next.result.step.kind (omega arith) c.step_from-next.ensures.step c.step_from-next.ensures.kind
+    c.next_step-next.result.step.end c.next_step-next.result.step.start c.next_step-next.result.step.kind (omega arith) c.next_step-next.ensures.step c.next_step-next.ensures.kind
     c.run_of.ensures.end c.run_of.ensures.kind in
-    record { so_far = more; ends = c.step_from-next.ensures.ends })
+    record { so_far = more; ends = c.next_step-next.ensures.ends })
 
 pub returns : goal.returns
 returns c =
