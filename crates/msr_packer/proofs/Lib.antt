@@ -4,3 +4,4 @@ pub mod Ends
 pub mod Least
 pub mod Narrow
 pub mod Search
+pub mod SixteenBits

@@ -2,6 +2,7 @@
 use Rattle.std.specs.Prelude.{◌≡◌, ℕ, ◌+◌, ◌<◌, ◌≤◌, ◌⊎◌, min, ℤ, List, [], ◌∷◌, length, All}
 use Rattle.msr_words.specs.declared.kinds.Kind.{Kind}
 use Rattle.msr_words.specs.declared.kinds.Kind.TheVariants.{Int16, Steim1, Steim2}
+use Rattle.msr_words.specs.Bounds.{IsInt16}
 use Rattle.msr_words.specs.Fit.{Fits, IsRun}
 use Rattle.msr_words.specs.Laws.{IsNarrow}
 use Rattle.msr_words.specs.Segment.{run_points}
@@ -46,3 +47,7 @@ pub record AreEnds (bytes : ℕ) (samples : List ℤ) (g end : ℕ) (ends : Ends
   pub past_steim2 : (c : ℕ) → end ≤ c + 1 → IsRun (Fits Steim2 bytes) samples g c → c ≤ ends.steim2
   pub past_steim1 : (c : ℕ) → end ≤ c + 1 → IsRun (Fits Steim1 bytes) samples g c → (c ≤ ends.steim1) ⊎ (c ≤ ends.steim2)
   pub past_int16 : (c : ℕ) → end ≤ c + 1 → IsRun (Fits Int16 bytes) samples g c → (c ≤ ends.int16) ⊎ (c ≤ ends.steim2)
+
+-- the samples a to b-1 are of 16 bits
+abbrev pub AreInt16 : List ℤ → ℕ → ℕ → Type 0
+AreInt16 samples a b = All (λ p. IsInt16 p.0) (run_points samples a b)

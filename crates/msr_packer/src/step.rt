@@ -1,14 +1,14 @@
 //! One record more: how far a record reaches that starts at or before a frontier.
 
-ghost use Rattle.std.specs.Prelude.{◌≡◌, ℕ, ◌+◌, ◌-◌, ◌^◌, ◌<◌, ◌≤◌, ◌⊎◌, ◌∷◌, [], length, List, IsTrue, IsFalse, IfSome, map, count_by, sum_by};
+ghost use Rattle.std.specs.Prelude.{pos, slice_index_or, ◌≡◌, ℕ, ◌+◌, ◌-◌, ◌^◌, ◌<◌, ◌≤◌, ◌⊎◌, ◌∷◌, [], length, List, IsTrue, IsFalse, IfSome, map, count_by, sum_by};
 ghost use Rattle.msr_words.specs.declared.kinds.Kind.{Kind};
 ghost use Rattle.msr_words.specs.declared.kinds.Kind.TheVariants.{Int16 as Integers16, Int32 as Integers32, Steim1 as FirstSteim, Steim2 as SecondSteim};
-ghost use Rattle.msr_words.specs.Bounds.{BeginsWithFour, IsEnd, is_wide, quarters};
+ghost use Rattle.msr_words.specs.Bounds.{BeginsWithFour, IsEnd, IsInt16, is_wide, quarters};
 ghost use Rattle.msr_words.specs.Lengths.{bytes_of};
 ghost use Rattle.msr_words.specs.Fit.{Fits, FitsAny, IsRun};
 ghost use Rattle.msr_words.specs.Packing.{IsStep};
 ghost use Rattle.msr_words.specs.Segment.{run_points};
-ghost use Rattle.msr_packer.specs.Steps.{AreEnds, AreNarrowThrough, IsStepAmong, NonePast, NotLess};
+ghost use Rattle.msr_packer.specs.Steps.{AreEnds, AreInt16, AreNarrowThrough, IsStepAmong, NonePast, NotLess};
 
 use msr_words::{
     Int16, Int32, Kind, Length, Steim1, Steim2, Tracker, difference, fits_bits, is_narrow,
@@ -118,6 +118,60 @@ fn are_narrow(samples: &[i32], start: usize, end: usize) -> bool
     true
 }
 
+/// Whether the bits of the samples from `start` to `end - 1` tell together that each of them is of 16 bits.
+fn all_int16(samples: &[i32], start: usize, end: usize) -> bool
+    requires order { start ≤ end }
+    requires within { end ≤ length samples.now }
+    ensures { IsTrue result → AreInt16 samples.now start end }
+{
+    let mut sizes = 0;
+    for at in start..end {
+        sizes |= magnitude(i64::from(samples[at]));
+    }
+    sizes < 32_768
+}
+
+/// The first sample from `start` on that is not of 16 bits, or `end`.
+fn first_wider(samples: &[i32], start: usize, end: usize) -> usize
+    requires order { start ≤ end }
+    requires within { end ≤ length samples.now }
+    ensures from { start ≤ result }
+    ensures to { result ≤ end }
+    ensures before { AreInt16 samples.now start result }
+    ensures there { result < end → IsInt16 (slice_index_or samples.now result (pos 0)) → ⊥ }
+{
+    for at in start..end {
+        if !fits_bits(i64::from(samples[at]), 16) {
+            return at;
+        }
+    }
+    end
+}
+
+/// How many samples are tried together.
+const TOGETHER: usize = 64;
+
+/// The greatest end of a run of 16-bit integers from `start` on.
+fn furthest_int16(samples: &[i32], record_length: Length, start: usize) -> usize
+    requires { start ≤ length samples.now }
+    ensures fits { IsRun (Fits Integers16 (bytes_of record_length)) samples.now start result }
+    ensures furthest { (end : ℕ) → IsRun (Fits Integers16 (bytes_of record_length)) samples.now start end → end ≤ result }
+{
+    let end = start + Int16::most(record_length).min(samples.len() - start);
+    let mut at = start;
+    while at < end {
+        let next = at + TOGETHER.min(end - at);
+        if !all_int16(samples, at, next) {
+            let wider = first_wider(samples, at, next);
+            if wider < next {
+                return wider;
+            }
+        }
+        at = next;
+    }
+    end
+}
+
 /// The end of a run of 16-bit integers from the frontier on; where none is long enough to reach behind `end`, the frontier.
 fn int16_end(samples: &[i32], record_length: Length, frontier: usize, end: usize) -> usize
     requires order { frontier ≤ end }
@@ -128,7 +182,7 @@ fn int16_end(samples: &[i32], record_length: Length, frontier: usize, end: usize
     if end - frontier >= Int16::most(record_length) {
         return frontier;
     }
-    furthest::<Int16>(samples, record_length, frontier)
+    furthest_int16(samples, record_length, frontier)
 }
 
 /// The step from the frontier with records of 32-bit integers.
@@ -257,7 +311,7 @@ fn integers_alone(samples: &[i32], record_length: Length, frontier: usize) -> Op
     ensures kind { IfSome result (λ found. IsRun (Fits found.step.kind (bytes_of record_length)) samples.now found.step.start found.step.end) }
     ensures ends { IfSome result (λ found. AreEnds (bytes_of record_length) samples.now frontier found.step.end found.ends) }
 {
-    let int16 = furthest::<Int16>(samples, record_length, frontier);
+    let int16 = furthest_int16(samples, record_length, frontier);
     if int16 == frontier {
         return None;
     }

@@ -60,3 +60,7 @@ IsGreedyReach (suc words) ds reach = (count : ℕ) × (rest : ℕ) × IsLongestG
 abbrev pub GreedyLaw : Type 0
 GreedyLaw = (bytes : ℕ) (samples : List ℤ) (g reach : ℕ) → g ≤ length samples → IsGreedyReach (words_of bytes) (map (λ p. p.1) (run_points samples g (length samples))) reach →
     IsRun (Fits Steim2 bytes) samples g (g + reach) × ((s b : ℕ) → s ≤ g → IsRun (Fits Steim2 bytes) samples s b → b ≤ g + reach)
+
+-- a sample of a record of 16-bit integers
+abbrev pub IsInt16 : ℤ → Type 0
+IsInt16 sample = FitsBits 16 sample

@@ -13,4 +13,4 @@ returns-then-end-frontier-clause-past c s b le run =
 
 pub returns-clause-past : goal.returns-clause-past
 returns-clause-past c s b le run =
-    inl (none_past c.args.record_length.bytes c.args.samples.now c.args.frontier Int16 c.furthest.result (back_step_kind Int16 c.args.record_length.bytes) c.furthest.ensures.fits c.furthest.ensures.furthest s b le run)
+    inl (none_past c.args.record_length.bytes c.args.samples.now c.args.frontier Int16 c.furthest_int16.result (back_step_kind Int16 c.args.record_length.bytes) c.furthest_int16.ensures.fits c.furthest_int16.ensures.furthest s b le run)
