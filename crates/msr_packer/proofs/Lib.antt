@@ -1,5 +1,7 @@
-pub mod Least
-pub mod Search
 pub mod Better
 pub mod Canonical
+pub mod Ends
+pub mod Least
 pub mod Narrow
+pub mod Search
+pub mod SixteenBits

@@ -10,7 +10,6 @@ use Rattle.msr_words.specs.Segment.{difference_at, run_points}
 use Rattle.msr_words.specs.Lemmas.KindLaws.{back_step_kind, prefix_kind}
 use Rattle.msr_words.proofs.Dominance.{steim2_dominates}
 use Rattle.msr_words.proofs.Runs.{prefix_run, run_points_cut, run_points_more, run_points_none}
-use Rattle.msr_packer.specs.declared.step.Step.{Step}
 use Rattle.msr_packer.specs.Steps.{AreNarrow, AreNarrowThrough, IsStepAmong}
 use Rattle.msr_packer.proofs.Better.{one_kind}
 use Rattle.msr_packer.proofs.Search.{best_first, step_found}
@@ -30,7 +29,7 @@ module _ (bytes : ℕ) (samples : List ℤ) (g h : ℕ) (run : IsRun (Fits Steim
       (step_found (Fits Steim2 bytes) samples g 0 (back_step_kind Steim2 bytes) 1 h g (omega arith) (best_first (Fits Steim2 bytes) samples g h run most))
 
   module _ (narrow : AreNarrowThrough samples g h) where
-    no_further : (s b : ℕ) → s ≤ g → IsRun (Fits Steim1 bytes) samples s b → b ≤ h
+    pub no_further : (s b : ℕ) → s ≤ g → IsRun (Fits Steim1 bytes) samples s b → b ≤ h
     no_further s b le one = elim (cases_lt h b) [
       | inl less ↦
           let past = run.0 in
@@ -43,17 +42,3 @@ module _ (bytes : ℕ) (samples : List ℤ) (g h : ℕ) (run : IsRun (Fits Steim
           absurd (omega arith)
       | inr not ↦ not
     ]
-
-    pub steim_both : IsStepAmong (Steim1 ∷ Steim2 ∷ []) bytes samples g (record { start = g; end = h; kind = Steim2 })
-    steim_both =
-        let alone = steim2_alone in
-        record {
-          before = alone.before;
-          past = alone.past;
-          reached = alone.reached;
-          furthest = λ k among s b le r. elim among [
-            | inl e ↦ no_further s b le (r.0, r.1, subst (λ k. Fits k bytes (run_points samples s b)) e r.2)
-            | inr other ↦ alone.furthest k other s b le r
-          ];
-          last = λ k among s le r. le;
-        }

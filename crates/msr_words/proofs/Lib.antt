@@ -5,6 +5,7 @@ pub mod Fill
 pub mod FillFields
 pub mod FillSizes
 pub mod Greedy
+pub mod GreedyReach
 pub mod Parts
 pub mod Plain
 pub mod Pushes
@@ -14,3 +15,4 @@ pub mod Steim1Counts
 pub mod Steim1Pushes
 pub mod Steim2Groups
 pub mod Steim2Pushes
+pub mod WordRoom

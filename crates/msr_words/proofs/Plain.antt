@@ -20,7 +20,7 @@ use Rattle.msr_words.proofs.Parts.{HasDivision, division_rest, one_group, first_
 
 -- ---- the differences of a run
 
-second : (run : List (ℤ × ℤ)) (k : ℕ) (d : ℤ × ℤ) → get_or (map (λ p. p.1) run) k d.1 ≡ (get_or run k d).1
+pub second : (run : List (ℤ × ℤ)) (k : ℕ) (d : ℤ × ℤ) → get_or (map (λ p. p.1) run) k d.1 ≡ (get_or run k d).1
 second [] k d = refl
 second (p ∷ run) zero d = refl
 second (p ∷ run) (suc k) d = second run k d

@@ -1,10 +1,11 @@
 //! How many differences share a word, and the least number of Steim-1 groups, as differences come.
 
-ghost use Rattle.std.specs.Prelude.{◌≡◌, ◌<◌, ◌≤◌, ◌↔◌, ◌∷◌, [], ℕ, ℤ, List, ◌+◌, ◌-◌, ◌^◌, IsTrue, true, length};
+ghost use Rattle.std.specs.Prelude.{◌≡◌, ◌<◌, ◌≤◌, ◌↔◌, ◌∷◌, [], ℕ, ℤ, List, ◌+◌, ◌-◌, ◌^◌, IsTrue, cond, true, length};
 ghost use Rattle.msr_steim.specs.declared.word.Version.TheVariants.{One};
 ghost use Rattle.msr_steim.specs.Word.{FitsBits};
 ghost use Rattle.msr_words.specs.Counts.{EndsIn, IsStretch};
 ghost use Rattle.msr_words.specs.Groups.{IsCapacity, IsOneBelow};
+ghost use Rattle.msr_words.specs.Bounds.{is_wide, quarters};
 ghost use Rattle.msr_words.specs.Laws.{IsNarrow};
 
 /// Whether a number is one of `width` bits.
@@ -165,4 +166,19 @@ pub fn is_narrow(diff: i64) -> bool
         return false;
     }
     size < 536_870_912
+}
+
+/// How many quarters of a Steim-1 word a difference takes at least.
+pub fn quarters_of(diff: i64) -> u8
+    ensures { result ≡ quarters diff }
+{
+    let size = magnitude(diff);
+    4 - 2 * one_below(size, 32_768) - one_below(size, 128)
+}
+
+/// One where a difference is of more than 10 bits, else none.
+pub fn wide_one(diff: i64) -> u8
+    ensures { result ≡ cond (is_wide diff) 1 0 }
+{
+    1 - one_below(magnitude(diff), 512)
 }

@@ -1,4 +1,4 @@
-use Rattle.std.proofs.Common.{rules, arith, ◌≡◌, ◌+◌, ◌<◌, min, subst, length, w64, SFits}
+use Rattle.std.proofs.Common.{rules, arith, ◌≡◌, ◌+◌, min, subst, length, w64, SFits}
 use Rattle.std.proofs.lemmas.Int.{to_z-of_z}
 use Rattle.msr_words.specs.Laws.{IsNarrow}
 use Rattle.msr_words.specs.Segment.{difference_at}
@@ -17,4 +17,6 @@ loop-at-preserved c =
     one_narrow c.args.samples.now c.args.start c.loop-at.at (omega arith) (omega arith) here c.loop-at.invariant
 
 pub returns : goal.returns
-returns c = ?
+returns c t =
+    let all : c.loop-at.at ≡ min (c.args.end + 1) (length c.args.samples.now) = omega arith in
+    subst (AreNarrow c.args.samples.now c.args.start) all c.loop-at.invariant

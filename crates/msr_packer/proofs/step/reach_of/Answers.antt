@@ -8,7 +8,7 @@ use Rattle.msr_words.specs.Segment.{difference_at, run_points}
 use Rattle.msr_words.proofs.Dominance.{narrow_yes}
 use Rattle.msr_words.proofs.Runs.{run_points_more, prefix_run}
 use Rattle.msr_packer.specs.Steps.{AreNarrow}
-use Rattle.msr_packer.proofs.Narrow.{none_narrow, one_narrow}
+use Rattle.msr_packer.proofs.Narrow.{one_narrow}
 use Rattle.msr_packer.proofs.step.reach_of.Goals as goal
 
 pub returns-then-not-push-clause-furthest : goal.returns-then-not-push-clause-furthest
@@ -33,12 +33,12 @@ pub returns-then-not-push-clause-narrow : goal.returns-then-not-push-clause-narr
 returns-then-not-push-clause-narrow g c =
     let samples = c.args.samples.now in
     let less : c.loop-at.at < length c.args.samples.now = omega arith in
-    let still : bit_or c.loop-at.sizes c.magnitude.result < 16384 → AreNarrow c.args.samples.now c.args.start (c.loop-at.at + 1) = λ t.
+    let still : bit_or c.loop-at.sizes c.magnitude-sizes.result < 16384 → AreNarrow c.args.samples.now c.args.start (c.loop-at.at + 1) = λ t.
     let size : SFits w64 c.difference-diff.result = search rules in
-    let is = simp to_z-of_z at c.magnitude.ensures in
-    let before : c.loop-at.sizes ≤ bit_or c.loop-at.sizes c.magnitude.result = le_or_l c.loop-at.sizes c.magnitude.result in
-    let new : c.magnitude.result ≤ bit_or c.loop-at.sizes c.magnitude.result = le_or_r c.loop-at.sizes c.magnitude.result in
-    let here : IsNarrow (difference_at c.args.samples.now c.loop-at.at) = subst IsNarrow c.difference-diff.ensures (narrow_yes c.difference-diff.result c.magnitude.result is (inl (omega arith)) (omega arith)) in
+    let is = simp to_z-of_z at c.magnitude-sizes.ensures in
+    let before : c.loop-at.sizes ≤ bit_or c.loop-at.sizes c.magnitude-sizes.result = le_or_l c.loop-at.sizes c.magnitude-sizes.result in
+    let new : c.magnitude-sizes.result ≤ bit_or c.loop-at.sizes c.magnitude-sizes.result = le_or_r c.loop-at.sizes c.magnitude-sizes.result in
+    let here : IsNarrow (difference_at c.args.samples.now c.loop-at.at) = subst IsNarrow c.difference-diff.ensures (narrow_yes c.difference-diff.result c.magnitude-sizes.result is (inl (omega arith)) (omega arith)) in
     one_narrow c.args.samples.now c.args.start c.loop-at.at (omega arith) less here (c.loop-at.invariant.small (omega arith)) in
     let all : c.loop-at.at + 1 ≡ min (c.loop-at.at + 1) (length c.args.samples.now) = omega arith in
     λ t. subst (AreNarrow c.args.samples.now c.args.start) all (still (let h = t in grind (arith, nat_tests)))
@@ -53,12 +53,12 @@ loop-at-preserved g c =
     let pushed = rw (c.difference-diff.ensures, ← more) at push in
     let samples = c.args.samples.now in
     let less : c.loop-at.at < length c.args.samples.now = omega arith in
-    let still : bit_or c.loop-at.sizes c.magnitude.result < 16384 → AreNarrow c.args.samples.now c.args.start (c.loop-at.at + 1) = λ t.
+    let still : bit_or c.loop-at.sizes c.magnitude-sizes.result < 16384 → AreNarrow c.args.samples.now c.args.start (c.loop-at.at + 1) = λ t.
     let size : SFits w64 c.difference-diff.result = search rules in
-    let is = simp to_z-of_z at c.magnitude.ensures in
-    let before : c.loop-at.sizes ≤ bit_or c.loop-at.sizes c.magnitude.result = le_or_l c.loop-at.sizes c.magnitude.result in
-    let new : c.magnitude.result ≤ bit_or c.loop-at.sizes c.magnitude.result = le_or_r c.loop-at.sizes c.magnitude.result in
-    let here : IsNarrow (difference_at c.args.samples.now c.loop-at.at) = subst IsNarrow c.difference-diff.ensures (narrow_yes c.difference-diff.result c.magnitude.result is (inl (omega arith)) (omega arith)) in
+    let is = simp to_z-of_z at c.magnitude-sizes.ensures in
+    let before : c.loop-at.sizes ≤ bit_or c.loop-at.sizes c.magnitude-sizes.result = le_or_l c.loop-at.sizes c.magnitude-sizes.result in
+    let new : c.magnitude-sizes.result ≤ bit_or c.loop-at.sizes c.magnitude-sizes.result = le_or_r c.loop-at.sizes c.magnitude-sizes.result in
+    let here : IsNarrow (difference_at c.args.samples.now c.loop-at.at) = subst IsNarrow c.difference-diff.ensures (narrow_yes c.difference-diff.result c.magnitude-sizes.result is (inl (omega arith)) (omega arith)) in
     one_narrow c.args.samples.now c.args.start c.loop-at.at (omega arith) less here (c.loop-at.invariant.small (omega arith)) in
     record { pushed = pushed.0; fits = pushed.1.0 c.if-not-push.false; small = still }
 
