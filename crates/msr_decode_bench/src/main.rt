@@ -2,8 +2,8 @@
 #![tactic(auto)]
 
 use msr_header::Order;
-use msr_plain::{Samples, Width, decode_plain};
-use msr_steim::{Version, decode_steim};
+use msr_plain::{Width, decode_plain, decode_plain_into};
+use msr_steim::{Version, decode_steim, decode_steim_into};
 use std::alloc::{AllocError, Global};
 use std::{env, io};
 
@@ -124,40 +124,73 @@ fn make_area(alloc: Global, name: &str) -> Result<Made, AllocError> {
 }
 
 /// A sum that stands for these samples.
-fn sum_of(samples: &Samples) -> u32 {
+fn sum_of(samples: &[i32]) -> u32 {
     let mut sum: u32 = 0;
-    for sample in samples.as_slice() {
+    for sample in samples {
         sum = sum.rotate_left(5) ^ sample.cast_unsigned();
     }
     sum
 }
 
-/// Decodes it so many times.
-fn run(alloc: Global, name: &str, made: &Made, rounds: u32) -> u32 {
-    let area = made.area.as_slice();
-    if area.len() > 1_048_576 {
+/// How an area is read.
+#[derive(Clone, Copy)]
+enum Kind {
+    Plain(Width),
+    Steim(Version),
+}
+
+/// How the area of that name is read.
+fn kind_of(name: &str) -> Kind {
+    if name == "int16" {
+        Kind::Plain(Width::Two)
+    } else if name == "int32" {
+        Kind::Plain(Width::Four)
+    } else if name == "steim1" {
+        Kind::Steim(Version::One)
+    } else {
+        Kind::Steim(Version::Two)
+    }
+}
+
+/// Decodes it so many times, each time into the same places.
+fn run_into(kind: Kind, area: &[u8], rounds: u32, out: &mut [i32]) -> u32 {
+    if area.len() > 1_048_576 || out.is_empty() || out.len() > 65_535 {
         return 0;
     }
     let mut sum: u32 = 0;
-    let count = made.count.max(1);
     for _ in 0..rounds {
-        let samples = if name == "int16" {
-            decode_plain(alloc, Width::Two, Order::Big, area, 2016).ok()
-        } else if name == "int32" {
-            decode_plain(alloc, Width::Four, Order::Big, area, 1008).ok()
-        } else {
-            let version = if name == "steim1" {
-                Version::One
-            } else {
-                Version::Two
-            };
-            decode_steim(alloc, version, Order::Big, area, count)
+        let good = match kind {
+            Kind::Plain(width) => decode_plain_into(width, Order::Big, area, out).is_ok(),
+            Kind::Steim(version) => decode_steim_into(version, Order::Big, area, out).is_ok(),
+        };
+        if good {
+            if sum == 0 {
+                sum = sum_of(out);
+            }
+            if let Some(last) = out.last() {
+                sum ^= last.cast_unsigned();
+            }
+        }
+    }
+    sum
+}
+
+/// Decodes it so many times, each time into memory of its own.
+fn run_vec(alloc: Global, kind: Kind, area: &[u8], rounds: u32, count: u16) -> u32 {
+    if area.len() > 1_048_576 || count == 0 {
+        return 0;
+    }
+    let mut sum: u32 = 0;
+    for _ in 0..rounds {
+        let samples = match kind {
+            Kind::Plain(width) => decode_plain(alloc, width, Order::Big, area, count).ok(),
+            Kind::Steim(version) => decode_steim(alloc, version, Order::Big, area, count)
                 .ok()
-                .map(|decoded| decoded.samples)
+                .map(|decoded| decoded.samples),
         };
         if let Some(samples) = samples {
             if sum == 0 {
-                sum = sum_of(&samples);
+                sum = sum_of(samples.as_slice());
             }
             if let Some(last) = samples.as_slice().last() {
                 sum ^= last.cast_unsigned();
@@ -171,13 +204,24 @@ fn main(rt: HostRuntime) -> io::Result<()> {
     let mut words = env::args(&rt)?;
     let _program = words.next();
     let Some(name) = words.next() else {
-        return println!(rt; "msr_decode_bench NAME ROUNDS");
+        return println!(rt; "msr_decode_bench NAME ROUNDS [vec]");
     };
     let Some(rounds) = words.next().and_then(|word| word.parse::<u32>().ok()) else {
-        return println!(rt; "msr_decode_bench NAME ROUNDS");
+        return println!(rt; "msr_decode_bench NAME ROUNDS [vec]");
     };
+    let kind = kind_of(name.as_str());
     let made = make_area(rt.alloc(), name.as_str())?;
-    let sum = run(rt.alloc(), name.as_str(), &made, rounds);
-    let count = made.count;
+    let area = made.area.as_slice();
+    let count = match kind {
+        Kind::Plain(Width::Two) => 2016,
+        Kind::Plain(Width::Four) => 1008,
+        Kind::Steim(_) => made.count,
+    };
+    let sum = if words.next().is_some() {
+        run_vec(rt.alloc(), kind, area, rounds, count)
+    } else {
+        let mut out = vec![in rt.alloc(); 0; usize::from(count)]?;
+        run_into(kind, area, rounds, out.as_mut_slice())
+    };
     println!(rt; "{name}: {count} samples, {sum}")
 }

@@ -1,10 +1,9 @@
 -- Lemmas on the samples that are written word by word.
-use Rattle.std.proofs.Common.{◌≡◌, ◌≢◌, ◌<◌, ◌≤◌, ℕ, zero, suc, ◌+◌, ◌-◌, ◌*◌, ◌/◌, ◌%◌, ◌^◌, ℤ, pos, ◌+ℤ◌, ◌-ℤ◌, List, [], ◌∷◌, ◌++◌, length, take, get_or, refl, sym, ap, ◌∙◌, subst, arith, w32, to_z, of_z, SFits, Some, lit<, ⊎_elim}
+use Rattle.std.proofs.Common.{◌≡◌, ◌≢◌, ◌<◌, ◌≤◌, ℕ, zero, suc, ◌+◌, ◌-◌, ◌*◌, ◌/◌, ◌%◌, ◌^◌, ℤ, pos, ◌+ℤ◌, ◌-ℤ◌, List, [], ◌∷◌, ◌++◌, length, take, get_or, refl, sym, ap, ◌∙◌, subst, arith, w32, to_z, of_z, SFits, Some, ⊎_elim}
 use Rattle.std.specs.Int.{int_wrap}
 use Rattle.std.specs.Prelude.{◌==◌, Bool, false, Result, Ok, Err, IsErrOf}
-use Rattle.std.proofs.Math.IntN.{+ℤ-neg_ℤ_cancel, -ℤ-+ℤ_cancel}
 use Rattle.std.proofs.lemmas.Bool.{cases_lt, le-ltb, ne_eqb}
-use Rattle.std.proofs.lemmas.Int.{int_wrap-add_left, int_wrap_fits, wrapping_sub_is}
+use Rattle.std.proofs.lemmas.Int.{ints, int_wrap-add_left, int_wrap_fits, wrapping_sub_is}
 use Rattle.std.proofs.lemmas.List.{append-nil, length-append, length-take, get_or-take, take_all}
 use Rattle.msr_header.specs.declared.header.Order.{Order}
 use Rattle.msr_steim.specs.declared.area.SteimFault.{SteimFault}
@@ -12,7 +11,7 @@ use Rattle.msr_steim.specs.declared.area.SteimFault.TheVariants.{DataShort, BadC
 use Rattle.msr_steim.specs.declared.sums.Place.{Place}
 use Rattle.msr_steim.specs.declared.word.Version.{Version}
 use Rattle.msr_steim.specs.declared.word.Version.TheVariants.{One, Two}
-use Rattle.msr_steim.specs.Area.{CarriesSteim, EndsBefore, IsUndefined, IsUndefinedBefore, WordHolds, arranged_word, code_of, constant, differences, samples_of, sums_after, whole_word, word_count}
+use Rattle.msr_steim.specs.Area.{CarriesSteim, IsUndefined, IsUndefinedBefore, WordHolds, arranged_word, code_of, constant, differences, samples_of, sums_after, whole_word, word_count}
 use Rattle.msr_steim.specs.Sums.{IsWritten}
 use Rattle.msr_steim.specs.Word.{Holds, IsUndefinedWord, division_of}
 use Rattle.msr_steim.proofs.Decoding.{AreReadBelow, differences_push, length-samples_of, one_more_held, read_enough, read_more}
@@ -20,8 +19,11 @@ use Rattle.msr_steim.proofs.Summing.{holds_none}
 
 -- ---- what the first difference is added to
 
+there_and_back : (a d : ℤ) → a -ℤ d +ℤ d ≡ a
+there_and_back a d = omega (arith, ints)
+
 wraps_back : (a d : ℤ) → SFits w32 a → int_wrap w32 (int_wrap w32 (a -ℤ d) +ℤ d) ≡ a
-wraps_back a d fits = int_wrap-add_left w32 (a -ℤ d) d ∙ ap (int_wrap w32) (-ℤ-+ℤ_cancel a d) ∙ int_wrap_fits w32 a fits
+wraps_back a d fits = int_wrap-add_left w32 (a -ℤ d) d ∙ ap (int_wrap w32) (there_and_back a d) ∙ int_wrap_fits w32 a fits
 
 from_base : (first base d : ℤ) (ds : List ℤ) → int_wrap w32 (base +ℤ d) ≡ first → samples_of first (d ∷ ds) ≡ sums_after base (d ∷ ds)
 from_base first base d ds e = ap (λ x. x ∷ sums_after x ds) (sym e)

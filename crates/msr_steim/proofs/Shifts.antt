@@ -1,15 +1,14 @@
 -- A field that is shifted up to the highest bit and down again with its sign, and the fields of a word.
-use Rattle.std.proofs.Common.{◌≡◌, ◌<◌, ◌≤◌, ℕ, zero, suc, ◌+◌, ◌-◌, ◌*◌, ◌/◌, ◌%◌, ◌^◌, ℤ, pos, negsuc, List, [], ◌∷◌, length, map, refl, sym, ap, ◌∙◌, subst, arith, w32, to_z, ⊎_elim, get_or}
+use Rattle.std.proofs.Common.{◌≡◌, ◌<◌, ◌≤◌, ℕ, zero, suc, ◌+◌, ◌-◌, ◌*◌, ◌/◌, ◌%◌, ◌^◌, pos, negsuc, length, map, refl, sym, ap, ◌∙◌, subst, arith, w32, to_z, ⊎_elim, get_or}
 use Rattle.std.specs.List.{AllByRecursion}
 use Rattle.std.specs.Int.{int_shr}
 use Rattle.std.specs.Int.Digits.{number_from_digits, number_from_digits_after}
 use Rattle.std.proofs.Math.Facts.{to_z-neg}
-use Rattle.std.proofs.Math.Nat.{pow-zero, div-add-mod, mul-add-mod_self_right, mod-eq_of_lt, mod-lt, div-eq_of_lt}
+use Rattle.std.proofs.Math.Nat.{pow-zero, div-add-mod, mul-add-mod_self_right, mod-eq_of_lt, mod-lt}
 use Rattle.std.proofs.lemmas.Bool.{cases_lt, lt-ltb, le-ltb}
 use Rattle.std.proofs.lemmas.Int.{to_z_pos}
 use Rattle.std.proofs.lemmas.List.{length-map}
 use Rattle.std.proofs.lemmas.Nat.{pow_pos, pow-add, shr_high, mod-pow-add}
-use Rattle.msr_steim.specs.declared.word.Division.{Division}
 use Rattle.msr_steim.specs.Word.{AreFields, FitsBits, twos_complement, joined_fields, numbers_in, signed_of}
 use Rattle.msr_steim.proofs.Fields.{power_is_half, pow_pow}
 use Rattle.msr_steim.proofs.OneList.{number_after}

@@ -1,20 +1,18 @@
 -- The sums that are written for one word.
-use Rattle.std.proofs.Common.{◌≡◌, ◌<◌, ◌≤◌, ℕ, zero, suc, ◌+◌, ◌-◌, ◌*◌, ◌/◌, ◌%◌, ◌^◌, ℤ, pos, negsuc, ◌+ℤ◌, List, [], ◌∷◌, ◌++◌, length, take, get_or, min, refl, sym, ap, ◌∙◌, subst, arith, w32, SFits, Some, length-append, lit<}
+use Rattle.std.proofs.Common.{◌≡◌, ◌<◌, ◌≤◌, ℕ, zero, suc, ◌+◌, ◌-◌, ◌*◌, ◌/◌, ◌%◌, ◌^◌, ℤ, pos, negsuc, ◌+ℤ◌, List, [], ◌∷◌, ◌++◌, length, take, get_or, refl, sym, ap, ◌∙◌, subst, arith, w32, SFits, Some, length-append, lit<}
 use Rattle.std.specs.Prelude.{IsSomeAnd, slice_index_or}
 use Rattle.std.specs.Int.{int_wrap}
 use Rattle.std.proofs.Math.Seq.{get_or-append_seam, take-append-add}
 use Rattle.std.proofs.Math.Nat.{pow-zero, mod-lt}
 use Rattle.std.proofs.lemmas.List.{take_more, take_all, length-take, append-nil}
 use Rattle.msr_steim.specs.declared.sums.Place.{Place}
-use Rattle.msr_steim.specs.declared.word.Division.{Division}
 use Rattle.msr_steim.specs.declared.word.Version.{Version}
-use Rattle.msr_steim.specs.declared.word.Version.TheVariants.{One, Two}
 use Rattle.msr_steim.specs.Area.{sums_after}
 use Rattle.msr_steim.specs.Sums.{IsWritten}
-use Rattle.msr_steim.specs.Word.{AreFields, FitsBits, Holds, division_of, numbers_in, signed_of}
+use Rattle.msr_steim.specs.Word.{AreFields, FitsBits, Holds, division_of, numbers_in}
 use Rattle.msr_steim.proofs.Decoding.{length-sums_after, sums_after_push}
 use Rattle.msr_steim.proofs.Fields.{half_bound}
-use Rattle.msr_steim.proofs.Shifts.{are_fields, length-numbers_in}
+use Rattle.msr_steim.proofs.Shifts.{are_fields}
 
 -- a number of few bits fits 32 bits
 pub fits_w32 : (width : ℕ) (z : ℤ) → width ≤ 32 → FitsBits width z → SFits w32 z

@@ -1,5 +1,5 @@
 -- The samples so far stand by place.
-use Rattle.std.proofs.Common.{◌≡◌, ◌<◌, ℕ, pos, get_or, length}
+use Rattle.std.proofs.Common.{◌≡◌, ◌<◌, ℕ, pos, get_or}
 use Rattle.msr_plain.specs.Plain.{sample_at}
 use Rattle.msr_plain.proofs.read_numbers.Given as goal
 

@@ -1,5 +1,5 @@
 -- The words so far were read.
-use Rattle.std.proofs.Common.{◌≡◌, ◌<◌, ◌≤◌, ◌+◌, ◌*◌, length}
+use Rattle.std.proofs.Common.{◌≤◌, ◌+◌, ◌*◌}
 use Rattle.msr_steim.proofs.Reading.{IsReached}
 use Rattle.msr_steim.proofs.area.decode_words.Given as goal
 

@@ -1,10 +1,9 @@
 -- One more sum.
-use Rattle.std.proofs.Common.{rules, ◌≡◌, ◌<◌, ◌+◌, ◌-◌, ◌%◌, ◌∷◌, [], ◌++◌, length, take, get_or, pos, ◌+ℤ◌, to_z, of_z, w32, SFits, arith, ap, ◌∙◌, sym}
+use Rattle.std.proofs.Common.{rules, ◌≡◌, ◌<◌, ◌+◌, ◌%◌, ◌∷◌, [], ◌++◌, length, take, get_or, pos, ◌+ℤ◌, to_z, of_z, w32, SFits, arith, ap, ◌∙◌, sym}
 use Rattle.std.specs.Int.{int_wrap}
 use Rattle.std.specs.Prelude.{slice_set}
 use Rattle.std.proofs.lemmas.Int.{wrapping_add_onto}
 use Rattle.std.proofs.lemmas.List.{take_more_set, length-take}
-use Rattle.msr_steim.specs.Area.{sums_after}
 use Rattle.msr_steim.specs.Word.{numbers_in}
 use Rattle.msr_steim.proofs.Shifts.{number_at, length-numbers_in}
 use Rattle.msr_steim.proofs.Summing.{one_more_sum, last_of_push}

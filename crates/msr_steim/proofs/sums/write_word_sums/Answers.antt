@@ -1,5 +1,5 @@
 -- By the arms: the code and the top two bits say how the word is divided.
-use Rattle.std.proofs.Common.{◌≡◌, ◌<◌, ℕ, ◌/◌, ◌^◌, refl, arith, lit<, [], pos}
+use Rattle.std.proofs.Common.{◌≡◌, ◌<◌, ℕ, ◌/◌, refl, arith, lit<}
 use Rattle.msr_steim.specs.declared.word.Version.TheVariants.{One, Two}
 use Rattle.msr_steim.proofs.Summing.{divided, group_written, none_written}
 use Rattle.msr_steim.proofs.sums.write_word_sums.Goals as goal
