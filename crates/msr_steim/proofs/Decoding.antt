@@ -19,7 +19,7 @@ next_is (s ∷ ss) first d some f g =
     let e : suc (length ss) - 1 ≡ length ss = omega arith in
     wrapping_add_is w32 (get_or (s ∷ ss) (length (s ∷ ss) - 1) (pos 0)) d f g ∙ ap (λ n. int_wrap w32 (get_or (s ∷ ss) n (pos 0) +ℤ d)) e
 
-sums_after_push : (x : ℤ) (es : List ℤ) (d : ℤ) → sums_after x (es ++ d ∷ []) ≡ sums_after x es ++ int_wrap w32 (get_or (x ∷ sums_after x es) (length (sums_after x es)) (pos 0) +ℤ d) ∷ []
+pub sums_after_push : (x : ℤ) (es : List ℤ) (d : ℤ) → sums_after x (es ++ d ∷ []) ≡ sums_after x es ++ int_wrap w32 (get_or (x ∷ sums_after x es) (length (sums_after x es)) (pos 0) +ℤ d) ∷ []
 sums_after_push x [] d = refl
 sums_after_push x (e ∷ es) d = ap (λ s. int_wrap w32 (x +ℤ e) ∷ s) (sums_after_push (int_wrap w32 (x +ℤ e)) es d)
 
@@ -28,7 +28,7 @@ pub samples_of_push : (first : ℤ) (es : List ℤ) (d : ℤ) → samples_of fir
 samples_of_push first [] d = refl
 samples_of_push first (e ∷ es) d = ap (λ s. first ∷ s) (sums_after_push first es d)
 
-length-sums_after : (x : ℤ) (es : List ℤ) → length (sums_after x es) ≡ length es
+pub length-sums_after : (x : ℤ) (es : List ℤ) → length (sums_after x es) ≡ length es
 length-sums_after x [] = refl
 length-sums_after x (e ∷ es) = ap suc (length-sums_after (int_wrap w32 (x +ℤ e)) es)
 
@@ -103,7 +103,7 @@ none_read version order area count first some = record {
   sums = refl;
 }
 
-one_more_held : (version : Version) (order : Order) (area : List ℕ) (groups : List (List ℤ)) (group : List ℤ) → FirstWordsHold version order area groups → length groups < word_count area
+pub one_more_held : (version : Version) (order : Order) (area : List ℕ) (groups : List (List ℤ)) (group : List ℤ) → FirstWordsHold version order area groups → length groups < word_count area
     → WordHolds version order area (length groups) group → FirstWordsHold version order area (groups ++ group ∷ [])
 one_more_held version order area groups group held within here = record {
   within = rw length-append (omega arith);
@@ -117,7 +117,7 @@ one_more_held version order area groups group held within here = record {
         subst (λ m. WordHolds version order area m (get_or (groups ++ group ∷ []) m [])) e (rw (get_or-append_seam groups group [] []) here))
         (cases_lt n (length groups))
 
-differences_push : (groups : List (List ℤ)) (group : List ℤ) → differences (groups ++ group ∷ []) ≡ differences groups ++ group
+pub differences_push : (groups : List (List ℤ)) (group : List ℤ) → differences (groups ++ group ∷ []) ≡ differences groups ++ group
 differences_push groups group = flat_map-append (λ g. g) groups (group ∷ []) ∙ ap (λ g. differences groups ++ g) (append-nil group)
 
 -- one more word, and still too few samples
