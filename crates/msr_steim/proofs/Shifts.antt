@@ -65,6 +65,7 @@ field_up word below width within =
   where
     scaled : (r b k : ℕ) → r < b → 0 < k → r * k < b * k
     scaled r b k small some = grind arith
+
     regroup : (f l r k w lk : ℕ) → w ≡ f * l + r → lk ≡ l * k → w * k ≡ f * lk + r * k
     regroup f l r k w lk e1 e2 = rw (e1, e2) (omega arith)
 
@@ -93,6 +94,7 @@ shifted_down field width rest positive small within few =
   where
     below_half : (f r h k : ℕ) → f < h → r < k → h * k ≡ 2147483648 → f * k + r < 2147483648
     below_half f r h k low few product = let e : (f + 1) * k ≤ h * k = grind arith in omega arith
+
     above_half : (f r h k w : ℕ) → h ≤ f → r < k → f < w → h * k ≡ 2147483648 → w ≡ 2 * h → ((w - 1 - f) * k + (k - 1 - r) < 2147483648) × (f * k + r ≡ 4294967296 - suc ((w - 1 - f) * k + (k - 1 - r)))
     above_half f r h k w high few within product half =
         let a = w - 1 - f in

@@ -16,7 +16,7 @@ loop-slot-init c =
     record {
       reached = record {
         read = skip_first c.args.version c.args.order area (length out) frame c.first_slot-slot.result (constant c.args.order area 1) (take at.place out) c.first_slot-slot.ensures.first c.first_slot-slot.ensures.others
-        reached.read (omega (arith, c.loop-frame-test.true));
+            reached.read (omega (arith, c.loop-frame-test.true));
         room = reached.room;
         last = reached.last;
       };
