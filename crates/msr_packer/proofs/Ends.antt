@@ -233,18 +233,3 @@ module _ (bytes : ℕ) (samples : List ℤ) (g end : ℕ) (ends : Ends) (are : A
       none Steim1 less fits = not_steim1 past over fits
       none Int16 less fits = omega arith
       none Int32 less fits = omega arith
-
-  pub int32_first : (known : Kind) → Fits known bytes (run_points samples g c) → ends.steim2 < c → ends.steim1 < c → ends.int16 < c → IsFirstKind bytes (run_points samples g c) Int32
-  int32_first known fits past over beyond = (it known fits, none)
-    where
-      it : (known : Kind) → Fits known bytes (run_points samples g c) → Fits Int32 bytes (run_points samples g c)
-      it Steim2 f = absurd (not_steim2 past f)
-      it Steim1 f = absurd (not_steim1 past over f)
-      it Int16 f = absurd (not_int16 past beyond f)
-      it Int32 f = f
-
-      none : (other : Kind) → rank other < 3 → Fits other bytes (run_points samples g c) → ⊥
-      none Steim2 less f = not_steim2 past f
-      none Steim1 less f = not_steim1 past over f
-      none Int16 less f = not_int16 past beyond f
-      none Int32 less f = omega arith

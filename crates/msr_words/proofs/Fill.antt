@@ -250,9 +250,6 @@ pub record IsFilled (gs : List (List ℤ)) (ds : List ℤ) (first last : ℤ) (f
   pub bytes : area ≡ flat_map (big_bytes 4) (map (frame_word Two first last gs) (range_with_len 0 (16 * frame)) ++ 0 ∷ map (frame_word Two first last gs) (range_with_len (16 * frame + 1) slot))
       ++ drop (4 * (16 * frame + slot + 1)) old
 
-pub framed_start : (gs : List (List ℤ)) (ds : List ℤ) (first last : ℤ) (old : List ℕ) → IsCanonicalDivision Two gs ds → IsFramed gs ds first last 0 0 0 old old
-framed_start gs ds first last old chosen = record { left = chosen; number = zero-add (length gs); bytes = refl }
-
 module _ (gs : List (List ℤ)) (ds : List ℤ) (first last : ℤ) (frame at used : ℕ) (old area new : List ℕ) where
   pub frame_begins : IsFramed gs ds first last frame at used old area → new ≡ take (4 * (16 * frame)) area ++ (big_bytes 4 0 ++ drop (4 * (16 * frame) + 4) area) → IsFilled gs ds first last frame 0 at used 0 old new
   frame_begins is put =

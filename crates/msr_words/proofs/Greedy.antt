@@ -103,9 +103,6 @@ module _ (words most : ℕ) (past current : List ℤ) (groups : List (List ℤ))
       let limit = is.limit in
       record { some = omega arith; most = omega arith; bits = (is.bits (length current) (omega arith) (omega arith)).1 room }
 
-  pub greedy_few : (d : ℤ) (capacity : ℕ) → length current < min most capacity → length current < 7
-  greedy_few d capacity less = let limit = is.limit in omega arith
-
   module _ (d : ℤ) (capacity : ℕ) (cap : IsCapacity d capacity) where
     bits_more : (n : ℕ) → 1 ≤ n → n ≤ 7 → (All (IsOfBits (steim2_bits n)) (current ++ d ∷ []) ↔ n ≤ min most capacity)
     bits_more n l h =

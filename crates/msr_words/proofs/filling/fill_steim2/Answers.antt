@@ -8,7 +8,7 @@ use Rattle.msr_steim.proofs.Filling.{codes_fit}
 use Rattle.msr_words.specs.Canonical.{IsCanonicalDivision}
 use Rattle.msr_words.specs.Segment.{differences}
 use Rattle.msr_words.proofs.Plain.{length_differences}
-use Rattle.msr_words.proofs.Fill.{IsFilled, IsFramed, codes_below_more, constant_more, constant_one, constant_two, frame_begins, frame_ends, framed_all, framed_start, group_more}
+use Rattle.msr_words.proofs.Fill.{IsFilled, IsFramed, codes_below_more, constant_more, constant_one, constant_two, frame_begins, frame_ends, framed_all, group_more}
 use Rattle.msr_words.proofs.filling.fill_steim2.Goals as goal
 use Rattle.msr_words.proofs.filling.fill_steim2.Goals.{then-number-eq1, else-number-eq1, then-next-gt0, else-next-gt0}
 
