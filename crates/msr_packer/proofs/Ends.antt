@@ -207,12 +207,6 @@ module _ (bytes : ℕ) (samples : List ℤ) (g end : ℕ) (ends : Ends) (are : A
     | inr m ↦ omega arith
   ]
 
-  not_int16 : ends.steim2 < c → ends.int16 < c → Fits Int16 bytes (run_points samples g c) → ⊥
-  not_int16 past over fits = elim (are.past_int16 c near (order, within, fits)) [
-    | inl m ↦ omega arith
-    | inr m ↦ omega arith
-  ]
-
   pub steim2_first : c ≤ ends.steim2 → IsFirstKind bytes (run_points samples g c) Steim2
   steim2_first le = (up_to Steim2 ends.steim2 are.steim2 le, λ other less fits. absurd (omega arith))
 
