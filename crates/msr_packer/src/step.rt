@@ -7,12 +7,13 @@ ghost use Rattle.msr_words.specs.Bounds.{BeginsWithFour, IsEnd, IsInt16, is_wide
 ghost use Rattle.msr_words.specs.Lengths.{bytes_of};
 ghost use Rattle.msr_words.specs.Fit.{Fits, FitsAny, IsRun};
 ghost use Rattle.msr_words.specs.Packing.{IsStep};
-ghost use Rattle.msr_words.specs.Segment.{run_points};
+ghost use Rattle.msr_words.specs.Laws.{IsNarrow};
+ghost use Rattle.msr_words.specs.Segment.{difference_at, run_points};
 ghost use Rattle.msr_packer.specs.Steps.{AreEnds, AreInt16, AreNarrowThrough, IsStepAmong, NonePast, NotLess};
 
 use msr_words::{
-    Int16, Int32, Kind, Length, Steim1, Steim2, Tracker, difference, fits_bits, is_narrow,
-    magnitude, quarters_of, wide_one,
+    Int16, Int32, Kind, Length, Steim1, Tracker, difference, fits_bits, is_narrow,
+    longest_steim2_group, magnitude, quarters_of, steim2_greedy_reach, wide_one,
 };
 
 /// One record more: it starts at `start`, reaches to `end`, and is of that kind.
@@ -68,9 +69,6 @@ fn furthest<C: Tracker + Drop>(samples: &[i32], record_length: Length, start: us
     samples.len()
 }
 
-/// The sizes of differences of 15 bits are below it.
-const SMALL: u64 = 16_384;
-
 /// The greatest end of a run; and, where it is set, all differences of the run and the one behind it are narrow.
 #[derive(Clone, Copy, Debug)]
 struct Reach {
@@ -78,30 +76,39 @@ struct Reach {
     narrow: bool,
 }
 
-/// The greatest end of a run from `start` on that fits, with a look at the differences: where all are of 15 bits,
-/// which the bits of their sizes tell together, they are narrow.
-fn reach_of<C: Tracker + Drop>(samples: &[i32], record_length: Length, start: usize) -> Reach
+/// What Steim-2 reaches, where the least of its groups has so many differences: those of a group of two or more
+/// are narrow.
+fn reach_to(samples: &[i32], end: usize, least: usize) -> Reach
+    ensures end { result.end ≡ end }
+    ensures groups { IsTrue result.narrow → 1 < least }
+    ensures behind { IsTrue result.narrow → end < length samples.now → IsNarrow (difference_at samples.now end) }
+{
+    Reach {
+        end,
+        narrow: least > 1 && (end >= samples.len() || is_narrow(difference(samples, end))),
+    }
+}
+
+/// The greatest end of a run of Steim-2 from `start` on: as many of the longest groups as there are words.
+fn steim2_reach(samples: &[i32], record_length: Length, start: usize) -> Reach
     requires { start ≤ length samples.now }
-    ensures fits { IsRun (C.fits (bytes_of record_length)) samples.now start result.end }
-    ensures furthest { (end : ℕ) → IsRun (C.fits (bytes_of record_length)) samples.now start end → end ≤ result.end }
+    ensures fits { IsRun (Fits SecondSteim (bytes_of record_length)) samples.now start result.end }
+    ensures furthest { (end : ℕ) → IsRun (Fits SecondSteim (bytes_of record_length)) samples.now start end → end ≤ result.end }
     ensures narrow { IsTrue result.narrow → AreNarrowThrough samples.now start result.end }
 {
-    let mut tracker = C::start(record_length);
-    let mut sizes = 0;
-    for at in start..samples.len() {
-        let diff = difference(samples, at);
-        sizes |= magnitude(diff);
-        if !tracker.push(samples[at], diff) {
-            return Reach {
-                end: at,
-                narrow: sizes < SMALL,
-            };
+    steim2_greedy_reach();
+    let words = record_length.data_words();
+    let mut at = start;
+    let mut least = 7;
+    for _word in 0..words {
+        let size = longest_steim2_group(samples, at);
+        if size == 0 {
+            return reach_to(samples, at, least);
         }
+        least = least.min(size);
+        at += size;
     }
-    Reach {
-        end: samples.len(),
-        narrow: sizes < SMALL,
-    }
+    reach_to(samples, at, least)
 }
 
 /// Whether the differences of the samples from `start` to `end` are narrow.
@@ -357,7 +364,7 @@ pub fn step_from(samples: &[i32], record_length: Length, frontier: usize) -> Fou
     ensures kind { IsRun (Fits result.step.kind (bytes_of record_length)) samples.now result.step.start result.step.end }
     ensures ends { AreEnds (bytes_of record_length) samples.now frontier result.step.end result.ends }
 {
-    let reach = reach_of::<Steim2>(samples, record_length, frontier);
+    let reach = steim2_reach(samples, record_length, frontier);
     let int16 = int16_end(samples, record_length, frontier, reach.end);
     let by_steim2 = Step {
         start: frontier,

@@ -1,10 +1,11 @@
 -- How far the longest groups reach.
-use Rattle.std.specs.Prelude.{◌≡◌, ℕ, zero, suc, ◌+◌, ◌-◌, ◌<◌, ◌≤◌, ℤ, List, [], ◌∷◌, ◌++◌, length, map, take, drop}
-use Rattle.std.proofs.Common.{arith, sym, ap, ◌∙◌, subst, inl, inr, length-drop}
+use Rattle.std.specs.Prelude.{◌≡◌, ℕ, zero, suc, ◌+◌, ◌-◌, ◌<◌, ◌≤◌, ℤ, List, [], ◌∷◌, ◌++◌, length, map, take, drop, get_or, pos, negsuc, None}
+use Rattle.std.specs.List.{AllByRecursion}
+use Rattle.std.proofs.Common.{true, arith, lit≤, refl, sym, ap, ◌∙◌, subst, inl, inr, length-drop}
 use Rattle.std.proofs.Math.Seq.{take-add}
 use Rattle.std.proofs.lemmas.Bool.{cases_lt}
-use Rattle.std.proofs.lemmas.List.{length-map, map-append, take-take, take_at}
-use Rattle.msr_steim.specs.Word.{IsGroup}
+use Rattle.std.proofs.lemmas.List.{drop-map, get_or-drop, get_or-take, length-map, length-take, map-append, take-take, take_all, take_at}
+use Rattle.msr_steim.specs.Word.{FitsBits, IsGroup}
 use Rattle.msr_steim.specs.declared.word.Version.TheVariants.{Two}
 use Rattle.msr_words.specs.declared.kinds.Kind.TheVariants.{Steim2}
 use Rattle.msr_words.specs.Bounds.{GreedyLaw, IsGreedyReach}
@@ -12,10 +13,14 @@ use Rattle.msr_words.specs.Division.{CanDivide}
 use Rattle.msr_words.specs.Fit.{Fits, IsRun}
 use Rattle.msr_words.specs.Groups.{IsLongestGroup}
 use Rattle.msr_words.specs.RecordLength.{words_of}
-use Rattle.msr_words.specs.Segment.{run_points}
+use Rattle.msr_words.specs.Laws.{IsNarrow}
+use Rattle.msr_words.specs.Segment.{difference_at, differences, points, run_points}
 use Rattle.msr_words.specs.Lemmas.KindLaws.{back_step_kind}
+use Rattle.msr_words.specs.Lemmas.LeastCounts.{a_group_has_few}
+use Rattle.msr_words.specs.Lemmas.SteimLaws.{all_more}
+use Rattle.msr_words.proofs.Plain.{difference_of, length_differences}
 use Rattle.msr_words.proofs.Parts.{HasDivision, division_rest, first_fits, more_groups, no_groups, none_left, one_group}
-use Rattle.msr_words.proofs.Runs.{back_step_run, length_run_points, run_points_cut}
+use Rattle.msr_words.proofs.Runs.{back_step_run, length_points, length_run_points, run_points_cut}
 use Rattle.msr_words.proofs.Steim2Groups.{IsSteim2Group, division_from, division_to, group_from, group_to, steim2_parts}
 
 -- ---- the differences from the front on
@@ -121,3 +126,53 @@ greedy_law bytes samples g reach le is =
         let can : CanDivide Two (words_of bytes) (take (b - g) (behind samples g)) = subst (CanDivide Two (words_of bytes)) (differences_to samples g (b - g) (omega arith)) (subst (λ x. Fits Steim2 bytes (run_points samples g x)) e here.2) in
         let most = reach_most (words_of bytes) (behind samples g) reach (b - g) is (omega arith) (division_to (words_of bytes) (take (b - g) (behind samples g)) can) in
         omega arith
+
+-- ---- word after word
+
+-- where no group begins, no word is filled
+pub none_reached : (words : ℕ) (ds : List ℤ) → IsLongestGroup ds 0 → IsGreedyReach words ds 0
+none_reached zero ds is = refl
+none_reached (suc words) ds is = (0, 0, is, none_reached words ds is, refl)
+
+-- the differences from g on, of the runs and of the whole segment
+pub differences_from : (samples : List ℤ) (g : ℕ) → g ≤ length samples → map (λ p. p.1) (run_points samples g (length samples)) ≡ drop g (differences None samples)
+differences_from samples g le =
+    let rest = drop g (points None samples) in
+    let size : length (drop g (points None samples)) ≤ length samples - g = simp (length-drop, length_points) (omega arith) in
+    ap (map (λ (p : ℤ × ℤ). p.1)) (take_all (length samples - g) rest size) ∙ sym (drop-map (λ (p : ℤ × ℤ). p.1) g (points None samples))
+
+-- ---- a word of more than one difference
+
+-- its differences are of 15 bits
+pair_small : (group : List ℤ) → 1 < length group → IsGroup Two group → AllByRecursion (FitsBits 15) group
+pair_small [] some is = absurd is
+pair_small (a ∷ []) some is = absurd (omega arith)
+pair_small (a ∷ b ∷ []) some is = is
+pair_small (a ∷ b ∷ c ∷ []) some is = all_more 10 15 (a ∷ b ∷ c ∷ []) (lit≤ tt) is
+pair_small (a ∷ b ∷ c ∷ d ∷ []) some is = all_more 8 15 (a ∷ b ∷ c ∷ d ∷ []) (lit≤ tt) is
+pair_small (a ∷ b ∷ c ∷ d ∷ e ∷ []) some is = all_more 6 15 (a ∷ b ∷ c ∷ d ∷ e ∷ []) (lit≤ tt) is
+pair_small (a ∷ b ∷ c ∷ d ∷ e ∷ f ∷ []) some is = all_more 5 15 (a ∷ b ∷ c ∷ d ∷ e ∷ f ∷ []) (lit≤ tt) is
+pair_small (a ∷ b ∷ c ∷ d ∷ e ∷ f ∷ g ∷ []) some is = all_more 4 15 (a ∷ b ∷ c ∷ d ∷ e ∷ f ∷ g ∷ []) (lit≤ tt) is
+pair_small (a ∷ b ∷ c ∷ d ∷ e ∷ f ∷ g ∷ h ∷ zs) some is = let few = (a_group_has_few Two true (a ∷ b ∷ c ∷ d ∷ e ∷ f ∷ g ∷ h ∷ zs) is).1 in absurd (omega arith)
+
+each_small : (ds : List ℤ) (k : ℕ) → AllByRecursion (FitsBits 15) ds → k < length ds → FitsBits 15 (get_or ds k (pos 0))
+each_small [] k all less = absurd (omega arith)
+each_small (d ∷ ds) zero all less = all.0
+each_small (d ∷ ds) (suc k) all less = each_small ds k all.1 (omega arith)
+
+fifteen_narrow : (d : ℤ) → FitsBits 15 d → IsNarrow d
+fifteen_narrow (pos n) fits = (λ more. fits, omega arith)
+fifteen_narrow (negsuc n) fits = (λ more. fits, omega arith)
+
+pub narrow_in_group : (samples : List ℤ) (at size k : ℕ) → IsLongestGroup (drop at (differences None samples)) size → 1 < size → k < size → IsNarrow (difference_at samples (at + k))
+narrow_in_group samples at size k longest some less =
+    let ds = differences None samples in
+    let xs = drop at (differences None samples) in
+    let l = length-drop at (differences None samples) in
+    let n = length_differences None samples in
+    let w = longest.within in
+    let m = length-take size (drop at (differences None samples)) in
+    let small = each_small (take size xs) k (pair_small (take size xs) (omega arith) (longest.group (omega arith))) (omega arith) in
+    let here : get_or (take size xs) k (pos 0) ≡ difference_at samples (at + k) =
+    get_or-take size xs k (pos 0) less ∙ get_or-drop at ds k (pos 0) ∙ difference_of None samples (at + k) (omega arith) in
+    fifteen_narrow (difference_at samples (at + k)) (subst (FitsBits 15) here small)

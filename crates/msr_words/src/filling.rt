@@ -125,6 +125,17 @@ fn longest_inside(run: &[i32], at: usize) -> usize
     if seven >= 8 { 6 } else { 7 }
 }
 
+/// How many differences of a segment, from this sample's on, stand together in a Steim-2 word, as many as can.
+pub fn longest_steim2_group(samples: &[i32], at: usize) -> usize
+    requires { at ≤ length samples.now }
+    ensures { IsLongestGroup (drop at (differences None samples.now)) result }
+{
+    if 0 < at && samples.len() - at >= 7 {
+        return longest_inside(samples, at);
+    }
+    longest_group(None, samples, at)
+}
+
 /// The fields of so many differences of the run side by side, where none is that of its first sample.
 fn fields_inside(run: &[i32], at: usize, size: usize, width: u32) -> u32
     requires some { 0 < at }

@@ -8,10 +8,10 @@ use Rattle.msr_packer.proofs.step.step_from.Goals as goal
 
 pub returns-then-steim1_is_short : goal.returns-then-steim1_is_short
 returns-then-steim1_is_short c =
-    let by_steim2 : Step = record { start = c.args.frontier; end = c.reach_of-reach.result.end; kind = Steim2 } in
+    let by_steim2 : Step = record { start = c.args.frontier; end = c.steim2_reach-reach.result.end; kind = Steim2 } in
     let by_int16 : Step = record { start = c.args.frontier; end = c.int16_end-int16.result; kind = Int16 } in
     let two = covered c.args.record_length.bytes c.args.samples.now c.args.frontier Int16 (Steim2 ∷ []) by_steim2 by_int16 c.or-best.result refl refl
-    (steim2_alone c.args.record_length.bytes c.args.samples.now c.args.frontier c.reach_of-reach.result.end c.reach_of-reach.ensures.fits c.reach_of-reach.ensures.furthest)
+    (steim2_alone c.args.record_length.bytes c.args.samples.now c.args.frontier c.steim2_reach-reach.result.end c.steim2_reach-reach.ensures.fits c.steim2_reach-reach.ensures.furthest)
     c.int16_end-int16.ensures.fits c.int16_end-int16.ensures.past c.or-best.ensures.one c.or-best.ensures.first c.or-best.ensures.second in
     let here = here_still c.args.record_length.bytes c.args.samples.now c.args.frontier by_steim2 by_int16 c.or-best.result refl refl c.or-best.ensures.one in
     let over = not_shorter c.or-best.result by_steim2 c.or-best.ensures.first in
@@ -24,16 +24,16 @@ returns-then-steim1_is_short c =
     record {
       step = all_kinds c.args.record_length.bytes c.args.samples.now c.args.frontier c.or.result four;
       kind = four.reached;
-      ends = ends_without c.args.record_length.bytes c.args.samples.now c.args.frontier c.or-best.result.end c.or.result.end c.reach_of-reach.result.end c.int16_end-int16.result (not_shorter c.or.result c.or-best.result c.or.ensures.first)
-          c.reach_of-reach.ensures.fits c.reach_of-reach.ensures.furthest c.int16_end-int16.ensures.fits c.int16_end-int16.ensures.past (omega arith) (c.steim1_is_short.ensures c.if-steim1_is_short.true);
+      ends = ends_without c.args.record_length.bytes c.args.samples.now c.args.frontier c.or-best.result.end c.or.result.end c.steim2_reach-reach.result.end c.int16_end-int16.result (not_shorter c.or.result c.or-best.result c.or.ensures.first)
+          c.steim2_reach-reach.ensures.fits c.steim2_reach-reach.ensures.furthest c.int16_end-int16.ensures.fits c.int16_end-int16.ensures.past (omega arith) (c.steim1_is_short.ensures c.if-steim1_is_short.true);
     }
 
 pub returns : goal.returns
 returns c =
-    let by_steim2 : Step = record { start = c.args.frontier; end = c.reach_of-reach.result.end; kind = Steim2 } in
+    let by_steim2 : Step = record { start = c.args.frontier; end = c.steim2_reach-reach.result.end; kind = Steim2 } in
     let by_int16 : Step = record { start = c.args.frontier; end = c.int16_end-int16.result; kind = Int16 } in
     let two = covered c.args.record_length.bytes c.args.samples.now c.args.frontier Int16 (Steim2 ∷ []) by_steim2 by_int16 c.or-best.result refl refl
-    (steim2_alone c.args.record_length.bytes c.args.samples.now c.args.frontier c.reach_of-reach.result.end c.reach_of-reach.ensures.fits c.reach_of-reach.ensures.furthest)
+    (steim2_alone c.args.record_length.bytes c.args.samples.now c.args.frontier c.steim2_reach-reach.result.end c.steim2_reach-reach.ensures.fits c.steim2_reach-reach.ensures.furthest)
     c.int16_end-int16.ensures.fits c.int16_end-int16.ensures.past c.or-best.ensures.one c.or-best.ensures.first c.or-best.ensures.second in
     let here = here_still c.args.record_length.bytes c.args.samples.now c.args.frontier by_steim2 by_int16 c.or-best.result refl refl c.or-best.ensures.one in
     let over = not_shorter c.or-best.result by_steim2 c.or-best.ensures.first in
@@ -44,6 +44,6 @@ returns c =
     record {
       step = all_kinds c.args.record_length.bytes c.args.samples.now c.args.frontier c.or-3.result four;
       kind = four.reached;
-      ends = ends_with c.args.record_length.bytes c.args.samples.now c.args.frontier c.or-3.result.end c.reach_of-reach.result.end c.int16_end-int16.result c.furthest-steim1.result
-          c.reach_of-reach.ensures.fits c.reach_of-reach.ensures.furthest c.int16_end-int16.ensures.fits c.int16_end-int16.ensures.past c.furthest-steim1.ensures.fits c.furthest-steim1.ensures.furthest;
+      ends = ends_with c.args.record_length.bytes c.args.samples.now c.args.frontier c.or-3.result.end c.steim2_reach-reach.result.end c.int16_end-int16.result c.furthest-steim1.result
+          c.steim2_reach-reach.ensures.fits c.steim2_reach-reach.ensures.furthest c.int16_end-int16.ensures.fits c.int16_end-int16.ensures.past c.furthest-steim1.ensures.fits c.furthest-steim1.ensures.furthest;
     }
