@@ -1,14 +1,18 @@
 -- Steps with records of one kind, of one kind more, and of all kinds.
-use Rattle.std.proofs.Common.{◌≡◌, ◌↔◌, ℕ, ◌-◌, ◌<◌, ◌≤◌, ◌⊎◌, ℤ, List, [], ◌∷◌, arith, refl, sym, subst, inl, inr}
+use Rattle.std.proofs.Common.{◌≡◌, ◌↔◌, ℕ, ◌≤◌, ◌⊎◌, ℤ, List, [], ◌∷◌, arith, refl, sym, subst, inl, inr}
 use Rattle.msr_words.specs.declared.kinds.Kind.{Kind}
 use Rattle.msr_words.specs.declared.kinds.Kind.TheVariants.{Int16, Int32, Steim1, Steim2}
 use Rattle.msr_words.specs.Segment.{run_points}
 use Rattle.msr_words.specs.Fit.{Fits, FitsAny, IsRun}
-use Rattle.msr_words.specs.Laws.{SizeLaw}
 use Rattle.msr_words.specs.Packing.{IsStep}
-use Rattle.msr_words.proofs.Runs.{length_run_points}
 use Rattle.msr_packer.specs.declared.step.Step.{Step}
 use Rattle.msr_packer.specs.Steps.{Among, IsStepAmong, NotLess}
+
+pub not_shorter : (result than : Step) → NotLess result than → than.end ≤ result.end
+not_shorter result than not = elim not.further [
+  | inl more ↦ omega arith
+  | inr same ↦ let e = same.0 in omega arith
+]
 
 module _ (bytes : ℕ) (samples : List ℤ) (g : ℕ) where
   -- what a codec takes is what fits a record of its kind
@@ -34,25 +38,6 @@ module _ (bytes : ℕ) (samples : List ℤ) (g : ℕ) where
         | inr none ↦ absurd none
       ];
     }
-
-    -- no run of the kind is long enough to reach as far as a step
-    pub none_longer : (most : ℕ) → SizeLaw most fits → (step : Step) → most < step.end - g → (tried : List Kind) → IsStepAmong tried bytes samples g step → IsStepAmong (kind ∷ tried) bytes samples g step
-    none_longer most law step less tried is = record {
-      before = is.before;
-      past = is.past;
-      reached = is.reached;
-      furthest = λ k among s b le run. elim among [
-        | inl e ↦ let f = few s b (taken s b k e run) in let up = run.0 in omega arith
-        | inr other ↦ is.furthest k other s b le run
-      ];
-      last = λ k among s le run. elim among [
-        | inl e ↦ let f = few s step.end (taken s step.end k e run) in let up = run.0 in absurd (omega arith)
-        | inr other ↦ is.last k other s le run
-      ];
-    }
-      where
-        few : (s b : ℕ) → IsRun fits samples s b → b - s ≤ most
-        few s b run = subst (λ n. n ≤ most) (length_run_points samples s b run.0 run.1) (law (run_points samples s b) run.2)
 
   -- the better of a step and the step of one kind more
   pub one_more : (kind : Kind) (tried : List Kind) (step other result : Step) → IsStepAmong tried bytes samples g step → IsStepAmong (kind ∷ []) bytes samples g other →
@@ -94,17 +79,70 @@ module _ (bytes : ℕ) (samples : List ℤ) (g : ℕ) where
         | inr same ↦ let l = late (sym same.0) in let up = same.1 in omega arith
       ]
 
+  pub here_still : (step other result : Step) → step.start ≡ g → other.start ≡ g → (result ≡ step) ⊎ (result ≡ other) → result.start ≡ g
+  here_still step other result here there either = elim either [
+    | inl e ↦ subst (λ r. r.start ≡ g) (sym e) here
+    | inr e ↦ subst (λ r. r.start ≡ g) (sym e) there
+  ]
+
+  -- the better of two steps from the frontier itself, of which one is no shorter than any run of one kind more
+  pub covered : (kind : Kind) (tried : List Kind) (step other result : Step) → step.start ≡ g → other.start ≡ g → IsStepAmong tried bytes samples g step → IsRun (Fits other.kind bytes) samples other.start other.end →
+      ((s b : ℕ) → s ≤ g → IsRun (Fits kind bytes) samples s b → (b ≤ other.end) ⊎ (b ≤ step.end)) →
+      (result ≡ step) ⊎ (result ≡ other) → NotLess result step → NotLess result other → IsStepAmong (kind ∷ tried) bytes samples g result
+  covered kind tried step other result here there is reached cover either first second = record {
+    before = (let e = here_still step other result here there either in omega arith);
+    past = (let p = is.past in let e = not_shorter result step first in omega arith);
+    reached = elim either [
+      | inl e ↦ subst (λ r. IsRun (Fits r.kind bytes) samples r.start r.end) (sym e) is.reached
+      | inr e ↦ subst (λ r. IsRun (Fits r.kind bytes) samples r.start r.end) (sym e) reached
+    ];
+    furthest = λ k among s b le run. elim among [
+      | inl e ↦ elim (cover s b le (subst (λ k. IsRun (Fits k bytes) samples s b) e run)) [
+        | inl c ↦ let m = not_shorter result other second in omega arith
+        | inr c ↦ let m = not_shorter result step first in omega arith
+      ]
+      | inr old ↦ let f = is.furthest k old s b le run in let m = not_shorter result step first in omega arith
+    ];
+    last = λ k among s le run. (let e = here_still step other result here there either in omega arith);
+  }
+
+  -- a step from the frontier itself that is no shorter than any run of one kind more
+  pub skipped : (kind : Kind) (tried : List Kind) (step : Step) → step.start ≡ g → IsStepAmong tried bytes samples g step →
+      ((s b : ℕ) → s ≤ g → IsRun (Fits kind bytes) samples s b → b ≤ step.end) → IsStepAmong (kind ∷ tried) bytes samples g step
+  skipped kind tried step here is none = record {
+    before = is.before;
+    past = is.past;
+    reached = is.reached;
+    furthest = λ k among s b le run. elim among [
+      | inl e ↦ none s b le (subst (λ k. IsRun (Fits k bytes) samples s b) e run)
+      | inr old ↦ is.furthest k old s b le run
+    ];
+    last = λ k among s le run. omega arith;
+  }
+
   -- with records of all kinds
-  pub all_kinds : (step : Step) → IsStepAmong (Int32 ∷ Int16 ∷ Steim1 ∷ Steim2 ∷ []) bytes samples g step → IsStep (FitsAny bytes) samples g step.end step.start
-  all_kinds step is = record {
+  pub every_kind : (kinds : List Kind) → ((kind : Kind) → Among kinds kind) → (step : Step) → IsStepAmong kinds bytes samples g step → IsStep (FitsAny bytes) samples g step.end step.start
+  every_kind kinds each step is = record {
     before = is.before;
     reached = let run = is.reached in (run.0, run.1, (step.kind, run.2));
     furthest = λ s b le run. is.furthest run.2.0 (each run.2.0) s b le (run.0, run.1, run.2.1);
     last = λ s le run. is.last run.2.0 (each run.2.0) s le (run.0, run.1, run.2.1);
   }
+
+  pub all_kinds : (step : Step) → IsStepAmong (Int32 ∷ Steim1 ∷ Int16 ∷ Steim2 ∷ []) bytes samples g step → IsStep (FitsAny bytes) samples g step.end step.start
+  all_kinds step is = every_kind (Int32 ∷ Steim1 ∷ Int16 ∷ Steim2 ∷ []) each step is
     where
-      each : (kind : Kind) → Among (Int32 ∷ Int16 ∷ Steim1 ∷ Steim2 ∷ []) kind
+      each : (kind : Kind) → Among (Int32 ∷ Steim1 ∷ Int16 ∷ Steim2 ∷ []) kind
       each Int32 = inl refl
-      each Int16 = inr (inl refl)
-      each Steim1 = inr (inr (inl refl))
+      each Steim1 = inr (inl refl)
+      each Int16 = inr (inr (inl refl))
       each Steim2 = inr (inr (inr (inl refl)))
+
+  pub integers_first : (step : Step) → IsStepAmong (Int32 ∷ Steim1 ∷ Steim2 ∷ Int16 ∷ []) bytes samples g step → IsStep (FitsAny bytes) samples g step.end step.start
+  integers_first step is = every_kind (Int32 ∷ Steim1 ∷ Steim2 ∷ Int16 ∷ []) each step is
+    where
+      each : (kind : Kind) → Among (Int32 ∷ Steim1 ∷ Steim2 ∷ Int16 ∷ []) kind
+      each Int32 = inl refl
+      each Steim1 = inr (inl refl)
+      each Steim2 = inr (inr (inl refl))
+      each Int16 = inr (inr (inr (inl refl)))

@@ -31,7 +31,7 @@ module _ (bytes : ℕ) (samples : List ℤ) where
               (let e = length_run_points samples g (min (g + 4) (length samples)) (omega arith) (omega arith) in omega arith),
         )
 
-    near : BackStepLaw 1 (FitsAny bytes) → (g h a : ℕ) → g < length samples → IsStep (FitsAny bytes) samples g h a → g ≤ a + 3
+    near : BackStepLaw 1 (FitsAny bytes) → (g h a : ℕ) → g < length samples → IsStep (FitsAny bytes) samples g h a → g ≤ a + 1
     near law g h a in' step =
         let f = forth g h a in' step in
         let back = back_step_run (FitsAny bytes) 1 law samples a g h step.before (omega arith) step.reached in
@@ -154,6 +154,10 @@ module _ (bytes : ℕ) (samples : List ℤ) (enough : 256 ≤ bytes) (g h a : �
       let n = near bytes samples (short_any bytes enough) (back_step_any bytes) h h' a' more next in
       let b = step.before in
       prefix_run (Fits kind bytes) (prefix_kind kind bytes) samples a a' h (omega arith) next.before reached
+
+  -- and it ends at the frontier of the next one, or at the sample before it
+  pub cut_near : (h' a' : ℕ) → h < length samples → IsStep (FitsAny bytes) samples h h' a' → h ≤ a' + 1
+  cut_near h' a' more next = near bytes samples (short_any bytes enough) (back_step_any bytes) h h' a' more next
 
   -- so does the last run, to the end of the segment
   pub all_fits : (kind : Kind) → IsRun (Fits kind bytes) samples a h → length samples ≤ h → IsRun (Fits kind bytes) samples a (length samples)

@@ -10,11 +10,12 @@ ghost use Rattle.msr_words.specs.declared.kinds.Run.{Run};
 ghost use Rattle.msr_words.specs.Lengths.{bytes_of};
 ghost use Rattle.msr_words.specs.Segment.{run_points};
 ghost use Rattle.msr_words.specs.Fit.{Fits, IsRun, IsFirstKind};
+ghost use Rattle.msr_packer.specs.Steps.{AreEnds};
 ghost use Rattle.msr_words.specs.Packing.{IsPacking, IsSeparating, IsLeast, IsCanonical};
 
 use msr_words::{Kind, Length, Run, first_kind};
 use std::alloc::{AllocError, Global};
-use step::{Step, step_from};
+use step::{Found, next_step};
 
 /// Runs that join to a segment, and samples that show that no packing has fewer.
 #[derive(Debug, Drop, PartialEq, Eq)]
@@ -23,28 +24,49 @@ pub struct Packing {
     pub separators: Vec<u64>,
 }
 
-/// The kind in which a run is written, of which one kind that it fits is known: the kind that is tried first needs no walk.
-fn kind_of(samples: &[i32], record_length: Length, start: usize, end: usize, known: Kind) -> Kind
-    requires { IsRun (Fits known (bytes_of record_length)) samples.now start end }
-    ensures { IsFirstKind (bytes_of record_length) (run_points samples.now start end) result }
+/// The kind in which the run of a step is written that is cut at `end`. The ends of the kinds from the frontier tell
+/// it where the run starts there.
+fn kind_of(
+    samples: &[i32],
+    record_length: Length,
+    frontier: usize,
+    found: Found,
+    end: usize,
+) -> Kind
+    requires before { found.step.start ≤ frontier }
+    requires ends { AreEnds (bytes_of record_length) samples.now frontier found.step.end found.ends }
+    requires fits { IsRun (Fits found.step.kind (bytes_of record_length)) samples.now found.step.start end }
+    requires near { found.step.end ≤ end + 1 }
+    ensures { IsFirstKind (bytes_of record_length) (run_points samples.now found.step.start end) result }
 {
-    match known {
-        Kind::Steim2 => known,
-        _ => first_kind(samples, start, end, record_length),
+    if found.step.start < frontier {
+        return first_kind(samples, found.step.start, end, record_length);
+    }
+    if end <= found.ends.steim2 {
+        Kind::Steim2
+    } else if end <= found.ends.steim1 {
+        Kind::Steim1
+    } else if end <= found.ends.int16 {
+        Kind::Int16
+    } else {
+        Kind::Int32
     }
 }
 
 /// The run of a step that is cut at `end`.
-fn run_of(samples: &[i32], record_length: Length, step: Step, end: usize) -> Run
-    requires { IsRun (Fits step.kind (bytes_of record_length)) samples.now step.start end }
-    ensures start { result.start ≡ step.start }
+fn run_of(samples: &[i32], record_length: Length, frontier: usize, found: Found, end: usize) -> Run
+    requires before { found.step.start ≤ frontier }
+    requires ends { AreEnds (bytes_of record_length) samples.now frontier found.step.end found.ends }
+    requires fits { IsRun (Fits found.step.kind (bytes_of record_length)) samples.now found.step.start end }
+    requires near { found.step.end ≤ end + 1 }
+    ensures start { result.start ≡ found.step.start }
     ensures end { result.end ≡ end }
-    ensures kind { IsFirstKind (bytes_of record_length) (run_points samples.now step.start end) result.kind }
+    ensures kind { IsFirstKind (bytes_of record_length) (run_points samples.now found.step.start end) result.kind }
 {
     Run {
-        start: step.start as u64,
+        start: found.step.start as u64,
         end: end as u64,
-        kind: kind_of(samples, record_length, step.start, end, step.kind),
+        kind: kind_of(samples, record_length, frontier, found, end),
     }
 }
 
@@ -62,15 +84,15 @@ pub fn pack(alloc: Global, samples: &[i32], record_length: Length) -> Result<Pac
         return Ok(Packing { runs, separators });
     }
     let mut frontier = 0;
-    let mut step = step_from(samples, record_length, 0);
-    while step.end < samples.len() {
-        let next = step_from(samples, record_length, step.end);
-        runs.push(run_of(samples, record_length, step, next.start))?;
+    let mut found = next_step(samples, record_length, 0, Kind::Steim2);
+    while found.step.end < samples.len() {
+        let next = next_step(samples, record_length, found.step.end, found.step.kind);
+        runs.push(run_of(samples, record_length, frontier, found, next.step.start))?;
         separators.push(frontier as u64)?;
-        frontier = step.end;
-        step = next;
+        frontier = found.step.end;
+        found = next;
     }
-    runs.push(run_of(samples, record_length, step, samples.len()))?;
+    runs.push(run_of(samples, record_length, frontier, found, samples.len()))?;
     separators.push(frontier as u64)?;
     Ok(Packing { runs, separators })
 }

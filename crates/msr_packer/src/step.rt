@@ -1,13 +1,20 @@
 //! One record more: how far a record reaches that starts at or before a frontier.
 
-ghost use Rattle.std.specs.Prelude.{◌≡◌, ℕ, ◌≤◌, ◌⊎◌, ◌∷◌, [], length, List};
+ghost use Rattle.std.specs.Prelude.{pos, slice_index_or, ◌≡◌, ℕ, ◌+◌, ◌-◌, ◌^◌, ◌<◌, ◌≤◌, ◌⊎◌, ◌∷◌, [], length, List, IsTrue, IsFalse, IfSome, map, count_by, sum_by};
 ghost use Rattle.msr_words.specs.declared.kinds.Kind.{Kind};
+ghost use Rattle.msr_words.specs.declared.kinds.Kind.TheVariants.{Int16 as Integers16, Int32 as Integers32, Steim1 as FirstSteim, Steim2 as SecondSteim};
+ghost use Rattle.msr_words.specs.Bounds.{BeginsWithFour, IsEnd, IsInt16, is_wide, quarters};
 ghost use Rattle.msr_words.specs.Lengths.{bytes_of};
 ghost use Rattle.msr_words.specs.Fit.{Fits, FitsAny, IsRun};
 ghost use Rattle.msr_words.specs.Packing.{IsStep};
-ghost use Rattle.msr_packer.specs.Steps.{IsStepAmong, NotLess};
+ghost use Rattle.msr_words.specs.Laws.{IsNarrow};
+ghost use Rattle.msr_words.specs.Segment.{difference_at, run_points};
+ghost use Rattle.msr_packer.specs.Steps.{AreEnds, AreInt16, AreNarrowThrough, IsStepAmong, NonePast, NotLess};
 
-use msr_words::{Codec, Int16, Int32, Kind, Length, Steim1, Steim2, Tracker, difference};
+use msr_words::{
+    Int16, Int32, Kind, Length, Steim1, Tracker, difference, fits_bits, is_narrow,
+    longest_steim2_group, magnitude, quarters_of, steim2_greedy_reach, wide_one,
+};
 
 /// One record more: it starts at `start`, reaches to `end`, and is of that kind.
 #[derive(Clone, Copy, Debug, PartialEq, Eq)]
@@ -32,6 +39,21 @@ impl Step {
     }
 }
 
+/// Ends of runs from a frontier, by their kind. One that is not needed is the frontier itself.
+#[derive(Clone, Copy, Debug, PartialEq, Eq)]
+pub struct Ends {
+    pub steim2: usize,
+    pub steim1: usize,
+    pub int16: usize,
+}
+
+/// A step, with the ends that tell the kind of its run where that is cut.
+#[derive(Clone, Copy, Debug, PartialEq, Eq)]
+pub struct Found {
+    pub step: Step,
+    pub ends: Ends,
+}
+
 /// The greatest end of a run from `start` on that fits.
 fn furthest<C: Tracker + Drop>(samples: &[i32], record_length: Length, start: usize) -> usize
     requires { start ≤ length samples.now }
@@ -47,56 +69,333 @@ fn furthest<C: Tracker + Drop>(samples: &[i32], record_length: Length, start: us
     samples.len()
 }
 
-/// The step from a frontier with records of one kind: it tries as many starts before the frontier as its codec needs.
-fn step_of<C: Codec + Drop>(
-    kind: Kind,
-    samples: &[i32],
-    record_length: Length,
-    frontier: usize,
-) -> Step
-    requires within { frontier ≤ length samples.now }
-    requires same { C.kind ≡ kind }
-    ensures { IsStepAmong (kind ∷ []) (bytes_of record_length) samples.now frontier result }
+/// The greatest end of a run; and, where it is set, all differences of the run and the one behind it are narrow.
+#[derive(Clone, Copy, Debug)]
+struct Reach {
+    end: usize,
+    narrow: bool,
+}
+
+/// What Steim-2 reaches, where the least of its groups has so many differences: those of a group of two or more
+/// are narrow.
+fn reach_to(samples: &[i32], end: usize, least: usize) -> Reach
+    ensures end { result.end ≡ end }
+    ensures groups { IsTrue result.narrow → 1 < least }
+    ensures behind { IsTrue result.narrow → end < length samples.now → IsNarrow (difference_at samples.now end) }
 {
-    let mut start = frontier;
-    let mut end = furthest::<C>(samples, record_length, frontier);
-    let most = frontier.min(C::LOOK_BACK);
-    for back in 1..most + 1 {
-        let reached = furthest::<C>(samples, record_length, frontier - back);
-        if reached > end {
-            start = frontier - back;
-            end = reached;
+    Reach {
+        end,
+        narrow: least > 1 && (end >= samples.len() || is_narrow(difference(samples, end))),
+    }
+}
+
+/// The greatest end of a run of Steim-2 from `start` on: as many of the longest groups as there are words.
+fn steim2_reach(samples: &[i32], record_length: Length, start: usize) -> Reach
+    requires { start ≤ length samples.now }
+    ensures fits { IsRun (Fits SecondSteim (bytes_of record_length)) samples.now start result.end }
+    ensures furthest { (end : ℕ) → IsRun (Fits SecondSteim (bytes_of record_length)) samples.now start end → end ≤ result.end }
+    ensures narrow { IsTrue result.narrow → AreNarrowThrough samples.now start result.end }
+{
+    steim2_greedy_reach();
+    let words = record_length.data_words();
+    let mut at = start;
+    let mut least = 7;
+    for _word in 0..words {
+        let size = longest_steim2_group(samples, at);
+        if size == 0 {
+            return reach_to(samples, at, least);
+        }
+        least = least.min(size);
+        at += size;
+    }
+    reach_to(samples, at, least)
+}
+
+/// Whether the differences of the samples from `start` to `end` are narrow.
+fn are_narrow(samples: &[i32], start: usize, end: usize) -> bool
+    requires order { start ≤ end }
+    requires within { end ≤ length samples.now }
+    ensures { IsTrue result → AreNarrowThrough samples.now start end }
+{
+    for at in start..samples.len().min(end.saturating_add(1)) {
+        if !is_narrow(difference(samples, at)) {
+            return false;
         }
     }
-    Step { start, end, kind }
+    true
 }
 
-/// The better of a step and that of one more kind, which is not tried where its longest run would not reach as far.
-fn better_of<C: Codec + Drop>(
-    best: Step,
-    kind: Kind,
+/// Whether the bits of the samples from `start` to `end - 1` tell together that each of them is of 16 bits.
+fn all_int16(samples: &[i32], start: usize, end: usize) -> bool
+    requires order { start ≤ end }
+    requires within { end ≤ length samples.now }
+    ensures { IsTrue result → AreInt16 samples.now start end }
+{
+    let mut sizes = 0;
+    for at in start..end {
+        sizes |= magnitude(i64::from(samples[at]));
+    }
+    sizes < 32_768
+}
+
+/// The first sample from `start` on that is not of 16 bits, or `end`.
+fn first_wider(samples: &[i32], start: usize, end: usize) -> usize
+    requires order { start ≤ end }
+    requires within { end ≤ length samples.now }
+    ensures from { start ≤ result }
+    ensures to { result ≤ end }
+    ensures before { AreInt16 samples.now start result }
+    ensures there { result < end → IsInt16 (slice_index_or samples.now result (pos 0)) → ⊥ }
+{
+    for at in start..end {
+        if !fits_bits(i64::from(samples[at]), 16) {
+            return at;
+        }
+    }
+    end
+}
+
+/// How many samples are tried together.
+const TOGETHER: usize = 64;
+
+/// The greatest end of a run of 16-bit integers from `start` on.
+fn furthest_int16(samples: &[i32], record_length: Length, start: usize) -> usize
+    requires { start ≤ length samples.now }
+    ensures fits { IsRun (Fits Integers16 (bytes_of record_length)) samples.now start result }
+    ensures furthest { (end : ℕ) → IsRun (Fits Integers16 (bytes_of record_length)) samples.now start end → end ≤ result }
+{
+    let end = start + Int16::most(record_length).min(samples.len() - start);
+    let mut at = start;
+    while at < end {
+        let next = at + TOGETHER.min(end - at);
+        if !all_int16(samples, at, next) {
+            let wider = first_wider(samples, at, next);
+            if wider < next {
+                return wider;
+            }
+        }
+        at = next;
+    }
+    end
+}
+
+/// The end of a run of 16-bit integers from the frontier on; where none is long enough to reach behind `end`, the frontier.
+fn int16_end(samples: &[i32], record_length: Length, frontier: usize, end: usize) -> usize
+    requires order { frontier ≤ end }
+    requires within { end ≤ length samples.now }
+    ensures fits { IsRun (Fits Integers16 (bytes_of record_length)) samples.now frontier result }
+    ensures past { NonePast Integers16 (bytes_of record_length) samples.now frontier result end }
+{
+    if end - frontier >= Int16::most(record_length) {
+        return frontier;
+    }
+    furthest_int16(samples, record_length, frontier)
+}
+
+/// The step from the frontier with records of 32-bit integers.
+fn int32_step(samples: &[i32], record_length: Length, frontier: usize) -> Step
+    requires { frontier ≤ length samples.now }
+    ensures { IsStepAmong (Integers32 ∷ []) (bytes_of record_length) samples.now frontier result }
+{
+    let left = samples.len() - frontier;
+    Step {
+        start: frontier,
+        end: frontier + left.min(Int32::most(record_length)),
+        kind: Kind::Int32,
+    }
+}
+
+/// Whether the differences of the samples from `start` to `end - 1` take more than so many quarters of a Steim-1 word.
+fn take_more(samples: &[i32], start: usize, end: usize, most: usize) -> bool
+    requires order { start ≤ end }
+    requires within { end ≤ length samples.now }
+    requires few { end - start ≤ 2 ^ 40 }
+    ensures { IsTrue result → most < sum_by quarters (map (λ p. p.1) (run_points samples.now start end)) }
+{
+    let mut used = 0;
+    for at in start..end {
+        used += usize::from(quarters_of(difference(samples, at)));
+    }
+    used > most
+}
+
+/// Whether no Steim-1 record that starts at or before the frontier reaches behind the end of Steim-2 and close to `end`.
+/// It does not where the differences are narrow, where there are too many, and where they take more quarters of words
+/// than there are.
+fn steim1_is_short(
     samples: &[i32],
     record_length: Length,
     frontier: usize,
-) -> Step
-    requires within { frontier ≤ length samples.now }
-    requires same { C.kind ≡ kind }
-    ensures { (tried : List Kind) → IsStepAmong tried (bytes_of record_length) samples.now frontier best → IsStepAmong (kind ∷ tried) (bytes_of record_length) samples.now frontier result }
+    reach: Reach,
+    end: usize,
+) -> bool
+    requires fits { IsRun (Fits SecondSteim (bytes_of record_length)) samples.now frontier reach.end }
+    requires furthest { (end : ℕ) → IsRun (Fits SecondSteim (bytes_of record_length)) samples.now frontier end → end ≤ reach.end }
+    requires narrow { IsTrue reach.narrow → AreNarrowThrough samples.now frontier reach.end }
+    requires order { reach.end ≤ end }
+    requires within { end ≤ length samples.now }
+    ensures { IsTrue result → (s b : ℕ) → s ≤ frontier → IsRun (Fits FirstSteim (bytes_of record_length)) samples.now s b → (b ≤ reach.end) ⊎ (b + 1 < end) }
 {
-    if best.end.saturating_sub(frontier) > C::most(record_length) {
-        return best;
+    let words = record_length.data_words() as usize;
+    if reach.narrow {
+        return true;
     }
-    best.or(step_of::<C>(kind, samples, record_length, frontier))
+    if end - frontier > 4 * words + 1 {
+        return true;
+    }
+    if are_narrow(samples, frontier, reach.end) {
+        return true;
+    }
+    if end == frontier {
+        return false;
+    }
+    take_more(samples, frontier, end - 1, 4 * words)
 }
 
-/// The step from a frontier, over all kinds. The one that mostly reaches furthest comes first.
-pub fn step_from(samples: &[i32], record_length: Length, frontier: usize) -> Step
-    requires { frontier ≤ length samples.now }
-    ensures step { IsStep (FitsAny (bytes_of record_length)) samples.now frontier result.end result.start }
-    ensures kind { IsRun (Fits result.kind (bytes_of record_length)) samples.now result.start result.end }
+/// Whether the difference of a sample and those of the next three are of 8 bits.
+fn begins_with_four(samples: &[i32], start: usize) -> bool
+    requires { start < length samples.now }
+    ensures { IsFalse result → (b : ℕ) → start ≤ b → b ≤ length samples.now → BeginsWithFour (map (λ p. p.1) (run_points samples.now start b)) → ⊥ }
 {
-    let step = step_of::<Steim2>(Kind::Steim2, samples, record_length, frontier);
-    let step = better_of::<Steim1>(step, Kind::Steim1, samples, record_length, frontier);
-    let step = better_of::<Int16>(step, Kind::Int16, samples, record_length, frontier);
-    better_of::<Int32>(step, Kind::Int32, samples, record_length, frontier)
+    if samples.len() - start < 4 {
+        return false;
+    }
+    for at in start..start + 4 {
+        if !fits_bits(difference(samples, at), 8) {
+            return false;
+        }
+    }
+    true
+}
+
+/// The step from a frontier with records of Steim-1, where the end of its run from there is known. One that starts
+/// before the frontier can reach further only where its first difference shares a word with three others.
+fn steim1_step(samples: &[i32], record_length: Length, frontier: usize, end: usize) -> Step
+    requires within { frontier ≤ length samples.now }
+    requires end { IsEnd FirstSteim (bytes_of record_length) samples.now frontier end }
+    ensures { IsStepAmong (FirstSteim ∷ []) (bytes_of record_length) samples.now frontier result }
+{
+    let here = Step {
+        start: frontier,
+        end,
+        kind: Kind::Steim1,
+    };
+    if frontier == 0 {
+        return here;
+    }
+    if !begins_with_four(samples, frontier - 1) {
+        return here;
+    }
+    let before = furthest::<Steim1>(samples, record_length, frontier - 1);
+    if before > end {
+        return Step {
+            start: frontier - 1,
+            end: before,
+            kind: Kind::Steim1,
+        };
+    }
+    here
+}
+
+/// Whether more than so many of the differences of the samples from `start` to `end - 1` are of more than 10 bits.
+fn has_more_wide(samples: &[i32], start: usize, end: usize, most: usize) -> bool
+    requires order { start ≤ end }
+    requires within { end ≤ length samples.now }
+    ensures { IsTrue result → most < count_by is_wide (map (λ p. p.1) (run_points samples.now start end)) }
+{
+    let mut wide = 0;
+    for at in start..end {
+        wide += usize::from(wide_one(difference(samples, at)));
+    }
+    wide > most
+}
+
+/// The step from a frontier with records of integers alone, where those of 16 bits reach so far that too many of the
+/// differences up to there are of more than 10 bits for a record of differences.
+fn integers_alone(samples: &[i32], record_length: Length, frontier: usize) -> Option<Found>
+    requires { frontier ≤ length samples.now }
+    ensures step { IfSome result (λ found. IsStep (FitsAny (bytes_of record_length)) samples.now frontier found.step.end found.step.start) }
+    ensures kind { IfSome result (λ found. IsRun (Fits found.step.kind (bytes_of record_length)) samples.now found.step.start found.step.end) }
+    ensures ends { IfSome result (λ found. AreEnds (bytes_of record_length) samples.now frontier found.step.end found.ends) }
+{
+    let int16 = furthest_int16(samples, record_length, frontier);
+    if int16 == frontier {
+        return None;
+    }
+    let words = record_length.data_words() as usize;
+    if !has_more_wide(samples, frontier, int16 - 1, 2 * words) {
+        return None;
+    }
+    let by_int16 = Step {
+        start: frontier,
+        end: int16,
+        kind: Kind::Int16,
+    };
+    Some(Found {
+        step: by_int16.or(int32_step(samples, record_length, frontier)),
+        ends: Ends {
+            steim2: frontier,
+            steim1: frontier,
+            int16,
+        },
+    })
+}
+
+/// The step from a frontier. `likely` is the kind that is tried first where it is Int16; the step is the same whatever it is.
+pub fn next_step(samples: &[i32], record_length: Length, frontier: usize, likely: Kind) -> Found
+    requires { frontier ≤ length samples.now }
+    ensures step { IsStep (FitsAny (bytes_of record_length)) samples.now frontier result.step.end result.step.start }
+    ensures kind { IsRun (Fits result.step.kind (bytes_of record_length)) samples.now result.step.start result.step.end }
+    ensures ends { AreEnds (bytes_of record_length) samples.now frontier result.step.end result.ends }
+{
+    if likely == Kind::Int16 {
+        match integers_alone(samples, record_length, frontier) {
+            Some(found) => return found,
+            None => {}
+        }
+    }
+    step_from(samples, record_length, frontier)
+}
+
+/// The step from a frontier, over all kinds.
+pub fn step_from(samples: &[i32], record_length: Length, frontier: usize) -> Found
+    requires { frontier ≤ length samples.now }
+    ensures step { IsStep (FitsAny (bytes_of record_length)) samples.now frontier result.step.end result.step.start }
+    ensures kind { IsRun (Fits result.step.kind (bytes_of record_length)) samples.now result.step.start result.step.end }
+    ensures ends { AreEnds (bytes_of record_length) samples.now frontier result.step.end result.ends }
+{
+    let reach = steim2_reach(samples, record_length, frontier);
+    let int16 = int16_end(samples, record_length, frontier, reach.end);
+    let by_steim2 = Step {
+        start: frontier,
+        end: reach.end,
+        kind: Kind::Steim2,
+    };
+    let by_int16 = Step {
+        start: frontier,
+        end: int16,
+        kind: Kind::Int16,
+    };
+    let best = by_steim2.or(by_int16);
+    let by_int32 = int32_step(samples, record_length, frontier);
+    if steim1_is_short(samples, record_length, frontier, reach, best.end) {
+        return Found {
+            step: best.or(by_int32),
+            ends: Ends {
+                steim2: reach.end,
+                steim1: frontier,
+                int16,
+            },
+        };
+    }
+    let steim1 = furthest::<Steim1>(samples, record_length, frontier);
+    let by_steim1 = steim1_step(samples, record_length, frontier, steim1);
+    Found {
+        step: best.or(by_steim1).or(by_int32),
+        ends: Ends {
+            steim2: reach.end,
+            steim1,
+            int16,
+        },
+    }
 }

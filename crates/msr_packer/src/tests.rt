@@ -1,4 +1,4 @@
-//! Segments with their packings, worked out by hand.
+//! Segments with their packings, worked out by hand, or from the definitions by exhaustive search.
 
 use crate::pack;
 use msr_words::{Kind, Length, Run};
@@ -12,20 +12,53 @@ enum Made {
     /// -20000 at even places and 20000 at odd ones.
     Signs(usize),
     /// 1000000 at even places and 1020000 at odd ones, but the same at the places from 84 to 88.
-    Swings { count: usize, calm: i32 },
+    Swings {
+        count: usize,
+        calm: i32,
+    },
     /// The two samples that lie furthest apart.
     Extremes,
+    /// Noise by a seed, `calm` and `loud` counts high in turn, each for `stretch` samples.
+    Noise {
+        count: usize,
+        seed: u64,
+        calm: u32,
+        loud: u32,
+        stretch: usize,
+    },
+}
+
+/// The next number of a row that looks like chance.
+fn next_of(number: u64) -> u64 {
+    number
+        .wrapping_mul(6_364_136_223_846_793_005)
+        .wrapping_add(1_442_695_040_888_963_407)
+}
+
+/// A sample of noise of that height, half of it below 0.
+fn noise(number: u64, height: u32) -> i32 {
+    let above = ((number >> 33) % u64::from(height.max(1))) as i32;
+    above.wrapping_sub((height / 2).cast_signed())
 }
 
 impl Made {
     fn count(self) -> usize {
         match self {
-            Made::Zeros(count) | Made::Signs(count) | Made::Swings { count, .. } => count,
+            Made::Zeros(count) | Made::Signs(count) => count,
+            Made::Swings { count, .. } | Made::Noise { count, .. } => count,
             Made::Extremes => 2,
         }
     }
 
-    fn sample(self, place: usize) -> i32 {
+    fn seed(self) -> u64 {
+        match self {
+            Made::Noise { seed, .. } => seed,
+            _ => 0,
+        }
+    }
+
+    /// The sample at a place, where the row of chance has that number.
+    fn sample(self, place: usize, number: u64) -> i32 {
         let even = place % 2 == 0;
         match self {
             Made::Zeros(_) => 0,
@@ -40,13 +73,24 @@ impl Made {
                 }
             }
             Made::Extremes => { if even { -2_147_483_648 } else { 2_147_483_647 } }
+            Made::Noise {
+                calm,
+                loud,
+                stretch,
+                ..
+            } => {
+                let loud_now = place / stretch.max(1) % 2 == 1;
+                noise(number, if loud_now { loud } else { calm })
+            }
         }
     }
 
     fn samples(self, alloc: Global) -> Result<Vec<i32>, AllocError> {
         let mut samples = Vec::new(alloc);
+        let mut number = self.seed();
         for place in 0..self.count() {
-            samples.push(self.sample(place))?;
+            number = next_of(number);
+            samples.push(self.sample(place, number))?;
         }
         Ok(samples)
     }
@@ -61,7 +105,8 @@ struct Row {
     separators: &'static [u64],
 }
 
-const ROWS: [Row; 7] = [
+/// Those of noise were found by a search over all cuts, starts and divisions into groups.
+const ROWS: [Row; 15] = [
     // 43 words of seven differences
     Row {
         record_length: 256,
@@ -115,6 +160,140 @@ const ROWS: [Row; 7] = [
         made: Made::Extremes,
         runs: &[(0, 2, Kind::Int32)],
         separators: &[0],
+    }, // noise of 10 counts
+    Row {
+        record_length: 256,
+        made: Made::Noise {
+            count: 400,
+            seed: 1,
+            calm: 10,
+            loud: 10,
+            stretch: 1,
+        },
+        runs: &[(0, 290, Kind::Steim2), (290, 400, Kind::Steim2)],
+        separators: &[0, 290],
+    },
+    // noise of 60 counts
+    Row {
+        record_length: 256,
+        made: Made::Noise {
+            count: 400,
+            seed: 2,
+            calm: 60,
+            loud: 60,
+            stretch: 1,
+        },
+        runs: &[
+            (0, 188, Kind::Steim2),
+            (188, 375, Kind::Steim2),
+            (375, 400, Kind::Steim2),
+        ],
+        separators: &[0, 188, 375],
+    },
+    // noise of 1000 counts
+    Row {
+        record_length: 256,
+        made: Made::Noise {
+            count: 300,
+            seed: 3,
+            calm: 1_000,
+            loud: 1_000,
+            stretch: 1,
+        },
+        runs: &[
+            (0, 102, Kind::Steim2),
+            (102, 203, Kind::Steim2),
+            (203, 300, Kind::Steim2),
+        ],
+        separators: &[0, 102, 203],
+    },
+    // noise of 20000 counts
+    Row {
+        record_length: 256,
+        made: Made::Noise {
+            count: 300,
+            seed: 4,
+            calm: 20_000,
+            loud: 20_000,
+            stretch: 1,
+        },
+        runs: &[
+            (0, 96, Kind::Int16),
+            (96, 192, Kind::Int16),
+            (192, 288, Kind::Int16),
+            (288, 300, Kind::Steim2),
+        ],
+        separators: &[0, 96, 192, 288],
+    },
+    // noise where Steim-1 reaches furthest from before the frontier
+    Row {
+        record_length: 256,
+        made: Made::Noise {
+            count: 200,
+            seed: 12,
+            calm: 60,
+            loud: 70_000,
+            stretch: 40,
+        },
+        runs: &[
+            (0, 88, Kind::Steim1),
+            (88, 177, Kind::Steim1),
+            (177, 200, Kind::Steim2),
+        ],
+        separators: &[0, 89, 177],
+    },
+    // noise where Steim-1 from before the frontier reaches as far as Steim-2 from it
+    Row {
+        record_length: 256,
+        made: Made::Noise {
+            count: 260,
+            seed: 13,
+            calm: 120,
+            loud: 2_000_000,
+            stretch: 16,
+        },
+        runs: &[
+            (0, 69, Kind::Steim2),
+            (69, 137, Kind::Steim2),
+            (137, 205, Kind::Steim2),
+            (205, 260, Kind::Steim2),
+        ],
+        separators: &[0, 69, 137, 205],
+    },
+    // noise of three kinds
+    Row {
+        record_length: 256,
+        made: Made::Noise {
+            count: 200,
+            seed: 42,
+            calm: 1_000,
+            loud: 70_000,
+            stretch: 90,
+        },
+        runs: &[
+            (0, 96, Kind::Int16),
+            (96, 159, Kind::Steim1),
+            (159, 200, Kind::Steim2),
+        ],
+        separators: &[0, 96, 159],
+    },
+    // noise with differences of more than 32 bits
+    Row {
+        record_length: 256,
+        made: Made::Noise {
+            count: 200,
+            seed: 39,
+            calm: 1_000,
+            loud: 2_147_483_648,
+            stretch: 80,
+        },
+        runs: &[
+            (0, 83, Kind::Steim1),
+            (83, 131, Kind::Int32),
+            (131, 187, Kind::Steim1),
+            (187, 200, Kind::Steim2),
+        ],
+        separators: &[0, 83, 131, 187],
     },
 ];
 

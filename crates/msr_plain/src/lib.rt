@@ -1,7 +1,7 @@
 //! Data areas of plain integers, and the list of samples.
 #![tactic(auto)]
 
-ghost use Rattle.std.specs.Prelude.{◌≡◌, ◌<◌, ◌≤◌, ◌↔◌, ◌++◌, ◌-◌, ◌*◌, All, replicate, IfOk, IsErrOf, drop, length};
+ghost use Rattle.std.specs.Prelude.{◌≡◌, ◌<◌, ◌≤◌, ◌↔◌, ◌++◌, ◌-◌, ◌*◌, All, replicate, IfOk, IsErrOf, OnErr, OnOk, drop, length};
 ghost use Rattle.msr_plain.specs.Plain.{CarriesPlain, FitsWidth, bytes_of, bytes_of_all, number_in, size_of};
 
 mod laws;
@@ -68,6 +68,43 @@ fn read_number(width: Width, order: Order, bytes: &[u8]) -> i32
     }
 }
 
+/// Reads a number for each place. Inlined where width and order are literals, LLVM reads several at once.
+#[inline(always)]
+fn read_numbers(width: Width, order: Order, area: &[u8], out: &mut [i32])
+    requires { size_of width * length out.old ≤ length area.now }
+    ensures { CarriesPlain width order area.now out.new }
+{
+    for place in 0..out.len() {
+        out[place] = read_number(width, order, &area[width.bytes() * place..]);
+    }
+}
+
+/// Fills `out` with the first samples that the area carries. Bytes after them are not looked at. Takes
+/// no memory, and where the area is too short `out` is left as it was.
+pub fn decode_plain_into(
+    width: Width,
+    order: Order,
+    area: &[u8],
+    out: &mut [i32],
+) -> Result<(), PlainFault>
+    requires { length out.old ≤ 65535 }
+    ensures samples { OnOk result (CarriesPlain width order area.now out.new) }
+    ensures short { IsErrOf result PlainFault.DataShort ↔ (length area.now < size_of width * length out.old) }
+    ensures never_memory { IsErrOf result PlainFault.Memory → ⊥ }
+    ensures unchanged { OnErr result (out.new ≡ out.old) }
+{
+    if area.len() < width.bytes() * out.len() {
+        return Err(PlainFault::DataShort);
+    }
+    match (width, order) {
+        (Width::Two, Order::Big) => read_numbers(Width::Two, Order::Big, area, out),
+        (Width::Two, Order::Little) => read_numbers(Width::Two, Order::Little, area, out),
+        (Width::Four, Order::Big) => read_numbers(Width::Four, Order::Big, area, out),
+        (Width::Four, Order::Little) => read_numbers(Width::Four, Order::Little, area, out),
+    }
+    Ok(())
+}
+
 /// The first `count` samples that the area carries. Bytes after them are not looked at.
 pub fn decode_plain(
     alloc: Global,
@@ -86,11 +123,9 @@ pub fn decode_plain(
     if area.len() < width.bytes() * count {
         return Err(PlainFault::DataShort);
     }
-    let mut samples = Samples::with_capacity(alloc, count)?;
-    for place in 0..count {
-        samples.push(read_number(width, order, &area[width.bytes() * place..]))?;
-    }
-    Ok(samples)
+    let mut values = vec![in alloc; 0; count]?;
+    decode_plain_into(width, order, area, values.as_mut_slice())?;
+    Ok(Samples::from_vec(values))
 }
 
 /// Writes a sample into the first bytes, big-endian.

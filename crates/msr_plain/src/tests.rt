@@ -1,5 +1,5 @@
 // Areas from outside, and what no clause says: that a call succeeds, and the text of a fault.
-use crate::{PlainFault, Samples, Width, decode_plain, fill_plain};
+use crate::{PlainFault, Samples, Width, decode_plain, decode_plain_into, fill_plain};
 use msr_header::Order;
 use std::test::Fail;
 
@@ -40,6 +40,18 @@ fn areas_carry_samples(rt: HostRuntime) -> Result<(), Fail> {
         let decoded = decode_plain(rt.alloc(), width, order, &area, count)?;
         assert_eq!(rt; decoded.as_slice(), samples);
     }
+    Ok(())
+}
+
+#[test]
+fn numbers_in_places(rt: HostRuntime) -> Result<(), Fail> {
+    let mut out = [7; 2];
+    let area = [0x80, 0x00, 0x7f, 0xff, 9];
+    decode_plain_into(Width::Two, Order::Big, &area, &mut out)?;
+    assert!(rt; out == [-32768, 32767]);
+    let short = decode_plain_into(Width::Four, Order::Big, &area, &mut out);
+    assert_eq!(rt; short, Err(PlainFault::DataShort));
+    assert!(rt; out == [-32768, 32767]);
     Ok(())
 }
 

@@ -1,8 +1,10 @@
 -- What is written is read back as its row.
-use Rattle.std.proofs.Common.{◌≡◌, ◌≢◌, ℕ, ◌+◌, ◌-◌, ◌/◌, ◌%◌, ◌^◌, ◌<◌, ◌≤◌, true, false, ℤ, pos, ◌+ℤ◌, List, ◌++◌, length, take, drop, refl, sym, ap, ◌∙◌, arith, append_assoc, Option, Some, None, Ok, IsTrue, length-append}
+use Rattle.std.proofs.Common.{◌≡◌, ◌≢◌, ℕ, ◌+◌, ◌-◌, ◌/◌, ◌%◌, ◌^◌, ◌<◌, ◌≤◌, true, false, ℤ, pos, ◌+ℤ◌, List, [], ◌++◌, length, take, drop, refl, sym, ap, ◌∙◌, arith, append_assoc, Option, Some, None, Ok, IsTrue, length-append}
 use Rattle.std.specs.Prelude.{slice_range}
 use Rattle.std.specs.List.{list_all}
 use Rattle.std.proofs.lemmas.Bool.{le-leb}
+use Rattle.std.proofs.lemmas.List.{append-nil, drop_all, drop_at, length-drop, length-take-le, take_all, take_at}
+use borrow.Rule.Slice.PartMut.{put_mid}
 use Rattle.std.proofs.Math.Pow.{pow_mono}
 use Rattle.std.proofs.Math.Seq.{drop-append_seam, take-append_seam}
 use Rattle.msr_time.proofs.SignedFacts.{signed_arith}
@@ -138,3 +140,42 @@ appends_record old new front area key start sequence before samples kind size ex
         no_reverse = tt;
       };
     }
+
+-- ---- a record in its place
+
+-- what stands behind the header, where all behind it was written
+pub behind_header : (bytes area : List ℕ) → 64 ≤ length bytes → drop 64 (put_mid 64 (length bytes - 64) bytes area) ≡ area
+behind_header bytes area enough =
+    let front : length (take 64 bytes) ≡ 64 = length-take-le 64 bytes enough in
+    let left = length-drop 64 bytes in
+    let none : drop (length bytes - 64) (drop 64 bytes) ≡ [] = drop_all (length bytes - 64) (drop 64 bytes) (omega arith) in
+    drop_at (take 64 bytes) (area ++ drop (length bytes - 64) (drop 64 bytes)) 64 front ∙ ap (λ (x : List ℕ). area ++ x) none ∙ append-nil area
+
+-- what stands in a vector whose new part was written
+pub new_part : (old zeros items now part : List ℕ) (end len : ℕ) → items ≡ old ++ zeros → now ≡ items → length old ≡ end → length part ≡ length zeros → len ≡ length items
+    → take len (put_mid end (length now - end) now part ++ drop (length (put_mid end (length now - end) now part)) items) ≡ old ++ part
+new_part old zeros items now part end len filled same size new_size long =
+    let now_is : now ≡ old ++ zeros = same ∙ filled in
+    let all : length items ≡ length old + length zeros = ap length filled ∙ length-append old zeros in
+    let now_long : length now ≡ length items = ap length same in
+    let front : take end now ≡ old = ap (take end) now_is ∙ take_at old zeros end size in
+    let left = length-drop end now in
+    let none : drop (length now - end) (drop end now) ≡ [] = drop_all (length now - end) (drop end now) (omega arith) in
+    let whole : put_mid end (length now - end) now part ≡ old ++ part = ap (λ (x : List ℕ). x ++ (part ++ drop (length now - end) (drop end now))) front ∙ ap (λ (x : List ℕ). old ++ (part ++ x)) none ∙ ap (λ (x : List ℕ). old ++ x) (append-nil part) in
+    let wide = length-append old part in
+    let wide' : length (put_mid end (length now - end) now part) ≡ length (old ++ part) = ap length whole in
+    let kept : take len (put_mid end (length now - end) now part) ≡ old ++ part = take_all len (put_mid end (length now - end) now part) (omega arith) ∙ whole in
+    let nothing : drop (length (put_mid end (length now - end) now part)) items ≡ [] = drop_all (length (put_mid end (length now - end) now part)) items (omega arith) in
+    ap (λ (x : List ℕ). take len (put_mid end (length now - end) now part ++ x)) nothing ∙ ap (take len) (append-nil (put_mid end (length now - end) now part)) ∙ kept
+
+-- a record that stands behind others
+pub appended_behind : (old new part : List ℕ) (key : Key) (start : ℤ) (sequence : ℕ) (before : Option ℤ) (samples : List ℤ) (kind : Kind) (size : ℕ) → new ≡ old ++ part
+    → AppendsRecord [] part key start sequence before samples kind size → AppendsRecord old new key start sequence before samples kind size
+appended_behind old new part key start sequence before samples kind size joined alone = record {
+  bytes = alone.bytes;
+  joined = joined ∙ ap (λ (x : List ℕ). old ++ x) alone.joined;
+  size_is = alone.size_is;
+  written = alone.written;
+  row = alone.row;
+  found = alone.found;
+}

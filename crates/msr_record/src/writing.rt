@@ -1,5 +1,5 @@
 //! Writing a record.
-ghost use Rattle.std.specs.Prelude.{◌≡◌, ◌≢◌, pos, ◌+◌, ◌-◌, ◌*◌, ◌/◌, ◌%◌, ◌^◌, ◌<◌, ◌≤◌, ◌++◌, IsTrue, OnOk, OnErr, false, length};
+ghost use Rattle.std.specs.Prelude.{◌≡◌, ◌≢◌, pos, ◌+◌, ◌-◌, ◌*◌, ◌/◌, ◌%◌, ◌^◌, ◌<◌, ◌≤◌, ◌++◌, IsTrue, OnOk, OnErr, false, [], drop, length};
 ghost use Rattle.msr_time.specs.Instant.{IsInstant};
 ghost use Rattle.msr_header.specs.Reading.{is_quality};
 ghost use Rattle.msr_words.specs.Fit.{Fits};
@@ -9,7 +9,7 @@ ghost use Rattle.msr_record.specs.Correction.{is_pending};
 ghost use Rattle.msr_record.specs.Written.{sequence_digits, header_for, AppendsRecord};
 
 use crate::row::Key;
-use crate::written_area::written_area;
+use crate::written_area::fill_area;
 use msr_header::{Header, Order, Timing, write_header};
 use msr_time::{BTime, split};
 use msr_words::{Kind, Length};
@@ -81,18 +81,42 @@ fn header_for(
     }
 }
 
-/// Appends two parts, or nothing.
-fn append(out: &mut Vec<u8>, front: &[u8], area: &[u8]) -> Result<(), AllocError>
-    ensures appended { OnOk result (out.new.items ≡ out.old.items ++ (front.now ++ area.now)) }
-    ensures unchanged { OnErr result (out.new.items ≡ out.old.items) }
+/// Puts a header in front of an area.
+fn put_header(bytes: &mut [u8], header: &[u8; 64])
+    requires { 64 ≤ length bytes.old }
+    ensures { bytes.new ≡ header.now ++ drop 64 bytes.old }
 {
-    let before = out.len();
-    out.extend_from_slice(front)?;
-    let appended = out.extend_from_slice(area);
-    if appended.is_err() {
-        out.truncate(before);
-    }
-    appended
+    bytes[..64].copy_from_slice(header);
+}
+
+/// Fills the bytes, as many as the length says, with the record of the run.
+fn fill_record(
+    alloc: Global,
+    key: &Key,
+    start: i64,
+    sequence: u32,
+    before: Option<i32>,
+    run: &[i32],
+    kind: Kind,
+    record_length: Length,
+    bytes: &mut [u8],
+) -> Result<(), AllocError>
+    requires quality { IsTrue (is_quality key.now.quality) }
+    requires normal { is_pending key.now.activity key.now.correction ≡ false }
+    requires start { IsInstant start }
+    requires sequence { (1 ≤ sequence) × (sequence ≤ 999999) }
+    requires some { 1 ≤ length run.now }
+    requires fits { Fits kind (bytes_of record_length) (points before run.now) }
+    requires size { length bytes.old ≡ bytes_of record_length }
+    ensures { OnOk result (AppendsRecord [] bytes.new key.now start sequence before run.now kind (bytes_of record_length)) }
+{
+    let (time, micros) = split(start).unwrap();
+    let frames = fill_area(alloc, before, run, kind, record_length, &mut bytes[64..])?;
+    let count = run.len() as u16;
+    let exponent = record_length.exponent();
+    let header = header_for(key, time, micros, sequence, count, kind, exponent, frames);
+    put_header(bytes, &write_header(&header));
+    Ok(())
 }
 
 /// Appends one record of that length with the samples of the run, which fit it: the row of the new
@@ -121,19 +145,21 @@ pub fn encode_record(
     ensures appended { OnOk result (AppendsRecord out.old.items out.new.items key.now start sequence before run.now kind (bytes_of record_length)) }
     ensures unchanged { OnErr result (out.new.items ≡ out.old.items) }
 {
-    let (time, micros) = split(start).unwrap();
-    let area = written_area(alloc, before, run, kind, record_length)?;
-    let count = run.len() as u16;
-    let exponent = record_length.exponent();
-    let header = header_for(
+    let end = out.len();
+    out.resize(end + record_length.bytes() as usize, 0)?;
+    let filled = fill_record(
+        alloc,
         key,
-        time,
-        micros,
+        start,
         sequence,
-        count,
+        before,
+        run,
         kind,
-        exponent,
-        area.frames,
+        record_length,
+        &mut out[end..],
     );
-    append(out, &write_header(&header), &area.bytes)
+    if filled.is_err() {
+        out.truncate(end);
+    }
+    filled
 }

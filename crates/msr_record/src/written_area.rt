@@ -1,5 +1,5 @@
 //! The data area of a written record.
-ghost use Rattle.std.specs.Prelude.{◌≡◌, ◌+◌, ◌-◌, ◌*◌, ◌/◌, ◌%◌, ◌^◌, ◌<◌, ◌≤◌, ◌++◌, ◌∷◌, ℤ, pos, List, Some, All, FitsSigned, IfOk, length, map, slice_index_or};
+ghost use Rattle.std.specs.Prelude.{◌≡◌, ◌+◌, ◌-◌, ◌*◌, ◌/◌, ◌%◌, ◌^◌, ◌<◌, ◌≤◌, ◌++◌, ◌∷◌, ℤ, pos, List, Some, All, FitsSigned, IfOk, OnOk, length, map, slice_index_or};
 ghost use Rattle.std.specs.Int.{w32};
 ghost use Rattle.msr_plain.specs.Plain.{CarriesPlain, FitsWidth, size_of};
 ghost use Rattle.msr_steim.specs.Area.{CarriesSteim, ReverseAgrees as FramesAgree};
@@ -17,15 +17,8 @@ ghost use Rattle.msr_record.specs.Written.{AreFrames, AreNumbers, IsWrittenArea,
 use msr_header::Order;
 use msr_plain::{Width, fill_plain};
 use msr_steim::{Group, Version, fill_steim};
-use msr_words::{Kind, Length, groups};
+use msr_words::{Kind, Length, fill_steim2, groups};
 use std::alloc::{AllocError, Global};
-
-/// A data area, and the frame count that blockette 1001 has for it.
-#[derive(Debug, Drop)]
-pub(crate) struct WrittenArea {
-    pub frames: u8,
-    pub bytes: Vec<u8>,
-}
 
 /// Each sample has 32 bits, which is known of it once it is read.
 fn are_32_bit(run: &[i32])
@@ -34,24 +27,6 @@ fn are_32_bit(run: &[i32])
     for sample in run {
         let _sample = *sample;
     }
-}
-
-/// An area of so many bytes with these numbers.
-fn numbers_area(
-    alloc: Global,
-    width: Width,
-    run: &[i32],
-    size: usize,
-) -> Result<WrittenArea, AllocError>
-    requires fit { All (FitsWidth width) run.now }
-    requires room { size_of width * length run.now ≤ size }
-    ensures written { IfOk result (λ area. AreNumbers width run.now size area.frames area.bytes.items) }
-    ensures carried { IfOk result (λ area. CarriesPlain width Order.Big area.bytes.items run.now) }
-    ensures size { IfOk result (λ area. length area.bytes.items ≡ size) }
-{
-    let mut bytes = vec![in alloc; 0u8; size]?;
-    fill_plain(width, run, &mut bytes);
-    Ok(WrittenArea { frames: 0, bytes })
 }
 
 /// The difference of a sample from the one before it; without one it is 0.
@@ -103,72 +78,86 @@ fn groups_of(
     Ok(found.unwrap())
 }
 
-/// So many bytes of frames with these groups and the constants of the run.
-fn filled_frames(
-    alloc: Global,
-    version: Version,
-    run: &[i32],
-    groups: &[Group],
-    size: usize,
-) -> Result<Vec<u8>, AllocError>
+/// Fills the area with Steim-1 frames of these groups and the constants of the run.
+fn fill_groups(run: &[i32], groups: &[Group], area: &mut [u8])
     requires some { 1 ≤ length run.now }
-    requires groups { AreGroups version (map (λ g. g.items) groups.now) }
-    requires frames { size % 64 ≡ 0 }
-    requires room { length groups.now + 2 ≤ 15 * (size / 64) }
-    ensures bytes { IfOk result (λ bytes. bytes.items ≡ frame_bytes version (slice_index_or run.now 0 (pos 0)) (slice_index_or run.now (length run.now - 1) (pos 0)) (map (λ g. g.items) groups.now) (size / 64)) }
-    ensures size { IfOk result (λ bytes. length bytes.items ≡ size) }
+    requires groups { AreGroups Version.One (map (λ g. g.items) groups.now) }
+    requires frames { length area.old % 64 ≡ 0 }
+    requires room { length groups.now + 2 ≤ 15 * (length area.old / 64) }
+    ensures { area.new ≡ frame_bytes Version.One (slice_index_or run.now 0 (pos 0)) (slice_index_or run.now (length run.now - 1) (pos 0)) (map (λ g. g.items) groups.now) (length area.old / 64) }
 {
-    let mut bytes = vec![in alloc; 0u8; size]?;
-    fill_steim(version, run[0], run[run.len() - 1], groups, &mut bytes);
-    Ok(bytes)
+    fill_steim(Version::One, run[0], run[run.len() - 1], groups, area);
 }
 
-/// An area of frames with the differences of the run.
-fn frames_area(
+/// Fills the area with Steim-1 frames of the differences of the run, and gives their number.
+fn fill_steim1_frames(
     alloc: Global,
-    version: Version,
     before: Option<i32>,
     run: &[i32],
     record_length: Length,
-) -> Result<WrittenArea, AllocError>
+    area: &mut [u8],
+) -> Result<u8, AllocError>
     requires some { 1 ≤ length run.now }
     requires range { All (FitsSigned w32) run.now }
-    requires fits { CanDivide version (words_of (bytes_of record_length)) (differences before run.now) }
-    ensures written { IfOk result (λ area. AreFrames version before run.now (bytes_of record_length - 64) area.frames area.bytes.items) }
-    ensures carried { IfOk result (λ area. CarriesSteim version Order.Big area.bytes.items run.now) }
-    ensures reverse { IfOk result (λ area. FramesAgree Order.Big area.bytes.items run.now) }
-    ensures size { IfOk result (λ area. length area.bytes.items ≡ bytes_of record_length - 64) }
+    requires fits { CanDivide Version.One (words_of (bytes_of record_length)) (differences before run.now) }
+    requires size { length area.old ≡ bytes_of record_length - 64 }
+    ensures written { IfOk result (λ frames. AreFrames Version.One before run.now (bytes_of record_length - 64) frames area.new) }
+    ensures carried { OnOk result (CarriesSteim Version.One Order.Big area.new run.now) }
+    ensures reverse { OnOk result (FramesAgree Order.Big area.new run.now) }
 {
-    let size = record_length.bytes() as usize - 64;
-    let groups = groups_of(alloc, version, before, run, record_length)?;
-    let bytes = filled_frames(alloc, version, run, &groups, size)?;
-    Ok(WrittenArea {
-        frames: frame_count(groups.len()),
-        bytes,
-    })
+    let groups = groups_of(alloc, Version::One, before, run, record_length)?;
+    fill_groups(run, &groups, area);
+    Ok(frame_count(groups.len()))
 }
 
-/// The area of a record of that kind and length with the run.
-pub(crate) fn written_area(
+/// Fills the area with Steim-2 frames of the differences of the run, and gives their number.
+fn fill_steim2_frames(
+    before: Option<i32>,
+    run: &[i32],
+    record_length: Length,
+    area: &mut [u8],
+) -> u8
+    requires some { 1 ≤ length run.now }
+    requires range { All (FitsSigned w32) run.now }
+    requires fits { CanDivide Version.Two (words_of (bytes_of record_length)) (differences before run.now) }
+    requires size { length area.old ≡ bytes_of record_length - 64 }
+    ensures written { AreFrames Version.Two before run.now (bytes_of record_length - 64) result area.new }
+    ensures carried { CarriesSteim Version.Two Order.Big area.new run.now }
+    ensures reverse { FramesAgree Order.Big area.new run.now }
+{
+    let _bytes = record_length.bytes();
+    let groups = fill_steim2(before, run, area);
+    frame_count(groups)
+}
+
+/// Fills the area of a record of that kind and length with the run, and gives the frame count that
+/// blockette 1001 has for it.
+pub(crate) fn fill_area(
     alloc: Global,
     before: Option<i32>,
     run: &[i32],
     kind: Kind,
     record_length: Length,
-) -> Result<WrittenArea, AllocError>
+    area: &mut [u8],
+) -> Result<u8, AllocError>
     requires some { 1 ≤ length run.now }
     requires fits { Fits kind (bytes_of record_length) (points before run.now) }
-    ensures written { IfOk result (λ area. IsWrittenArea kind before run.now (bytes_of record_length - 64) area.frames area.bytes.items) }
-    ensures carried { IfOk result (λ area. Carries kind Order.Big area.bytes.items run.now) }
-    ensures reverse { IfOk result (λ area. ReverseAgrees kind Order.Big area.bytes.items run.now) }
-    ensures size { IfOk result (λ area. length area.bytes.items ≡ bytes_of record_length - 64) }
+    requires size { length area.old ≡ bytes_of record_length - 64 }
+    ensures written { IfOk result (λ frames. IsWrittenArea kind before run.now (bytes_of record_length - 64) frames area.new) }
+    ensures carried { OnOk result (Carries kind Order.Big area.new run.now) }
+    ensures reverse { OnOk result (ReverseAgrees kind Order.Big area.new run.now) }
 {
     are_32_bit(run);
-    let size = record_length.bytes() as usize - 64;
     match kind {
-        Kind::Int16 => numbers_area(alloc, Width::Two, run, size),
-        Kind::Int32 => numbers_area(alloc, Width::Four, run, size),
-        Kind::Steim1 => frames_area(alloc, Version::One, before, run, record_length),
-        Kind::Steim2 => frames_area(alloc, Version::Two, before, run, record_length),
+        Kind::Int16 => {
+            fill_plain(Width::Two, run, area);
+            Ok(0)
+        },
+        Kind::Int32 => {
+            fill_plain(Width::Four, run, area);
+            Ok(0)
+        },
+        Kind::Steim1 => fill_steim1_frames(alloc, before, run, record_length, area),
+        Kind::Steim2 => Ok(fill_steim2_frames(before, run, record_length, area)),
     }
 }

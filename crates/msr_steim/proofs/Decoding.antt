@@ -9,79 +9,19 @@ use Rattle.std.proofs.lemmas.Bool.{cases_lt}
 use Rattle.std.proofs.lemmas.Grind.{flat_map-append}
 use Rattle.msr_header.specs.declared.header.Order.{Order}
 use Rattle.msr_steim.specs.declared.word.Version.{Version}
-use Rattle.msr_steim.specs.Area.{CarriesSteim, FirstWordsHold, WordHolds, constant, differences, next_sample, samples_of, sums_after, word_count}
+use Rattle.msr_steim.specs.Area.{CarriesSteim, FirstWordsHold, WordHolds, constant, differences, samples_of, sums_after, word_count}
 
--- the sum of the last sample and the difference, as the code has it
-pub next_is : (samples : List ℤ) (first d : ℤ) → 1 ≤ length samples → SFits w32 (get_or samples (length samples - 1) (pos 0)) → SFits w32 d
-    → to_z w32 ((of_z w32 (get_or samples (length samples - 1) (pos 0)) + of_z w32 d) % 4294967296) ≡ next_sample first samples d
-next_is [] first d some f g = absurd (omega arith)
-next_is (s ∷ ss) first d some f g =
-    let e : suc (length ss) - 1 ≡ length ss = omega arith in
-    wrapping_add_is w32 (get_or (s ∷ ss) (length (s ∷ ss) - 1) (pos 0)) d f g ∙ ap (λ n. int_wrap w32 (get_or (s ∷ ss) n (pos 0) +ℤ d)) e
-
-sums_after_push : (x : ℤ) (es : List ℤ) (d : ℤ) → sums_after x (es ++ d ∷ []) ≡ sums_after x es ++ int_wrap w32 (get_or (x ∷ sums_after x es) (length (sums_after x es)) (pos 0) +ℤ d) ∷ []
+pub sums_after_push : (x : ℤ) (es : List ℤ) (d : ℤ) → sums_after x (es ++ d ∷ []) ≡ sums_after x es ++ int_wrap w32 (get_or (x ∷ sums_after x es) (length (sums_after x es)) (pos 0) +ℤ d) ∷ []
 sums_after_push x [] d = refl
 sums_after_push x (e ∷ es) d = ap (λ s. int_wrap w32 (x +ℤ e) ∷ s) (sums_after_push (int_wrap w32 (x +ℤ e)) es d)
 
--- one more difference is one more sample
-pub samples_of_push : (first : ℤ) (es : List ℤ) (d : ℤ) → samples_of first (es ++ d ∷ []) ≡ samples_of first es ++ next_sample first (samples_of first es) d ∷ []
-samples_of_push first [] d = refl
-samples_of_push first (e ∷ es) d = ap (λ s. first ∷ s) (sums_after_push first es d)
-
-length-sums_after : (x : ℤ) (es : List ℤ) → length (sums_after x es) ≡ length es
+pub length-sums_after : (x : ℤ) (es : List ℤ) → length (sums_after x es) ≡ length es
 length-sums_after x [] = refl
 length-sums_after x (e ∷ es) = ap suc (length-sums_after (int_wrap w32 (x +ℤ e)) es)
 
 pub length-samples_of : (first : ℤ) (es : List ℤ) → length (samples_of first es) ≡ length es
 length-samples_of first [] = refl
 length-samples_of first (e ∷ es) = ap suc (length-sums_after first es)
-
--- no difference of the group yet
-pub no_group : (first : ℤ) (before group items : List ℤ) (count : ℕ) → items ≡ samples_of first before → length items ≤ count → items ≡ take count (samples_of first (before ++ take 0 group))
-no_group first before group items count same few =
-    same ∙ ap (samples_of first) (sym (append-nil before)) ∙ sym (take_all count (samples_of first (before ++ [])) (rw (append-nil before, ← same) few))
-
-group_more : (first : ℤ) (before group : List ℤ) (i : ℕ) → i < length group
-    → samples_of first (before ++ take (i + 1) group) ≡ samples_of first (before ++ take i group) ++ next_sample first (samples_of first (before ++ take i group)) (get_or group i (pos 0)) ∷ []
-group_more first before group i within =
-    ap (λ g. samples_of first (before ++ g)) (take_more group i (pos 0) within)
-    ∙ ap (samples_of first) (sym (append_assoc before (take i group) (get_or group i (pos 0) ∷ [])))
-    ∙ samples_of_push first (before ++ take i group) (get_or group i (pos 0))
-
--- one more difference of the group, where there is room for a sample
-pub group_push : (first : ℤ) (before group items : List ℤ) (i count : ℕ) → i < length group → items ≡ take count (samples_of first (before ++ take i group)) → length items < count
-    → items ++ next_sample first items (get_or group i (pos 0)) ∷ [] ≡ take count (samples_of first (before ++ take (i + 1) group))
-group_push first before group items i count within same few =
-    let s = samples_of first (before ++ take i group) in
-    let size : length items ≡ min count (length s) = ap length same ∙ length-take count s in
-    let short : length s < count = omega arith in
-    let whole : items ≡ s = same ∙ take_all count s (omega arith) in
-    let more = group_more first before group i within in
-    let pushed : s ++ next_sample first s (get_or group i (pos 0)) ∷ [] ≡ samples_of first (before ++ take (i + 1) group) = sym more in
-    let bound : length (s ++ next_sample first s (get_or group i (pos 0)) ∷ []) ≤ count = simp length-append (omega arith) in
-    ap (λ xs. xs ++ next_sample first xs (get_or group i (pos 0)) ∷ []) whole ∙ pushed ∙ sym (take_all count (samples_of first (before ++ take (i + 1) group)) (rw more bound))
-
--- one more difference of the group, where there is none
-pub group_full : (first : ℤ) (before group items : List ℤ) (i count : ℕ) → i < length group → items ≡ take count (samples_of first (before ++ take i group)) → count ≤ length items
-    → items ≡ take count (samples_of first (before ++ take (i + 1) group))
-group_full first before group items i count within same full =
-    let s = samples_of first (before ++ take i group) in
-    let size : length items ≡ min count (length s) = ap length same ∙ length-take count s in
-    let long : count ≤ length s = omega arith in
-    same ∙ sym (ap (take count) (group_more first before group i within) ∙ take-append-le count s (next_sample first s (get_or group i (pos 0)) ∷ []) long)
-
--- one more difference of the group
-pub group_step : (first : ℤ) (before group items : List ℤ) (i count : ℕ) → i < length group → items ≡ take count (samples_of first (before ++ take i group))
-    → take count (items ++ next_sample first items (get_or group i (pos 0)) ∷ []) ≡ take count (samples_of first (before ++ take (i + 1) group))
-group_step first before group items i count within same =
-    ⊎_elim
-    (λ (few : length items < count). let bound : length (items ++ next_sample first items (get_or group i (pos 0)) ∷ []) ≤ count = simp length-append (omega arith) in
-    take_all count (items ++ next_sample first items (get_or group i (pos 0)) ∷ []) bound ∙ group_push first before group items i count within same few)
-    (λ (full : count ≤ length items). take-append-le count items (next_sample first items (get_or group i (pos 0)) ∷ []) full ∙ take_all count items small ∙ group_full first before group items i count within same full)
-    (cases_lt (length items) count)
-  where
-    small : length items ≤ count
-    small = let size : length items ≡ min count (length (samples_of first (before ++ take i group))) = ap length same ∙ length-take count (samples_of first (before ++ take i group)) in omega arith
 
 -- ---- word by word
 
@@ -103,7 +43,7 @@ none_read version order area count first some = record {
   sums = refl;
 }
 
-one_more_held : (version : Version) (order : Order) (area : List ℕ) (groups : List (List ℤ)) (group : List ℤ) → FirstWordsHold version order area groups → length groups < word_count area
+pub one_more_held : (version : Version) (order : Order) (area : List ℕ) (groups : List (List ℤ)) (group : List ℤ) → FirstWordsHold version order area groups → length groups < word_count area
     → WordHolds version order area (length groups) group → FirstWordsHold version order area (groups ++ group ∷ [])
 one_more_held version order area groups group held within here = record {
   within = rw length-append (omega arith);
@@ -117,7 +57,7 @@ one_more_held version order area groups group held within here = record {
         subst (λ m. WordHolds version order area m (get_or (groups ++ group ∷ []) m [])) e (rw (get_or-append_seam groups group [] []) here))
         (cases_lt n (length groups))
 
-differences_push : (groups : List (List ℤ)) (group : List ℤ) → differences (groups ++ group ∷ []) ≡ differences groups ++ group
+pub differences_push : (groups : List (List ℤ)) (group : List ℤ) → differences (groups ++ group ∷ []) ≡ differences groups ++ group
 differences_push groups group = flat_map-append (λ g. g) groups (group ∷ []) ∙ ap (λ g. differences groups ++ g) (append-nil group)
 
 -- one more word, and still too few samples
@@ -160,11 +100,3 @@ read_enough version order area count number old new group read within here pushe
       enough = rw more (omega arith);
       sums = rw (same, more) cut;
     }
-
--- what a push of a group says, of equal values
-pub pushed_so : (x y : ℤ) (m n : ℕ) (g h old new : List ℤ) → x ≡ y → m ≡ n → g ≡ h
-    → ((before : List ℤ) → old ≡ samples_of x before → new ≡ take m (samples_of x (before ++ g)))
-    → (before : List ℤ) → old ≡ samples_of y before → new ≡ take n (samples_of y (before ++ h))
-pushed_so x y m n g h old new e f k pushed before same =
-    pushed before (same ∙ ap (λ z. samples_of z before) (sym e)) ∙ ap (λ z. take m (samples_of z (before ++ g))) e
-    ∙ ap (λ z. take z (samples_of y (before ++ g))) f ∙ ap (λ z. take n (samples_of y (before ++ z))) k

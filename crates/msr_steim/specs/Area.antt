@@ -98,8 +98,3 @@ pub record IsUndefinedBefore (version : Version) (order : Order) (area : List �
   pub within : number < word_count area
   pub few : length (differences groups) < count
   pub undefined : IsUndefined version order area number
-
--- the sample after these, by its difference
-abbrev pub next_sample : ℤ → List ℤ → ℤ → ℤ
-next_sample first [] d = first
-next_sample first (s ∷ ss) d = int_wrap w32 (slice_index_or (s ∷ ss) (length ss) (pos 0) +ℤ d)

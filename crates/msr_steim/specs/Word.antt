@@ -1,5 +1,5 @@
 -- What a 32-bit word of Steim data holds (SEED 2.4, appendix B).
-use Rattle.std.specs.Prelude.{◌≡◌, ◌≢◌, ◌<◌, ◌==◌, ℕ, suc, ◌+◌, ◌-◌, ◌*◌, ◌/◌, ◌%◌, ◌^◌, ℤ, pos, negsuc, Bool, true, false, List, [], ◌∷◌, ◌++◌, length, map, Option, Some, None, IsSomeAnd, IfSome, if◌then◌else◌, ◌≤◌, replicate, unwrap_or, ⊤}
+use Rattle.std.specs.Prelude.{◌≡◌, ◌≢◌, ◌<◌, ◌==◌, nat_lt, ℕ, zero, suc, ◌+◌, ◌-◌, ◌*◌, ◌/◌, ◌%◌, ◌^◌, ℤ, pos, negsuc, Bool, true, false, List, [], ◌∷◌, ◌++◌, length, map, Option, Some, None, IsSomeAnd, IfSome, if◌then◌else◌, ◌≤◌, replicate, unwrap_or, ⊤}
 use Rattle.std.specs.List.{AllByRecursion}
 use Rattle.std.specs.Int.Digits.{number_from_digits}
 use Rattle.msr_steim.specs.declared.word.Division.{Division}
@@ -16,6 +16,15 @@ FitsBits width (negsuc n) = n < 2 ^ (width - 1)
 abbrev pub twos_complement : ℕ → ℤ → ℕ
 twos_complement width (pos n) = n
 twos_complement width (negsuc n) = 2 ^ width - suc n
+
+-- the number that a field of `width` bits is in two's complement
+unfoldable pub signed_of : ℕ → ℕ → ℤ
+signed_of width field = if nat_lt field (2 ^ (width - 1)) then pos field else negsuc (2 ^ width - 1 - field)
+
+-- the numbers in the lowest so many fields of a word, the highest first
+unfoldable pub numbers_in : ℕ → ℕ → ℕ → List ℤ
+numbers_in word width zero = []
+numbers_in word width (suc below) = signed_of width (word / 2 ^ (below * width) % 2 ^ width) ∷ numbers_in word width below
 
 -- the fields of some numbers side by side, as one number: the first field has the highest bits
 abbrev pub joined_fields : ℕ → List ℤ → ℕ

@@ -1,11 +1,13 @@
 //! The samples that a data area of Steim frames carries.
 
-ghost use Rattle.std.specs.Prelude.{◌≡◌, ◌<◌, ◌≤◌, ◌↔◌, [], ◌∷◌, ◌++◌, ℕ, ℤ, List, ◌+◌, ◌-◌, ◌*◌, IfOk, IfSome, IsErrOf, IsNone, IsTrue, OnOk, Some, length, slice_get, take};
+ghost use Rattle.std.specs.Prelude.{◌≡◌, ◌<◌, ◌≤◌, ◌↔◌, ℕ, ℤ, List, ◌+◌, ◌-◌, ◌*◌, ◌/◌, ◌%◌, ◌^◌, IfOk, IsErrOf, IsTrue, OnOk, Some, length, slice_get};
 ghost use Rattle.msr_header.specs.declared.header.Order.{Order};
 ghost use Rattle.msr_steim.specs.declared.word.Version.{Version};
-ghost use Rattle.msr_steim.specs.Area.{CarriesSteim, EndsBefore, IsUndefined, IsUndefinedBefore, ReverseAgrees, WordHolds, arranged_word, code_of, constant, next_sample, samples_of, whole_word};
+ghost use Rattle.msr_steim.specs.Area.{CarriesSteim, EndsBefore, IsUndefinedBefore, ReverseAgrees, arranged_word, constant, samples_of, sums_after, whole_word};
+ghost use Rattle.msr_steim.specs.Word.{Holds};
 
-use crate::word::{Group, Version, read_word};
+use crate::sums::{Place, write_word_sums};
+use crate::word::{BadCode, Version, read_word};
 use byteorder::{BigEndian, ByteOrder, LittleEndian};
 use msr_header::Order;
 use msr_plain::Samples;
@@ -56,17 +58,23 @@ fn whole_word_at(order: Order, area: &[u8], number: usize) -> u32
     }
 }
 
-/// The code of a word.
-fn code_at(order: Order, area: &[u8], number: usize) -> u8
-    requires { 4 * number + 4 ≤ length area.now }
-    ensures value { result ≡ code_of order area.now number }
+/// The code of a word of a frame with these codes.
+#[inline(always)]
+fn code_in(codes: u32, slot: usize) -> u8
+    requires { slot < 16 }
+    ensures value { result ≡ codes / 2 ^ (30 - 2 * slot) % 4 }
     ensures small { result < 4 }
 {
-    if number < 3 || number % 16 == 0 {
-        return 0;
-    }
-    let codes = whole_word_at(order, area, number / 16 * 16);
-    ((codes >> (30 - 2 * (number % 16))) & 3) as u8
+    ((codes << (2 * slot)) >> 30) as u8
+}
+
+/// The first word of a frame that has differences: its first word has the codes, and two more of the
+/// first frame are the constants.
+fn first_slot(frame: usize) -> usize
+    ensures first { frame ≡ 0 → result ≡ 3 }
+    ensures others { 0 < frame → result ≡ 1 }
+{
+    if frame == 0 { 3 } else { 1 }
 }
 
 /// A word with this code as a big-endian frame has it.
@@ -85,60 +93,40 @@ fn arranged_word_at(version: Version, order: Order, code: u8, area: &[u8], numbe
     }
 }
 
-/// The sample after these.
-fn sample_after(samples: &[i32], first: i32, difference: i32) -> i32
-    ensures { result ≡ next_sample first samples.now difference }
+/// What the differences of the first group are added to, so that the first sample is the constant.
+#[cold]
+#[inline(never)]
+fn before_first(version: Version, code: u8, word: u32, first: i32) -> i32
+    requires { code < 4 }
+    ensures { (group : List ℤ) → Holds version code word group
+        → samples_of first group ≡ sums_after result group }
 {
-    match samples {
-        [] => first,
-        [.., last] => last.wrapping_add(difference),
+    match read_word(version, code, word) {
+        Ok(group) => match group.as_slice() {
+            [] => first,
+            [difference, ..] => first.wrapping_sub(*difference),
+        },
+        Err(BadCode) => first,
     }
 }
 
-/// Adds the sample that a difference gives, where there are fewer than `count`.
-fn push_sample(
-    samples: &mut Samples,
-    first: i32,
-    difference: i32,
-    count: usize,
-) -> Result<(), AllocError>
-    requires { length samples.old ≤ count }
-    ensures { OnOk result (samples.new
-        ≡ take count (samples.old ++ next_sample first samples.old difference ∷ [])) }
+/// Where the samples of a word go, and what its differences are added to.
+#[inline(always)]
+fn start_of(version: Version, code: u8, word: u32, first: i32, at: Place) -> Place
+    requires { code < 4 }
+    ensures place { result.place ≡ at.place }
+    ensures kept { 0 < at.place → result ≡ at }
+    ensures first { at.place ≡ 0 → (group : List ℤ) → Holds version code word group
+        → samples_of first group ≡ sums_after result.last group }
 {
-    if samples.len() < count {
-        let sample = sample_after(samples.as_slice(), first, difference);
-        samples.push(sample)?;
+    if at.place == 0 {
+        Place {
+            place: at.place,
+            last: before_first(version, code, word, first),
+        }
+    } else {
+        at
     }
-    Ok(())
-}
-
-/// Adds the samples that a group gives, up to `count` in all.
-fn push_group(
-    samples: &mut Samples,
-    first: i32,
-    group: &[i32],
-    count: usize,
-) -> Result<(), AllocError>
-    requires { length samples.old ≤ count }
-    ensures { (before : List ℤ) → samples.old ≡ samples_of first before
-        → OnOk result (samples.new ≡ take count (samples_of first (before ++ group.now))) }
-{
-    for difference in group {
-        push_sample(samples, first, *difference, count)?;
-    }
-    Ok(())
-}
-
-/// The differences that a word holds, or `None` where it is undefined.
-fn group_at(version: Version, order: Order, area: &[u8], number: usize) -> Option<Group>
-    requires { 4 * number + 4 ≤ length area.now }
-    ensures some { IfSome result (λ group. WordHolds version order area.now number group.items) }
-    ensures none { IsNone result → IsUndefined version order area.now number }
-{
-    let code = code_at(order, area, number);
-    let word = arranged_word_at(version, order, code, area, number);
-    read_word(version, code, word).ok()
 }
 
 /// A constant of the first frame.
@@ -156,9 +144,80 @@ fn is_last(samples: &[i32], sample: i32) -> bool
     samples.last().copied() == Some(sample)
 }
 
-/// The first `count` samples that the area carries. The frames are the whole pieces of 64 bytes; a rest
-/// is not looked at. Sums are modulo 2^32, and the first difference is not used. Where memory is not
-/// refused, there is one outcome: `one_outcome`.
+/// Reads word after word until `out` is full. Inlined where version and order are literals, each word is
+/// read without a test of them.
+#[inline(always)]
+fn decode_words(
+    version: Version,
+    order: Order,
+    area: &[u8],
+    out: &mut [i32],
+) -> Result<bool, SteimFault>
+    requires some { 1 ≤ length out.old }
+    requires few { length out.old ≤ 65535 }
+    requires small { length area.now ≤ 1048576 }
+    ensures samples { OnOk result (CarriesSteim version order area.now out.new) }
+    ensures reverse { IfOk result (λ agrees. IsTrue agrees ↔ ReverseAgrees order area.now out.new) }
+    ensures short { IsErrOf result SteimFault.DataShort → EndsBefore version order area.now (length out.old) }
+    ensures bad { (number : ℕ) → IsErrOf result (SteimFault.BadCode number)
+        → IsUndefinedBefore version order area.now (length out.old) number }
+    ensures never_memory { IsErrOf result SteimFault.Memory → ⊥ }
+{
+    let frames = area.len() / 64;
+    if frames == 0 {
+        return Err(SteimFault::DataShort);
+    }
+    let first = constant_at(order, area, 1);
+    let mut at = Place { place: 0, last: 0 };
+    for frame in 0..frames {
+        let codes = whole_word_at(order, area, 16 * frame);
+        for slot in first_slot(frame)..16 {
+            let number = 16 * frame + slot;
+            let code = code_in(codes, slot);
+            let word = arranged_word_at(version, order, code, area, number);
+            let start = start_of(version, code, word, first, at);
+            let Some(next) = write_word_sums(version, code, word, start, out) else {
+                return Err(SteimFault::BadCode(number as u32));
+            };
+            if next.place == out.len() {
+                return Ok(is_last(out, constant_at(order, area, 2)));
+            }
+            at = next;
+        }
+    }
+    Err(SteimFault::DataShort)
+}
+
+/// Fills `out` with the first samples that the area carries, and says whether the last of them is the
+/// reverse constant. The frames are the whole pieces of 64 bytes; a rest is not looked at. Sums are modulo
+/// 2^32, and the first difference is not used. Takes no memory, and there is one outcome: `one_outcome`.
+/// After an `Err` some places of `out` may be written.
+pub fn decode_steim_into(
+    version: Version,
+    order: Order,
+    area: &[u8],
+    out: &mut [i32],
+) -> Result<bool, SteimFault>
+    requires some { 1 ≤ length out.old }
+    requires few { length out.old ≤ 65535 }
+    requires small { length area.now ≤ 1048576 }
+    ensures samples { OnOk result (CarriesSteim version order area.now out.new) }
+    ensures reverse { IfOk result (λ agrees. IsTrue agrees ↔ ReverseAgrees order area.now out.new) }
+    ensures short { IsErrOf result SteimFault.DataShort → EndsBefore version order area.now (length out.old) }
+    ensures bad { (number : ℕ) → IsErrOf result (SteimFault.BadCode number)
+        → IsUndefinedBefore version order area.now (length out.old) number }
+    ensures never_memory { IsErrOf result SteimFault.Memory → ⊥ }
+{
+    match (version, order) {
+        (Version::One, Order::Big) => decode_words(Version::One, Order::Big, area, out),
+        (Version::One, Order::Little) => decode_words(Version::One, Order::Little, area, out),
+        (Version::Two, Order::Big) => decode_words(Version::Two, Order::Big, area, out),
+        (Version::Two, Order::Little) => decode_words(Version::Two, Order::Little, area, out),
+    }
+}
+
+/// The first `count` samples that the area carries, by `decode_steim_into`. Where memory is not refused,
+/// there is one outcome: `one_outcome`.
 pub fn decode_steim(
     alloc: Global,
     version: Version,
@@ -175,27 +234,12 @@ pub fn decode_steim(
     ensures bad { (number : ℕ) → IsErrOf result (SteimFault.BadCode number)
         → IsUndefinedBefore version order area.now count number }
 {
-    let count = usize::from(count);
-    let words = area.len() / 64 * 16;
-    if words == 0 {
-        return Err(SteimFault::DataShort);
-    }
-    let first = constant_at(order, area, 1);
-    let mut samples = Samples::with_capacity(alloc, count)?;
-    for number in 0..words {
-        let Some(group) = group_at(version, order, area, number) else {
-            return Err(SteimFault::BadCode(number as u32));
-        };
-        push_group(&mut samples, first, &group, count)?;
-        if samples.len() == count {
-            let reverse_agrees = is_last(samples.as_slice(), constant_at(order, area, 2));
-            return Ok(Decoded {
-                samples,
-                reverse_agrees,
-            });
-        }
-    }
-    Err(SteimFault::DataShort)
+    let mut values = vec![in alloc; 0; usize::from(count)]?;
+    let reverse_agrees = decode_steim_into(version, order, area, values.as_mut_slice())?;
+    Ok(Decoded {
+        samples: Samples::from_vec(values),
+        reverse_agrees,
+    })
 }
 
 /// An area carries one list of so many samples, or its words end first, or one undefined word comes

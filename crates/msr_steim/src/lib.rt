@@ -5,11 +5,12 @@
 mod area;
 mod frames;
 mod group;
+mod sums;
 #[cfg(test)]
 mod tests;
 mod word;
 
-pub use area::{Decoded, SteimFault, decode_steim, one_outcome};
+pub use area::{Decoded, SteimFault, decode_steim, decode_steim_into, one_outcome};
 pub use frames::{fill_steim, filled_area_carries};
 pub use group::{group_width, is_group};
 pub use word::{BadCode, Group, Version, holds_one_list, read_word, write_word};

@@ -3,8 +3,8 @@ ghost use Rattle.std.specs.Prelude.{IsTrue, map};
 ghost use Rattle.msr_steim.specs.Word.{AreGroups};
 
 use crate::{
-    BadCode, Group, SteimFault, Version, decode_steim, fill_steim, group_width, is_group,
-    read_word, write_word,
+    BadCode, Group, SteimFault, Version, decode_steim, decode_steim_into, fill_steim, group_width,
+    is_group, read_word, write_word,
 };
 use byteorder::{BigEndian, ByteOrder};
 use msr_header::Order;
@@ -131,6 +131,20 @@ fn areas_carry_samples(rt: HostRuntime) -> Result<(), Fail> {
         assert_eq!(rt; decoded.samples.as_slice(), samples);
         assert_eq!(rt; decoded.reverse_agrees, agrees);
     }
+    Ok(())
+}
+
+#[test]
+fn places_end_inside_a_word(rt: HostRuntime) -> Result<(), Fail> {
+    let area = frame_of([0x0100_0000, 10, 12, 0x0501_0163]);
+    let mut three = [7; 3];
+    let agrees = decode_steim_into(Version::One, Order::Big, &area, &mut three)?;
+    assert!(rt; agrees);
+    assert!(rt; three == [10, 11, 12]);
+    let mut two = [7; 2];
+    let agrees = decode_steim_into(Version::One, Order::Big, &area, &mut two)?;
+    assert!(rt; !agrees);
+    assert!(rt; two == [10, 11]);
     Ok(())
 }
 

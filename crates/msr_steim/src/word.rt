@@ -1,7 +1,7 @@
 //! The differences that a 32-bit word holds.
 
 ghost use Rattle.std.specs.Prelude.{◌≡◌, ◌<◌, ◌≤◌, ℕ, ◌+◌, ◌*◌, ◌/◌, ◌%◌, ◌^◌, ◌↔◌, ℤ, List, IfOk, IsErr, IsSome, IfSome, MatchOption, Some, None, length};
-ghost use Rattle.msr_steim.specs.Word.{AreFields, FitsBits, HasNoOtherBits, Holds, IsGroup, IsRowFor, IsUndefinedWord, as_read, division_of, group_code, group_top, group_width, group_word, joined_fields, twos_complement};
+ghost use Rattle.msr_steim.specs.Word.{AreFields, FitsBits, HasNoOtherBits, Holds, IsGroup, IsRowFor, IsUndefinedWord, as_read, division_of, group_code, group_top, group_width, group_word, joined_fields, signed_of, twos_complement};
 ghost use Rattle.msr_steim.specs.declared.word.Version.{Version};
 ghost use Rattle.std.specs.List.{AllByRecursion};
 
@@ -74,29 +74,15 @@ fn division_for(version: Version, code: u8, top: u32) -> Option<Division>
     }
 }
 
-/// The field of `width` bits with `below` fields below it.
-fn field_at(word: u32, below: u32, width: u32) -> u32
+/// The number in the field of `width` bits with `below` fields below it: the field is shifted up to the
+/// highest bit, and down again with its sign.
+#[inline(always)]
+pub(crate) fn difference_at(word: u32, below: u32, width: u32) -> i32
     requires positive { 0 < width }
     requires within { (below + 1) * width ≤ 32 }
-    ensures { result ≡ word / 2 ^ (below * width) % 2 ^ width }
+    ensures { result ≡ signed_of width (word / 2 ^ (below * width) % 2 ^ width) }
 {
-    (word >> (below * width)) & (u32::MAX >> (32 - width))
-}
-
-/// The number that a field of `width` bits is in two's complement.
-fn signed(field: u32, width: u32) -> i32
-    requires positive { 0 < width }
-    requires small { width ≤ 32 }
-    requires within { field < 2 ^ width }
-    ensures fits { FitsBits width result }
-    ensures same { twos_complement width result ≡ field }
-{
-    let most = u32::MAX >> (32 - width);
-    if field <= most / 2 {
-        field as i32
-    } else {
-        !((most - field) as i32)
-    }
+    (word << (32 - (below + 1) * width)).cast_signed() >> (32 - width)
 }
 
 /// The numbers in the fields of a word.
@@ -108,7 +94,7 @@ fn fields_of(word: u32, division: Division) -> Group
 {
     let mut group = Group::new();
     for below in (0..division.count).rev() {
-        group.push(signed(field_at(word, below, division.width), division.width));
+        group.push(difference_at(word, below, division.width));
     }
     group
 }

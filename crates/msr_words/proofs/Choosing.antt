@@ -14,7 +14,7 @@ use Rattle.msr_words.specs.Division.{CanDivide}
 use Rattle.msr_words.specs.Counts.{IsLeastUpTo}
 use Rattle.msr_words.specs.Canonical.{AreSuffixCounts, DividesFrom, IsChoice, IsCanonicalDivision}
 use Rattle.msr_words.specs.Lemmas.LeastCounts.{a_group_has_few}
-use Rattle.msr_words.specs.Lemmas.SteimLaws.{all_more, head_group, inner_is_group, none_divides, tail_groups}
+use Rattle.msr_words.specs.Lemmas.SteimLaws.{all_more, head_group, inner_is_group, none_divides, one_has_few, tail_groups}
 
 -- ---- the first group
 
@@ -26,7 +26,7 @@ no_groups version (g ∷ gs) are none =
     let size : length (differences (g ∷ gs)) ≡ length g + length (differences gs) = length-append g (differences gs) in
     absurd (omega arith)
 
-inner_first : (version : Version) (g : List ℤ) (gs : List (List ℤ)) → IsInnerGroup version g → AreGroups version gs → AreGroups version (g ∷ gs)
+pub inner_first : (version : Version) (g : List ℤ) (gs : List (List ℤ)) → IsInnerGroup version g → AreGroups version gs → AreGroups version (g ∷ gs)
 inner_first version g [] is are = inner_is_group version g is
 inner_first version g (h ∷ gs) is are = (is, are)
 
@@ -87,6 +87,10 @@ size_few version n size ds d =
     let same : length (take size ds) ≡ size = length-take-le size ds d.within in
     (omega (arith, few.0), omega (arith, few.1))
 
+at_place_is : (version : Version) (b : Bool) (g : List ℤ) → IsGroupAt version b g → IsGroup version g
+at_place_is version true g is = is
+at_place_is version false g is = inner_is_group version g is
+
 -- ---- the sizes in turn
 
 -- the sizes below k were looked at
@@ -143,20 +147,41 @@ one_size version words k with size count size' count' ds below small made taken 
       longest = λ other few lower d. omega arith;
     }
 
--- every size
-pub every_size : (version : Version) (words k size count : ℕ) (ds : List ℤ) → IsChoiceBelow version words k ds size count → min (length ds) 7 < k → 0 < length ds → IsChoice version words ds size count
-every_size version words k size count ds below high some = record {
-  least = λ n few. (λ le. divides_can version n size ds (divides_more version count n size ds le (below.found (omega arith))), λ can. fewest n few can.groups can.are_groups can.join can.few);
+-- three differences are no group before others
+pub skip_three : (words k size count : ℕ) (ds : List ℤ) → IsChoiceBelow One words k ds size count → k ≡ 3 → k < length ds → IsChoiceBelow One words (k + 1) ds size count
+skip_three words k size count ds below three inner = record {
+  bound = below.bound;
   found = below.found;
-  longest = λ other few d. let h = size_few version count other ds d in below.longest other few (omega (arith, d.within, h.1)) d;
+  only = λ n other few lower d. ⊎_elim (λ (l : other < k). below.only n other few l d) (λ (g : k ≤ other). absurd (none n other (omega arith) d)) (cases_lt other k);
+  longest = λ other le lower d. ⊎_elim (λ (l : other < k). below.longest other le l d) (λ (g : k ≤ other). absurd (none count other (omega arith) d)) (cases_lt other k);
 }
   where
-    fewest : (n : ℕ) → n ≤ words → (gs : List (List ℤ)) → AreGroups version gs → differences gs ≡ ds → length gs ≤ n → count ≤ n
+    none : (n other : ℕ) → other ≡ 3 → DividesFrom One n other ds → ⊥
+    none n other same d =
+        let not_last : eqb other (length ds) ≡ false = let ne : other < length ds = omega arith in grind (arith, nat_tests) in
+        let inner_group : IsGroupAt One false (take other ds) = subst (λ b. IsGroupAt One b (take other ds)) not_last d.group in
+        inner_group.1 (length-take-le other ds d.within ∙ same)
+
+size_four : (n size : ℕ) (ds : List ℤ) → DividesFrom One n size ds → size ≤ 4
+size_four n size ds d =
+    let few = one_has_few (take size ds) (at_place_is One (eqb size (length ds)) (take size ds) d.group) in
+    let same : length (take size ds) ≡ size = length-take-le size ds d.within in
+    omega arith
+
+-- every size
+pub every_size : (words k size count : ℕ) (ds : List ℤ) → IsChoiceBelow One words k ds size count → min (length ds) 4 < k → 0 < length ds → IsChoice One words ds size count
+every_size words k size count ds below high some = record {
+  least = λ n few. (λ le. divides_can One n size ds (divides_more One count n size ds le (below.found (omega arith))), λ can. fewest n few can.groups can.are_groups can.join can.few);
+  found = below.found;
+  longest = λ other few d. let h = size_four count other ds d in below.longest other few (omega (arith, d.within)) d;
+}
+  where
+    fewest : (n : ℕ) → n ≤ words → (gs : List (List ℤ)) → AreGroups One gs → differences gs ≡ ds → length gs ≤ n → count ≤ n
     fewest n few [] are join short = let e : 0 ≡ length ds = ap length join in absurd (omega arith)
     fewest n few (g ∷ gs) are join short =
-        let d = starts_with version g gs ds are join in
-        let h = size_few version (suc (length gs)) (length g) ds d in
-        below.only n (length g) few (omega (arith, d.within, h.1)) (divides_more version (suc (length gs)) n (length g) ds short d)
+        let d = starts_with One g gs ds are join in
+        let h = size_four (suc (length gs)) (length g) ds d in
+        below.only n (length g) few (omega (arith, d.within)) (divides_more One (suc (length gs)) n (length g) ds short d)
 
 -- ---- the counts
 
@@ -261,10 +286,6 @@ pub record IsSizeOf (version : Version) (size : ℕ) (ds : List ℤ) : Type 0 wh
   pub within : size ≤ length ds
   pub few : size ≤ 7
   pub group : IsGroup version (take size ds)
-
-at_place_is : (version : Version) (b : Bool) (g : List ℤ) → IsGroupAt version b g → IsGroup version g
-at_place_is version true g is = is
-at_place_is version false g is = inner_is_group version g is
 
 pub size_is : (version : Version) (words place size count : ℕ) (ds : List ℤ) (groups : List (List ℤ)) → AreChosenBefore version words place ds groups → IsChoice version words (drop place ds) size count → IsSizeOf version size (drop place ds)
 size_is version words place size count ds groups before choice =

@@ -1,5 +1,11 @@
 pub mod Certificate
 pub mod Choosing
+pub mod Dominance
+pub mod Fill
+pub mod FillFields
+pub mod FillSizes
+pub mod Greedy
+pub mod GreedyReach
 pub mod Parts
 pub mod Plain
 pub mod Pushes
@@ -9,3 +15,4 @@ pub mod Steim1Counts
 pub mod Steim1Pushes
 pub mod Steim2Groups
 pub mod Steim2Pushes
+pub mod WordRoom

@@ -20,7 +20,7 @@ use Rattle.msr_words.proofs.Parts.{HasDivision, division_rest, one_group, first_
 
 -- ---- the differences of a run
 
-second : (run : List (ℤ × ℤ)) (k : ℕ) (d : ℤ × ℤ) → get_or (map (λ p. p.1) run) k d.1 ≡ (get_or run k d).1
+pub second : (run : List (ℤ × ℤ)) (k : ℕ) (d : ℤ × ℤ) → get_or (map (λ p. p.1) run) k d.1 ≡ (get_or run k d).1
 second [] k d = refl
 second (p ∷ run) zero d = refl
 second (p ∷ run) (suc k) d = second run k d
@@ -150,7 +150,7 @@ pub record IsLeft (words left : ℕ) (ds rest : List ℤ) : Type 0 where
 pub all_left : (words : ℕ) (ds : List ℤ) → IsLeft words words ds ds
 all_left words ds = record { to = λ c. c; from = λ c. c }
 
-next_of : (ds : List ℤ) (count : ℕ) (y : ℤ) (ys : List ℤ) → drop count ds ≡ y ∷ ys → take count ds ++ y ∷ [] ≡ take (suc count) ds
+pub next_of : (ds : List ℤ) (count : ℕ) (y : ℤ) (ys : List ℤ) → drop count ds ≡ y ∷ ys → take count ds ++ y ∷ [] ≡ take (suc count) ds
 next_of [] zero y ys e = absurd (let l : 0 ≡ suc (length ys) = ap length e in omega arith)
 next_of [] (suc count) y ys e = absurd (let l : 0 ≡ suc (length ys) = ap length e in omega arith)
 next_of (x ∷ xs) zero y ys e = let same : x ≡ y = cc in ap (λ z. z ∷ []) (sym same)

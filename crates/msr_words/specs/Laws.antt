@@ -1,5 +1,6 @@
 -- The laws of a tracker. They hold for lists of any whole numbers.
-use Rattle.std.specs.Prelude.{ℕ, ◌+◌, ◌-◌, ◌*◌, ◌/◌, ◌≤◌, max, ℤ, List, [], ◌++◌, length, drop}
+use Rattle.std.specs.Prelude.{ℕ, ◌+◌, ◌-◌, ◌*◌, ◌/◌, ◌≤◌, max, ℤ, List, [], ◌++◌, length, drop, All}
+use Rattle.msr_steim.specs.Word.{FitsBits}
 use Rattle.msr_words.specs.declared.kinds.Kind.{Kind}
 use Rattle.msr_words.specs.declared.kinds.Kind.TheVariants.{Int16, Int32, Steim1, Steim2}
 use Rattle.msr_words.specs.RecordLength.{words_of}
@@ -17,6 +18,14 @@ BackStepLaw places fits =
 -- where a run is cut, the part behind the cut fits by itself
 abbrev pub SuffixLaw : (List (ℤ × ℤ) → Type 0) → Type 0
 SuffixLaw fits = (front back : List (ℤ × ℤ)) → fits (front ++ back) → fits back
+
+-- a difference that has as much room in Steim-2 as in Steim-1: not of exactly 16 bits, nor of more than 30
+abbrev pub IsNarrow : ℤ → Type 0
+IsNarrow d = (FitsBits 16 d → FitsBits 15 d) × FitsBits 30 d
+
+-- where a run fits the one and is cut, and each difference behind the cut is narrow, the part behind the cut fits the other
+abbrev pub DominanceLaw : (List (ℤ × ℤ) → Type 0) → (List (ℤ × ℤ) → Type 0) → Type 0
+DominanceLaw one other = (front back : List (ℤ × ℤ)) → All (λ p. IsNarrow p.1) back → one (front ++ back) → other back
 
 -- no run that fits has more samples
 abbrev pub SizeLaw : ℕ → (List (ℤ × ℤ) → Type 0) → Type 0

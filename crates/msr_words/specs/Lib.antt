@@ -9,5 +9,6 @@ pub mod Canonical
 pub mod Counts
 pub mod AreCounts
 pub mod Groups
+pub mod Bounds
 pub mod Trackers
 pub mod Lemmas

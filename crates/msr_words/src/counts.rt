@@ -1,10 +1,12 @@
 //! How many differences share a word, and the least number of Steim-1 groups, as differences come.
 
-ghost use Rattle.std.specs.Prelude.{◌≡◌, ◌<◌, ◌≤◌, ◌↔◌, ◌∷◌, [], ℕ, ℤ, List, ◌+◌, ◌-◌, ◌^◌, IsTrue, true, length};
+ghost use Rattle.std.specs.Prelude.{◌≡◌, ◌<◌, ◌≤◌, ◌↔◌, ◌∷◌, [], ℕ, ℤ, List, ◌+◌, ◌-◌, ◌^◌, IsTrue, cond, true, length};
 ghost use Rattle.msr_steim.specs.declared.word.Version.TheVariants.{One};
 ghost use Rattle.msr_steim.specs.Word.{FitsBits};
 ghost use Rattle.msr_words.specs.Counts.{EndsIn, IsStretch};
 ghost use Rattle.msr_words.specs.Groups.{IsCapacity, IsOneBelow};
+ghost use Rattle.msr_words.specs.Bounds.{is_wide, quarters};
+ghost use Rattle.msr_words.specs.Laws.{IsNarrow};
 
 /// Whether a number is one of `width` bits.
 pub fn fits_bits(number: i64, width: u32) -> bool
@@ -127,7 +129,7 @@ impl LeastCounts {
 }
 
 /// How far a number is from 0, or from -1 where it is negative.
-fn magnitude(number: i64) -> u64
+pub fn magnitude(number: i64) -> u64
     ensures { (width : ℕ) → (FitsBits width number ↔ result < 2 ^ (width - 1)) }
 {
     if number < 0 {
@@ -153,4 +155,30 @@ pub fn steim2_capacity(diff: i64) -> u8
     let wide = one_below(size, 536_870_912) + one_below(size, 16_384) + one_below(size, 512);
     let narrow = one_below(size, 32) + one_below(size, 16) + one_below(size, 8);
     wide + one_below(size, 128) + narrow
+}
+
+/// Whether a difference has as much room in Steim-2 as in Steim-1: it is not of exactly 16 bits, nor of more than 30.
+pub fn is_narrow(diff: i64) -> bool
+    ensures { IsTrue result ↔ IsNarrow diff }
+{
+    let size = magnitude(diff);
+    if 16_384 <= size && size < 32_768 {
+        return false;
+    }
+    size < 536_870_912
+}
+
+/// How many quarters of a Steim-1 word a difference takes at least.
+pub fn quarters_of(diff: i64) -> u8
+    ensures { result ≡ quarters diff }
+{
+    let size = magnitude(diff);
+    4 - 2 * one_below(size, 32_768) - one_below(size, 128)
+}
+
+/// One where a difference is of more than 10 bits, else none.
+pub fn wide_one(diff: i64) -> u8
+    ensures { result ≡ cond (is_wide diff) 1 0 }
+{
+    1 - one_below(magnitude(diff), 512)
 }

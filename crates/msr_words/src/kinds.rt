@@ -7,8 +7,8 @@ ghost use Rattle.msr_steim.specs.declared.word.Version.TheVariants.{One, Two};
 ghost use Rattle.msr_words.specs.Segment.{points, run_points, differences, difference_at, difference_from};
 ghost use Rattle.msr_words.specs.Division.{CanDivide};
 ghost use Rattle.msr_words.specs.Groups.{IsLongestGroup};
-ghost use Rattle.msr_words.specs.Laws.{look_back_of, most_of};
-ghost use Rattle.msr_words.specs.Fit.{Fits, FitsAny, IsRun, IsFirstKind, code_of};
+ghost use Rattle.msr_words.specs.Laws.{DominanceLaw, look_back_of, most_of};
+ghost use Rattle.msr_words.specs.Fit.{Fits, FitsAny, FitsSteim, IsRun, IsFirstKind, code_of};
 ghost use Rattle.msr_words.specs.RecordLength.{words_of};
 
 use crate::counts::{LeastCounts, steim2_capacity};
@@ -106,7 +106,7 @@ fn fits_steim1(before: Option<i32>, run: &[i32], words: u32) -> bool
 }
 
 /// How many differences of the run, from this one on, stand together in a Steim-2 word, as many as can.
-fn longest_group(before: Option<i32>, run: &[i32], at: usize) -> usize
+pub(crate) fn longest_group(before: Option<i32>, run: &[i32], at: usize) -> usize
     requires { at ≤ length run.now }
     ensures { IsLongestGroup (drop at (differences before run.now)) result }
 {
@@ -137,7 +137,7 @@ fn fits_steim2(before: Option<i32>, run: &[i32], words: u32) -> bool
 }
 
 /// The difference of a sample of a run from the one before it.
-fn difference_after(before: Option<i32>, run: &[i32], at: usize) -> i64
+pub(crate) fn difference_after(before: Option<i32>, run: &[i32], at: usize) -> i64
     requires { at < length run.now }
     ensures { result ≡ difference_from before run.now at }
 {
@@ -226,3 +226,9 @@ pub fn difference(samples: &[i32], at: usize) -> i64
         samples[at] as i64 - samples[at - 1] as i64
     }
 }
+
+/// Where no difference behind a cut is of exactly 16 bits, or of more than 30, the part behind the cut fits
+/// Steim-2 where the run fits Steim-1: each group of Steim-1 is then one of Steim-2.
+pub fn steim2_dominates()
+    ensures { (bytes : ℕ) → DominanceLaw (FitsSteim One bytes) (FitsSteim Two bytes) }
+{}

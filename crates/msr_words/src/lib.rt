@@ -2,16 +2,23 @@
 #![tactic(auto)]
 
 mod any_kind;
+mod bounds;
 mod codecs;
 mod counts;
 mod division;
+mod filling;
 mod kinds;
 mod lengths;
 #[cfg(test)]
 mod tests;
 
 pub use any_kind::AnyKind;
+pub use bounds::{
+    fits_up_to_its_end, steim1_look_back, steim1_quarters, steim2_greedy_reach, two_wide_in_a_word,
+};
 pub use codecs::{Codec, Int16, Int32, Steim1, Steim2, Tracker};
+pub use counts::{fits_bits, is_narrow, magnitude, quarters_of, wide_one};
 pub use division::{groups, one_division};
-pub use kinds::{Kind, Run, any_fits, difference, first_kind, run_fits};
+pub use filling::{fill_steim2, longest_steim2_group};
+pub use kinds::{Kind, Run, any_fits, difference, first_kind, run_fits, steim2_dominates};
 pub use lengths::Length;

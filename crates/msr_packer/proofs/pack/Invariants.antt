@@ -1,9 +1,13 @@
 use Rattle.std.proofs.Common.{◌-◌, length}
+use Rattle.msr_packer.specs.Steps.{AreEnds}
 use Rattle.msr_packer.proofs.Least.{IsSoFar}
 use Rattle.msr_packer.proofs.pack.Given as goal
 
-abbrev pub invariant-loop-step : goal.invariant-loop-step
-invariant-loop-step l = IsSoFar l.fn.record_length.bytes l.samples l.runs.items l.separators.items l.frontier l.step.end l.step.start l.step.kind
+abbrev pub invariant-loop-found : goal.invariant-loop-found
+invariant-loop-found l = record {
+  so_far : IsSoFar l.fn.record_length.bytes l.samples l.runs.items l.separators.items l.frontier l.found.step.end l.found.step.start l.found.step.kind;
+  ends : AreEnds l.fn.record_length.bytes l.samples l.frontier l.found.step.end l.found.ends;
+}
 
-abbrev pub decreases-loop-step : goal.decreases-loop-step
-decreases-loop-step l = length l.samples - l.step.end
+abbrev pub decreases-loop-found : goal.decreases-loop-found
+decreases-loop-found l = length l.samples - l.found.step.end

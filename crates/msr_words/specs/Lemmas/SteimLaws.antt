@@ -56,7 +56,7 @@ group_tail Two x (a ∷ b ∷ c ∷ d ∷ e ∷ []) is some = all_more 5 6 (a �
 group_tail Two x (a ∷ b ∷ c ∷ d ∷ e ∷ f ∷ []) is some = all_more 4 5 (a ∷ b ∷ c ∷ d ∷ e ∷ f ∷ []) (lit≤ tt) is.1
 group_tail Two x (a ∷ b ∷ c ∷ d ∷ e ∷ f ∷ g ∷ zs) is some = let few = (a_group_has_few Two true (x ∷ a ∷ b ∷ c ∷ d ∷ e ∷ f ∷ g ∷ zs) is).1 in absurd (omega arith)
 
-group_drop : (version : Version) (front back : List ℤ) → IsGroup version (front ++ back) → 0 < length back → IsGroup version back
+pub group_drop : (version : Version) (front back : List ℤ) → IsGroup version (front ++ back) → 0 < length back → IsGroup version back
 group_drop version [] back is some = is
 group_drop version (x ∷ front) back is some = group_drop version front back (group_tail version x (front ++ back) is (rw length-append (omega arith))) some
 

@@ -1,0 +1,98 @@
+-- A walk of the longest Steim-2 groups from a frontier.
+use Rattle.std.proofs.Common.{◌≡◌, ℕ, zero, suc, ◌+◌, ◌-◌, ◌<◌, ◌≤◌, min, ℤ, List, length, drop, None, arith, refl, sym, subst, inl, inr}
+use Rattle.std.proofs.lemmas.Bool.{cases_lt}
+use Rattle.std.proofs.lemmas.List.{drop-drop, length-drop}
+use Rattle.msr_words.specs.declared.kinds.Kind.TheVariants.{Steim2}
+use Rattle.msr_words.specs.Bounds.{GreedyLaw, IsGreedyReach}
+use Rattle.msr_words.specs.Fit.{Fits, IsRun}
+use Rattle.msr_words.specs.Groups.{IsLongestGroup}
+use Rattle.msr_words.specs.Laws.{IsNarrow}
+use Rattle.msr_words.specs.RecordLength.{words_of}
+use Rattle.msr_words.specs.Segment.{difference_at, differences}
+use Rattle.msr_words.proofs.GreedyReach.{differences_from, narrow_in_group}
+use Rattle.msr_words.proofs.Plain.{length_differences}
+use Rattle.msr_packer.specs.Steps.{AreNarrow, AreNarrowThrough}
+use Rattle.msr_packer.proofs.Narrow.{one_narrow}
+
+-- all but `left` of the words were filled from `start` to `at`: how far the others reach, all of them reach
+pub record IsWalked (words left : ℕ) (samples : List ℤ) (start at : ℕ) : Type 0 where
+  pub from : start ≤ at
+  pub within : at ≤ length samples
+  pub reach : (rest : ℕ) → IsGreedyReach left (drop at (differences None samples)) rest
+      → IsGreedyReach words (drop start (differences None samples)) (at - start + rest)
+
+pub walk_begins : (words : ℕ) (samples : List ℤ) (start : ℕ) → start ≤ length samples → IsWalked words words samples start start
+walk_begins words samples start le = record {
+  from = omega arith;
+  within = le;
+  reach = λ rest is. let none : rest ≡ start - start + rest = omega arith in subst (IsGreedyReach words (drop start (differences None samples))) none is;
+}
+
+pub walk_more : (words left : ℕ) (samples : List ℤ) (start at size : ℕ) → IsLongestGroup (drop at (differences None samples)) size
+    → IsWalked words (suc left) samples start at → IsWalked words left samples start (at + size)
+walk_more words left samples start at size longest is =
+    let l = length-drop at (differences None samples) in
+    let n = length_differences None samples in
+    let w = longest.within in
+    let from' = is.from in
+    let within' = is.within in
+    record {
+      from = omega arith;
+      within = omega arith;
+      reach = λ rest there.
+          let behind : IsGreedyReach left (drop size (drop at (differences None samples))) rest =
+          subst (λ xs. IsGreedyReach left xs rest) (sym (drop-drop size at (differences None samples))) there in
+          let here : IsGreedyReach (suc left) (drop at (differences None samples)) (size + rest) = (size, rest, longest, behind, refl) in
+          let sum : at - start + (size + rest) ≡ at + size - start + rest = omega arith in
+          subst (IsGreedyReach words (drop start (differences None samples))) sum (is.reach (size + rest) here);
+    }
+
+-- where no more is reached, the walk ends at the greatest end of a run
+module _ (bytes left : ℕ) (samples : List ℤ) (start at end : ℕ) (law : GreedyLaw) (is : IsWalked (words_of bytes) left samples start at) (none : IsGreedyReach left (drop at (differences None samples)) 0) (same : end ≡ at) where
+  reached : IsRun (Fits Steim2 bytes) samples start (start + (end - start)) × ((s b : ℕ) → s ≤ start → IsRun (Fits Steim2 bytes) samples s b → b ≤ start + (end - start))
+  reached =
+      let from' = is.from in
+      let within' = is.within in
+      let sum : at - start + 0 ≡ end - start = omega arith in
+      let le : start ≤ length samples = omega arith in
+      law bytes samples start (end - start) le
+      (subst (λ xs. IsGreedyReach (words_of bytes) xs (end - start)) (sym (differences_from samples start le))
+      (subst (IsGreedyReach (words_of bytes) (drop start (differences None samples))) sum (is.reach 0 none)))
+
+  whole : start + (end - start) ≡ end
+  whole = let from' = is.from in omega arith
+
+  pub walk_fits : IsRun (Fits Steim2 bytes) samples start end
+  walk_fits = subst (IsRun (Fits Steim2 bytes) samples start) whole reached.0
+
+  pub walk_furthest : (b : ℕ) → IsRun (Fits Steim2 bytes) samples start b → b ≤ end
+  walk_furthest b run = let most = reached.1 start b (omega arith) run in let w = whole in omega arith
+
+-- ---- narrow differences
+
+narrow_more : (samples : List ℤ) (start at n : ℕ) → start ≤ at → at + n ≤ length samples
+    → ((k : ℕ) → k < n → IsNarrow (difference_at samples (at + k))) → AreNarrow samples start at → AreNarrow samples start (at + n)
+narrow_more samples start at zero le within each all = let none : at ≡ at + 0 = omega arith in subst (AreNarrow samples start) none all
+narrow_more samples start at (suc n) le within each all =
+    let one : at + n + 1 ≡ at + suc n = omega arith in
+    subst (AreNarrow samples start) one
+    (one_narrow samples start (at + n) (omega arith) (omega arith) (each n (omega arith)) (narrow_more samples start at n le (omega arith) (λ k less. each k (omega arith)) all))
+
+pub group_narrow : (samples : List ℤ) (start at size : ℕ) → start ≤ at → at ≤ length samples → IsLongestGroup (drop at (differences None samples)) size
+    → 1 < size → AreNarrow samples start at → AreNarrow samples start (at + size)
+group_narrow samples start at size le within longest some all =
+    let l = length-drop at (differences None samples) in
+    let n = length_differences None samples in
+    let w = longest.within in
+    narrow_more samples start at size le (omega arith) (λ k less. narrow_in_group samples at size k longest some less) all
+
+pub narrow_through : (samples : List ℤ) (start at : ℕ) → start ≤ at → at ≤ length samples → AreNarrow samples start at
+    → (at < length samples → IsNarrow (difference_at samples at)) → AreNarrowThrough samples start at
+narrow_through samples start at le within all there = elim (cases_lt at (length samples)) [
+  | inl less ↦
+      let one : at + 1 ≡ min (at + 1) (length samples) = omega arith in
+      subst (AreNarrow samples start) one (one_narrow samples start at le less (there less) all)
+  | inr none ↦
+      let end : at ≡ min (at + 1) (length samples) = omega arith in
+      subst (AreNarrow samples start) end all
+]

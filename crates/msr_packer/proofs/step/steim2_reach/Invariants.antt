@@ -1,0 +1,11 @@
+-- The words that are filled, and whether their groups are of two or more.
+use Rattle.std.proofs.Common.{◌-◌, ◌<◌}
+use Rattle.msr_packer.specs.Steps.{AreNarrow}
+use Rattle.msr_packer.proofs.Reach.{IsWalked}
+use Rattle.msr_packer.proofs.step.steim2_reach.Given as goal
+
+abbrev pub invariant-loop-word : goal.invariant-loop-word
+invariant-loop-word l = record {
+  walked : IsWalked l.words (l.words - l._word) l.samples l.start l.at;
+  small : 1 < l.least → AreNarrow l.samples l.start l.at;
+}

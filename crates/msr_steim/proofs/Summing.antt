@@ -1,0 +1,99 @@
+-- The sums that are written for one word.
+use Rattle.std.proofs.Common.{◌≡◌, ◌<◌, ◌≤◌, ℕ, zero, suc, ◌+◌, ◌-◌, ◌*◌, ◌/◌, ◌%◌, ◌^◌, ℤ, pos, negsuc, ◌+ℤ◌, List, [], ◌∷◌, ◌++◌, length, take, get_or, refl, sym, ap, ◌∙◌, subst, arith, w32, SFits, Some, length-append, lit<}
+use Rattle.std.specs.Prelude.{IsSomeAnd, slice_index_or}
+use Rattle.std.specs.Int.{int_wrap}
+use Rattle.std.proofs.Math.Seq.{get_or-append_seam, take-append-add}
+use Rattle.std.proofs.Math.Nat.{pow-zero, mod-lt}
+use Rattle.std.proofs.lemmas.List.{take_more, take_all, length-take, append-nil}
+use Rattle.msr_steim.specs.declared.sums.Place.{Place}
+use Rattle.msr_steim.specs.declared.word.Version.{Version}
+use Rattle.msr_steim.specs.Area.{sums_after}
+use Rattle.msr_steim.specs.Sums.{IsWritten}
+use Rattle.msr_steim.specs.Word.{AreFields, FitsBits, Holds, division_of, numbers_in}
+use Rattle.msr_steim.proofs.Decoding.{length-sums_after, sums_after_push}
+use Rattle.msr_steim.proofs.Fields.{half_bound}
+use Rattle.msr_steim.proofs.Shifts.{are_fields}
+
+-- a number of few bits fits 32 bits
+pub fits_w32 : (width : ℕ) (z : ℤ) → width ≤ 32 → FitsBits width z → SFits w32 z
+fits_w32 width (pos n) small fits = let bound : 2 ^ (width - 1) ≤ 2147483648 = half_bound width small in record { sfits = omega (arith, fits) }
+fits_w32 width (negsuc n) small fits = let bound : 2 ^ (width - 1) ≤ 2147483648 = half_bound width small in record { sfits = omega (arith, fits) }
+
+-- one more sum
+pub one_more_sum : (before last d v : ℤ) (ds sums : List ℤ) (i : ℕ) → i < length ds → sums ≡ sums_after before (take i ds) → last ≡ get_or (before ∷ sums) i (pos 0) → get_or ds i (pos 0) ≡ d → v ≡ int_wrap w32 (last +ℤ d)
+    → sums ++ v ∷ [] ≡ sums_after before (take (i + 1) ds)
+one_more_sum before last d v ds sums i within same last_is d_is v_is =
+    let es = take i ds in
+    let size : length (sums_after before es) ≡ i = length-sums_after before es ∙ length-take i ds ∙ omega (arith, within) in
+    let at : get_or (before ∷ sums_after before es) (length (sums_after before es)) (pos 0) ≡ last = ap (λ n. get_or (before ∷ sums_after before es) n (pos 0)) size ∙ ap (λ s. get_or (before ∷ s) i (pos 0)) (sym same) ∙ sym last_is in
+    let next : int_wrap w32 (get_or (before ∷ sums_after before es) (length (sums_after before es)) (pos 0) +ℤ get_or ds i (pos 0)) ≡ v = ap (λ z. int_wrap w32 (z +ℤ get_or ds i (pos 0))) at ∙ ap (λ z. int_wrap w32 (last +ℤ z)) d_is ∙ sym v_is in
+    ap (λ s. s ++ v ∷ []) same ∙ ap (λ z. sums_after before es ++ z ∷ []) (sym next) ∙ sym (sums_after_push before es (get_or ds i (pos 0))) ∙ ap (sums_after before) (sym (take_more ds i (pos 0) within))
+
+-- which is the last
+pub last_of_push : (before v : ℤ) (sums : List ℤ) (i j : ℕ) → length sums ≡ i → j ≡ suc i → v ≡ get_or (before ∷ (sums ++ v ∷ [])) j (pos 0)
+last_of_push before v sums i j size next = rw (next, ← size) (sym (get_or-append_seam sums v [] (pos 0)))
+
+-- fewer differences, fewer sums
+pub take-sums_after : (n : ℕ) (before : ℤ) (ds : List ℤ) → take n (sums_after before ds) ≡ sums_after before (take n ds)
+take-sums_after zero before ds = refl
+take-sums_after (suc n) before [] = refl
+take-sums_after (suc n) before (d ∷ ds) = ap (λ s. int_wrap w32 (before +ℤ d) ∷ s) (take-sums_after n (int_wrap w32 (before +ℤ d)) ds)
+
+-- all sums have a place
+pub all_written : (out new ds : List ℤ) (last : ℤ) (place m : ℕ) → new ≡ sums_after last (take m ds) → m ≡ length ds → place + length ds ≤ length out
+    → take place out ++ new ≡ take (length out) (take place out ++ sums_after last ds)
+all_written out new ds last place m same all within =
+    let whole : new ≡ sums_after last ds = same ∙ ap (sums_after last) (take_all m ds (omega (arith, all))) in
+    let size : length (take place out ++ sums_after last ds) ≤ length out = omega (arith, length-append (take place out) (sums_after last ds), length-take place out, length-sums_after last ds, within) in
+    ap (λ s. take place out ++ s) whole ∙ sym (take_all (length out) (take place out ++ sums_after last ds) size)
+
+-- the places end first
+pub some_written : (out new ds : List ℤ) (last : ℤ) (place m : ℕ) → new ≡ sums_after last (take m ds) → place + m ≡ length out
+    → take place out ++ new ≡ take (length out) (take place out ++ sums_after last ds)
+some_written out new ds last place m same within =
+    let size : length (take place out) ≡ place = length-take place out ∙ omega (arith, within) in
+    let total : length (take place out) + m ≡ length out = omega (arith, size, within) in
+    ap (λ s. take place out ++ s) (same ∙ sym (take-sums_after m last ds)) ∙ sym (take-append-add (take place out) (sums_after last ds) m) ∙ ap (λ n. take n (take place out ++ sums_after last ds)) total
+
+-- the division of a word, by its code and its top two bits
+pub divided : (version other : Version) (code top c t : ℕ) → version ≡ other → code ≡ c → top ≡ t → division_of version code top ≡ division_of other c t
+divided version other code top c t e f g = ap (λ v. division_of v code top) e ∙ ap (λ n. division_of other n top) f ∙ ap (division_of other c) g
+
+-- a word that is divided so was written
+pub group_written : (version : Version) (code word : ℕ) (at : Place) (old new : List ℤ) (next : Place) (count width : ℕ)
+    → division_of version code (word / 2 ^ 30) ≡ Some (record { count = count; width = width }) → 0 < width → next.place ≤ length old
+    → take next.place new ≡ take (length old) (take at.place old ++ sums_after at.last (numbers_in word width count))
+    → next.last ≡ slice_index_or new (next.place - 1) (pos 0)
+    → IsWritten version code word at old new next
+group_written version code word at old new next count width division positive within samples last = record {
+  group = numbers_in word width count;
+  holds = subst (λ d. IsSomeAnd d (AreFields word (numbers_in word width count))) (sym division) (are_fields word width count positive);
+  within = within;
+  samples = samples;
+  last = λ before some. last;
+}
+
+-- a word with no fields holds nothing
+pub holds_none : (version : Version) (code word : ℕ) → division_of version code (word / 2 ^ 30) ≡ Some (record { count = 0; width = 0 }) → Holds version code word []
+holds_none version code word division = subst (λ d. IsSomeAnd d (AreFields word [])) (sym division) fields
+  where
+    fields : AreFields word [] (record { count = 0; width = 0 })
+    fields =
+        let one : 2 ^ (0 * 0) ≡ 1 = ap (λ n. 2 ^ n) none ∙ pow-zero 2 in
+        let small : word % 1 < 1 = mod-lt word (lit< tt) in
+        let zero_left : word % 1 ≡ 0 = omega arith in
+        record { count = refl; fit = tt; bits = ap (λ n. word % n) one ∙ zero_left }
+      where
+        none : 0 * 0 ≡ 0
+        none = refl
+
+-- and nothing is written for it
+pub none_written : (version : Version) (code word : ℕ) (at : Place) (out : List ℤ) → division_of version code (word / 2 ^ 30) ≡ Some (record { count = 0; width = 0 }) → at.place < length out
+    → IsWritten version code word at out out at
+none_written version code word at out division room = record {
+  group = [];
+  holds = holds_none version code word division;
+  within = omega (arith, room);
+  samples = sym (ap (take (length out)) (append-nil (take at.place out)) ∙ take_all (length out) (take at.place out) (omega (arith, length-take at.place out, room)));
+  last = λ before some. before some;
+}

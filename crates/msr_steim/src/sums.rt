@@ -1,0 +1,99 @@
+//! The samples that words give, written to places that are there.
+
+ghost use Rattle.std.specs.Prelude.{◌≡◌, ◌<◌, ◌≤◌, ◌++◌, ◌-◌, ◌*◌, pos, IfSome, IsNone, length, slice_index_or, take};
+ghost use Rattle.msr_steim.specs.Area.{sums_after};
+ghost use Rattle.msr_steim.specs.Sums.{IsWritten};
+ghost use Rattle.msr_steim.specs.Word.{IsUndefinedWord, numbers_in};
+
+use crate::word::{Version, difference_at};
+
+/// How far the samples are written: the next sample's place, and the sample that its difference is added
+/// to.
+#[derive(Clone, Copy, Debug, PartialEq, Eq)]
+pub(crate) struct Place {
+    pub place: usize,
+    pub last: i32,
+}
+
+/// Fills `out` with the sums of the first fields of a word. Inlined where count, width and length are
+/// literals, no loop is left.
+#[inline(always)]
+fn write_sums(word: u32, count: u32, width: u32, before: i32, out: &mut [i32]) -> i32
+    requires positive { 0 < width }
+    requires within { count * width ≤ 32 }
+    requires some { 0 < length out.old }
+    requires few { length out.old ≤ count }
+    ensures samples { out.new ≡ sums_after before (take (length out.old) (numbers_in word width count)) }
+    ensures last { result ≡ slice_index_or out.new (length out.old - 1) (pos 0) }
+{
+    let mut last = before;
+    for index in 0..out.len() {
+        last = last.wrapping_add(difference_at(word, count - 1 - index as u32, width));
+        out[index] = last;
+    }
+    last
+}
+
+/// Writes the samples of a word that is divided so, as far as there are places.
+#[inline(always)]
+fn write_group(word: u32, count: u32, width: u32, at: Place, out: &mut [i32]) -> Place
+    requires some { 0 < count }
+    requires positive { 0 < width }
+    requires within { count * width ≤ 32 }
+    requires room { at.place < length out.old }
+    requires few { length out.old ≤ 65535 }
+    ensures within { result.place ≤ length out.old }
+    ensures samples { take result.place out.new
+        ≡ take (length out.old) (take at.place out.old ++ sums_after at.last (numbers_in word width count)) }
+    ensures last { result.last ≡ slice_index_or out.new (result.place - 1) (pos 0) }
+{
+    let end = at.place + count as usize;
+    if end < out.len() {
+        let last = write_sums(word, count, width, at.last, &mut out[at.place..end]);
+        Place { place: end, last }
+    } else {
+        let last = write_sums(word, count, width, at.last, &mut out[at.place..]);
+        Place {
+            place: out.len(),
+            last,
+        }
+    }
+}
+
+/// Writes the samples of a word, as far as there are places, or gives `None` where it is undefined. The
+/// word is as a big-endian frame has it.
+#[inline(always)]
+pub(crate) fn write_word_sums(
+    version: Version,
+    code: u8,
+    word: u32,
+    at: Place,
+    out: &mut [i32],
+) -> Option<Place>
+    requires code { code < 4 }
+    requires room { at.place < length out.old }
+    requires few { length out.old ≤ 65535 }
+    ensures some { IfSome result (IsWritten version code word at out.old out.new) }
+    ensures none { IsNone result → IsUndefinedWord version code word }
+{
+    match version {
+        Version::One => match code {
+            0 => Some(at),
+            1 => Some(write_group(word, 4, 8, at, out)),
+            2 => Some(write_group(word, 2, 16, at, out)),
+            _ => Some(write_group(word, 1, 32, at, out)),
+        },
+        // Each value has an arm, since LLVM makes one jump of such a match, and a chain of tests of ranges.
+        Version::Two => match 4 * u32::from(code) + (word >> 30) {
+            0 | 1 | 2 | 3 => Some(at),
+            4 | 5 | 6 | 7 => Some(write_group(word, 4, 8, at, out)),
+            9 => Some(write_group(word, 1, 30, at, out)),
+            10 => Some(write_group(word, 2, 15, at, out)),
+            11 => Some(write_group(word, 3, 10, at, out)),
+            12 => Some(write_group(word, 5, 6, at, out)),
+            13 => Some(write_group(word, 6, 5, at, out)),
+            14 => Some(write_group(word, 7, 4, at, out)),
+            _ => None,
+        },
+    }
+}

@@ -1,0 +1,66 @@
+-- What the differences of a run tell of the records that hold it.
+use Rattle.std.specs.Prelude.{◌≡◌, ℕ, zero, suc, ◌+◌, ◌-◌, ◌*◌, ◌^◌, ◌≤◌, ◌↔◌, ℤ, pos, negsuc, Bool, not, nat_lt, if◌then◌else◌, List, ◌∷◌, length, map, take, drop, sum_by, count_by}
+use Rattle.std.specs.List.{AllByRecursion}
+use Rattle.msr_steim.specs.declared.word.Version.{Version}
+use Rattle.msr_steim.specs.declared.word.Version.TheVariants.{One}
+use Rattle.msr_steim.specs.Word.{FitsBits}
+use Rattle.msr_words.specs.declared.kinds.Kind.{Kind}
+use Rattle.msr_words.specs.declared.kinds.Kind.TheVariants.{Steim2}
+use Rattle.msr_words.specs.Division.{CanDivide}
+use Rattle.msr_words.specs.Fit.{Fits, IsRun}
+use Rattle.msr_words.specs.Groups.{IsLongestGroup}
+use Rattle.msr_words.specs.RecordLength.{words_of}
+use Rattle.msr_words.specs.Segment.{run_points}
+
+-- whether it is a number of `width` bits
+abbrev pub is_of_bits : ℕ → ℤ → Bool
+is_of_bits width (pos n) = nat_lt n (2 ^ (width - 1))
+is_of_bits width (negsuc n) = nat_lt n (2 ^ (width - 1))
+
+-- how many quarters of a Steim-1 word a difference takes at least
+abbrev pub quarters : ℤ → ℕ
+quarters d = if is_of_bits 8 d then 1 else if is_of_bits 16 d then 2 else 4
+
+-- a Steim-1 word has four quarters
+abbrev pub QuarterLaw : Type 0
+QuarterLaw = (words : ℕ) (ds : List ℤ) → CanDivide One words ds → sum_by quarters ds ≤ 4 * words
+
+-- whether a difference is of more than 10 bits
+abbrev pub is_wide : ℤ → Bool
+is_wide d = not (is_of_bits 10 d)
+
+-- no word holds more than two differences of more than 10 bits
+abbrev pub WideLaw : Type 0
+WideLaw = (version : Version) (words : ℕ) (ds : List ℤ) → CanDivide version words ds → count_by is_wide ds ≤ 2 * words
+
+-- the first four differences share one Steim-1 word
+pub record BeginsWithFour (ds : List ℤ) : Type 0 where
+  pub enough : 4 ≤ length ds
+  pub small : AllByRecursion (FitsBits 8) (take 4 ds)
+
+-- the first difference of a Steim-1 record can be left out, but where it shares a word with three others
+abbrev pub LookBackLaw : Type 0
+LookBackLaw = (words : ℕ) (d : ℤ) (ds : List ℤ) → (BeginsWithFour (d ∷ ds) → ⊥) → CanDivide One words (d ∷ ds) → CanDivide One words ds
+
+-- the greatest end of a run of that kind from a
+pub record IsEnd (kind : Kind) (bytes : ℕ) (samples : List ℤ) (a end : ℕ) : Type 0 where
+  pub fits : IsRun (Fits kind bytes) samples a end
+  pub furthest : (b : ℕ) → IsRun (Fits kind bytes) samples a b → b ≤ end
+
+-- each shorter run fits too, and no other does
+abbrev pub EndLaw : Type 0
+EndLaw = (kind : Kind) (bytes : ℕ) (samples : List ℤ) (a end : ℕ) → IsEnd kind bytes samples a end → (c : ℕ) → a ≤ c → (IsRun (Fits kind bytes) samples a c ↔ c ≤ end)
+
+-- so many differences stand in as many words as there are, each with the longest group from where the one before it ended
+abbrev pub IsGreedyReach : ℕ → List ℤ → ℕ → Type 0
+IsGreedyReach zero ds reach = reach ≡ 0
+IsGreedyReach (suc words) ds reach = (count : ℕ) × (rest : ℕ) × IsLongestGroup ds count × IsGreedyReach words (drop count ds) rest × (reach ≡ count + rest)
+
+-- no Steim-2 record that starts at or before g reaches further than the longest groups from g on
+abbrev pub GreedyLaw : Type 0
+GreedyLaw = (bytes : ℕ) (samples : List ℤ) (g reach : ℕ) → g ≤ length samples → IsGreedyReach (words_of bytes) (map (λ p. p.1) (run_points samples g (length samples))) reach →
+    IsRun (Fits Steim2 bytes) samples g (g + reach) × ((s b : ℕ) → s ≤ g → IsRun (Fits Steim2 bytes) samples s b → b ≤ g + reach)
+
+-- a sample of a record of 16-bit integers
+abbrev pub IsInt16 : ℤ → Type 0
+IsInt16 sample = FitsBits 16 sample

@@ -1,0 +1,30 @@
+//! What the differences of a run tell of the records that hold it.
+
+ghost use Rattle.msr_words.specs.Bounds.{EndLaw, GreedyLaw, LookBackLaw, QuarterLaw, WideLaw};
+
+/// A Steim-1 record holds four quarters a word, of which a difference takes one, two where it is of more than 8 bits,
+/// and four where it is of more than 16.
+pub fn steim1_quarters()
+    ensures { QuarterLaw }
+{}
+
+/// A Steim record, of either version, holds no more than two differences of more than 10 bits a word.
+pub fn two_wide_in_a_word()
+    ensures { WideLaw }
+{}
+
+/// The first difference of a Steim-1 record can be left out where it does not share a word with three others of 8 bits.
+pub fn steim1_look_back()
+    ensures { LookBackLaw }
+{}
+
+/// A run of a kind fits exactly where it ends at or before the greatest end from its start.
+pub fn fits_up_to_its_end()
+    ensures { EndLaw }
+{}
+
+/// As many longest groups as there are words, from a frontier on, reach as far as any Steim-2 record that starts at or
+/// before the frontier.
+pub fn steim2_greedy_reach()
+    ensures { GreedyLaw }
+{}

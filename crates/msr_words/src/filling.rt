@@ -1,0 +1,276 @@
+//! The Steim-2 words of a run, written in place.
+
+ghost use Rattle.std.specs.Prelude.{◌≡◌, ◌<◌, ◌≤◌, ◌+◌, ◌-◌, ◌*◌, ◌/◌, ◌%◌, ◌^◌, ◌++◌, ℕ, ℤ, List, Option, Some, length, drop, take, pos, slice_index_or};
+ghost use Rattle.std.specs.Int.{cast_unsigned, w32};
+ghost use Rattle.std.specs.List.{AllByRecursion};
+ghost use Rattle.byteorder.specs.Endian.{big_bytes};
+ghost use Rattle.msr_steim.specs.declared.word.Version.TheVariants.{Two};
+ghost use Rattle.msr_steim.specs.Word.{FitsBits, group_code, group_top, group_width, group_word, joined_fields, twos_complement};
+ghost use Rattle.msr_steim.specs.Frames.{frame_bytes};
+ghost use Rattle.msr_words.specs.Canonical.{IsCanonicalDivision};
+ghost use Rattle.msr_words.specs.Groups.{IsLongestGroup};
+ghost use Rattle.msr_words.specs.Segment.{difference_at, differences};
+
+use crate::counts::magnitude;
+use crate::kinds::{difference_after, longest_group};
+use byteorder::{BigEndian, ByteOrder};
+
+/// A word, with its code, and how many differences it holds.
+#[derive(Clone, Copy, Debug)]
+struct NextWord {
+    size: usize,
+    code: u32,
+    word: u32,
+}
+
+/// How a group of so many differences is written.
+#[derive(Clone, Copy, Debug)]
+struct Form {
+    code: u32,
+    top: u32,
+    width: u32,
+}
+
+/// The field of `width` bits that a difference is in two's complement.
+fn field_of(difference: i64, width: u32) -> u64
+    requires positive { 0 < width }
+    requires small { width ≤ 32 }
+    requires fits { FitsBits width difference }
+    ensures same { result ≡ twos_complement width difference }
+    ensures within { result < 2 ^ width }
+{
+    difference.cast_unsigned() & (u64::MAX >> (64 - width))
+}
+
+/// The fields of so many differences of the run side by side.
+fn fields_from(before: Option<i32>, run: &[i32], at: usize, size: usize, width: u32) -> u32
+    requires positive { 0 < width }
+    requires within { size * width ≤ 32 }
+    requires room { at + size ≤ length run.now }
+    requires fit { AllByRecursion (FitsBits width) (take size (drop at (differences before run.now))) }
+    ensures same { result ≡ joined_fields width (take size (drop at (differences before run.now))) }
+    ensures few { result < 2 ^ (size * width) }
+{
+    let mut fields: u64 = 0;
+    for next in at..at + size {
+        let difference = difference_after(before, run, next);
+        fields = (fields << width) | field_of(difference, width);
+    }
+    fields as u32
+}
+
+/// The form of a group of so many differences.
+fn form_of(size: usize) -> Form
+    requires some { 1 ≤ size }
+    requires most { size ≤ 7 }
+    ensures width { group_width Two size ≡ Some result.width }
+    ensures positive { 0 < result.width }
+    ensures within { size * result.width ≤ 32 }
+    ensures code { result.code ≡ group_code Two size }
+    ensures small { result.code < 4 }
+    ensures top { result.top ≡ group_top Two size }
+    ensures room { result.top * 2 ^ 30 + 2 ^ (size * result.width) ≤ 2 ^ 32 }
+{
+    let (code, top, width) = match size {
+        1 => (2, 1, 30),
+        2 => (2, 2, 15),
+        3 => (2, 3, 10),
+        4 => (1, 0, 8),
+        5 => (3, 0, 6),
+        6 => (3, 1, 5),
+        _ => (3, 2, 4),
+    };
+    Form { code, top, width }
+}
+
+/// The difference of a sample that is not the first.
+fn difference_inside(run: &[i32], at: usize) -> i64
+    requires some { 0 < at }
+    requires within { at < length run.now }
+    ensures { result ≡ difference_at run.now at }
+{
+    run[at] as i64 - run[at - 1] as i64
+}
+
+/// How many differences of the run, from this one on, stand together in a word, as many as can, where there are
+/// seven behind the first: by the bits that are set in the size of any of them.
+fn longest_inside(run: &[i32], at: usize) -> usize
+    requires some { 0 < at }
+    requires within { at + 7 ≤ length run.now }
+    ensures longest { (before : Option ℤ) → IsLongestGroup (drop at (differences before run.now)) result }
+    ensures most { result ≤ 7 }
+{
+    let one = magnitude(difference_inside(run, at));
+    let two = one | magnitude(difference_inside(run, at + 1));
+    let three = two | magnitude(difference_inside(run, at + 2));
+    if three >= 512 {
+        if two < 16_384 {
+            return 2;
+        }
+        return if one < 536_870_912 { 1 } else { 0 };
+    }
+    let four = three | magnitude(difference_inside(run, at + 3));
+    if four >= 128 {
+        return 3;
+    }
+    let five = four | magnitude(difference_inside(run, at + 4));
+    if five >= 32 {
+        return 4;
+    }
+    let six = five | magnitude(difference_inside(run, at + 5));
+    if six >= 16 {
+        return 5;
+    }
+    let seven = six | magnitude(difference_inside(run, at + 6));
+    if seven >= 8 { 6 } else { 7 }
+}
+
+/// How many differences of a segment, from this sample's on, stand together in a Steim-2 word, as many as can.
+pub fn longest_steim2_group(samples: &[i32], at: usize) -> usize
+    requires { at ≤ length samples.now }
+    ensures { IsLongestGroup (drop at (differences None samples.now)) result }
+{
+    if 0 < at && samples.len() - at >= 7 {
+        return longest_inside(samples, at);
+    }
+    longest_group(None, samples, at)
+}
+
+/// The fields of so many differences of the run side by side, where none is that of its first sample.
+fn fields_inside(run: &[i32], at: usize, size: usize, width: u32) -> u32
+    requires some { 0 < at }
+    requires positive { 0 < width }
+    requires within { size * width ≤ 32 }
+    requires room { at + size ≤ length run.now }
+    requires fit { AllByRecursion (FitsBits width) (take size (drop at (differences None run.now))) }
+    ensures same { result ≡ joined_fields width (take size (drop at (differences None run.now))) }
+    ensures few { result < 2 ^ (size * width) }
+{
+    let mut fields: u64 = 0;
+    for next in at..at + size {
+        fields = (fields << width) | field_of(difference_inside(run, next), width);
+    }
+    fields as u32
+}
+
+/// The word of this longest group, of this form, where no difference is that of the first sample.
+fn formed(run: &[i32], at: usize, size: usize, form: Form) -> NextWord
+    requires some { 0 < at }
+    requires room { at + 7 ≤ length run.now }
+    requires full { 1 ≤ size }
+    requires most { size ≤ 7 }
+    requires longest { IsLongestGroup (drop at (differences None run.now)) size }
+    requires width { group_width Two size ≡ Some form.width }
+    requires positive { 0 < form.width }
+    requires within { size * form.width ≤ 32 }
+    requires code { form.code ≡ group_code Two size }
+    requires small { form.code < 4 }
+    requires top { form.top ≡ group_top Two size }
+    requires space { form.top * 2 ^ 30 + 2 ^ (size * form.width) ≤ 2 ^ 32 }
+    ensures longest { IsLongestGroup (drop at (differences None run.now)) result.size }
+    ensures code { result.code ≡ group_code Two result.size }
+    ensures small { result.code < 4 }
+    ensures word { result.word ≡ group_word Two (take result.size (drop at (differences None run.now))) }
+{
+    let fields = fields_inside(run, at, size, form.width);
+    NextWord {
+        size,
+        code: form.code,
+        word: (form.top << 30) + fields,
+    }
+}
+
+/// The word of the longest group from that difference on, where there are seven behind the first.
+fn word_inside(run: &[i32], at: usize) -> NextWord
+    requires some { 0 < at }
+    requires room { at + 7 ≤ length run.now }
+    ensures longest { IsLongestGroup (drop at (differences None run.now)) result.size }
+    ensures code { result.code ≡ group_code Two result.size }
+    ensures small { result.code < 4 }
+    ensures word { result.word ≡ group_word Two (take result.size (drop at (differences None run.now))) }
+{
+    match longest_inside(run, at) {
+        1 => formed(run, at, 1, form_of(1)),
+        2 => formed(run, at, 2, form_of(2)),
+        3 => formed(run, at, 3, form_of(3)),
+        4 => formed(run, at, 4, form_of(4)),
+        5 => formed(run, at, 5, form_of(5)),
+        6 => formed(run, at, 6, form_of(6)),
+        7 => formed(run, at, 7, form_of(7)),
+        _ => NextWord {
+            size: 0,
+            code: 0,
+            word: 0,
+        },
+    }
+}
+
+/// The word of the longest group from that difference on.
+fn next_word(before: Option<i32>, run: &[i32], at: usize) -> NextWord
+    requires { at ≤ length run.now }
+    ensures longest { IsLongestGroup (drop at (differences before run.now)) result.size }
+    ensures code { result.code ≡ group_code Two result.size }
+    ensures small { result.code < 4 }
+    ensures word { result.word ≡ group_word Two (take result.size (drop at (differences before run.now))) }
+{
+    if 0 < at && run.len() - at >= 7 {
+        return word_inside(run, at);
+    }
+    let size = longest_group(before, run, at);
+    if size == 0 {
+        return NextWord {
+            size: 0,
+            code: 0,
+            word: 0,
+        };
+    }
+    let form = form_of(size);
+    let fields = fields_from(before, run, at, size, form.width);
+    NextWord {
+        size,
+        code: form.code,
+        word: (form.top << 30) + fields,
+    }
+}
+
+/// Writes a word, big-endian, at its number.
+fn put_word(area: &mut [u8], number: usize, word: u32)
+    requires { 4 * number + 4 ≤ length area.old }
+    ensures { area.new ≡ take (4 * number) area.old ++ (big_bytes 4 word ++ drop (4 * number + 4) area.old) }
+{
+    BigEndian::write_u32(&mut area[4 * number..], word);
+}
+
+/// Fills the area, of whole frames, with the words of the run's differences, big-endian: each group in turn is the
+/// longest, and the constants are the first and the last sample. Gives the number of groups.
+pub fn fill_steim2(before: Option<i32>, run: &[i32], area: &mut [u8]) -> usize
+    requires some { 1 ≤ length run.now }
+    requires frames { length area.old % 64 ≡ 0 }
+    ensures filled { (groups : List (List ℤ)) → IsCanonicalDivision Two groups (differences before run.now) → length groups + 2 ≤ 15 * (length area.old / 64)
+        → (area.new ≡ frame_bytes Two (slice_index_or run.now 0 (pos 0)) (slice_index_or run.now (length run.now - 1) (pos 0)) groups (length area.old / 64)) × (result ≡ length groups) }
+{
+    let first = run[0].cast_unsigned();
+    let last = run[run.len() - 1].cast_unsigned();
+    let mut at = 0;
+    let mut used = 0;
+    for frame in 0..area.len() / 64 {
+        let mut codes: u32 = 0;
+        put_word(area, 16 * frame, 0);
+        for slot in 0..15 {
+            let number = 16 * frame + slot + 1;
+            if number < 3 {
+                put_word(area, number, if number == 1 { first } else { last });
+                continue;
+            }
+            let next = next_word(before, run, at);
+            put_word(area, number, next.word);
+            codes = codes * 4 + next.code;
+            at += next.size;
+            if next.size > 0 {
+                used += 1;
+            }
+        }
+        put_word(area, 16 * frame, codes);
+    }
+    used
+}
