@@ -18,7 +18,8 @@ digits_of : (text : List ℕ) → All (λ b. IsTrue (is_ascii_digit b)) text →
 digits_of text all i inside = let d = all i 0 inside in grind (arith, nat_tests)
 
 -- one to four digits are read as their number
-pub digits_are_read : {E : Type 0} (text : List ℕ) (r : Result ℕ E) → 0 < length text → length text ≤ 4
+pub digits_are_read : {E : Type 0} (text : List ℕ) (r : Result ℕ E)
+    → 0 < length text → length text ≤ 4
     → All (λ b. IsTrue (is_ascii_digit b)) text → ParsesUnsigned 16 10 text r
     → r ≡ Ok (digits_value 10 text)
 digits_are_read text r some few all read =

@@ -63,7 +63,8 @@ one_path p q hp hq e =
     a.channel b.channel station.1 in
     let data_type =
     same_parts slash p.data_type q.data_type fp fq a.data_type b.data_type channel.1 in
-    let lacks_dot = λ (text : List ℕ) (h : IsLocation text). location_lacks dot text (omega arith) h in
+    let lacks_dot = λ (text : List ℕ) (is : IsLocation text).
+    location_lacks dot text (omega arith) is in
     let file_network =
     same_parts dot p.network q.network (from_station p) (from_station q)
     (lacks_dot p.network hp.network.1) (lacks_dot q.network hq.network.1) data_type.1 in

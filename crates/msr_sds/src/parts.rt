@@ -24,7 +24,8 @@ pub struct Parts<'a> {
 fn cut(text: &str, separator: char) -> Option<(&str, &str)>
     requires { separator < 128 }
     ensures found { IfSome result (λ x. text.now ≡ x.0.now ++ separator ∷ x.1.now) }
-    ensures only { (first rest : List ℕ) → Lacks separator first → text.now ≡ first ++ separator ∷ rest
+    ensures only { (first rest : List ℕ) → Lacks separator first
+        → text.now ≡ first ++ separator ∷ rest
         → IsSomeAnd result (λ x. (x.0.now ≡ first) × (x.1.now ≡ rest)) }
 {
     text.split_once(separator)

@@ -53,7 +53,8 @@ has-without_same m (x ∷ xs) = by (bytes_eq m x) refl (has-without_same m xs)
     by false e rest = rw (e, e) rest
 
 -- a name that is not there is not there without another
-has-without_absent : (m n : List ℕ) (xs : List (List ℕ)) → has n xs ≡ false → has n (without m xs) ≡ false
+has-without_absent : (m n : List ℕ) (xs : List (List ℕ)) → has n xs ≡ false
+    → has n (without m xs) ≡ false
 has-without_absent m n xs absent = by (bytes_eq n m) refl
   where
     by : (b : Bool) → bytes_eq n m ≡ b → has n (without m xs) ≡ false

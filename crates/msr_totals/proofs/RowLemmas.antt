@@ -33,7 +33,8 @@ module _ {X : Type 0} where
   rows-others value value' n others (m ∷ names) absent =
       by (bytes_eq n m) refl (λ tail. rows-others value value' n others names tail)
     where
-      by : (b : Bool) → bytes_eq n m ≡ b → (has n names ≡ false → rows value' names ≡ rows value names)
+      by : (b : Bool) → bytes_eq n m ≡ b
+          → (has n names ≡ false → rows value' names ≡ rows value names)
           → rows value' (m ∷ names) ≡ rows value (m ∷ names)
       by true e rest = let never = rw e at absent in cc
       by false e rest =
@@ -69,7 +70,8 @@ lookup-named n (e ∷ entries) =
     ap (λ rest. if bytes_eq n (string_bytes e.0) then Some e.1 else rest) (lookup-named n entries)
 
 pub named-insert_entry : {Z : Type 0} (entries : List (String Z × Total)) (key : String Z) (v : Total)
-    → named (insert_entry string_eq entries key v) ≡ insert_entry bytes_eq (named entries) (string_bytes key) v
+    → named (insert_entry string_eq entries key v)
+    ≡ insert_entry bytes_eq (named entries) (string_bytes key) v
 named-insert_entry [] key v = refl
 named-insert_entry (e ∷ entries) key v =
     by (bytes_eq (string_bytes key) (string_bytes e.0)) refl (named-insert_entry entries key v)

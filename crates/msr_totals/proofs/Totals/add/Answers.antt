@@ -15,8 +15,8 @@ returns-clause-added c adds was =
     let old = c.self.inside.by_name.entries in
     let after = c.plus.result in
     let rows : named old ≡ totals_of adds = c.self.view_is ∙ was in
-    let found =
-    c.copied.ensures ∙ c.get.ensures.value ∙ lookup-named name old ∙ ap (lookup (bytes_eq name)) rows in
+    let in_map = c.copied.ensures ∙ c.get.ensures.value ∙ lookup-named name old in
+    let found = in_map ∙ ap (lookup (bytes_eq name)) rows in
     let before = c.unwrap_or-before.ensures ∙ ap (λ o. unwrap_or o none) found in
     let plus : IsPlus c.unwrap_or-before.result add after = record {
       files = c.plus.ensures.files;

@@ -7,14 +7,16 @@ use Rattle.msr_sds.proofs.parts.Parts.cut_folders.Goals as goal
 pub returns-in_err-network-clause-only : goal.returns-in_err-network-clause-only
 returns-in_err-network-clause-only c path file separate spelled =
     let year = c.in_ok-year.ensures.only path.year (after_year path file) separate.year spelled in
-    absurd (c.in_err-network.ensures.only path.network (after_network path file) separate.network year.1)
+    let never = c.in_err-network.ensures.only in
+    absurd (never path.network (after_network path file) separate.network year.1)
 
 pub returns-in_err-station-clause-only : goal.returns-in_err-station-clause-only
 returns-in_err-station-clause-only c path file separate spelled =
     let year = c.in_ok-year.ensures.only path.year (after_year path file) separate.year spelled in
     let network =
     c.in_ok-network.ensures.only path.network (after_network path file) separate.network year.1 in
-    absurd (c.in_err-station.ensures.only path.station (after_station path file) separate.station network.1)
+    let never = c.in_err-station.ensures.only in
+    absurd (never path.station (after_station path file) separate.station network.1)
 
 pub returns-in_err-channel-clause-only : goal.returns-in_err-channel-clause-only
 returns-in_err-channel-clause-only c path file separate spelled =
@@ -23,7 +25,8 @@ returns-in_err-channel-clause-only c path file separate spelled =
     c.in_ok-network.ensures.only path.network (after_network path file) separate.network year.1 in
     let station =
     c.in_ok-station.ensures.only path.station (after_station path file) separate.station network.1 in
-    absurd (c.in_err-channel.ensures.only path.channel (after_channel path file) separate.channel station.1)
+    let never = c.in_err-channel.ensures.only in
+    absurd (never path.channel (after_channel path file) separate.channel station.1)
 
 pub returns-in_err-data_type-clause-only : goal.returns-in_err-data_type-clause-only
 returns-in_err-data_type-clause-only c path file separate spelled =
@@ -34,7 +37,8 @@ returns-in_err-data_type-clause-only c path file separate spelled =
     c.in_ok-station.ensures.only path.station (after_station path file) separate.station network.1 in
     let channel =
     c.in_ok-channel.ensures.only path.channel (after_channel path file) separate.channel station.1 in
-    absurd (c.in_err-data_type.ensures.only path.data_type file separate.data_type channel.1)
+    let never = c.in_err-data_type.ensures.only in
+    absurd (never path.data_type file separate.data_type channel.1)
 
 pub returns-clause-found : goal.returns-clause-found
 returns-clause-found c =
