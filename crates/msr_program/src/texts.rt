@@ -8,7 +8,8 @@ msrepack joins the neighbouring records of a file into segments and writes each
 segment again in records of one length, as few as can hold it. Samples stay as they
 are. The report names samples of each segment, as many as its records, no two of
 which fit one record: so fewer records cannot hold it. Whoever has the records and the
-report can check that again.
+report can check that again. Fewest is over records as msrepack writes them: 64 bytes
+before the data, the first difference taken from the sample before, none wrapped.
 
 It reads records with blockette 1000, with or without blockette 1001, in either byte
 order: 16-bit and 32-bit integers, Steim-1 and Steim-2. A file with anything else is
@@ -67,12 +68,14 @@ pub const CHECK_LONG_ABOUT: &str = "Says whether a report shows that packed reco
 
 Reads the report and then the records, and prints one of two verdicts:
 
-least      Every segment of PACKED stands in the fewest records of the report's
-           length that can hold its samples, whoever made the records and the report.
+least      Every segment of PACKED, as the report's tolerance joins them, stands in
+           the fewest records of the report's length that can hold its samples, of
+           those that msrepack could write, whoever made the records and the report.
            Nothing has to be believed of the program that wrote them. Status 0.
 not shown  The report does not show that: a record has another length or no samples,
-           or a segment, its number of samples or records, or its separators do not
-           agree. It does not say that fewer records are possible. Status 3.
+           or more samples than msrepack could write in it, or a segment, its number
+           of samples or records, or its separators do not agree. It does not say that
+           fewer records are possible. Status 3.
 
 Nothing is said of the file that PACKED was made from. Where msrepack made it, repack
 that file again with the same options: the same input gives the same records.
