@@ -71,7 +71,7 @@ same_rate a b factor multiplier =
 key_is : (a b : Key) (xs ys us vs : List ℕ) → IsSameName a b xs ys → a.quality ≡ b.quality → IsSameSettings a b us vs → a.rate ≡ b.rate → a.correction ≡ b.correction → a.timing ≡ b.timing → a ≡ b
 key_is a b xs ys us vs name quality settings rate correction timing =
     let same : record { network = a.network; station = a.station; location = a.location; channel = a.channel; quality = a.quality; rate = a.rate; activity = a.activity; clock = a.clock; data_quality = a.data_quality; correction = a.correction; timing = a.timing }
-        ≡ record { network = b.network; station = b.station; location = b.location; channel = b.channel; quality = b.quality; rate = b.rate; activity = b.activity; clock = b.clock; data_quality = b.data_quality; correction = b.correction; timing = b.timing } = cc in same
+    ≡ record { network = b.network; station = b.station; location = b.location; channel = b.channel; quality = b.quality; rate = b.rate; activity = b.activity; clock = b.clock; data_quality = b.data_quality; correction = b.correction; timing = b.timing } = cc in same
 
 same_key : (key other : Key) (xs ys : List ℕ) → IsKey key → IsKey other → EndsNumber xs → EndsNumber ys → key_then key xs ≡ key_then other ys → (key ≡ other) × (xs ≡ ys)
 same_key key other xs ys is_key is_other ends_xs ends_ys is =
@@ -109,7 +109,7 @@ same_separators ns ms xs ys each_n each_m is =
 line_is : (a b : FormLine) → a.key ≡ b.key → a.start ≡ b.start → a.samples ≡ b.samples → a.records ≡ b.records → a.separators ≡ b.separators → a ≡ b
 line_is a b key start samples records separators =
     let same : record { key = a.key; start = a.start; samples = a.samples; records = a.records; separators = a.separators }
-        ≡ record { key = b.key; start = b.start; samples = b.samples; records = b.records; separators = b.separators } = cc in same
+    ≡ record { key = b.key; start = b.start; samples = b.samples; records = b.records; separators = b.separators } = cc in same
 
 -- the same two lines of a segment, and the same text behind them
 same_line_of : (a b : FormLine) (text other xs ys : List ℕ) → IsFormLine a → IsFormLine b

@@ -108,7 +108,7 @@ record IsSameTime (time other : BTime) (m n : ℕ) (xs ys : List ℕ) : Type 0 w
 same_fields : (a b : BTime) → a.year ≡ b.year → a.day ≡ b.day → a.hour ≡ b.hour → a.minute ≡ b.minute → a.second ≡ b.second → a.fract ≡ b.fract → a ≡ b
 same_fields a b year day hour minute second fract =
     let same : record { year = a.year; day = a.day; hour = a.hour; minute = a.minute; second = a.second; fract = a.fract }
-        ≡ record { year = b.year; day = b.day; hour = b.hour; minute = b.minute; second = b.second; fract = b.fract } = cc in same
+    ≡ record { year = b.year; day = b.day; hour = b.hour; minute = b.minute; second = b.second; fract = b.fract } = cc in same
 
 same_split : (time other : BTime) (m n : ℕ) (xs ys : List ℕ) → IsTime time → IsTime other → m < 100 → n < 100
     → split_then time m xs ≡ split_then other n ys → IsSameTime time other m n xs ys

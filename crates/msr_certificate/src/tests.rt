@@ -107,7 +107,10 @@ fn reads_from_a_source(rt: HostRuntime) {
 #[test]
 fn stops_at_the_line_at_fault(rt: HostRuntime) {
     let alloc = rt.alloc();
-    let edits = [("msrepack 1", "msrepack 2", 1), ("length 256", "length 0256", 2)];
+    let edits = [
+        ("msrepack 1", "msrepack 2", 1),
+        ("length 256", "length 0256", 2),
+    ];
     for (part, by, line) in edits {
         let Ok(text) = SEGMENT.replace(alloc, part, by) else {
             panic!(rt; "no memory")
