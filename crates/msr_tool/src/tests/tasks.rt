@@ -3,6 +3,7 @@ use crate::tests::fixtures::{PLAIN, choice, steim};
 use crate::tests::texts::NO_SEGMENTS;
 use crate::{TestSink, TestSource, ToolFault, Verdict, check_and_tell, repack_and_report};
 use msr_devices::Behavior;
+use std::alloc::Global;
 use std::test::Fail;
 
 // The report of a record that 301 samples of 0 fill, repacked to its own length.
@@ -62,34 +63,47 @@ fn repacks_and_reports(rt: HostRuntime) -> Result<(), Fail> {
     Ok(())
 }
 
+// What was answered, and the sink that was told.
+#[derive(Drop)]
+struct Told {
+    answer: Result<Verdict, ToolFault>,
+    out: TestSink,
+}
+
+fn told_through(alloc: Global, packed: &[u8], report: &str, writing: Behavior) -> Told {
+    let mut records = TestSource::new(packed, PLAIN);
+    let mut text = TestSource::new(report.as_bytes(), PLAIN);
+    let mut out = TestSink::new(Vec::new(alloc), writing);
+    let answer = check_and_tell(alloc, &mut records, &mut text, &mut out);
+    Told { answer, out }
+}
+
+// The sink takes a byte in a call.
 #[test]
 fn checks_and_tells(rt: HostRuntime) -> Result<(), Fail> {
     let alloc = rt.alloc();
     let packed = steim(&rt, &[]);
-    for (report, verdict, line) in [
+    let rows: [(&'static str, Verdict, &'static str); 2] = [
         (FULL_RECORD, Verdict::Least, "least\n"),
         (NO_SEGMENTS, Verdict::NotShown, "not shown\n"),
-    ] {
-        for most in [1, 100] {
-            for fails_at in 0..line.len() as u64 + 1 {
-                let writing = Behavior {
-                    most,
-                    interruptions: 0,
-                    fails_at: Some(fails_at),
-                };
-                let mut records = TestSource::new(&packed, PLAIN);
-                let mut text = TestSource::new(report.as_bytes(), PLAIN);
-                let mut out = TestSink::new(Vec::new(alloc), writing);
-                let answer = check_and_tell(alloc, &mut records, &mut text, &mut out);
-                let told = (fails_at as usize * most).min(line.len());
-                let want = if told == line.len() {
-                    Ok(verdict)
-                } else {
-                    Err(ToolFault::Write)
-                };
-                assert_eq!(rt; answer, want, "at {fails_at}");
-                assert_eq!(rt; out.bytes(), &line.as_bytes()[..told], "at {fails_at}");
-            }
+    ];
+    for (report, verdict, line) in rows {
+        for fails_at in 0u64..11 {
+            let writing = Behavior {
+                most: 1,
+                interruptions: 1,
+                fails_at: Some(fails_at),
+            };
+            let found = told_through(alloc, &packed, report, writing);
+            let told = line.len().min(fails_at as usize);
+            let whole = told == line.len();
+            assert_eq!(rt; found.answer.is_ok(), whole, "at {fails_at}");
+            assert_eq!(rt; found.answer.unwrap_or(verdict), verdict, "at {fails_at}");
+            assert_eq!(rt;
+                found.out.bytes(),
+                &line.as_bytes()[..told],
+                "at {fails_at}"
+            );
         }
     }
     Ok(())
