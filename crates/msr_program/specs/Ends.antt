@@ -1,7 +1,8 @@
 -- How a task ends: what was read and printed, for what the files of the system hold.
 use Rattle.std.specs.Prelude.{◌≡◌, ◌⊎◌, ◌<◌, ◌≤◌, ℕ, ⊤, List, [], length, codes, string_bytes, Result, Ok, Err}
 use Rattle.msr_words.specs.declared.lengths.Length.{Length}
-use Rattle.msr_devices.specs.Device.{Device, HasFailed, HasLeft, Takes}
+use Rattle.std.specs.declared.io.Error.{Error}
+use Rattle.msr_devices.specs.Device.{Device, CountsError, HasFailed, HasLeft, Takes}
 use Rattle.msr_report.specs.declared.report.Counts.{Counts}
 use Rattle.msr_report.specs.declared.report.Report.{Report}
 use Rattle.msr_tool.specs.Choice.{Choice}
@@ -97,10 +98,15 @@ pub record Checks (out0 out : Device) (result : Result Done Stop) : Type 0 where
   pub prints : Takes out0 out printed
   pub ends : CheckEnds input text printed result
 
--- Standard output was tried, and nothing was printed: it is open, and counts as before; or it is closed.
+-- A call was made, and it failed or was interrupted.
+pub record WasRefused (old new : Device) : Type 0 where
+  pub error : Error
+  pub counts : CountsError old new error
+
+-- Standard output was tried, and nothing was printed: it is open, and counts as before; or it is closed, as a call told.
 abbrev pub OpensOutput : (out0 out : Device) → Result (Unit {0}) Stop → Type 0
 OpensOutput out0 out (Ok open_now) = Takes out0 out [] × (out.failures ≡ out0.failures) × (out.interruptions ≡ 0)
-OpensOutput out0 out (Err stop) = Takes out0 out [] × (stop ≡ Closed)
+OpensOutput out0 out (Err stop) = Takes out0 out [] × (stop ≡ Closed) × WasRefused out0 out
 
 -- a file could not be opened
 abbrev pub IsUnopened : Stop → Type 0

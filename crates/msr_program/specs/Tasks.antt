@@ -1,5 +1,5 @@
 -- What the words of a command line ask for.
-use Rattle.std.specs.Prelude.{◌≡◌, ◌≢◌, ◌⊎◌, ◌≤◌, ℕ, ⊤, List, Option, None, Some, IfSome, codes}
+use Rattle.std.specs.Prelude.{◌≡◌, ◌≢◌, ◌⊎◌, ◌≤◌, ℕ, ⊤, List, Option, None, Some, IfSome, codes, string_bytes}
 use Rattle.std.specs.Option.{option_map}
 use Rattle.msr_words.specs.Lengths.{bytes_of}
 use Rattle.msr_program.specs.declared.words.Task.{Task}
@@ -41,6 +41,16 @@ abbrev pub IsDefault : Task → Type 0
 IsDefault (Repack asked) = (bytes_of asked.length ≡ 512) × (asked.tolerance ≡ 1000) × (asked.input.now ≡ codes "-") × (asked.output ≡ None)
 IsDefault (Listing asked) = ⊥
 IsDefault (Check asked) = ⊥
+
+-- a bad command line: the text to end with, and status 2, unless memory is refused
+abbrev pub IsWrong : (text : List ℕ) → NoTask → Type 0
+IsWrong text (Ending ending) = (string_bytes ending.text ≡ text) × (ending.status ≡ 2)
+IsWrong text Memory = ⊤
+
+-- a bad command line, whatever its text
+abbrev pub IsBadLine : NoTask → Type 0
+IsBadLine (Ending ending) = ending.status ≡ 2
+IsBadLine Memory = ⊤
 
 -- no task, with status 0 for help and the version and 2 for a bad command line
 abbrev pub HasStatus : NoTask → Type 0

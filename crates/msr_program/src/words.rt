@@ -4,7 +4,7 @@ ghost use Rattle.std.specs.Option.{option_map};
 ghost use Rattle.msr_words.specs.RecordLength.{IsRecordLength};
 ghost use Rattle.msr_words.specs.Lengths.{bytes_of};
 ghost use Rattle.clap.specs.Words.{first_value, found_of};
-ghost use Rattle.msr_program.specs.Tasks.{HasStatus, HasTolerance, IsChecking, IsDefault, IsRepacking, IsTolerance, KeepsInput};
+ghost use Rattle.msr_program.specs.Tasks.{HasStatus, HasTolerance, IsBadLine, IsChecking, IsDefault, IsRepacking, IsTolerance, IsWrong, KeepsInput};
 
 use crate::commands::command;
 use crate::texts;
@@ -99,7 +99,7 @@ fn default_task<'a>() -> Task<'a>
 
 // The answer to a wrong command line.
 fn wrong(alloc: Global, text: &str) -> NoTask
-    ensures { HasStatus result }
+    ensures { IsWrong text.now result }
 {
     match String::from_str(alloc, text) {
         Ok(text) => NoTask::Ending(Ending { text, status: 2 }),
@@ -146,7 +146,7 @@ fn repacking_of<'a>(
     ensures asked { IfOk result (IsRepacking bytes tolerance input.now (option_map (λ name. name.now) output.entry)) }
     ensures tolerance { IfOk result HasTolerance }
     ensures keeps_input { IfOk result KeepsInput }
-    ensures status { IfErr result HasStatus }
+    ensures status { IfErr result IsBadLine }
 {
     let Some(length) = Length::new(bytes) else {
         return Err(wrong(alloc, texts::NOT_A_LENGTH));
@@ -180,7 +180,7 @@ fn checking_of<'a>(found: &ArgMatches<'a>) -> Option<Task<'a>>
 fn task_of<'a>(alloc: Global, matches: &ArgMatches<'a>) -> Result<Task<'a>, NoTask>
     ensures tolerance { IfOk result HasTolerance }
     ensures keeps_input { IfOk result KeepsInput }
-    ensures status { IfErr result HasStatus }
+    ensures status { IfErr result IsBadLine }
 {
     let Some((name, found)) = matches.subcommand() else {
         return Err(wrong(alloc, texts::NO_COMMAND));
