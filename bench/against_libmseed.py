@@ -36,6 +36,7 @@ HEAD = """
 Input = collections.namedtuple("Input", "title length make write")
 Block = collections.namedtuple("Block", "records count seconds samples")
 Row = collections.namedtuple("Row", "title instructions seconds peak records")
+INSTRUCTIONS, SECONDS = 1, 2
 
 
 def strong_motion_within_16_bits(count):
@@ -202,30 +203,38 @@ def print_row(row):
 
 
 def print_end(rows):
-    for title, ratios in (("instructions", [ratio(row.instructions) for row in rows]), ("time", [ratio(row.seconds) for row in rows])):
-        few = sum(it <= 0.5 for it in ratios)
-        print(f"{title}: at most half of libmseed's on {few} of {len(rows)} inputs, the most {max(ratios):.2f}")
+    for title, of in (("instructions", INSTRUCTIONS), ("time", SECONDS)):
+        ratios = [ratio(row[of]) for row in rows]
+        few, most = sum(it <= 0.5 for it in ratios), max(ratios)
+        print(f"{title}: at most half of libmseed's for {few} of {len(rows)} inputs; the most is {most:.2f} of it")
+
+
+def pyplot():
+    try:
+        import matplotlib
+    except ImportError:
+        sys.exit(f"matplotlib is not here for {sys.executable}: {NEEDED}, and run it by /usr/bin/python3")
+    matplotlib.use("svg")
+    matplotlib.rcParams.update({"svg.hashsalt": "msrepack", "svg.fonttype": "none", "font.size": 11})
+    from matplotlib import pyplot as drawing
+
+    return drawing
 
 
 def draw(rows, name, title):
-    """Bars of our part of libmseed's instructions and time, as SVG."""
-    import matplotlib
-
-    matplotlib.use("svg")
-    matplotlib.rcParams.update({"svg.hashsalt": "msrepack", "font.size": 11})
-    from matplotlib import pyplot
-
-    figure, axes = pyplot.subplots(figsize=(9, 0.55 * len(rows) + 1.6))
-    places = range(len(rows))
-    for shift, color, label, of in ((-0.2, "#1f5a91", "instructions", 1), (0.2, "#e0a030", "time", 2)):
-        ratios = [ratio(row[of]) for row in rows]
-        bars = axes.barh([place + shift for place in places], ratios, 0.38, color=color, label=label)
-        axes.bar_label(bars, fmt="%.2f", padding=3, fontsize=9)
+    """Bars of the ratios, as SVG, with a line at one half."""
+    figure, axes = pyplot().subplots(figsize=(9, 0.55 * len(rows) + 1.6))
+    for shift, color, label, of in ((-0.2, "#1f5a91", "instructions", INSTRUCTIONS), (0.2, "#e0a030", "time", SECONDS)):
+        places = [place + shift for place in range(len(rows))]
+        bars = axes.barh(places, [ratio(row[of]) for row in rows], 0.38, color=color, label=label)
+        behind = {"facecolor": "white", "edgecolor": "none", "pad": 0.8}
+        axes.bar_label(bars, fmt="%.2f", padding=3, fontsize=9, bbox=behind)
     axes.axvline(0.5, color="#2a7a2a", linestyle="--", label="half of libmseed's")
     axes.axvline(1, color="#aa2222", label="as much as libmseed")
-    axes.set_yticks(list(places), [row.title for row in rows])
+    axes.set_yticks(range(len(rows)), [row.title for row in rows])
     axes.invert_yaxis()
-    axes.set_xlim(0, max(1.12, *(ratio(row[of]) + 0.12 for row in rows for of in (1, 2))))
+    axes.margins(y=0.01)
+    axes.set_xlim(0, max(1.1, *(ratio(row[of]) + 0.1 for row in rows for of in (INSTRUCTIONS, SECONDS))))
     axes.set_title(title)
     axes.legend(loc="upper center", bbox_to_anchor=(0.4, -0.06), ncol=4, frameon=False, fontsize=10)
     axes.spines[["top", "right"]].set_visible(False)
@@ -245,8 +254,9 @@ def words_of():
 
 def measure(asked, folder):
     bench = Bench(asked, folder)
-    versions = bench.said(bench.libmseed, "version").decode().strip(), bench.said(asked.program, "--version").decode().strip()
-    print(f"{versions[1]} beside {versions[0]}, records of {asked.length} bytes, the shortest of {asked.runs} runs")
+    theirs = bench.said(bench.libmseed, "version").decode().strip()
+    ours = bench.said(asked.program, "--version").decode().strip()
+    print(f"{ours} beside {theirs}, records of {asked.length} bytes, the shortest of {asked.runs} runs")
     print(HEAD)
     rows = []
     for each in INPUTS:
@@ -260,7 +270,7 @@ def measure(asked, folder):
     print()
     print_end(rows)
     if asked.picture:
-        draw(rows, asked.picture, f"{versions[1]}: part of what {versions[0]} takes, records of {asked.length} bytes")
+        draw(rows, asked.picture, f"What {ours} takes, with {theirs} as 1 (records of {asked.length} bytes)")
 
 
 def main():
@@ -270,6 +280,8 @@ def main():
     for tool in ("cc", "valgrind"):
         if not shutil.which(tool):
             sys.exit(f"{tool} is not here: {NEEDED}")
+    if asked.picture:
+        pyplot()
     signal.signal(signal.SIGTERM, lambda *_: sys.exit(1))
     # In memory, so that no disk is timed.
     memory = "/dev/shm" if os.access("/dev/shm", os.W_OK) else None
