@@ -87,19 +87,24 @@ def perf_counts():
     return said.returncode == 0 and re.search(r"^\d+,", said.stderr, re.M) is not None
 
 
-def instructions(words, folder):
-    """The instructions that a command runs, counted by perf, or else by callgrind; None where neither is there."""
-    if perf_counts():
-        words = ["perf", "stat", "-x,", "-e", "instructions:u", *words]
-        pattern = r"^(\d+),"
-    elif shutil.which("valgrind"):
-        words = ["valgrind", "--tool=callgrind", f"--callgrind-out-file={folder}/callgrind", *words]
-        pattern = r"Collected : (\d+)"
-    else:
-        return None
+def by_callgrind(words, folder):
+    """The instructions of the user's code that a command runs, by callgrind, which leaves their places in the folder."""
+    words = ["valgrind", "--tool=callgrind", f"--callgrind-out-file={folder}/callgrind", *words]
+    return collected(words, r"Collected : (\d+)")
+
+
+def collected(words, pattern):
+    """The count that a command prints on standard error; None where it fails."""
     said = subprocess.run(words, stdin=subprocess.DEVNULL, stdout=subprocess.DEVNULL, stderr=subprocess.PIPE, text=True)
     found = re.search(pattern, said.stderr, re.M)
     return int(found[1]) if found and said.returncode == 0 else None
+
+
+def instructions(words, folder):
+    """The instructions that a command runs, counted by perf, or else by callgrind; None where neither is there."""
+    if perf_counts():
+        return collected(["perf", "stat", "-x,", "-e", "instructions:u", *words], r"^(\d+),")
+    return by_callgrind(words, folder) if shutil.which("valgrind") else None
 
 
 def line(name, command, words, samples, few, folder, runs):

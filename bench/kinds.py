@@ -48,10 +48,10 @@ def within_16_bits(count):
     return [max(-32768, min(32767, sample)) for sample in white_noise(9000)(count)]
 
 
-def word_at(differences, at):
-    """The code, the word and the size of the longest group from there on."""
+def word_at(differences, at, end):
+    """The code, the word and the size of the longest group from there to the end."""
     for size, (bits, code, top) in WORDS.items():
-        group = differences[at : at + size]
+        group = differences[at : min(at + size, end)]
         if len(group) == size and all(-(1 << bits - 1) <= it < 1 << bits - 1 for it in group):
             word = top << 30
             for place, it in enumerate(group):
@@ -60,29 +60,35 @@ def word_at(differences, at):
     sys.exit("a difference of more than 30 bits")
 
 
-def write_steim2(name, samples):
-    """Records of 512 bytes in Steim-2, each filled as far as its 103 words reach."""
+def write_steim2(name, samples, length=512, most=65535):
+    """Records of Steim-2 of this length, each filled as far as its words reach, with no more than so many samples."""
     differences = [0] + [after - before for before, after in zip(samples, samples[1:])]
+    places = (length - 64) // 64 * 15
     start = number = 0
     with open(name, "wb") as out:
         while start < len(samples):
-            at, words = start, []
-            while at < len(samples) and len(words) < 103:
-                code, word, size = word_at(differences, at)
+            at, words, end = start, [], min(start + most, len(samples))
+            while at < end and len(words) < places - 2:
+                code, word, size = word_at(differences, at, end)
                 words.append((code, word))
                 at += size
             words = [(0, samples[start] & 0xFFFF_FFFF), (0, samples[at - 1] & 0xFFFF_FFFF)] + words
-            words += [(0, 0)] * (105 - len(words))
-            area = b""
-            for frame in (words[n : n + 15] for n in range(0, 105, 15)):
-                codes = sum(code << 2 * (14 - place) for place, (code, _) in enumerate(frame))
-                area += struct.pack(">16I", codes, *(word for _, word in frame))
+            words += [(0, 0)] * (places - len(words))
             number += 1
-            header = bytearray(day.record(number, 512, 3, start, [])[:64])
+            header = bytearray(day.record(number, length, 3, start, [])[:64])
             header[30:32] = struct.pack(">H", at - start)
             header[52] = 11
-            out.write(bytes(header) + area)
+            out.write(bytes(header) + frames(words))
             start = at
+
+
+def frames(words):
+    """An area of frames: before each fifteen words the one that has their codes."""
+    area = b""
+    for frame in (words[n : n + 15] for n in range(0, len(words), 15)):
+        codes = sum(code << 2 * (14 - place) for place, (code, _) in enumerate(frame))
+        area += struct.pack(">16I", codes, *(word for _, word in frame))
+    return area
 
 
 def write_int16(name, samples):
@@ -100,16 +106,14 @@ INPUTS = [
 
 def counted(program, name, folder):
     """The instructions of a repack, and those of each function."""
-    words = ["valgrind", "--tool=callgrind", f"--callgrind-out-file={folder}/callgrind", program, "repack"]
-    words += ["--length", "512", name, f"{folder}/out"]
-    said = subprocess.run(words, stdin=subprocess.DEVNULL, stdout=subprocess.DEVNULL, stderr=subprocess.PIPE, text=True)
-    if said.returncode:
-        sys.exit(f"{program} ended with status {said.returncode} on {name}")
+    count = day.by_callgrind([program, "repack", "--length", "512", name, f"{folder}/out"], folder)
+    if count is None:
+        sys.exit(f"{program} failed under valgrind on {name}")
     listed = subprocess.run(["callgrind_annotate", f"{folder}/callgrind"], capture_output=True, text=True).stdout
     functions = {}
-    for count, function in re.findall(r"^ *([\d,]+) \(.*?\)  \S*?:(\S+)", listed, re.M):
-        functions[function] = functions.get(function, 0) + int(count.replace(",", ""))
-    return int(re.search(r"Collected : (\d+)", said.stderr)[1]), functions
+    for each, function in re.findall(r"^ *([\d,]+) \(.*?\)  \S*?:(\S+)", listed, re.M):
+        functions[function] = functions.get(function, 0) + int(each.replace(",", ""))
+    return count, functions
 
 
 def main():
