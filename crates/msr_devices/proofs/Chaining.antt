@@ -1,8 +1,8 @@
 -- Calls one after another on one device.
-use Rattle.std.proofs.Common.{[], Option, None, Some, refl, inl, inr, ◌⊎◌, ◌≡◌, ℕ, ◌+◌, ◌-◌, ◌<◌, ◌≤◌, List, ◌++◌, length, take, drop, Result, Ok, Err, OnErr, sym, ap, ◌∙◌, append_assoc, arith, length-drop, length-take, length-append}
+use Rattle.std.proofs.Common.{[], Option, None, Some, refl, inl, inr, ◌⊎◌, ◌≡◌, ℕ, ◌+◌, ◌-◌, ◌<◌, ◌≤◌, List, ◌++◌, length, take, drop, sym, ap, ◌∙◌, append_assoc, arith, length-drop, length-take, length-append}
 use Rattle.std.proofs.lemmas.Bool.{cases_lt}
 use Rattle.std.proofs.Math.Seq.{take-append-add, take-add}
-use Rattle.std.proofs.lemmas.List.{length-take-le, take-append-le, take_all}
+use Rattle.std.proofs.lemmas.List.{append-nil, length-take-le, take-append-le, take_all}
 use Rattle.msr_devices.specs.Device.{Device, HasLeft, Gives, GivesOnto, Takes, Moves, HasFailed, IsCalm, IsSteady, CountsFew, CanCountCall}
 
 pub gives-append : (a b c : Device) (xs ys : List ℕ) → Gives a b xs → Gives b c ys → Gives a c (xs ++ ys)
@@ -23,6 +23,10 @@ pub takes-append : (a b c : Device) (xs ys : List ℕ) → Takes a b xs → Take
 takes-append a b c xs ys first second = record {
   back = λ before h. rw (← append_assoc) (second.back (before ++ xs) (first.back before h));
 }
+
+-- a sink to which no call was made
+pub takes-none : (a : Device) → Takes a a []
+takes-none a = record { back = λ before h. rw append-nil h }
 
 pub calm-moves : (a b c : Device) (n : ℕ) → IsCalm a b → Moves b c n → 0 < n → IsCalm a c
 calm-moves a b c n calm moves some = record {
@@ -47,10 +51,6 @@ take-kept a xs zs within =
 pub take-more : (a n : ℕ) (xs : List ℕ) → take (a + n) xs ≡ take a xs ++ take n (take (length xs - a) (drop a xs))
 take-more a n xs =
     take-add a n xs ∙ ap (λ (t : List ℕ). take a xs ++ take n t) (sym (take_all (length xs - a) (drop a xs) (omega (arith, length-drop a xs))))
-
-pub on_err : {T E P : Type 0} (r : Result T E) → P → OnErr r P
-on_err (Ok x) p = tt
-on_err (Err e) p = p
 
 -- a source has some bytes left
 some_left : (bytes : Option (List ℕ)) (moved failures interruptions : ℕ) → (rest : List ℕ) × HasLeft (record { bytes = bytes; moved = moved; failures = failures; interruptions = interruptions }) rest
@@ -97,6 +97,9 @@ calm-few a b c calm few = record { failures = omega arith; interruptions = grind
 pub steady-few : (a b : Device) → IsSteady a b → CountsFew a b
 steady-few a b steady = record { failures = omega arith; interruptions = grind arith }
 
--- a device that is calm can count the next call
-pub calm-can_count : (a b : Device) → IsCalm a b → CanCountCall a → CanCountCall b
-calm-can_count a b calm can = (omega arith, grind arith)
+-- a device that is steady can count the next call, and few calls are counted with it
+pub steady-can_count : (a b : Device) → IsSteady a b → CanCountCall a → CanCountCall b
+steady-can_count a b steady can = (omega arith, grind arith)
+
+pub steady-then_few : (a b c : Device) → IsSteady a b → CountsFew b c → CountsFew a c
+steady-then_few a b c steady few = record { failures = omega arith; interruptions = grind arith }

@@ -1,8 +1,6 @@
 -- What a write buffer gives out.
 use Rattle.std.specs.Prelude.{◌≡◌, ℕ, ◌+◌, ◌<◌, ◌^◌, List, ◌++◌, length}
-use Rattle.msr_devices.specs.Device.{Device, Takes, HasFailed}
-use Rattle.msr_devices.specs.declared.write_buffer.PushFault.{PushFault}
-use Rattle.msr_devices.specs.declared.write_buffer.PushFault.TheVariants.{Write, Memory}
+use Rattle.msr_devices.specs.Device.{Device, Takes}
 
 -- The sink accepted a front of what waited and was pushed, and the rest waits. No other bytes went through it,
 -- and where some did it has accepted fewer than 2^64 in all.
@@ -12,8 +10,3 @@ pub record Passes (old new : Device) (waited pushed waits : List ℕ) : Type 0 w
   pub whole : waited ++ pushed ≡ taken ++ waits
   pub moved : new.moved ≡ old.moved + length taken
   pub short : 0 < length taken → new.moved < 2 ^ 64
-
--- The sink failed: all that was pushed was accepted or waits. Or memory was refused for it, and it was not pushed.
-abbrev pub StopsPushing : Device → Device → List ℕ → List ℕ → List ℕ → PushFault → Type 0
-StopsPushing old new waited pushed waits Write = HasFailed old new × Passes old new waited pushed waits
-StopsPushing old new waited pushed waits Memory = (new ≡ old) × (waits ≡ waited)

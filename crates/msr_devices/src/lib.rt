@@ -15,10 +15,10 @@ mod write_buffer;
 pub use adapters::{FromRead, FromWrite};
 pub use device::{Sink, Source};
 pub use failure::{SinkFailed, SourceFailed};
-pub use loops::{read_full, read_some, write_all, write_some};
+pub use loops::{read_some, write_all, write_some};
 pub use memory::{Behavior, TestSink, TestSource};
 pub use read_buffer::{FillFault, ReadBuffer};
-pub use write_buffer::{PushFault, WriteBuffer};
+pub use write_buffer::WriteBuffer;
 
 #[cfg(test)]
 mod tests;

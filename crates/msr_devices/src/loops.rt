@@ -36,27 +36,6 @@ pub fn read_some<R: Source>(source: &mut R, buf: &mut [u8]) -> Result<usize, Sou
     Err(SourceFailed)
 }
 
-/// Reads until `buf` is full or no bytes are left, and says how many came. At an `Err` some may have come, and
-/// how many is lost.
-pub fn read_full<R: Source>(source: &mut R, buf: &mut [u8]) -> Result<usize, SourceFailed>
-    requires { CanCountCall (R.device source.old) }
-    ensures within { IfOk result (λ n. n ≤ length buf.new) }
-    ensures bytes { IfOk result (λ n. Gives (R.device source.old) (R.device source.new) (take n buf.new)) }
-    ensures end { IfOk result (λ n. n < length buf.new → HasLeft (R.device source.new) []) }
-    ensures calm { IfOk result (λ n. n ≡ length buf.new → IsCalm (R.device source.old) (R.device source.new)) }
-    ensures steady { OnOk result (IsSteady (R.device source.old) (R.device source.new)) }
-    ensures moved { IfOk result (λ n. (R.device source.new).moved ≡ (R.device source.old).moved + n) }
-    ensures short { IfOk result (λ n. 0 < n → (R.device source.new).moved < 2 ^ 64) }
-    ensures failed { OnErr result (HasFailed (R.device source.old) (R.device source.new)) }
-    ensures some { OnErr result ((bytes : List ℕ) × Gives (R.device source.old) (R.device source.new) bytes) }
-    ensures few { CountsFew (R.device source.old) (R.device source.new) }
-{
-    let mut filled = 0;
-    let want = buf.len();
-    read_until(source, buf, &mut filled, want)?;
-    Ok(filled)
-}
-
 // Reads behind the first `filled` bytes of `room` until `want` are filled, or no bytes are left: then true.
 pub(crate) fn read_until<R: Source>(
     source: &mut R,

@@ -1,7 +1,7 @@
 // What devices do, which no clause says: how a test device plays, how large the pieces are, and each call once.
 use crate::{
-    Behavior, FillFault, FromRead, FromWrite, PushFault, ReadBuffer, SinkFailed, SourceFailed,
-    TestSink, TestSource, WriteBuffer, read_full, read_some, write_all, write_some,
+    Behavior, FillFault, FromRead, FromWrite, ReadBuffer, SinkFailed, SourceFailed, TestSink,
+    TestSource, WriteBuffer, read_some, write_all, write_some,
 };
 use std::io;
 use std::io::{Read, Write};
@@ -17,33 +17,37 @@ fn behavior(most: usize, interruptions: u32, fails_at: Option<u64>) -> Behavior 
     }
 }
 
-// What a source of the text gives, through a read buffer and at once.
-fn given(behavior: Behavior) -> (Result<usize, SourceFailed>, [u8; 14]) {
-    let mut source = TestSource::new(TEXT, behavior);
-    let mut bytes = [0; 14];
-    let result = read_full(&mut source, &mut bytes);
-    (result, bytes)
-}
-
 #[test]
 fn sources_play_their_behavior(rt: HostRuntime) {
-    for (most, interruptions, fails_at, result) in [
-        (64usize, 0u32, None, Ok(14)),
-        (1, 0, None, Ok(14)),
-        (0, 0, None, Ok(14)),
-        (1, 63, None, Ok(14)),
-        (5, 63, None, Ok(14)),
-        (1, 64, None, Err(SourceFailed)),
-        (1, 0, Some(0), Err(SourceFailed)),
-        (1, 63, Some(7), Err(SourceFailed)),
-        (1, 0, Some(13), Err(SourceFailed)),
-        (1, 0, Some(14), Ok(14)),
+    for (most, interruptions, fails_at, came) in [
+        (64usize, 0u32, None, 14usize),
+        (1, 0, None, 14),
+        (0, 0, None, 14),
+        (1, 63, None, 14),
+        (5, 63, None, 14),
+        (1, 64, None, 0),
+        (1, 0, Some(0), 0),
+        (1, 63, Some(7), 7),
+        (1, 0, Some(13), 13),
+        (1, 0, Some(14), 14),
     ] {
-        let (found, bytes) = given(behavior(most, interruptions, fails_at));
-        assert_eq!(rt; found, result, "at {most}, {interruptions}, {fails_at:?}");
-        if result.is_ok() {
-            assert_eq!(rt; bytes.as_slice(), TEXT);
-        }
+        let mut source = TestSource::new(TEXT, behavior(most, interruptions, fails_at));
+        let mut buffer = ReadBuffer::new(rt.alloc());
+        let expected = if came == 14 {
+            Ok(())
+        } else {
+            Err(FillFault::Read)
+        };
+        assert_eq!(rt;
+            buffer.fill(&mut source, 14),
+            expected,
+            "at {most}, {interruptions}, {fails_at:?}"
+        );
+        assert_eq!(rt;
+            buffer.bytes(),
+            &TEXT[..came],
+            "at {most}, {interruptions}, {fails_at:?}"
+        );
     }
 }
 
@@ -119,7 +123,8 @@ fn what_was_not_written_waits(rt: HostRuntime) -> Result<(), Fail> {
         let behavior = behavior(1, 0, Some(fails_at));
         let mut sink = TestSink::accepting_nothing(Vec::new(rt.alloc()), behavior);
         let mut buffer = WriteBuffer::new(rt.alloc());
-        assert_eq!(rt; buffer.push(&mut sink, TEXT), Ok(()));
+        buffer.bytes.extend_from_slice(TEXT)?;
+        assert_eq!(rt; buffer.flush_full(&mut sink), Ok(()));
         assert_eq!(rt; sink.bytes().len(), 0);
         assert_eq!(rt; buffer.flush(&mut sink), Err(SinkFailed), "at {fails_at}");
         assert_eq!(rt;
@@ -158,7 +163,7 @@ impl Write for Noted {
 }
 
 #[test]
-fn pieces_are_large(rt: HostRuntime) {
+fn pieces_are_large(rt: HostRuntime) -> Result<(), Fail> {
     for want in [1usize, 512, 4096, 65_536, 100_000] {
         let mut noted = Noted { least: usize::MAX };
         let mut source = FromRead::new(&mut noted);
@@ -172,9 +177,12 @@ fn pieces_are_large(rt: HostRuntime) {
     let mut noted = Noted { least: usize::MAX };
     let mut sink = FromWrite::new(&mut noted);
     let mut buffer = WriteBuffer::new(rt.alloc());
-    assert_eq!(rt; buffer.push(&mut sink, &[7; 65_535]), Ok(()));
-    assert_eq!(rt; buffer.push(&mut sink, &[7]), Ok(()));
+    buffer.bytes.resize(65_535, 7)?;
+    assert_eq!(rt; buffer.flush_full(&mut sink), Ok(()));
+    buffer.bytes.push(7)?;
+    assert_eq!(rt; buffer.flush_full(&mut sink), Ok(()));
     assert_eq!(rt; noted.least, 65_536);
+    Ok(())
 }
 
 #[test]
@@ -196,15 +204,10 @@ fn texts_of_failures(rt: HostRuntime) -> Result<(), Fail> {
         format!(in alloc; "{SourceFailed}, {SinkFailed}")?.as_str(),
         "the source failed, the sink failed"
     );
-    let (read, write) = (FillFault::Read, PushFault::Write);
+    let (read, memory) = (FillFault::Read, FillFault::Memory);
     assert_eq!(rt;
-        format!(in alloc; "{read}, {write}")?.as_str(),
-        "the source failed, the sink failed"
-    );
-    let (fill, push) = (FillFault::Memory, PushFault::Memory);
-    assert_eq!(rt;
-        format!(in alloc; "{fill}, {push}")?.as_str(),
-        "out of memory, out of memory"
+        format!(in alloc; "{read}, {memory}")?.as_str(),
+        "the source failed, out of memory"
     );
     Ok(())
 }

@@ -1,51 +1,12 @@
 // Bytes that wait to be written.
-ghost use Rattle.std.specs.Prelude.{◌≡◌, ◌<◌, ◌≤◌, ◌+◌, [], length, vec_len, vec_capacity, OnOk, OnErr, IsErrOf, IsOk, MatchResult};
+ghost use Rattle.std.specs.Prelude.{◌≡◌, ◌<◌, [], length, OnOk, OnErr, IsOk};
 ghost use Rattle.msr_devices.specs.Device.{CanCountCall, CountsFew, HasFailed, IsCalm};
-ghost use Rattle.msr_devices.specs.WriteBuffer.{Passes, StopsPushing};
-ghost use Rattle.msr_devices.specs.declared.write_buffer.PushFault.TheVariants.{Write, Memory};
+ghost use Rattle.msr_devices.specs.WriteBuffer.{Passes};
 
 use crate::device::Sink;
 use crate::failure::SinkFailed;
 use crate::loops::{FailedAfter, write_counted};
-use std::alloc::{AllocError, Global};
-use std::error::Error;
-use std::fmt;
-
-/// Why bytes were not pushed, or not written.
-#[derive(Clone, Copy, Debug, PartialEq, Eq)]
-pub enum PushFault {
-    /// The sink failed, accepted nothing, or was interrupted 64 times in a row.
-    Write,
-    /// The buffer could not grow.
-    Memory,
-}
-
-impl fmt::Display for PushFault {
-    fn fmt<W: fmt::Write>(&self, f: &mut fmt::Formatter<W>) -> fmt::Result {
-        match self {
-            PushFault::Write => write!(f, "the sink failed"),
-            PushFault::Memory => write!(f, "out of memory"),
-        }
-    }
-}
-
-impl Error for PushFault {}
-
-impl From<SinkFailed> for PushFault {
-    ghost from_gives = { λ _ e. e ≡ Write };
-
-    fn from(_: SinkFailed) -> PushFault {
-        PushFault::Write
-    }
-}
-
-impl From<AllocError> for PushFault {
-    ghost from_gives = { λ _ e. e ≡ Memory };
-
-    fn from(_: AllocError) -> PushFault {
-        PushFault::Memory
-    }
-}
+use std::alloc::Global;
 
 // So many bytes wait at most where a call has ended well.
 const PIECE: usize = 65_536;
@@ -65,20 +26,6 @@ impl WriteBuffer {
         WriteBuffer {
             bytes: Vec::new(alloc),
         }
-    }
-
-    /// Puts the bytes behind those that wait, and writes all where they are 64 KiB or more.
-    pub fn push<W: Sink>(&mut self, sink: &mut W, bytes: &[u8]) -> Result<(), PushFault>
-        requires { CanCountCall (W.device sink.old) }
-        ensures pushed { MatchResult result (λ _. Passes (W.device sink.old) (W.device sink.new) self.old.bytes.items bytes.now self.new.bytes.items) (StopsPushing (W.device sink.old) (W.device sink.new) self.old.bytes.items bytes.now self.new.bytes.items) }
-        ensures calm { OnOk result (IsCalm (W.device sink.old) (W.device sink.new)) }
-        ensures few_wait { OnOk result (length self.new.bytes.items < 65536) }
-        ensures memory { IsErrOf result PushFault.Memory → vec_capacity self.old.bytes < vec_len self.old.bytes + length bytes.now }
-        ensures few { CountsFew (W.device sink.old) (W.device sink.new) }
-    {
-        self.bytes.extend_from_slice(bytes)?;
-        self.flush_full(sink)?;
-        Ok(())
     }
 
     /// Writes all that waits where it is 64 KiB or more.

@@ -1,7 +1,7 @@
 //! Segments with their packings, worked out by hand, or from the definitions by exhaustive search.
 
-use crate::pack;
-use msr_words::{Kind, Length, Run};
+use crate::{Run, pack};
+use msr_words::{Kind, Length};
 use std::alloc::{AllocError, Global};
 use std::test::Fail;
 

@@ -1,4 +1,4 @@
-ghost use Rattle.std.specs.Prelude.{◌≡◌, ◌↔◌, ◌++◌, ◌∷◌, [], length, IfOk, IsTrue, OnErr, OnOk};
+ghost use Rattle.std.specs.Prelude.{◌≡◌, ◌↔◌, ◌++◌, ◌∷◌, [], length, IsTrue, OnErr, OnOk};
 
 use std::alloc::{AllocError, Global};
 use std::marker::Model;
@@ -25,15 +25,6 @@ impl Samples {
         Samples {
             values: Vec::new(alloc),
         }
-    }
-
-    /// No samples, with room for so many.
-    pub fn with_capacity(alloc: Global, capacity: usize) -> Result<Samples, AllocError>
-        ensures { IfOk result (λ samples. samples ≡ []) }
-    {
-        Ok(Samples {
-            values: Vec::with_capacity(alloc, capacity)?,
-        })
     }
 
     /// The samples of a vector, in the vector's memory.

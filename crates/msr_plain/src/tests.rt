@@ -86,7 +86,7 @@ fn samples_grow(rt: HostRuntime) -> Result<(), Fail> {
     samples.push(-1)?;
     samples.extend_from_slice(&[2, -3])?;
     assert_eq!(rt; samples.len(), 3);
-    let mut others = Samples::with_capacity(rt.alloc(), 2)?;
+    let mut others = Samples::new(rt.alloc());
     others.push(-1)?;
     assert!(rt; samples != others);
     others.extend_from_slice(&[2, -3])?;

@@ -1,7 +1,7 @@
 -- How tasks end that do not succeed.
 use Rattle.std.proofs.Common.{◌≡◌, ℕ, List, [], ◌++◌, codes, refl, subst, sym, inl, inr, append-nil, Result, Ok, Err}
 use Rattle.msr_devices.specs.Device.{Device, Takes}
-use Rattle.msr_devices.proofs.Chaining.{left-of, takes-append}
+use Rattle.msr_devices.proofs.Chaining.{left-of, takes-append, takes-none}
 use Rattle.msr_report.specs.declared.report.Counts.{Counts}
 use Rattle.msr_report.specs.declared.report.Report.{Report}
 use Rattle.msr_verdict.specs.declared.verdict.Verdict.{Verdict}
@@ -17,9 +17,6 @@ use Rattle.msr_program.specs.declared.stop.Stop.TheVariants.{CannotOpen, SameFil
 use Rattle.msr_program.specs.declared.words.Task.{Task}
 use Rattle.msr_program.specs.declared.words.Task.TheVariants.{Repack, List as Listing, Check}
 use Rattle.msr_program.specs.Ends.{Checks, Does, IsUncreated, IsUnopened, ListsNamed, Repacks, RepacksNamed, choice_of}
-
-takes-none : (a : Device) → Takes a a []
-takes-none a = record { back = λ before h. rw append-nil h }
 
 -- a file that is needed cannot be opened
 

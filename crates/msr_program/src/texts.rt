@@ -13,7 +13,7 @@ before the data, the first difference taken from the sample before, none wrapped
 
 It reads records with blockette 1000, with or without blockette 1001, in either byte
 order: 16-bit and 32-bit integers, Steim-1 and Steim-2. A file with anything else is
-refused with the place and the reason. No record is skipped.";
+refused with the place and the reason. No record that has samples is skipped.";
 
 pub const AFTER: &str = "With no words msrepack does what `msrepack repack -` does.
 

@@ -1,10 +1,10 @@
 -- What a sink took of a report's text, and what waits, while the text is written segment by segment.
-use Rattle.std.proofs.Common.{◌≡◌, ℕ, ◌+◌, ◌≤◌, ◌<◌, List, [], ◌∷◌, ◌++◌, ◌∙◌, refl, ap, sym, subst, append_assoc, arith, Some, take, drop, get_or, length}
+use Rattle.std.proofs.Common.{◌≡◌, ℕ, ◌+◌, ◌≤◌, ◌<◌, List, [], ◌∷◌, ◌++◌, ◌∙◌, refl, ap, sym, subst, append_assoc, arith, take, drop, get_or, length}
 use Rattle.std.proofs.lemmas.List.{append-nil, take-append-drop, take_more}
 use Rattle.std.proofs.lemmas.List.Elements.{All-drop}
 use Rattle.msr_devices.specs.Device.{Device, Takes}
 use Rattle.msr_devices.specs.WriteBuffer.{Passes}
-use Rattle.msr_devices.proofs.Chaining.{takes-append}
+use Rattle.msr_devices.proofs.Chaining.{takes-append, takes-none}
 use Rattle.msr_report.specs.Proper.{IsProper, IsProperLine, records_of}
 use Rattle.msr_report.specs.Text.{IsSegmentText, AreSegmentTexts, first_lines, end_line, IsReportText}
 use Rattle.msr_report.specs.Writing.{TakesFront}
@@ -33,15 +33,12 @@ segments-append (line ∷ lines) others text more h k =
 pub one_segment : (line : SegmentLine) (text : List ℕ) → IsSegmentText line text → AreSegmentTexts (line ∷ []) text
 one_segment line text h = (text, ([], (h, refl, sym (append-nil text))))
 
-pub takes_none : (device : Device) → Takes device device []
-takes_none device = record { back = λ before h. h ∙ ap (λ (t : List ℕ). Some t) (sym (append-nil before)) }
-
 pub written_first : (device : Device) (report : Report) (empty waits : List ℕ) → empty ≡ [] → waits ≡ empty ++ first_lines report → IsWritten device device report [] waits
 written_first device report empty waits none is = record {
   segments = [];
   are = refl;
   taken = [];
-  takes = takes_none device;
+  takes = takes-none device;
   whole = append-nil (first_lines report) ∙ sym (is ∙ ap (λ (t : List ℕ). t ++ first_lines report) none);
 }
 
@@ -146,7 +143,7 @@ end_whole old new report left none h =
 pub nothing_taken : (device : Device) (report : Report) → IsProper report → (text : List ℕ) × (IsReportText report text × TakesFront device device text)
 nothing_taken device report proper =
     let whole = has_report_text report proper in
-    (whole.0, (whole.1, record { taken = []; rest = whole.0; takes = takes_none device; whole = refl }))
+    (whole.0, (whole.1, record { taken = []; rest = whole.0; takes = takes-none device; whole = refl }))
 
 -- records of more segments
 records-append : (lines others : List SegmentLine) → records_of (lines ++ others) ≡ records_of lines + records_of others

@@ -1,9 +1,9 @@
 -- What is answered where repacking stops.
-use Rattle.std.proofs.Common.{◌≡◌, ◌↔◌, ℕ, List, ◌++◌, refl, Result, Ok, Err, IsErrOf, arith}
+use Rattle.std.proofs.Common.{◌≡◌, ◌↔◌, ℕ, List, ◌++◌, refl, Result, Ok, Err, IsErrOf}
 use Rattle.std.specs.Option.{option_to_list}
 use Rattle.msr_record.specs.declared.row.Record.{Record}
 use Rattle.msr_segments.specs.declared.joiner.Segment.{Segment}
-use Rattle.msr_devices.specs.Device.{Device, HasLeft, Takes, HasFailed, IsSteady, CountsFew, CanCountCall}
+use Rattle.msr_devices.specs.Device.{Device, HasLeft, Takes, HasFailed, IsSteady}
 use Rattle.msr_devices.proofs.Chaining.{left-of, steady-sound}
 use Rattle.msr_report.specs.declared.report.Counts.{Counts}
 use Rattle.msr_report.specs.declared.report.Report.{Report}
@@ -152,13 +152,6 @@ listed-tells_source source0 source sink0 sink given counts found steady h = writ
 -- no device failed
 pub ok-tells : {T : Type 0} (old new : Device) (value : T) (found : ToolFault) → IsSteady old new → IsErrOf (Ok value) found ↔ HasFailed old new
 ok-tells old new value found steady = ((λ e. absurd cc), (λ has_failed. absurd (steady-sound old new steady has_failed)))
-
--- a device that was steady can count the next call, and few calls are counted with it
-pub steady-can_count : (a b : Device) → IsSteady a b → CanCountCall a → CanCountCall b
-steady-can_count a b steady can = (omega arith, grind arith)
-
-pub steady-then_few : (a b c : Device) → IsSteady a b → CountsFew b c → CountsFew a c
-steady-then_few a b c steady few = record { failures = omega arith; interruptions = grind arith }
 
 pub as-answer : (choice : Choice) (source0 sink0 sink : Device) (result : Result Report ToolFault) → IsAnswered choice source0 sink0 sink result → (input : List ℕ) × (written : List ℕ) × HasLeft source0 input × Takes sink0 sink written × Answers choice input written result
 as-answer choice source0 sink0 sink result a = (a.input, a.written, a.left, a.takes, a.answers)

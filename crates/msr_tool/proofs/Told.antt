@@ -1,7 +1,8 @@
 -- What is answered where a task that writes a text stops.
-use Rattle.std.proofs.Common.{◌≡◌, ℕ, List, [], ◌++◌, take, drop, refl, sym, ◌∙◌, append-nil, inl, inr, Result, Ok, Err}
+use Rattle.std.proofs.Common.{◌≡◌, ℕ, List, [], ◌++◌, take, drop, refl, sym, ◌∙◌, inl, inr, Result, Ok, Err}
 use Rattle.std.proofs.lemmas.List.{take-append-drop}
 use Rattle.msr_devices.specs.Device.{Device, HasLeft, Takes}
+use Rattle.msr_devices.proofs.Chaining.{takes-none}
 use Rattle.msr_report.specs.Text.{IsReportText}
 use Rattle.msr_report.specs.Writing.{TakesFront}
 use Rattle.msr_report.specs.declared.report.Report.{Report}
@@ -15,9 +16,6 @@ use Rattle.msr_tool.specs.Fault.{fault_of_text}
 use Rattle.msr_tool.specs.Tasks.{IsReportedInPart, Reports, Tells, verdict_line}
 use Rattle.msr_tool.specs.declared.fault.ToolFault.{ToolFault}
 use Rattle.msr_tool.specs.declared.fault.ToolFault.TheVariants as fault
-
-takes-none : (a : Device) → Takes a a []
-takes-none a = record { back = λ before h. rw append-nil h }
 
 -- repacking stops, and no call is made for the text
 pub repack-stops : (choice : Choice) (source records0 records text : Device) (input written : List ℕ) (why : ToolFault) →

@@ -1,7 +1,8 @@
 //! Tasks that also write a text: a repack with the text of its report, a check with the line of its verdict.
-ghost use Rattle.std.specs.Prelude.{◌≡◌, ◌⊎◌, ◌↔◌, IsErrOf, OnErr};
+ghost use Rattle.std.specs.Prelude.{◌≡◌, ◌⊎◌, ◌↔◌, ℕ, IsErrOf, OnErr};
 ghost use Rattle.msr_devices.specs.Device.{CanCountCall, CountsFew, HasFailed, IsCalm};
 ghost use Rattle.msr_input.specs.declared.fault.Fault.{Fault as FirstFault};
+ghost use Rattle.msr_tool.specs.Checking.{GivesReport};
 ghost use Rattle.msr_tool.specs.Tasks.{Reports, Tells};
 
 use crate::check::check_packed;
@@ -67,6 +68,11 @@ pub fn check_and_tell<R: Source, Q: Source, T: Sink>(
         ⊎ HasFailed (Q.device report.old) (Q.device report.new)) }
     ensures write { IsErrOf result ToolFault.Write ↔ HasFailed (T.device out.old) (T.device out.new) }
     ensures untold { OnErr result (result ≡ Err ToolFault.Write ⊎ (out.new ≡ out.old)) }
+
+    // The report is read first, as `check_packed` says.
+    ensures untouched { (line : ℕ) → result ≡ Err (ToolFault.Report line) → packed.new ≡ packed.old }
+    ensures unread { HasFailed (Q.device report.old) (Q.device report.new) → packed.new ≡ packed.old }
+    ensures report_first { (packed.new ≡ packed.old) ⊎ GivesReport (Q.device report.old) }
     ensures few_packed { CountsFew (R.device packed.old) (R.device packed.new) }
     ensures few_report { CountsFew (Q.device report.old) (Q.device report.new) }
     ensures few_out { CountsFew (T.device out.old) (T.device out.new) }

@@ -6,7 +6,7 @@ use Rattle.std.proofs.lemmas.List.{append-nil}
 use Rattle.msr_words.specs.Lengths.{bytes_of}
 use Rattle.msr_words.proofs.Certificate.{least_by_separators}
 use Rattle.msr_record.specs.declared.row.Record.{Record}
-use Rattle.msr_devices.specs.Device.{Device, HasLeft, HasFailed, IsSteady, CountsFew, CanCountCall}
+use Rattle.msr_devices.specs.Device.{Device, HasLeft, HasFailed, IsSteady}
 use Rattle.msr_devices.proofs.Chaining.{left-of, steady-sound}
 use Rattle.msr_segments.specs.Segments.{Part, rows_of, segment_of, IsDivision}
 use Rattle.msr_segments.specs.declared.joiner.Segment.{Segment}
@@ -69,13 +69,6 @@ memory-tells start now why steady memory = rw memory ((λ e. absurd cc), (λ fai
 
 pub ok-tells : (start now : Device) (verdict : Verdict) → IsSteady start now → IsErrOf {T = Verdict} (Ok verdict) fault.Read ↔ HasFailed start now
 ok-tells start now verdict steady = ((λ e. absurd cc), (λ failed. absurd (steady-sound start now steady failed)))
-
--- a device that was steady can count the next call, and few calls are counted with it
-pub steady-can_count : (a b : Device) → IsSteady a b → CanCountCall a → CanCountCall b
-steady-can_count a b steady can = (omega arith, grind arith)
-
-pub steady-then_few : (a b c : Device) → IsSteady a b → CountsFew b c → CountsFew a c
-steady-then_few a b c steady few = record { failures = omega arith; interruptions = grind arith }
 
 -- the records and the parts by which a report shows the fewest records are those of the input
 same-parts : (report : Report) (input : List ℕ) (records : List Record) (parts : List Part) (h : ShowsLeast report input) → AreRead report.tolerance input records [] → IsDivision report.tolerance (rows_of_records records) parts → (h.records ≡ records) × (h.parts ≡ parts)

@@ -179,18 +179,6 @@ pub fn run_fits(
     }
 }
 
-/// The samples `start` to `end - 1` of a segment fit one record of some kind.
-pub fn any_fits(samples: &[i32], record_length: Length, start: usize, end: usize) -> bool
-    requires order { start ≤ end }
-    requires within { end ≤ length samples.now }
-    ensures { IsTrue result ↔ FitsAny (bytes_of record_length) (run_points samples.now start end) }
-{
-    run_fits(Kind::Int16, samples, start, end, record_length)
-        | run_fits(Kind::Int32, samples, start, end, record_length)
-        | run_fits(Kind::Steim1, samples, start, end, record_length)
-        | run_fits(Kind::Steim2, samples, start, end, record_length)
-}
-
 /// The first kind, in the order in which they are tried, that the samples `start` to `end - 1` of the segment fit.
 pub fn first_kind(samples: &[i32], start: usize, end: usize, record_length: Length) -> Kind
     requires { IsRun (FitsAny (bytes_of record_length)) samples.now start end }

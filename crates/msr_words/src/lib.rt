@@ -20,5 +20,5 @@ pub use codecs::{Codec, Int16, Int32, Steim1, Steim2, Tracker};
 pub use counts::{fits_bits, is_narrow, magnitude, quarters_of, wide_one};
 pub use division::{groups, one_division};
 pub use filling::{fill_steim2, longest_steim2_group};
-pub use kinds::{Kind, Run, any_fits, difference, first_kind, run_fits, steim2_dominates};
+pub use kinds::{Kind, Run, difference, first_kind, run_fits, steim2_dominates};
 pub use lengths::Length;

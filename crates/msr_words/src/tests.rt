@@ -1,7 +1,7 @@
 //! Runs worked out by hand, by the trackers, by `Kind::fits` and by `groups`.
 
 use crate::{
-    AnyKind, Codec, Int16, Int32, Kind, Length, Run, Steim1, Steim2, Tracker, any_fits, difference,
+    AnyKind, Codec, Int16, Int32, Kind, Length, Run, Steim1, Steim2, Tracker, difference,
     first_kind, groups, one_division, run_fits,
 };
 use msr_steim::Version;
@@ -211,8 +211,6 @@ fn runs_of_a_segment(rt: HostRuntime) -> Result<(), Fail> {
         let fits = run_fits(kind, &samples, start, end, length);
         assert_eq!(rt; fits, expected, "{kind:?} {start} {end}");
     }
-    assert!(rt; any_fits(&samples, length, 0, 87));
-    assert!(rt; !any_fits(&samples, length, 0, 88));
     Ok(())
 }
 

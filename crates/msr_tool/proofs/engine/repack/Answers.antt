@@ -6,7 +6,8 @@ use Rattle.msr_certificate.specs.Form.{IsFirst}
 use Rattle.msr_certificate.proofs.Forms.{is_length}
 use Rattle.msr_output.specs.Output.{segment_of_packed}
 use Rattle.msr_tool.proofs.Lines.{front-of}
-use Rattle.msr_tool.proofs.Stops.{stops-after, read-failed, write-failed, read-tells_source, lined-tells_source, lined-tells_sink, ok-tells, steady-can_count, steady-then_few, as-answer}
+use Rattle.msr_devices.proofs.Chaining.{steady-can_count, steady-then_few}
+use Rattle.msr_tool.proofs.Stops.{stops-after, read-failed, write-failed, read-tells_source, lined-tells_source, lined-tells_sink, ok-tells, as-answer}
 use Rattle.msr_tool.proofs.UnderWay.{more, done, last-writable, rest-writable, stops-at_end}
 use Rattle.msr_tool.proofs.engine.repack.Goals as goal
 

@@ -3,7 +3,8 @@ use Rattle.std.proofs.lemmas.List.{append-nil}
 use Rattle.std.proofs.lemmas.Result.{err_from_is_err_and}
 use Rattle.std.specs.Option.{option_to_list}
 use Rattle.msr_tool.proofs.Listed.{front-listed}
-use Rattle.msr_tool.proofs.Stops.{stops-after, read-tells_source, listing-tells_source, listing-tells_sink, listed-tells_source, listed-tells_sink, ok-tells, steady-can_count, steady-then_few}
+use Rattle.msr_devices.proofs.Chaining.{steady-can_count, steady-then_few}
+use Rattle.msr_tool.proofs.Stops.{stops-after, read-tells_source, listing-tells_source, listing-tells_sink, listed-tells_source, listed-tells_sink, ok-tells}
 use Rattle.msr_tool.proofs.UnderWay.{last-writable, rest-writable, stops-at_end}
 use Rattle.msr_tool.proofs.UnderList.{list-read_failed, list-write_failed, list-all_failed, list-done}
 use Rattle.msr_tool.proofs.list.list_segments.Goals as goal
