@@ -244,7 +244,7 @@ def draw(rows, name, title):
 def words_of():
     words = argparse.ArgumentParser(description=__doc__.splitlines()[0])
     words.add_argument("--length", type=int, default=512, help="bytes of each record that is written")
-    words.add_argument("--copies", type=int, default=20, help="how often the block stands in the file that is timed")
+    words.add_argument("--copies", type=int, default=40, help="how often the block stands in the file that is timed")
     words.add_argument("--runs", type=int, default=7, help="how often each is timed; the shortest counts")
     words.add_argument("--only", default="", help="only inputs with this text in their titles")
     words.add_argument("--picture", help="the SVG file to write")

@@ -26,7 +26,7 @@ import threading
 import day
 
 OLD = b"what stood in OUT before"
-SAME = None
+SAME = "no fault"
 IN_A_ROW = 64
 # What a call is for, by its name.
 KINDS = {
@@ -54,6 +54,7 @@ INJECTED = {
     "freeing": ("error=ENOMEM",),
 }
 
+# Words, what is standard input, and whether standard output is a pipe, not a file.
 Case = collections.namedtuple("Case", "title words input pipes")
 Call = collections.namedtuple("Call", "name kind number fd target result hit")
 Outcome = collections.namedtuple("Outcome", "status printed complained records")
@@ -173,12 +174,13 @@ def allowed_of(case, call, hit, fault):
 
 def without(text, calls, at, short):
     """The bytes that a file has where a write to it took so many and kept none of them."""
-    begin = sum(int(call.result) for call in calls[:at] if call.kind == "writing" and call.target == calls[at].target)
+    before = [call for call in calls[:at] if call.kind == "writing" and call.target == calls[at].target]
+    begin = sum(int(call.result) for call in before)
     return text[:begin] + text[begin + short :]
 
 
-def same(outcome, calm, calls, at, fault):
-    """The outcome of the undisturbed run; of a short write, without what was taken and not kept."""
+def undisturbed(calm, calls, at, fault):
+    """The outcome of the undisturbed run; at a short write, without what was taken and not kept."""
     if not fault.short:
         return calm
     if calls[at].fd == 1:
@@ -213,10 +215,10 @@ def judged(case, calm, calls, at, fault, outcome, hit):
     if call.fd == 2 and SAME not in lines:
         right = outcome._replace(complained=calm.complained) == calm and calm.complained.startswith(outcome.complained)
         return None if right else f"without its line on standard error status {outcome.status}"
-    if SAME in lines and outcome == same(outcome, calm, calls, at, fault):
+    if SAME in lines and outcome == undisturbed(calm, calls, at, fault):
         return None
     if not told(outcome, lines, call.kind == "writing" and fault.row == 0):
-        return f"status {outcome.status}, {outcome.complained[-200:]!r}, where {lines} was to be told"
+        return f"status {outcome.status}, {outcome.complained[-200:]!r}, where it is to be: {' or '.join(sorted(lines))}"
     cut = next((n for n, it in enumerate(calls) if it.kind == "cutting"), len(calls))
     if at > cut:
         return prefixes(outcome, calm, set())
