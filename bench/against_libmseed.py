@@ -36,7 +36,8 @@ HEAD = """
 Input = collections.namedtuple("Input", "title length make write")
 Block = collections.namedtuple("Block", "records count seconds samples")
 Row = collections.namedtuple("Row", "title instructions seconds peak records")
-INSTRUCTIONS, SECONDS = 1, 2
+# What is compared as a ratio: its place in a row, its title, and the color of its bars.
+COMPARED = [("instructions", "instructions", "#1f5a91"), ("seconds", "time", "#e0a030")]
 
 
 def strong_motion_within_16_bits(count):
@@ -146,8 +147,9 @@ class Bench:
         with open(name, "wb") as out:
             out.writelines(repeated(block.records, block.seconds, copies))
         samples = self.said(self.libmseed, "samples", name)
-        if not samples.endswith(block.samples * copies):
-            sys.exit("libmseed reads other samples from the input than were made")
+        head = samples.split(b"\n", 1)[0]
+        if not head.endswith(b" %d" % (block.count * copies)) or not samples.endswith(block.samples * copies):
+            sys.exit(f"libmseed reads other samples from the input than were made: {head.decode()}")
         return name, {way: self.checked(way, name, samples) for way in WAYS}
 
     def same_again(self, way, digests):
@@ -203,8 +205,8 @@ def print_row(row):
 
 
 def print_end(rows):
-    for title, of in (("instructions", INSTRUCTIONS), ("time", SECONDS)):
-        ratios = [ratio(row[of]) for row in rows]
+    for of, title, _ in COMPARED:
+        ratios = [ratio(getattr(row, of)) for row in rows]
         few, most = sum(it <= 0.5 for it in ratios), max(ratios)
         print(f"{title}: at most half of libmseed's for {few} of {len(rows)} inputs; the most is {most:.2f} of it")
 
@@ -224,9 +226,11 @@ def pyplot():
 def draw(rows, name, title):
     """Bars of the ratios, as SVG, with a line at one half."""
     figure, axes = pyplot().subplots(figsize=(9, 0.55 * len(rows) + 1.6))
-    for shift, color, label, of in ((-0.2, "#1f5a91", "instructions", INSTRUCTIONS), (0.2, "#e0a030", "time", SECONDS)):
-        places = [place + shift for place in range(len(rows))]
-        bars = axes.barh(places, [ratio(row[of]) for row in rows], 0.38, color=color, label=label)
+    most = 1
+    for shift, (of, label, color) in zip((-0.2, 0.2), COMPARED):
+        ratios = [ratio(getattr(row, of)) for row in rows]
+        most = max(most, *ratios)
+        bars = axes.barh([place + shift for place in range(len(rows))], ratios, 0.38, color=color, label=label)
         behind = {"facecolor": "white", "edgecolor": "none", "pad": 0.8}
         axes.bar_label(bars, fmt="%.2f", padding=3, fontsize=9, bbox=behind)
     axes.axvline(0.5, color="#2a7a2a", linestyle="--", label="half of libmseed's")
@@ -234,7 +238,7 @@ def draw(rows, name, title):
     axes.set_yticks(range(len(rows)), [row.title for row in rows])
     axes.invert_yaxis()
     axes.margins(y=0.01)
-    axes.set_xlim(0, max(1.1, *(ratio(row[of]) + 0.1 for row in rows for of in (INSTRUCTIONS, SECONDS))))
+    axes.set_xlim(0, most + 0.1)
     axes.set_title(title)
     axes.legend(loc="upper center", bbox_to_anchor=(0.4, -0.06), ncol=4, frameon=False, fontsize=10)
     axes.spines[["top", "right"]].set_visible(False)
@@ -244,7 +248,7 @@ def draw(rows, name, title):
 def words_of():
     words = argparse.ArgumentParser(description=__doc__.splitlines()[0])
     words.add_argument("--length", type=int, default=512, help="bytes of each record that is written")
-    words.add_argument("--copies", type=int, default=20, help="how often the block stands in the file that is timed")
+    words.add_argument("--copies", type=int, default=40, help="how often the block stands in the file that is timed")
     words.add_argument("--runs", type=int, default=7, help="how often each is timed; the shortest counts")
     words.add_argument("--only", default="", help="only inputs with this text in their titles")
     words.add_argument("--picture", help="the SVG file to write")

@@ -100,16 +100,31 @@ static void show_samples(const char *name)
         fail("standard output", "cannot write");
 }
 
+static void show_version(void)
+{
+    if (puts("libmseed " LIBMSEED_VERSION) < 0 || fflush(stdout) != 0)
+        fail("standard output", "cannot write");
+}
+
+static int length_of(const char *word)
+{
+    char *end;
+    long length = strtol(word, &end, 10);
+    if (*word == 0 || *end != 0 || length < 128 || length > 1048576)
+        fail(word, "not a length");
+    return (int)length;
+}
+
 int main(int count, char **words)
 {
     if (count == 3 && strcmp(words[1], "samples") == 0)
         show_samples(words[2]);
     else if (count == 2 && strcmp(words[1], "version") == 0)
-        puts("libmseed " LIBMSEED_VERSION);
+        show_version();
     else if (count == 5 && strcmp(words[1], "stream") == 0)
-        repack(1, atoi(words[2]), words[3], words[4]);
+        repack(1, length_of(words[2]), words[3], words[4]);
     else if (count == 5 && strcmp(words[1], "whole") == 0)
-        repack(0, atoi(words[2]), words[3], words[4]);
+        repack(0, length_of(words[2]), words[3], words[4]);
     else
         fail("usage", "stream|whole LENGTH IN OUT, or samples IN, or version");
     return 0;
