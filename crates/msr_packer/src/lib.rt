@@ -13,11 +13,10 @@ ghost use Rattle.msr_words.specs.Fit.{Fits, IsRun, IsFirstKind};
 ghost use Rattle.msr_packer.specs.Steps.{AreEnds};
 ghost use Rattle.msr_words.specs.Packing.{IsPacking, IsSeparating, IsLeast, IsCanonical};
 
+pub use msr_words::Run;
 use msr_words::{Kind, Length, first_kind};
 use std::alloc::{AllocError, Global};
 use step::{Found, next_step};
-
-pub use msr_words::Run;
 
 /// Runs that join to a segment, and samples that show that no packing has fewer.
 #[derive(Debug, Drop, PartialEq, Eq)]

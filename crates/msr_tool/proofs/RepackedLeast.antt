@@ -1,5 +1,5 @@
 -- What was repacked is shown by each report that its report's text is that of.
-use Rattle.std.proofs.Common.{◌≡◌, ◌∙◌, refl, sym, ap, subst, arith, ℕ, List, [], ◌∷◌, map, length, All, Ok, Err}
+use Rattle.std.proofs.Common.{◌≡◌, ◌∙◌, refl, sym, ap, subst, ℕ, List, [], ◌∷◌, map, length, All, Ok, Err}
 use Rattle.msr_words.specs.Lengths.{bytes_of}
 use Rattle.msr_words.specs.Packing.{IsSeparating}
 use Rattle.msr_segments.specs.Segments.{Part, segment_of, IsDivision}
@@ -8,7 +8,7 @@ use Rattle.msr_report.specs.declared.report.Report.{Report}
 use Rattle.msr_certificate.specs.Form.{Form, FormLine, form_line, form_of}
 use Rattle.msr_certificate.specs.Laws.{NoLineAtFault, OneReport}
 use Rattle.msr_input.specs.Input.{AreRead, ReadableHasNoFault, rows_of_records}
-use Rattle.msr_verdict.specs.Packed.{IsFull, IsShownBy, AreShownBy, ShowsLeast, ShownIsReadable, runs_of_part}
+use Rattle.msr_verdict.specs.Packed.{IsFull, IsShownBy, AreShownBy, ShowsLeast, ShownIsReadable}
 use Rattle.msr_verdict.specs.declared.verdict.Verdict.TheVariants.{Least, NotShown}
 use Rattle.msr_tool.specs.Shown.{RepackedIsLeast, RepackedIsShown}
 use Rattle.msr_tool.specs.declared.fault.ToolFault.TheVariants as fault
