@@ -19,7 +19,7 @@ use Rattle.msr_words.specs.Lemmas.SteimLaws.{all_more, head_group, inner_is_grou
 -- ---- the first group
 
 -- nothing is divided into nothing
-no_groups : (version : Version) (gs : List (List ℤ)) → AreGroups version gs → length (differences gs) ≡ 0 → gs ≡ []
+pub no_groups : (version : Version) (gs : List (List ℤ)) → AreGroups version gs → length (differences gs) ≡ 0 → gs ≡ []
 no_groups version [] are none = refl
 no_groups version (g ∷ gs) are none =
     let some = (a_group_has_few version true g (head_group version g gs are)).0 in
@@ -31,7 +31,7 @@ inner_first version g [] is are = inner_is_group version g is
 inner_first version g (h ∷ gs) is are = (is, are)
 
 -- a first group of this size, and groups of the rest
-with_first : (version : Version) (size : ℕ) (ds : List ℤ) (gs : List (List ℤ)) → size ≤ length ds → IsGroupAt version (eqb size (length ds)) (take size ds) → AreGroups version gs → differences gs ≡ drop size ds
+pub with_first : (version : Version) (size : ℕ) (ds : List ℤ) (gs : List (List ℤ)) → size ≤ length ds → IsGroupAt version (eqb size (length ds)) (take size ds) → AreGroups version gs → differences gs ≡ drop size ds
     → AreGroups version (take size ds ∷ gs)
 with_first version size ds gs within is are join = go (eqb size (length ds)) refl is
   where
@@ -57,7 +57,7 @@ pub divides_more : (version : Version) (m n size : ℕ) (ds : List ℤ) → m �
 divides_more version m n size ds le d = record { within = d.within; some = omega (arith, d.some); group = d.group; can = can_more version (m - 1) (n - 1) (drop size ds) (omega arith) d.can }
 
 -- a division by its first group
-starts_with : (version : Version) (g : List ℤ) (gs : List (List ℤ)) (ds : List ℤ) → AreGroups version (g ∷ gs) → differences (g ∷ gs) ≡ ds → DividesFrom version (suc (length gs)) (length g) ds
+pub starts_with : (version : Version) (g : List ℤ) (gs : List (List ℤ)) (ds : List ℤ) → AreGroups version (g ∷ gs) → differences (g ∷ gs) ≡ ds → DividesFrom version (suc (length gs)) (length g) ds
 starts_with version g gs ds are join =
     let size : length ds ≡ length g + length (differences gs) = ap length (sym join) ∙ length-append g (differences gs) in
     let front : take (length g) ds ≡ g = ap (take (length g)) (sym join) ∙ take_at g (differences gs) (length g) refl in
@@ -87,7 +87,7 @@ size_few version n size ds d =
     let same : length (take size ds) ≡ size = length-take-le size ds d.within in
     (omega (arith, few.0), omega (arith, few.1))
 
-at_place_is : (version : Version) (b : Bool) (g : List ℤ) → IsGroupAt version b g → IsGroup version g
+pub at_place_is : (version : Version) (b : Bool) (g : List ℤ) → IsGroupAt version b g → IsGroup version g
 at_place_is version true g is = is
 at_place_is version false g is = inner_is_group version g is
 
@@ -320,7 +320,7 @@ pub chosen_few : (version : Version) (words : ℕ) (ds : List ℤ) (groups : Lis
 chosen_few version words ds groups chosen can = omega (arith, chosen.fewest can.groups can.are_groups can.join, can.few)
 
 -- what is chosen after a group is chosen
-tail_chosen : (version : Version) (g : List ℤ) (gs : List (List ℤ)) (ds : List ℤ) → IsCanonicalDivision version (g ∷ gs) ds → IsCanonicalDivision version gs (differences gs)
+pub tail_chosen : (version : Version) (g : List ℤ) (gs : List (List ℤ)) (ds : List ℤ) → IsCanonicalDivision version (g ∷ gs) ds → IsCanonicalDivision version gs (differences gs)
 tail_chosen version g [] ds c = record { are_groups = tt; join = refl; fewest = λ others are join. omega arith; longest = tt }
 tail_chosen version g (h ∷ gs) ds c = record {
   are_groups = c.are_groups.1;

@@ -4,6 +4,7 @@ pub mod Dominance
 pub mod Fill
 pub mod FillFields
 pub mod FillSizes
+pub mod FirstGroups
 pub mod Greedy
 pub mod GreedyReach
 pub mod Parts

@@ -1,0 +1,290 @@
+//! The Steim-1 words of a run, written in place.
+
+ghost use Rattle.std.specs.Prelude.{◌≡◌, ◌<◌, ◌≤◌, ◌+◌, ◌-◌, ◌*◌, ◌/◌, ◌%◌, ◌^◌, ◌∷◌, [], ℕ, ℤ, List, IfOk, None, Some, length, drop, take};
+ghost use Rattle.std.specs.List.{AllByRecursion};
+ghost use Rattle.msr_steim.specs.declared.word.Version.TheVariants.{One};
+ghost use Rattle.msr_steim.specs.Word.{FitsBits, IsGroup, group_code, group_width, group_word, padding_of};
+ghost use Rattle.msr_words.specs.Division.{CanDivide};
+ghost use Rattle.msr_words.specs.Filled.{IsFilledArea};
+ghost use Rattle.msr_words.specs.FirstGroup.{AreSizes, IsBest, IsCanonicalFirst, IsFirstGroup};
+ghost use Rattle.msr_words.specs.Segment.{differences};
+
+use crate::counts::magnitude;
+use crate::filling::{NextWord, difference_inside, fields_from, fields_inside, put_word};
+use crate::kinds::difference_after;
+use std::alloc::{AllocError, Global};
+
+/// How many differences the first group has, and the least number of groups behind it.
+#[derive(Clone, Copy, Debug)]
+struct FirstGroup {
+    size: u8,
+    after: usize,
+}
+
+/// What is known of the differences from some place to the end: how many the first group has, the least numbers of
+/// groups, and how large the first three are, or `u64::MAX` where there are fewer.
+#[derive(Clone, Copy, Debug)]
+struct Following {
+    /// How many differences the first group has.
+    group: u8,
+    /// The least number of groups of all.
+    all: usize,
+    /// Of all but the first.
+    one: usize,
+    /// Of all but the first two.
+    two: usize,
+    /// Of all but the first three.
+    three: usize,
+    first: u64,
+    second: u64,
+    third: u64,
+}
+
+impl Following {
+    ghost use Rattle.msr_words.specs.Following.{IsFollowing};
+
+    /// Nothing follows.
+    fn nothing() -> Following
+        ensures few { result.all ≡ 0 }
+        ensures following { IsFollowing [] result }
+    {
+        Following {
+            group: 0,
+            all: 0,
+            one: 0,
+            two: 0,
+            three: 0,
+            first: u64::MAX,
+            second: u64::MAX,
+            third: u64::MAX,
+        }
+    }
+
+    /// The first group of a difference and these, where that one and the next, the next two, and the next three are
+    /// so large.
+    fn first_group(self, pair: u64, triple: u64, four: u64) -> FirstGroup
+        requires pair { pair ≤ triple }
+        requires triple { triple ≤ four }
+        ensures { IsBest self.all self.one self.two self.three pair triple four result.size result.after }
+    {
+        let mut size = 1;
+        let mut after = self.all;
+        if pair >= 32_768 {
+            return FirstGroup { size, after };
+        }
+        if self.one <= after {
+            size = 2;
+            after = self.one;
+        }
+        if triple >= 128 {
+            return FirstGroup { size, after };
+        }
+        if self.two == 0 {
+            size = 3;
+            after = 0;
+        }
+        if four < 128 && self.three <= after {
+            size = 4;
+            after = self.three;
+        }
+        FirstGroup { size, after }
+    }
+
+    /// With one difference more before them.
+    fn behind(self, difference: i64) -> Following
+        requires fits { FitsBits 32 difference }
+        requires room { self.all < 2 ^ 64 - 1 }
+        ensures few { result.all ≤ self.all + 1 }
+        ensures following { (ds : List ℤ) → IsFollowing ds self → IsFollowing (difference ∷ ds) result }
+        ensures group { (ds : List ℤ) → IsFollowing ds self → IsFirstGroup (difference ∷ ds) result.group (result.all - 1) }
+    {
+        let size = magnitude(difference);
+        let pair = size | self.first;
+        let triple = pair | self.second;
+        let found = self.first_group(pair, triple, triple | self.third);
+        Following {
+            group: found.size,
+            all: found.after + 1,
+            one: self.all,
+            two: self.one,
+            three: self.two,
+            first: size,
+            second: self.first,
+            third: self.second,
+        }
+    }
+}
+
+/// For each difference of the run the size of the group that begins there in the division that is written.
+fn sizes_of(alloc: Global, before: Option<i32>, run: &[i32]) -> Result<Vec<u8>, AllocError>
+    requires { AllByRecursion (FitsBits 32) (differences before run.now) }
+    ensures { IfOk result (λ sizes. AreSizes (differences before run.now) 0 sizes.items) }
+{
+    let mut sizes = vec![in alloc; 0u8; run.len()]?;
+    let mut following = Following::nothing();
+    for at in (1..run.len()).rev() {
+        following = following.behind(difference_inside(run, at));
+        sizes[at] = following.group;
+    }
+    if !run.is_empty() {
+        sizes[0] = following.behind(difference_after(before, run, 0)).group;
+    }
+    Ok(sizes)
+}
+
+/// How a group of so many differences is written: the code of its word, of how many bits each is, and how many bits
+/// below them are left 0.
+#[derive(Clone, Copy, Debug)]
+struct Form {
+    code: u32,
+    width: u32,
+    left: u32,
+}
+
+/// The form of a group of so many differences.
+fn form_of(size: usize) -> Form
+    requires some { 1 ≤ size }
+    requires most { size ≤ 4 }
+    ensures width { group_width One size ≡ Some result.width }
+    ensures positive { 0 < result.width }
+    ensures code { result.code ≡ group_code One size }
+    ensures small { result.code < 4 }
+    ensures left { result.left ≡ padding_of One size * result.width }
+    ensures within { size * result.width + result.left ≤ 32 }
+{
+    let (code, width, left) = match size {
+        1 => (3, 32, 0),
+        2 => (2, 16, 0),
+        3 => (1, 8, 8),
+        _ => (1, 8, 0),
+    };
+    Form { code, width, left }
+}
+
+/// The word of this group, of this form, where no difference is that of the first sample.
+fn formed(run: &[i32], at: usize, size: usize, form: Form) -> NextWord
+    requires some { 0 < at }
+    requires room { at + size ≤ length run.now }
+    requires group { IsGroup One (take size (drop at (differences None run.now))) }
+    requires width { group_width One size ≡ Some form.width }
+    requires positive { 0 < form.width }
+    requires code { form.code ≡ group_code One size }
+    requires small { form.code < 4 }
+    requires left { form.left ≡ padding_of One size * form.width }
+    requires within { size * form.width + form.left ≤ 32 }
+    ensures size { result.size ≡ size }
+    ensures code { result.code ≡ group_code One size }
+    ensures small { result.code < 4 }
+    ensures word { result.word ≡ group_word One (take size (drop at (differences None run.now))) }
+{
+    let fields = fields_inside(run, at, size, form.width);
+    NextWord {
+        size,
+        code: form.code,
+        word: ((u64::from(fields) << form.left) as u32),
+    }
+}
+
+/// The word of this group, where no difference is that of the first sample.
+fn word_inside(run: &[i32], at: usize, size: usize) -> NextWord
+    requires some { 0 < at }
+    requires full { 1 ≤ size }
+    requires most { size ≤ 4 }
+    requires room { at + size ≤ length run.now }
+    requires group { IsGroup One (take size (drop at (differences None run.now))) }
+    ensures size { result.size ≡ size }
+    ensures code { result.code ≡ group_code One size }
+    ensures small { result.code < 4 }
+    ensures word { result.word ≡ group_word One (take size (drop at (differences None run.now))) }
+{
+    match size {
+        1 => formed(run, at, 1, form_of(1)),
+        2 => formed(run, at, 2, form_of(2)),
+        3 => formed(run, at, 3, form_of(3)),
+        _ => formed(run, at, 4, form_of(4)),
+    }
+}
+
+/// The word of this group.
+fn word_of(before: Option<i32>, run: &[i32], at: usize, size: usize) -> NextWord
+    requires full { 1 ≤ size }
+    requires most { size ≤ 4 }
+    requires room { at + size ≤ length run.now }
+    requires group { IsGroup One (take size (drop at (differences before run.now))) }
+    ensures size { result.size ≡ size }
+    ensures code { result.code ≡ group_code One size }
+    ensures small { result.code < 4 }
+    ensures word { result.word ≡ group_word One (take size (drop at (differences before run.now))) }
+{
+    if 0 < at {
+        return word_inside(run, at, size);
+    }
+    let form = form_of(size);
+    let fields = fields_from(before, run, at, size, form.width);
+    NextWord {
+        size,
+        code: form.code,
+        word: ((u64::from(fields) << form.left) as u32),
+    }
+}
+
+/// The word of the group that begins with that difference, or 0 where none is left.
+fn next_word(before: Option<i32>, run: &[i32], at: usize, sizes: &[u8]) -> NextWord
+    requires within { at ≤ length run.now }
+    requires sizes { AreSizes (differences before run.now) 0 sizes.now }
+    ensures within { at + result.size ≤ length run.now }
+    ensures first { at < length run.now → IsCanonicalFirst (drop at (differences before run.now)) result.size }
+    ensures none { at ≡ length run.now → result.size ≡ 0 }
+    ensures code { result.code ≡ group_code One result.size }
+    ensures small { result.code < 4 }
+    ensures word { result.word ≡ group_word One (take result.size (drop at (differences before run.now))) }
+{
+    if at == run.len() {
+        return NextWord {
+            size: 0,
+            code: 0,
+            word: 0,
+        };
+    }
+    word_of(before, run, at, usize::from(sizes[at]))
+}
+
+/// Fills the area, of whole frames, with the words of the run's differences, big-endian: the groups of the division
+/// that is written, and as constants the first and the last sample. Gives the number of groups.
+pub fn fill_steim1(
+    alloc: Global,
+    before: Option<i32>,
+    run: &[i32],
+    area: &mut [u8],
+) -> Result<usize, AllocError>
+    requires some { 1 ≤ length run.now }
+    requires frames { length area.old % 64 ≡ 0 }
+    requires fits { CanDivide One (15 * (length area.old / 64) - 2) (differences before run.now) }
+    ensures { IfOk result (IsFilledArea One before run.now (length area.old / 64) area.new) }
+{
+    let sizes = sizes_of(alloc, before, run)?;
+    let first = run[0].cast_unsigned();
+    let last = run[run.len() - 1].cast_unsigned();
+    let mut at = 0;
+    let mut used = 0;
+    for frame in 0..area.len() / 64 {
+        let mut codes: u32 = 0;
+        put_word(area, 16 * frame, 0);
+        for slot in 0..15 {
+            let number = 16 * frame + slot + 1;
+            if number < 3 {
+                put_word(area, number, if number == 1 { first } else { last });
+                continue;
+            }
+            let next = next_word(before, run, at, &sizes);
+            put_word(area, number, next.word);
+            codes = codes * 4 + next.code;
+            at += next.size;
+            if next.size > 0 {
+                used += 1;
+            }
+        }
+        put_word(area, 16 * frame, codes);
+    }
+    Ok(used)
+}
