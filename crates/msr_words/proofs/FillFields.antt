@@ -93,7 +93,10 @@ pub group_bits : (ys : List ℤ) (size width : ℕ) → length ys ≡ size → g
 group_bits ys size width long width_is is = subst (λ o. IsSomeAnd o (λ w. AllByRecursion (FitsBits w) ys)) (ap (group_width One) long ∙ width_is) is
 
 padded : (padding : ℕ) (ys : List ℤ) (width : ℕ) → padding ≤ 1 → joined_fields width ys * 2 ^ (padding * width) ≡ joined_fields width (ys ++ replicate padding (pos 0))
-padded zero ys width few = let one : joined_fields width ys * 2 ^ (0 * width) ≡ joined_fields width ys = omega arith in one ∙ ap (joined_fields width) (sym (append-nil ys))
+padded zero ys width few =
+    let none : 0 * width ≡ 0 = omega arith in
+    let one : joined_fields width ys * 2 ^ 0 ≡ joined_fields width ys = omega arith in
+    ap (λ n. joined_fields width ys * 2 ^ n) none ∙ one ∙ ap (joined_fields width) (sym (append-nil ys))
 padded (suc zero) ys width few =
     let one : 1 * width ≡ width = omega arith in
     let none : joined_fields width ys * 2 ^ width ≡ joined_fields width ys * 2 ^ width + 0 = omega arith in

@@ -1,5 +1,5 @@
 -- From the second difference on it does not matter what stands before the run.
-use Rattle.std.proofs.Common.{rules, arith, ◌≡◌, ◌<◌, ◌≤◌, ◌+◌, ◌*◌, ◌%◌, ◌^◌, ◌∙◌, length, drop, take, None, subst, sym}
+use Rattle.std.proofs.Common.{rules, arith, ◌≡◌, ◌<◌, ◌≤◌, ◌+◌, ◌*◌, ◌%◌, ◌^◌, ◌∙◌, ap, length, drop, take, None, subst, sym}
 use Rattle.std.proofs.lemmas.List.{length-drop, length-take-le}
 use Rattle.msr_steim.specs.declared.word.Version.TheVariants.{One}
 use Rattle.msr_steim.specs.Word.{IsGroup, group_word}
@@ -26,7 +26,9 @@ fields_from-fields-requires-clause-fit c =
     group_bits (take c.args.size xs) c.args.size c.form_of-form.result.width (length-take-le c.args.size xs (omega arith)) c.form_of-form.ensures.width c.requires.group
 
 pub overflow_cast-result : goal.overflow_cast-result
-overflow_cast-result c = ?
+overflow_cast-result c =
+    let few : c.form_of-form.result.left ≤ 32 = omega (arith, c.form_of-form.ensures.within) in
+    search (rules, few)
 
 pub returns-clause-word : goal.returns-clause-word
 returns-clause-word c =
@@ -36,4 +38,4 @@ returns-clause-word c =
     let room = c.requires.room in
     let same = shifted_word_is (take c.args.size xs) c.args.size c.form_of-form.result.width c.form_of-form.result.left c.fields_from-fields.result (length-take-le c.args.size xs (omega arith)) c.form_of-form.ensures.width c.form_of-form.ensures.left
     c.fields_from-fields.ensures.same c.fields_from-fields.ensures.few c.form_of-form.ensures.within in
-    ?
+    ap (λ n. n * 2 ^ c.form_of-form.result.left % 18446744073709551616) c.from.ensures ∙ same.0
