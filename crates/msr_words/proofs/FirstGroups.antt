@@ -1,5 +1,6 @@
 -- The first Steim-1 group of some differences, by the least number of groups behind it.
-use Rattle.std.proofs.Common.{◌≡◌, ◌↔◌, ◌<◌, ◌≤◌, ◌⊎◌, ℕ, zero, suc, ◌+◌, ◌-◌, ◌^◌, ℤ, pos, Bool, true, false, eqb, List, [], ◌∷◌, ◌++◌, length, take, drop, get_or, refl, sym, ap, ◌∙◌, subst, arith, inl, inr, bit_or, lit≤}
+use Rattle.std.proofs.Common.{◌≡◌, ◌↔◌, ◌<◌, ◌≤◌, ◌⊎◌, ℕ, zero, suc, ◌+◌, ◌-◌, ◌^◌, ℤ, pos, Bool, true, false, eqb, List, [], ◌∷◌, ◌++◌, length, take, drop, get_or, refl, sym, ap, ◌∙◌, subst, arith, inl, inr, bit_or, lit≤, set, ◌≢◌, get_or-set_other, get_or-set_same, length-set, drop-cons, Option}
+use Rattle.std.specs.List.{AllByRecursion}
 use Rattle.std.proofs.lemmas.Bool.{cases_lt, eq-eqb, ne_eqb}
 use Rattle.std.proofs.lemmas.List.{nil_from_length, take-append-drop, take_at, drop_at, drop_all, drop-drop, length-drop, length-take-le}
 use Rattle.std.proofs.lemmas.Nat.{le_or_l, le_or_r, or_lt}
@@ -7,13 +8,15 @@ use Rattle.msr_steim.specs.declared.word.Version.TheVariants.{One}
 use Rattle.msr_steim.specs.Area.{differences}
 use Rattle.msr_steim.specs.Word.{AreGroups, FitsBits, IsGroup, IsGroupAt}
 use Rattle.msr_words.specs.Division.{CanDivide}
+use Rattle.msr_words.specs.Segment.{difference_from, differences as run_differences}
 use Rattle.msr_words.specs.Canonical.{DividesFrom, IsCanonicalDivision}
 use Rattle.msr_words.specs.FirstGroup.{AreSizes, IsBest, IsCanonicalFirst, IsFirstGroup, IsLeast, IsSizeAt}
 use Rattle.msr_words.specs.Lemmas.LeastCounts.{a_group_has_few}
-use Rattle.msr_words.specs.Lemmas.SteimLaws.{none_divides, one_has_few, size_law}
-use Rattle.msr_words.proofs.Choosing.{at_place_is, divides_can, divides_more, no_groups, starts_with, tail_chosen, with_first}
+use Rattle.msr_words.specs.Lemmas.SteimLaws.{head_group, none_divides, one_has_few, size_law, tail_groups}
+use Rattle.msr_words.proofs.Choosing.{at_place_is, divides_can, divides_more, group_fits, no_groups, starts_with, tail_chosen, with_first}
 use Rattle.msr_words.proofs.Fill.{IsNext}
 use Rattle.msr_words.proofs.FillSizes.{HasSize}
+use Rattle.msr_words.proofs.Plain.{difference_of, length_differences}
 
 -- ---- groups by sizes
 
@@ -277,3 +280,50 @@ module _ (ds : List ℤ) (sizes : List ℕ) (are : AreSizes ds 0 sizes) where
 
   pub some_canonical : (gs : List (List ℤ)) × IsCanonicalDivision One gs ds
   some_canonical = build (length ds) 0 (omega arith) (omega arith)
+
+-- ---- one size more
+
+pub all_at : {X : Type 0} (P : X → Type 0) (xs : List X) (i : ℕ) (d : X) → i < length xs → AllByRecursion P xs → P (get_or xs i d)
+all_at P [] i d less all = absurd (omega arith)
+all_at P (x ∷ xs) zero d less all = all.0
+all_at P (x ∷ xs) (suc i) d less all = all_at P xs i d (omega arith) all.1
+
+pub front_at : (before : Option ℤ) (run : List ℤ) (at end : ℕ) → at + 1 ≡ end → at < length run → drop at (run_differences before run) ≡ difference_from before run at ∷ drop end (run_differences before run)
+front_at before run at end one less =
+    let ds = run_differences before run in
+    let long = length_differences before run in
+    let there : at < length (run_differences before run) = omega arith in
+    let next : suc at ≡ end = omega arith in
+    drop-cons ds at (pos 0) there ∙ ap (λ x. x ∷ drop (suc at) ds) (difference_of before run at less) ∙ ap (λ n. difference_from before run at ∷ drop n ds) next
+
+pub no_sizes : (ds : List ℤ) (from : ℕ) (sizes : List ℕ) → length sizes ≡ length ds → length ds ≤ from → AreSizes ds from sizes
+no_sizes ds from sizes long end = record { long = long; each = λ at low less. absurd (omega arith) }
+
+pub sizes_more : (ds : List ℤ) (at end size : ℕ) (sizes : List ℕ) → at + 1 ≡ end → AreSizes ds end sizes → at < length ds → IsCanonicalFirst (drop at ds) size → AreSizes ds at (set sizes at size)
+sizes_more ds at end size sizes one are less is = record { long = length-set sizes at size ∙ are.long; each = each }
+  where
+    each : (k : ℕ) → at ≤ k → k < length ds → IsCanonicalFirst (drop k ds) (get_or (set sizes at size) k 0)
+    each k low below = elim (cases_lt at k) [
+      | inl later ↦
+          let ne : k ≢ at = omega arith in
+          subst (IsCanonicalFirst (drop k ds)) (sym (rw get_or-set_other refl)) (are.each k (omega arith) below)
+      | inr same' ↦
+          let same : at ≡ k = omega arith in
+          let long = are.long in
+          let lt : at < length sizes = omega arith in
+          let here : get_or (set sizes at size) at 0 ≡ size = rw get_or-set_same refl in
+          subst (λ n. IsCanonicalFirst (drop n ds) (get_or (set sizes at size) n 0)) same (subst (IsCanonicalFirst (drop at ds)) (sym here) is)
+    ]
+
+-- ---- each difference of a division is one of 32 bits
+
+all_joined : {X : Type 0} (P : X → Type 0) (xs ys : List X) → AllByRecursion P xs → AllByRecursion P ys → AllByRecursion P (xs ++ ys)
+all_joined P [] ys front back = back
+all_joined P (x ∷ xs) ys front back = (front.0, all_joined P xs ys front.1 back)
+
+groups_fit : (gs : List (List ℤ)) → AreGroups One gs → AllByRecursion (FitsBits 32) (differences gs)
+groups_fit [] are = tt
+groups_fit (g ∷ gs) are = all_joined (FitsBits 32) g (differences gs) (group_fits One g (head_group One g gs are)) (groups_fit gs (tail_groups One g gs are))
+
+pub divided_fit : (words : ℕ) (ds : List ℤ) → CanDivide One words ds → AllByRecursion (FitsBits 32) ds
+divided_fit words ds can = subst (AllByRecursion (FitsBits 32)) can.join (groups_fit can.groups can.are_groups)

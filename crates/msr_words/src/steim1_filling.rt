@@ -117,7 +117,8 @@ impl Following {
 
 /// For each difference of the run the size of the group that begins there in the division that is written.
 fn sizes_of(alloc: Global, before: Option<i32>, run: &[i32]) -> Result<Vec<u8>, AllocError>
-    requires { AllByRecursion (FitsBits 32) (differences before run.now) }
+    requires some { 1 ≤ length run.now }
+    requires fits { AllByRecursion (FitsBits 32) (differences before run.now) }
     ensures { IfOk result (λ sizes. AreSizes (differences before run.now) 0 sizes.items) }
 {
     let mut sizes = vec![in alloc; 0u8; run.len()]?;
@@ -126,9 +127,7 @@ fn sizes_of(alloc: Global, before: Option<i32>, run: &[i32]) -> Result<Vec<u8>, 
         following = following.behind(difference_inside(run, at));
         sizes[at] = following.group;
     }
-    if !run.is_empty() {
-        sizes[0] = following.behind(difference_after(before, run, 0)).group;
-    }
+    sizes[0] = following.behind(difference_after(before, run, 0)).group;
     Ok(sizes)
 }
 
