@@ -26,9 +26,10 @@ pair_is d [] size first here one =
     (λ small. let e = ((one 16 (lit≤ tt)).0 (omega arith)).0 in absurd (omega arith), λ group. let e = group.0 in absurd (omega arith))
 pair_is d (x ∷ ds) size first here one =
     let l = le_or_l size first in
-    let r = le_or_r size first in
-    (λ small. (omega arith, ((here 16).1 (omega arith), (((one 16 (lit≤ tt)).0 (omega arith)).1, tt))),
-    λ group. or_lt 15 size first ((here 16).0 group.1.0) ((one 16 (lit≤ tt)).1 (omega arith, group.1.1.0)))
+    let r = le_or_r size first in (
+      λ small. (omega arith, ((here 16).1 (omega arith), (((one 16 (lit≤ tt)).0 (omega arith)).1, tt))),
+      λ group. or_lt 15 size first ((here 16).0 group.1.0) ((one 16 (lit≤ tt)).1 (omega arith, group.1.1.0)),
+    )
 
 pub triple_is : (d : ℤ) (ds : List ℤ) (size first second : ℕ) → HasSize d size → IsSizeAt ds 0 first → IsSizeAt ds 1 second
     → (bit_or (bit_or size first) second < 128 ↔ (3 ≤ length (d ∷ ds)) × IsGroup One (take 3 (d ∷ ds)))
@@ -42,9 +43,10 @@ triple_is d (x ∷ y ∷ ds) size first second here one two =
     let l = le_or_l size first in
     let r = le_or_r size first in
     let l' = le_or_l (bit_or size first) second in
-    let r' = le_or_r (bit_or size first) second in
-    (λ small. (omega arith, ((here 8).1 (omega arith), (((one 8 (lit≤ tt)).0 (omega arith)).1, (((two 8 (lit≤ tt)).0 (omega arith)).1, tt)))),
-    λ group. or_lt 7 (bit_or size first) second (or_lt 7 size first ((here 8).0 group.1.0) ((one 8 (lit≤ tt)).1 (omega arith, group.1.1.0))) ((two 8 (lit≤ tt)).1 (omega arith, group.1.1.1.0)))
+    let r' = le_or_r (bit_or size first) second in (
+      λ small. (omega arith, ((here 8).1 (omega arith), (((one 8 (lit≤ tt)).0 (omega arith)).1, (((two 8 (lit≤ tt)).0 (omega arith)).1, tt)))),
+      λ group. or_lt 7 (bit_or size first) second (or_lt 7 size first ((here 8).0 group.1.0) ((one 8 (lit≤ tt)).1 (omega arith, group.1.1.0))) ((two 8 (lit≤ tt)).1 (omega arith, group.1.1.1.0)),
+    )
 
 pub four_is : (d : ℤ) (ds : List ℤ) (size first second third : ℕ) → HasSize d size → IsSizeAt ds 0 first → IsSizeAt ds 1 second → IsSizeAt ds 2 third
     → (bit_or (bit_or (bit_or size first) second) third < 128 ↔ (4 ≤ length (d ∷ ds)) × IsGroup One (take 4 (d ∷ ds)))
@@ -63,9 +65,10 @@ four_is d (x ∷ y ∷ z ∷ ds) size first second third here one two three =
     let l' = le_or_l (bit_or size first) second in
     let r' = le_or_r (bit_or size first) second in
     let l'' = le_or_l (bit_or (bit_or size first) second) third in
-    let r'' = le_or_r (bit_or (bit_or size first) second) third in
-    (λ small. (omega arith, ((here 8).1 (omega arith), (((one 8 (lit≤ tt)).0 (omega arith)).1, (((two 8 (lit≤ tt)).0 (omega arith)).1, (((three 8 (lit≤ tt)).0 (omega arith)).1, tt))))),
-    λ group. or_lt 7 (bit_or (bit_or size first) second) third (or_lt 7 (bit_or size first) second (or_lt 7 size first ((here 8).0 group.1.0) ((one 8 (lit≤ tt)).1 (omega arith, group.1.1.0))) ((two 8 (lit≤ tt)).1 (omega arith, group.1.1.1.0))) ((three 8 (lit≤ tt)).1 (omega arith, group.1.1.1.1.0)))
+    let r'' = le_or_r (bit_or (bit_or size first) second) third in (
+      λ small. (omega arith, ((here 8).1 (omega arith), (((one 8 (lit≤ tt)).0 (omega arith)).1, (((two 8 (lit≤ tt)).0 (omega arith)).1, (((three 8 (lit≤ tt)).0 (omega arith)).1, tt))))),
+      λ group. or_lt 7 (bit_or (bit_or size first) second) third (or_lt 7 (bit_or size first) second (or_lt 7 size first ((here 8).0 group.1.0) ((one 8 (lit≤ tt)).1 (omega arith, group.1.1.0))) ((two 8 (lit≤ tt)).1 (omega arith, group.1.1.1.0))) ((three 8 (lit≤ tt)).1 (omega arith, group.1.1.1.1.0)),
+    )
 
 -- ---- the best size
 
@@ -93,7 +96,7 @@ module _ (d : ℤ) (ds : List ℤ) (all one two three pair triple four size afte
   some : 0 < size
   some = elim best.which [
     | inl a ↦ omega (arith, a.0)
-    | inr a ↦ elim a [ | inl b ↦ omega (arith, b.0) | inr b ↦ elim b [ | inl e ↦ omega (arith, e.0) | inr e ↦ omega (arith, e.0) ] ]
+    | inr a ↦ elim a [ inl b ↦ omega (arith, b.0) | inr b ↦ elim b [ inl e ↦ omega (arith, e.0) | inr e ↦ omega (arith, e.0) ] ]
   ]
 
   no_better : (other n : ℕ) → other ≤ length (d ∷ ds) → IsGroupAt One (eqb other (length (d ∷ ds))) (take other (d ∷ ds)) → CanDivide One n (drop other (d ∷ ds)) → (after ≤ n) × (n ≤ after → other ≤ size)
@@ -273,9 +276,10 @@ module _ (ds : List ℤ) (sizes : List ℕ) (are : AreSizes ds 0 sizes) where
         let some = first_some (drop at ds) (get_or sizes at 0) is.0 is.1 in
         let left = length-drop at ds in
         let w = is.1.within in
-        let rest = build fuel (at + get_or sizes at 0) (omega arith) (omega arith) in
-        (take (get_or sizes at 0) (drop at ds) ∷ rest.0,
-        canonical_more (drop at ds) (get_or sizes at 0) is.0 is.1 rest.0 (subst (IsCanonicalDivision One rest.0) (sym (drop-drop (get_or sizes at 0) at ds)) rest.1))
+        let rest = build fuel (at + get_or sizes at 0) (omega arith) (omega arith) in (
+          take (get_or sizes at 0) (drop at ds) ∷ rest.0,
+          canonical_more (drop at ds) (get_or sizes at 0) is.0 is.1 rest.0 (subst (IsCanonicalDivision One rest.0) (sym (drop-drop (get_or sizes at 0) at ds)) rest.1),
+        )
   ]
 
   pub some_canonical : (gs : List (List ℤ)) × IsCanonicalDivision One gs ds

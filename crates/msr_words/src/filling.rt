@@ -43,7 +43,13 @@ fn field_of(difference: i64, width: u32) -> u64
 }
 
 /// The fields of so many differences of the run side by side.
-pub(crate) fn fields_from(before: Option<i32>, run: &[i32], at: usize, size: usize, width: u32) -> u32
+pub(crate) fn fields_from(
+    before: Option<i32>,
+    run: &[i32],
+    at: usize,
+    size: usize,
+    width: u32,
+) -> u32
     requires positive { 0 < width }
     requires within { size * width ≤ 32 }
     requires room { at + size ≤ length run.now }
