@@ -1,8 +1,8 @@
 -- The first Steim-1 group of some differences, by the least number of groups behind it.
-use Rattle.std.proofs.Common.{◌≡◌, ◌↔◌, ◌<◌, ◌≤◌, ◌⊎◌, ℕ, zero, suc, ◌+◌, ◌-◌, ◌^◌, ℤ, pos, Bool, true, false, eqb, List, [], ◌∷◌, ◌++◌, length, take, drop, get_or, refl, sym, ap, ◌∙◌, subst, arith, inl, inr, bit_or, lit≤, set, ◌≢◌, get_or-set_other, get_or-set_same, length-set, drop-cons, Option}
+use Rattle.std.proofs.Common.{◌≡◌, ◌↔◌, ◌<◌, ◌≤◌, ◌⊎◌, ℕ, zero, suc, ◌+◌, ◌-◌, ◌^◌, ℤ, pos, Bool, true, false, eqb, List, [], ◌∷◌, ◌++◌, length, take, drop, get_or, refl, sym, ap, ◌∙◌, subst, arith, inl, inr, bit_or, lit≤, append_assoc, length-append, set, ◌≢◌, get_or-set_other, get_or-set_same, length-set, drop-cons, Option}
 use Rattle.std.specs.List.{AllByRecursion}
 use Rattle.std.proofs.lemmas.Bool.{cases_lt, eq-eqb, ne_eqb}
-use Rattle.std.proofs.lemmas.List.{nil_from_length, take-append-drop, take_at, drop_at, drop_all, drop-drop, length-drop, length-take-le}
+use Rattle.std.proofs.lemmas.List.{append-nil, nil_from_length, take-append-drop, take_at, drop_at, drop_all, drop-drop, length-drop, length-take-le}
 use Rattle.std.proofs.lemmas.Nat.{le_or_l, le_or_r, or_lt}
 use Rattle.msr_steim.specs.declared.word.Version.TheVariants.{One}
 use Rattle.msr_steim.specs.Area.{differences}
@@ -263,6 +263,11 @@ next_none gs ds size end none chosen =
 
 -- ---- the whole division
 
+-- these groups are those of the differences before this place, whatever the others are
+pub record AreGroupsBefore (ds : List ℤ) (at : ℕ) (groups : List (List ℤ)) : Type 0 where
+  pub low : at ≤ length ds
+  pub extend : (gs : List (List ℤ)) → IsCanonicalDivision One gs (drop at ds) → IsCanonicalDivision One (groups ++ gs) ds
+
 module _ (ds : List ℤ) (sizes : List ℕ) (are : AreSizes ds 0 sizes) where
   nothing_left : (at : ℕ) → length ds ≤ at → IsCanonicalDivision One [] (drop at ds)
   nothing_left at end = record { are_groups = tt; join = sym (drop_all at ds end); fewest = λ others are join. omega arith; longest = tt }
@@ -284,6 +289,35 @@ module _ (ds : List ℤ) (sizes : List ℕ) (are : AreSizes ds 0 sizes) where
 
   pub some_canonical : (gs : List (List ℤ)) × IsCanonicalDivision One gs ds
   some_canonical = build (length ds) 0 (omega arith) (omega arith)
+
+  pub none_before : AreGroupsBefore ds 0 []
+  none_before = record { low = omega arith; extend = λ gs chosen. chosen }
+
+  pub one_before : (at size : ℕ) (group : List ℤ) (groups : List (List ℤ)) → size ≡ get_or sizes at 0 → at < length ds → group ≡ take size (drop at ds) → AreGroupsBefore ds at groups → AreGroupsBefore ds (at + size) (groups ++ group ∷ [])
+  one_before at size group groups size_is less group_is before =
+      let is : IsCanonicalFirst (drop at ds) size = subst (IsCanonicalFirst (drop at ds)) (sym size_is) (are.each at (omega arith) less) in
+      let left = length-drop at ds in
+      record {
+        low = omega (arith, is.1.within);
+        extend = λ gs chosen.
+            let rest : IsCanonicalDivision One gs (drop size (drop at ds)) = subst (IsCanonicalDivision One gs) (sym (drop-drop size at ds)) chosen in
+            let more : IsCanonicalDivision One (group ∷ gs) (drop at ds) = subst (λ g. IsCanonicalDivision One (g ∷ gs) (drop at ds)) (sym group_is) (canonical_more (drop at ds) size is.0 is.1 gs rest) in
+            subst (λ hs. IsCanonicalDivision One hs ds) (sym (append_assoc groups (group ∷ []) gs)) (before.extend (group ∷ gs) more);
+      }
+
+  pub all_before : (at : ℕ) (groups : List (List ℤ)) → length ds ≤ at → AreGroupsBefore ds at groups → IsCanonicalDivision One groups ds
+  all_before at groups end before = subst (λ gs. IsCanonicalDivision One gs ds) (append-nil groups) (before.extend [] (nothing_left at end))
+
+  pub too_many : (words at : ℕ) (groups : List (List ℤ)) → at < length ds → words ≤ length groups → AreGroupsBefore ds at groups → CanDivide One words ds → ⊥
+  too_many words at groups less full before can =
+      let rest = build (length ds) at (omega arith) (omega arith) in
+      let whole = before.extend rest.0 rest.1 in
+      let few = whole.fewest can.groups can.are_groups can.join in
+      let few' = can.few in
+      let number = length-append groups rest.0 in
+      let left = length-drop at ds in
+      let enough = size_law One (length rest.0) (drop at ds) (record { groups = rest.0; are_groups = rest.1.are_groups; join = rest.1.join; few = omega arith }) in
+      omega arith
 
 -- ---- one size more
 

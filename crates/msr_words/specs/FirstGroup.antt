@@ -3,7 +3,6 @@ use Rattle.std.specs.Prelude.{◌≡◌, ◌<◌, ◌≤◌, ◌==◌, ◌↔◌
 use Rattle.msr_steim.specs.declared.word.Version.TheVariants.{One}
 use Rattle.msr_steim.specs.Word.{FitsBits, IsGroupAt}
 use Rattle.msr_words.specs.Division.{CanDivide}
-use Rattle.msr_words.specs.Canonical.{IsChoice}
 
 -- the least number of groups of these differences
 pub record IsLeast (ds : List ℤ) (number : ℕ) : Type 0 where

@@ -1,6 +1,6 @@
 -- What is known of the differences from some place on.
 use Rattle.std.specs.Prelude.{◌≤◌, ℕ, ℤ, List, length, drop}
-use Rattle.msr_words.specs.declared.steim1_filling.Following.{Following}
+use Rattle.msr_words.specs.declared.first_group.Following.{Following}
 use Rattle.msr_words.specs.FirstGroup.{IsLeast, IsSizeAt}
 
 pub record IsFollowing (ds : List ℤ) (following : Following) : Type 0 where

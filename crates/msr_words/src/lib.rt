@@ -7,6 +7,7 @@ mod codecs;
 mod counts;
 mod division;
 mod filling;
+mod first_group;
 mod kinds;
 mod lengths;
 mod steim1_filling;

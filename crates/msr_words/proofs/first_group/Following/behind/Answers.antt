@@ -6,7 +6,7 @@ use Rattle.msr_words.specs.FirstGroup.{IsFirstGroup, IsSizeAt, IsLeast}
 use Rattle.msr_words.specs.Following.{IsFollowing}
 use Rattle.msr_words.proofs.FillSizes.{HasSize}
 use Rattle.msr_words.proofs.FirstGroups.{first_of, four_is, least_of, pair_is, size_here, size_later, triple_is}
-use Rattle.msr_words.proofs.steim1_filling.Following.behind.Goals as goal
+use Rattle.msr_words.proofs.first_group.Following.behind.Goals as goal
 
 pub first_group-found-requires-clause-pair : goal.first_group-found-requires-clause-pair
 first_group-found-requires-clause-pair c = le_or_l (bit_or c.magnitude-size.result c.args.self.first) c.args.self.second
