@@ -1,20 +1,18 @@
 -- Lemmas on the division that is written.
-use Rattle.std.proofs.Common.{◌≡◌, ◌<◌, ◌≤◌, ℕ, zero, suc, ◌+◌, ◌-◌, ℤ, Bool, true, false, eqb, List, [], ◌∷◌, ◌++◌, length, map, take, drop, get_or, min, refl, sym, ap, ◌∙◌, subst, arith, append_assoc, length-append, length-drop, ⊎_elim, lit≤, Option, Some, None, cond}
+use Rattle.std.proofs.Common.{◌≡◌, ◌<◌, ◌≤◌, ℕ, suc, ◌+◌, ◌-◌, ℤ, Bool, true, false, eqb, List, [], ◌∷◌, ◌++◌, length, map, take, drop, refl, sym, ap, ◌∙◌, subst, arith, length-append, length-drop, lit≤, Option, Some, None, cond}
 use Rattle.std.specs.Prelude.{IsSomeAnd, IfSome}
 use Rattle.std.specs.List.{AllByRecursion}
-use Rattle.std.proofs.lemmas.Bool.{cases_lt}
 use Rattle.std.proofs.lemmas.Bool.Decides.{nat_tests}
-use Rattle.std.proofs.lemmas.List.{append-nil, take-append-drop, take_all, drop_all, drop-drop, length-take-le, take_at, drop_at, map-append}
+use Rattle.std.proofs.lemmas.List.{take-append-drop, take_all, length-take-le, take_at, drop_at, map-append}
 use Rattle.arrayvec.specs.ArrayVec.{ArrayVec}
 use Rattle.msr_steim.specs.declared.word.Version.{Version}
 use Rattle.msr_steim.specs.declared.word.Version.TheVariants.{One, Two}
 use Rattle.msr_steim.specs.Area.{differences}
 use Rattle.msr_steim.specs.Word.{AreGroups, FitsBits, IsGroup, IsGroupAt, IsInnerGroup, group_width}
 use Rattle.msr_words.specs.Division.{CanDivide}
-use Rattle.msr_words.specs.Counts.{IsLeastUpTo}
 use Rattle.msr_words.specs.Canonical.{DividesFrom, IsCanonicalDivision}
 use Rattle.msr_words.specs.Lemmas.LeastCounts.{a_group_has_few}
-use Rattle.msr_words.specs.Lemmas.SteimLaws.{all_more, head_group, inner_is_group, none_divides, one_has_few, tail_groups}
+use Rattle.msr_words.specs.Lemmas.SteimLaws.{all_more, head_group, inner_is_group, tail_groups}
 
 -- ---- the first group
 
@@ -92,6 +90,9 @@ at_place_is version true g is = is
 at_place_is version false g is = inner_is_group version g is
 
 -- ---- groups in vectors
+
+pub rest_is : (place : ℕ) (ds : List ℤ) → take (length ds - place) (drop place ds) ≡ drop place ds
+rest_is place ds = let e : length (drop place ds) ≡ length ds - place = length-drop place ds in take_all (length ds - place) (drop place ds) (omega arith)
 
 pub items_push : (old : List (ArrayVec ℤ)) (g : ArrayVec ℤ) → map (λ (v : ArrayVec ℤ). v.items) (old ++ g ∷ []) ≡ map (λ (v : ArrayVec ℤ). v.items) old ++ g.items ∷ []
 items_push old g = map-append (λ (v : ArrayVec ℤ). v.items) old (g ∷ [])

@@ -1,5 +1,5 @@
 -- The fields of a word, made from differences.
-use Rattle.std.proofs.Common.{◌≡◌, ◌<◌, ◌≤◌, ℕ, zero, suc, ◌+◌, ◌-◌, ◌*◌, ◌/◌, ◌%◌, ◌^◌, ℤ, pos, negsuc, get_or, take, List, [], ◌∷◌, ◌++◌, length, refl, sym, ap, ◌∙◌, subst, arith, w64, SFits, of_z, bit_and, bit_or, Some, Bool, true, false, cond, eqb, lit<, lit≤}
+use Rattle.std.proofs.Common.{◌≡◌, ◌<◌, ◌≤◌, ℕ, zero, suc, ◌+◌, ◌-◌, ◌*◌, ◌/◌, ◌%◌, ◌^◌, ℤ, pos, negsuc, get_or, take, List, [], ◌∷◌, ◌++◌, length, sym, ap, ◌∙◌, subst, arith, w64, SFits, of_z, bit_and, bit_or, Some, Bool, true, false, cond, eqb, lit<, lit≤}
 use Rattle.std.specs.Prelude.{IsSomeAnd, unwrap_or, Option, replicate}
 use Rattle.std.specs.List.{AllByRecursion}
 use Rattle.std.proofs.lemmas.List.{append-nil, take_more, length-take-le}

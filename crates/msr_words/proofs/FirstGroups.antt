@@ -1,5 +1,5 @@
 -- The first Steim-1 group of some differences, by the least number of groups behind it.
-use Rattle.std.proofs.Common.{◌≡◌, ◌↔◌, ◌<◌, ◌≤◌, ◌⊎◌, ℕ, zero, suc, ◌+◌, ◌-◌, ◌^◌, ℤ, pos, Bool, true, false, eqb, List, [], ◌∷◌, ◌++◌, length, take, drop, get_or, refl, sym, ap, ◌∙◌, subst, arith, inl, inr, bit_or, lit≤, append_assoc, length-append, set, ◌≢◌, get_or-set_other, get_or-set_same, length-set, drop-cons, Option}
+use Rattle.std.proofs.Common.{◌≡◌, ◌↔◌, ◌<◌, ◌≤◌, ℕ, zero, suc, ◌+◌, ◌-◌, ℤ, pos, Bool, true, false, eqb, List, [], ◌∷◌, ◌++◌, length, take, drop, get_or, refl, sym, ap, ◌∙◌, subst, arith, inl, inr, bit_or, lit≤, append_assoc, length-append, set, ◌≢◌, get_or-set_other, get_or-set_same, length-set, drop-cons, Option}
 use Rattle.std.specs.List.{AllByRecursion}
 use Rattle.std.proofs.lemmas.Bool.{cases_lt, eq-eqb, ne_eqb}
 use Rattle.std.proofs.lemmas.List.{append-nil, nil_from_length, take-append-drop, take_at, drop_at, drop_all, drop-drop, length-drop, length-take-le}
@@ -13,7 +13,7 @@ use Rattle.msr_words.specs.Canonical.{DividesFrom, IsCanonicalDivision}
 use Rattle.msr_words.specs.FirstGroup.{AreSizes, IsBest, IsCanonicalFirst, IsFirstGroup, IsLeast, IsSizeAt}
 use Rattle.msr_words.specs.Lemmas.LeastCounts.{a_group_has_few}
 use Rattle.msr_words.specs.Lemmas.SteimLaws.{head_group, none_divides, one_has_few, size_law, tail_groups}
-use Rattle.msr_words.proofs.Choosing.{at_place_is, divides_can, divides_more, group_fits, no_groups, starts_with, tail_chosen, with_first}
+use Rattle.msr_words.proofs.Choosing.{at_place_is, divides_can, group_fits, no_groups, starts_with, tail_chosen, with_first}
 use Rattle.msr_words.proofs.Fill.{IsNext}
 use Rattle.msr_words.proofs.FillSizes.{HasSize}
 use Rattle.msr_words.proofs.Plain.{difference_of, length_differences}
@@ -290,12 +290,15 @@ module _ (ds : List ℤ) (sizes : List ℕ) (are : AreSizes ds 0 sizes) where
   pub some_canonical : (gs : List (List ℤ)) × IsCanonicalDivision One gs ds
   some_canonical = build (length ds) 0 (omega arith) (omega arith)
 
+  pub first_at : (at size : ℕ) → size ≡ get_or sizes at 0 → at < length ds → IsCanonicalFirst (drop at ds) size
+  first_at at size size_is less = subst (IsCanonicalFirst (drop at ds)) (sym size_is) (are.each at (omega arith) less)
+
   pub none_before : AreGroupsBefore ds 0 []
   none_before = record { low = omega arith; extend = λ gs chosen. chosen }
 
   pub one_before : (at size : ℕ) (group : List ℤ) (groups : List (List ℤ)) → size ≡ get_or sizes at 0 → at < length ds → group ≡ take size (drop at ds) → AreGroupsBefore ds at groups → AreGroupsBefore ds (at + size) (groups ++ group ∷ [])
   one_before at size group groups size_is less group_is before =
-      let is : IsCanonicalFirst (drop at ds) size = subst (IsCanonicalFirst (drop at ds)) (sym size_is) (are.each at (omega arith) less) in
+      let is : IsCanonicalFirst (drop at ds) size = first_at at size size_is less in
       let left = length-drop at ds in
       record {
         low = omega (arith, is.1.within);

@@ -1,5 +1,5 @@
 -- The area that is filled with the words of a run.
-use Rattle.std.specs.Prelude.{◌≡◌, ℕ, ◌-◌, ◌/◌, ℤ, pos, List, Option, length, slice_index_or}
+use Rattle.std.specs.Prelude.{◌≡◌, ℕ, ◌-◌, ℤ, pos, List, Option, length, slice_index_or}
 use Rattle.msr_steim.specs.declared.word.Version.{Version}
 use Rattle.msr_steim.specs.Frames.{frame_bytes}
 use Rattle.msr_words.specs.Canonical.{IsCanonicalDivision}

@@ -1,5 +1,5 @@
 -- What is known of the differences from some place on.
-use Rattle.std.specs.Prelude.{◌≤◌, ℕ, ℤ, List, length, drop}
+use Rattle.std.specs.Prelude.{◌≤◌, ℤ, List, length, drop}
 use Rattle.msr_words.specs.declared.first_group.Following.{Following}
 use Rattle.msr_words.specs.FirstGroup.{IsLeast, IsSizeAt}
 

@@ -77,8 +77,9 @@ fn steim1_groups(
         if groups.len() >= words as usize {
             return Ok(None);
         }
+        let rest = &differences[at..];
         let size = usize::from(sizes[at]);
-        groups.push(group_of(&differences[at..at + size]))?;
+        groups.push(group_of(&rest[..size]))?;
         at += size;
     }
     Ok(Some(groups))

@@ -1,5 +1,5 @@
 -- One size more.
-use Rattle.std.proofs.Common.{rules, arith, ◌≡◌, ◌<◌, ◌+◌, ◌-◌, ◌∷◌, length, drop, get_or, set, pos, w64, SFits, subst, sym, suc, ap, ◌∙◌, drop-cons}
+use Rattle.std.proofs.Common.{rules, arith, ◌≡◌, ◌<◌, ◌-◌, ◌∷◌, length, drop, get_or, pos, w64, SFits, subst, sym, suc, ap, ◌∙◌, drop-cons}
 use Rattle.std.proofs.lemmas.Int.{to_z-of_z}
 use Rattle.msr_words.specs.FirstGroup.{IsFirstGroup}
 use Rattle.msr_words.specs.Following.{IsFollowing}

@@ -1,14 +1,12 @@
 -- Word by word, and frame by frame.
-use Rattle.std.proofs.Common.{rules, arith, ◌≡◌, ◌<◌, ◌≤◌, ◌+◌, ◌-◌, ◌*◌, ◌/◌, ◌%◌, ◌^◌, ◌++◌, ℕ, ℤ, List, length, drop, take, pos, slice_index_or, refl, sym, ap, ◌∙◌, lit<, to_z, of_z, w32, SFits, get_or}
+use Rattle.std.proofs.Common.{rules, arith, ◌≡◌, ◌<◌, ◌≤◌, ◌+◌, ◌-◌, ◌*◌, ◌/◌, length, pos, slice_index_or, refl, ◌∙◌, lit<, w32, SFits}
 use Rattle.std.proofs.lemmas.List.{length-drop}
 use Rattle.std.proofs.lemmas.Int.{to_z-of_z}
 use Rattle.msr_steim.specs.declared.word.Version.TheVariants.{Two}
-use Rattle.msr_steim.specs.Frames.{frame_word}
 use Rattle.msr_steim.proofs.Filling.{codes_fit}
-use Rattle.msr_words.specs.Canonical.{IsCanonicalDivision}
 use Rattle.msr_words.specs.Segment.{differences}
 use Rattle.msr_words.proofs.Plain.{length_differences}
-use Rattle.msr_words.proofs.Fill.{IsFilled, IsFramed, codes_below_more, constant_more, constant_one, constant_two, frame_begins, frame_ends, framed_all, group_more, next_is}
+use Rattle.msr_words.proofs.Fill.{codes_below_more, constant_more, constant_one, constant_two, frame_begins, frame_ends, framed_all, group_more, next_is}
 use Rattle.msr_words.proofs.filling.fill_steim2.Goals as goal
 use Rattle.msr_words.proofs.filling.fill_steim2.Goals.{then-number-eq1, else-number-eq1, then-next-gt0, else-next-gt0}
 

@@ -1,15 +1,14 @@
 -- Word by word, and frame by frame.
-use Rattle.std.proofs.Common.{rules, arith, ◌≡◌, ◌<◌, ◌≤◌, ◌+◌, ◌-◌, ◌*◌, ◌/◌, ◌%◌, ◌^◌, ◌++◌, ℕ, ℤ, List, length, drop, take, pos, slice_index_or, refl, sym, ap, ◌∙◌, lit<, to_z, of_z, w32, SFits, get_or, inl, inr}
+use Rattle.std.proofs.Common.{rules, arith, ◌≡◌, ◌<◌, ◌≤◌, ◌+◌, ◌-◌, ◌*◌, ◌/◌, ℤ, List, length, drop, pos, slice_index_or, refl, ◌∙◌, lit<, w32, SFits, inl, inr}
 use Rattle.std.proofs.lemmas.List.{length-drop}
 use Rattle.std.proofs.lemmas.Bool.{cases_lt}
 use Rattle.std.proofs.lemmas.Int.{to_z-of_z}
 use Rattle.msr_steim.specs.declared.word.Version.TheVariants.{One}
-use Rattle.msr_steim.specs.Frames.{frame_word}
 use Rattle.msr_steim.proofs.Filling.{codes_fit}
 use Rattle.msr_words.specs.Canonical.{IsCanonicalDivision}
 use Rattle.msr_words.specs.Segment.{differences}
 use Rattle.msr_words.proofs.Plain.{length_differences}
-use Rattle.msr_words.proofs.Fill.{IsNext, IsFilled, IsFramed, codes_below_more, constant_more, constant_one, constant_two, frame_begins, frame_ends, framed_all, group_more}
+use Rattle.msr_words.proofs.Fill.{IsNext, codes_below_more, constant_more, constant_one, constant_two, frame_begins, frame_ends, framed_all, group_more}
 use Rattle.msr_words.specs.Lemmas.SteimLaws.{size_law}
 use Rattle.msr_words.proofs.FirstGroups.{divided_fit, next_first, next_none, some_canonical}
 use Rattle.msr_words.proofs.steim1_filling.fill_steim1.Goals as goal

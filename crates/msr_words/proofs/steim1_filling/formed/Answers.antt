@@ -1,5 +1,5 @@
 -- The differences of the group fit its width, and its fields are moved up.
-use Rattle.std.proofs.Common.{rules, arith, ◌≡◌, ◌<◌, ◌≤◌, ◌+◌, ◌*◌, ◌%◌, ◌^◌, ◌∙◌, ap, length, drop, take, None}
+use Rattle.std.proofs.Common.{rules, arith, ◌≤◌, ◌*◌, ◌%◌, ◌^◌, ◌∙◌, ap, drop, take, None}
 use Rattle.std.proofs.lemmas.List.{length-drop, length-take-le}
 use Rattle.msr_words.specs.Segment.{differences}
 use Rattle.msr_words.proofs.FillFields.{group_bits, shifted_word_is}

@@ -1,5 +1,5 @@
 -- The size of the group is that of the division that is written.
-use Rattle.std.proofs.Common.{rules, arith, ◌≡◌, ◌<◌, ◌≤◌, ◌+◌, length, drop, take, get_or, ◌∙◌, subst, sym}
+use Rattle.std.proofs.Common.{rules, arith, ◌≡◌, ◌<◌, length, drop, take, get_or, ◌∙◌, subst, sym}
 use Rattle.std.proofs.lemmas.List.{length-drop}
 use Rattle.msr_steim.specs.declared.word.Version.TheVariants.{One}
 use Rattle.msr_steim.specs.Word.{IsGroup}

@@ -1,11 +1,11 @@
 -- One size more, and that of the first difference.
-use Rattle.std.proofs.Common.{rules, arith, ◌≡◌, ◌<◌, ◌≤◌, ◌+◌, ◌-◌, ◌∷◌, length, drop, get_or, set, pos, w64, SFits, subst, sym, ap, ◌∙◌}
+use Rattle.std.proofs.Common.{rules, arith, ◌≡◌, ◌-◌, ◌∷◌, length, drop, get_or, pos, w64, SFits, subst, sym, ap, ◌∙◌}
 use Rattle.std.proofs.lemmas.Int.{to_z-of_z}
 use Rattle.std.proofs.lemmas.List.{drop_all}
 use Rattle.msr_steim.specs.Word.{FitsBits}
-use Rattle.msr_words.specs.FirstGroup.{AreSizes, IsCanonicalFirst, IsFirstGroup}
+use Rattle.msr_words.specs.FirstGroup.{IsFirstGroup}
 use Rattle.msr_words.specs.Following.{IsFollowing}
-use Rattle.msr_words.specs.Segment.{difference_from, difference_at, differences}
+use Rattle.msr_words.specs.Segment.{difference_from, differences}
 use Rattle.msr_words.proofs.FillSizes.{from_inside}
 use Rattle.msr_words.proofs.FirstGroups.{all_at, front_at, no_sizes, sizes_more}
 use Rattle.msr_words.proofs.Plain.{difference_of, length_differences}

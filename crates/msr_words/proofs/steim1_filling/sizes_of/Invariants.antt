@@ -1,5 +1,5 @@
 -- The sizes so far, and what follows.
-use Rattle.std.proofs.Common.{◌≡◌, ◌≤◌, ◌+◌, length, drop}
+use Rattle.std.proofs.Common.{◌≤◌, ◌+◌, length, drop}
 use Rattle.msr_words.specs.FirstGroup.{AreSizes}
 use Rattle.msr_words.specs.Following.{IsFollowing}
 use Rattle.msr_words.specs.Segment.{differences}

@@ -1,7 +1,7 @@
 -- By the size.
-use Rattle.std.proofs.Common.{arith, ◌≡◌, None, drop, take, subst, sym, ap, ◌∙◌}
+use Rattle.std.proofs.Common.{arith, ◌≡◌, None, drop, take, subst, sym}
 use Rattle.msr_steim.specs.declared.word.Version.TheVariants.{One}
-use Rattle.msr_steim.specs.Word.{IsGroup, group_word}
+use Rattle.msr_steim.specs.Word.{group_word}
 use Rattle.msr_words.specs.Segment.{differences}
 use Rattle.msr_words.proofs.steim1_filling.word_inside.Goals as goal
 

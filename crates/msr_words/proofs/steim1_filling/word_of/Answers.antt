@@ -1,5 +1,5 @@
 -- From the second difference on it does not matter what stands before the run.
-use Rattle.std.proofs.Common.{rules, arith, ◌≡◌, ◌<◌, ◌≤◌, ◌+◌, ◌*◌, ◌%◌, ◌^◌, ◌∙◌, ap, length, drop, take, None, subst, sym}
+use Rattle.std.proofs.Common.{rules, arith, ◌≡◌, ◌≤◌, ◌*◌, ◌%◌, ◌^◌, ◌∙◌, ap, drop, take, subst, sym}
 use Rattle.std.proofs.lemmas.List.{length-drop, length-take-le}
 use Rattle.msr_steim.specs.declared.word.Version.TheVariants.{One}
 use Rattle.msr_steim.specs.Word.{IsGroup, group_word}

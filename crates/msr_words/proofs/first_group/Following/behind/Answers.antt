@@ -1,9 +1,8 @@
 -- One difference more.
-use Rattle.std.proofs.Common.{arith, ◌≡◌, ◌∷◌, ◌-◌, ◌+◌, ◌<◌, bit_or, length, List, ℤ, subst, sym}
+use Rattle.std.proofs.Common.{arith, ◌≡◌, ◌∷◌, ◌-◌, ◌+◌, bit_or, subst}
 use Rattle.std.proofs.lemmas.Int.{to_z-of_z}
 use Rattle.std.proofs.lemmas.Nat.{le_or_l}
-use Rattle.msr_words.specs.FirstGroup.{IsFirstGroup, IsSizeAt, IsLeast}
-use Rattle.msr_words.specs.Following.{IsFollowing}
+use Rattle.msr_words.specs.FirstGroup.{IsFirstGroup}
 use Rattle.msr_words.proofs.FillSizes.{HasSize}
 use Rattle.msr_words.proofs.FirstGroups.{first_of, four_is, least_of, pair_is, size_here, size_later, triple_is}
 use Rattle.msr_words.proofs.first_group.Following.behind.Goals as goal
