@@ -1,74 +1,20 @@
 -- The first Steim-1 group of some differences, by the least number of groups behind it.
-use Rattle.std.proofs.Common.{◌≡◌, ◌↔◌, ◌<◌, ◌≤◌, ℕ, zero, suc, ◌+◌, ◌-◌, ℤ, pos, Bool, true, false, eqb, List, [], ◌∷◌, ◌++◌, length, take, drop, get_or, refl, sym, ap, ◌∙◌, subst, arith, inl, inr, bit_or, lit≤, append_assoc, length-append, set, ◌≢◌, get_or-set_other, get_or-set_same, length-set, drop-cons, Option}
+use Rattle.std.proofs.Common.{◌≡◌, ◌↔◌, ◌<◌, ◌≤◌, ℕ, zero, suc, ◌+◌, ◌-◌, ℤ, pos, Bool, true, false, eqb, List, [], ◌∷◌, ◌++◌, length, take, drop, get_or, refl, sym, ap, ◌∙◌, subst, arith, inl, inr, append_assoc, length-append, set, ◌≢◌, get_or-set_other, get_or-set_same, length-set, drop-cons, Option}
 use Rattle.std.specs.List.{AllByRecursion}
 use Rattle.std.proofs.lemmas.Bool.{cases_lt, eq-eqb, ne_eqb}
 use Rattle.std.proofs.lemmas.List.{append-nil, nil_from_length, take-append-drop, take_at, drop_at, drop_all, drop-drop, length-drop, length-take-le}
-use Rattle.std.proofs.lemmas.Nat.{le_or_l, le_or_r, or_lt}
 use Rattle.msr_steim.specs.declared.word.Version.TheVariants.{One}
 use Rattle.msr_steim.specs.Area.{differences}
 use Rattle.msr_steim.specs.Word.{AreGroups, FitsBits, IsGroup, IsGroupAt}
 use Rattle.msr_words.specs.Division.{CanDivide}
 use Rattle.msr_words.specs.Segment.{difference_from, differences as run_differences}
 use Rattle.msr_words.specs.Canonical.{DividesFrom, IsCanonicalDivision}
-use Rattle.msr_words.specs.FirstGroup.{AreSizes, IsBest, IsCanonicalFirst, IsFirstGroup, IsLeast, IsSizeAt}
+use Rattle.msr_words.specs.FirstGroup.{AreSizes, IsBest, IsCanonicalFirst, IsFirstGroup, IsLeast}
 use Rattle.msr_words.specs.Lemmas.LeastCounts.{a_group_has_few}
 use Rattle.msr_words.specs.Lemmas.SteimLaws.{head_group, none_divides, one_has_few, size_law, tail_groups}
 use Rattle.msr_words.proofs.Choosing.{at_place_is, divides_can, group_fits, no_groups, starts_with, tail_chosen, with_first}
 use Rattle.msr_words.proofs.Fill.{IsNext}
-use Rattle.msr_words.proofs.FillSizes.{HasSize}
 use Rattle.msr_words.proofs.Plain.{difference_of, length_differences}
-
--- ---- groups by sizes
-
-pub pair_is : (d : ℤ) (ds : List ℤ) (size first : ℕ) → HasSize d size → IsSizeAt ds 0 first → (bit_or size first < 32768 ↔ (2 ≤ length (d ∷ ds)) × IsGroup One (take 2 (d ∷ ds)))
-pair_is d [] size first here one =
-    let r = le_or_r size first in
-    (λ small. let e = ((one 16 (lit≤ tt)).0 (omega arith)).0 in absurd (omega arith), λ group. let e = group.0 in absurd (omega arith))
-pair_is d (x ∷ ds) size first here one =
-    let l = le_or_l size first in
-    let r = le_or_r size first in (
-      λ small. (omega arith, ((here 16).1 (omega arith), (((one 16 (lit≤ tt)).0 (omega arith)).1, tt))),
-      λ group. or_lt 15 size first ((here 16).0 group.1.0) ((one 16 (lit≤ tt)).1 (omega arith, group.1.1.0)),
-    )
-
-pub triple_is : (d : ℤ) (ds : List ℤ) (size first second : ℕ) → HasSize d size → IsSizeAt ds 0 first → IsSizeAt ds 1 second
-    → (bit_or (bit_or size first) second < 128 ↔ (3 ≤ length (d ∷ ds)) × IsGroup One (take 3 (d ∷ ds)))
-triple_is d [] size first second here one two =
-    let r = le_or_r (bit_or size first) second in
-    (λ small. let e = ((two 8 (lit≤ tt)).0 (omega arith)).0 in absurd (omega arith), λ group. let e = group.0 in absurd (omega arith))
-triple_is d (x ∷ []) size first second here one two =
-    let r = le_or_r (bit_or size first) second in
-    (λ small. let e = ((two 8 (lit≤ tt)).0 (omega arith)).0 in absurd (omega arith), λ group. let e = group.0 in absurd (omega arith))
-triple_is d (x ∷ y ∷ ds) size first second here one two =
-    let l = le_or_l size first in
-    let r = le_or_r size first in
-    let l' = le_or_l (bit_or size first) second in
-    let r' = le_or_r (bit_or size first) second in (
-      λ small. (omega arith, ((here 8).1 (omega arith), (((one 8 (lit≤ tt)).0 (omega arith)).1, (((two 8 (lit≤ tt)).0 (omega arith)).1, tt)))),
-      λ group. or_lt 7 (bit_or size first) second (or_lt 7 size first ((here 8).0 group.1.0) ((one 8 (lit≤ tt)).1 (omega arith, group.1.1.0))) ((two 8 (lit≤ tt)).1 (omega arith, group.1.1.1.0)),
-    )
-
-pub four_is : (d : ℤ) (ds : List ℤ) (size first second third : ℕ) → HasSize d size → IsSizeAt ds 0 first → IsSizeAt ds 1 second → IsSizeAt ds 2 third
-    → (bit_or (bit_or (bit_or size first) second) third < 128 ↔ (4 ≤ length (d ∷ ds)) × IsGroup One (take 4 (d ∷ ds)))
-four_is d [] size first second third here one two three =
-    let r = le_or_r (bit_or (bit_or size first) second) third in
-    (λ small. let e = ((three 8 (lit≤ tt)).0 (omega arith)).0 in absurd (omega arith), λ group. let e = group.0 in absurd (omega arith))
-four_is d (x ∷ []) size first second third here one two three =
-    let r = le_or_r (bit_or (bit_or size first) second) third in
-    (λ small. let e = ((three 8 (lit≤ tt)).0 (omega arith)).0 in absurd (omega arith), λ group. let e = group.0 in absurd (omega arith))
-four_is d (x ∷ y ∷ []) size first second third here one two three =
-    let r = le_or_r (bit_or (bit_or size first) second) third in
-    (λ small. let e = ((three 8 (lit≤ tt)).0 (omega arith)).0 in absurd (omega arith), λ group. let e = group.0 in absurd (omega arith))
-four_is d (x ∷ y ∷ z ∷ ds) size first second third here one two three =
-    let l = le_or_l size first in
-    let r = le_or_r size first in
-    let l' = le_or_l (bit_or size first) second in
-    let r' = le_or_r (bit_or size first) second in
-    let l'' = le_or_l (bit_or (bit_or size first) second) third in
-    let r'' = le_or_r (bit_or (bit_or size first) second) third in (
-      λ small. (omega arith, ((here 8).1 (omega arith), (((one 8 (lit≤ tt)).0 (omega arith)).1, (((two 8 (lit≤ tt)).0 (omega arith)).1, (((three 8 (lit≤ tt)).0 (omega arith)).1, tt))))),
-      λ group. or_lt 7 (bit_or (bit_or size first) second) third (or_lt 7 (bit_or size first) second (or_lt 7 size first ((here 8).0 group.1.0) ((one 8 (lit≤ tt)).1 (omega arith, group.1.1.0))) ((two 8 (lit≤ tt)).1 (omega arith, group.1.1.1.0))) ((three 8 (lit≤ tt)).1 (omega arith, group.1.1.1.1.0)),
-    )
 
 -- ---- the best size
 
@@ -162,14 +108,6 @@ module _ (d : ℤ) (ds : List ℤ) (all one two three pair triple four size afte
       ]
     ]
   ]
-
--- ---- the sizes of the differences
-
-pub size_here : (d : ℤ) (ds : List ℤ) (size : ℕ) → HasSize d size → IsSizeAt (d ∷ ds) 0 size
-size_here d ds size here width small = (λ less. (omega arith, (here width).1 less), λ fits. (here width).0 fits.1)
-
-pub size_later : (d : ℤ) (ds : List ℤ) (at size : ℕ) → IsSizeAt ds at size → IsSizeAt (d ∷ ds) (suc at) size
-size_later d ds at size there width small = (λ less. let h = (there width small).0 less in (omega (arith, h.0), h.1), λ fits. (there width small).1 (omega (arith, fits.0), fits.1))
 
 -- ---- one group more
 

@@ -7,6 +7,7 @@ pub mod FillSizes
 pub mod FirstGroups
 pub mod Greedy
 pub mod GreedyReach
+pub mod GroupSizes
 pub mod Parts
 pub mod Plain
 pub mod Pushes

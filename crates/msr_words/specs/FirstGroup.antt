@@ -39,3 +39,11 @@ pub record IsBest (all one two three pair triple four size after : ℕ) : Type 0
   pub of_three : triple < 128 → two ≡ 0 → (after ≡ 0) × (3 ≤ size)
   pub of_four : four < 128 → (after ≤ three) × (three ≤ after → 4 ≤ size)
   pub which : ((size ≡ 1) × (after ≡ all)) ⊎ (((size ≡ 2) × (pair < 32768) × (after ≡ one)) ⊎ (((size ≡ 3) × (triple < 128) × (two ≡ 0) × (after ≡ 0)) ⊎ ((size ≡ 4) × (four < 128) × (after ≡ three))))
+
+-- The least number of groups before the newest, which is one difference, two of this size, or four of this size; where
+-- there is none, so many as there are words.
+pub record AreFewest (now one three size pair four words fewest : ℕ) : Type 0 where
+  pub of_one : size < 2147483648 → fewest ≤ now
+  pub of_two : pair < 32768 → fewest ≤ one
+  pub of_four : four < 128 → fewest ≤ three
+  pub which : ((size < 2147483648) × (fewest ≡ now)) ⊎ (((pair < 32768) × (fewest ≡ one)) ⊎ (((four < 128) × (fewest ≡ three)) ⊎ (fewest ≡ words)))

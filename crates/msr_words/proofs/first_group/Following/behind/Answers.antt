@@ -4,7 +4,8 @@ use Rattle.std.proofs.lemmas.Int.{to_z-of_z}
 use Rattle.std.proofs.lemmas.Nat.{le_or_l}
 use Rattle.msr_words.specs.FirstGroup.{IsFirstGroup}
 use Rattle.msr_words.proofs.FillSizes.{HasSize}
-use Rattle.msr_words.proofs.FirstGroups.{first_of, four_is, least_of, pair_is, size_here, size_later, triple_is}
+use Rattle.msr_words.proofs.FirstGroups.{first_of, least_of}
+use Rattle.msr_words.proofs.GroupSizes.{four_is, pair_is, size_here, size_later, triple_is}
 use Rattle.msr_words.proofs.first_group.Following.behind.Goals as goal
 
 pub first_group-found-requires-clause-pair : goal.first_group-found-requires-clause-pair
