@@ -4,7 +4,6 @@ pub mod FieldLemmas
 pub mod TimeLemmas
 pub mod RowLemmas
 pub mod OneAnswer
-pub mod DifferenceLemmas
 pub mod AreaLemmas
 pub mod WritingLemmas
 pub mod OneWritten

@@ -16,8 +16,8 @@ ghost use Rattle.msr_record.specs.Written.{AreFrames, AreNumbers, IsWrittenArea,
 
 use msr_header::Order;
 use msr_plain::{Width, fill_plain};
-use msr_steim::{Group, Version, fill_steim};
-use msr_words::{Kind, Length, fill_steim2, groups};
+use msr_steim::Version;
+use msr_words::{Kind, Length, fill_steim1, fill_steim2};
 use std::alloc::{AllocError, Global};
 
 /// Each sample has 32 bits, which is known of it once it is read.
@@ -29,29 +29,6 @@ fn are_32_bit(run: &[i32])
     }
 }
 
-/// The difference of a sample from the one before it; without one it is 0.
-fn difference_from(previous: Option<i32>, sample: i32) -> i64
-    ensures { (rest : List ℤ) → differences previous (sample ∷ rest) ≡ result ∷ differences (Some sample) rest }
-{
-    match previous {
-        Some(previous) => sample as i64 - previous as i64,
-        None => 0,
-    }
-}
-
-/// The differences of a run, the first from the sample before it; without one it is 0.
-fn differences_of(alloc: Global, before: Option<i32>, run: &[i32]) -> Result<Vec<i64>, AllocError>
-    ensures { IfOk result (λ found. found.items ≡ differences before run.now) }
-{
-    let mut found = Vec::new(alloc);
-    let mut previous = before;
-    for sample in run {
-        found.push(difference_from(previous, *sample))?;
-        previous = Some(*sample);
-    }
-    Ok(found)
-}
-
 /// The frame count for so many groups of differences.
 fn frame_count(groups: usize) -> u8
     requires { groups < 2 ^ 32 }
@@ -59,34 +36,6 @@ fn frame_count(groups: usize) -> u8
 {
     let frames = (groups + 2 + 14) / 15;
     if frames <= 255 { frames as u8 } else { 0 }
-}
-
-/// The groups of the differences of the run.
-fn groups_of(
-    alloc: Global,
-    version: Version,
-    before: Option<i32>,
-    run: &[i32],
-    record_length: Length,
-) -> Result<Vec<Group>, AllocError>
-    requires { CanDivide version (words_of (bytes_of record_length)) (differences before run.now) }
-    ensures canonical { IfOk result (λ groups. IsCanonicalDivision version (map (λ g. g.items) groups.items) (differences before run.now)) }
-    ensures few { IfOk result (λ groups. length groups.items ≤ words_of (bytes_of record_length)) }
-{
-    let differences = differences_of(alloc, before, run)?;
-    let found = groups(alloc, version, &differences, record_length)?;
-    Ok(found.unwrap())
-}
-
-/// Fills the area with Steim-1 frames of these groups and the constants of the run.
-fn fill_groups(run: &[i32], groups: &[Group], area: &mut [u8])
-    requires some { 1 ≤ length run.now }
-    requires groups { AreGroups Version.One (map (λ g. g.items) groups.now) }
-    requires frames { length area.old % 64 ≡ 0 }
-    requires room { length groups.now + 2 ≤ 15 * (length area.old / 64) }
-    ensures { area.new ≡ frame_bytes Version.One (slice_index_or run.now 0 (pos 0)) (slice_index_or run.now (length run.now - 1) (pos 0)) (map (λ g. g.items) groups.now) (length area.old / 64) }
-{
-    fill_steim(Version::One, run[0], run[run.len() - 1], groups, area);
 }
 
 /// Fills the area with Steim-1 frames of the differences of the run, and gives their number.
@@ -105,9 +54,9 @@ fn fill_steim1_frames(
     ensures carried { OnOk result (CarriesSteim Version.One Order.Big area.new run.now) }
     ensures reverse { OnOk result (FramesAgree Order.Big area.new run.now) }
 {
-    let groups = groups_of(alloc, Version::One, before, run, record_length)?;
-    fill_groups(run, &groups, area);
-    Ok(frame_count(groups.len()))
+    let _bytes = record_length.bytes();
+    let groups = fill_steim1(alloc, before, run, area)?;
+    Ok(frame_count(groups))
 }
 
 /// Fills the area with Steim-2 frames of the differences of the run, and gives their number.

@@ -1,5 +1,5 @@
 -- The words of the groups that are written, one after the other.
-use Rattle.std.proofs.Common.{◌≡◌, ◌<◌, ◌≤◌, ◌↔◌, ◌⊎◌, min, ℕ, zero, suc, ◌+◌, ◌-◌, ◌*◌, ◌/◌, ◌%◌, ◌^◌, ◌||◌, ltb, eqb, Bool, true, false, cond, ℤ, pos, negsuc, get_or, take, drop, List, [], ◌∷◌, ◌++◌, length, map, refl, sym, ap, ◌∙◌, subst, arith, inl, inr, append_assoc, length-append, zero-add, lit<, lit≤}
+use Rattle.std.proofs.Common.{◌≡◌, ◌<◌, ◌≤◌, ◌↔◌, min, ℕ, zero, suc, ◌+◌, ◌-◌, ◌*◌, ◌/◌, ◌%◌, ◌^◌, ◌||◌, ltb, eqb, Bool, true, false, cond, ℤ, pos, negsuc, get_or, take, drop, List, [], ◌∷◌, ◌++◌, length, map, refl, sym, ap, ◌∙◌, subst, arith, inl, inr, append_assoc, length-append, zero-add, lit≤}
 use Rattle.std.specs.Prelude.{flat_map}
 use Rattle.std.specs.Int.{cast_unsigned, w32}
 use Rattle.std.specs.List.{range_with_len}
@@ -9,7 +9,8 @@ use Rattle.std.proofs.lemmas.Grind.{flat_map-append, pow_more}
 use Rattle.std.proofs.lemmas.List.{append-nil, nil_from_length, take-append-drop, take_at, drop_at, drop_all, drop-drop, get_or-drop, length-drop, length-take}
 use Rattle.std.proofs.lemmas.List.FromFn.{length-map-range_with_len, map-range_with_len_more}
 use Rattle.byteorder.specs.Endian.{big_bytes}
-use Rattle.msr_steim.specs.declared.word.Version.TheVariants.{Two}
+use Rattle.msr_steim.specs.declared.word.Version.{Version}
+use Rattle.msr_steim.specs.declared.word.Version.TheVariants.{One, Two}
 use Rattle.msr_steim.specs.Word.{FitsBits, group_code, group_word}
 use Rattle.msr_steim.specs.Frames.{code_in, codes_word, frame_bytes, frame_word, group_in}
 use Rattle.msr_steim.proofs.Filling.{codes_more, length-words}
@@ -75,9 +76,9 @@ some_division words ds can =
 
 -- ---- its first group is the longest
 
-pub record IsNext (gs : List (List ℤ)) (xs : List ℤ) (size : ℕ) : Type 0 where
+pub record IsNext (version : Version) (gs : List (List ℤ)) (xs : List ℤ) (size : ℕ) : Type 0 where
   pub group : get_or gs 0 [] ≡ take size xs
-  pub rest : IsCanonicalDivision Two (drop 1 gs) (drop size xs)
+  pub rest : IsCanonicalDivision version (drop 1 gs) (drop size xs)
   pub none : size ≡ 0 → length gs ≡ 0
   pub some : 0 < size → length gs ≡ length (drop 1 gs) + 1
 
@@ -90,7 +91,7 @@ full_of ys size longest some = record {
       longest.no_more (omega arith) (let one : suc size ≡ size + 1 = omega arith in group_from (take (size + 1) ys) (subst (λ n. IsSteim2Group (take n ys)) one (subst IsSteim2Group (next_of ys size y zs e) group)));
 }
 
-pub next_is : (gs : List (List ℤ)) (xs : List ℤ) (size : ℕ) → IsCanonicalDivision Two gs xs → IsLongestGroup xs size → IsNext gs xs size
+pub next_is : (gs : List (List ℤ)) (xs : List ℤ) (size : ℕ) → IsCanonicalDivision Two gs xs → IsLongestGroup xs size → IsNext Two gs xs size
 next_is gs [] size chosen longest =
     let within = longest.within in
     let zero_size : size ≡ 0 = omega arith in
@@ -197,36 +198,40 @@ frame_start gs frame =
     either true = refl
     either false = refl
 
-code_of_none : (gs : List (List ℤ)) (number : ℕ) → group_in gs number ≡ [] → 0 ≡ code_in Two gs number
-code_of_none gs number none = sym (ap (λ (g : List ℤ). group_code Two (length g)) none)
+no_code : (version : Version) → 0 ≡ group_code version 0
+no_code One = refl
+no_code Two = refl
 
-word_at_start : (first last : ℤ) (gs : List (List ℤ)) (frame : ℕ) → frame_word Two first last gs (16 * frame) ≡ number_from_digits 4 (map (code_in Two gs) (range_with_len (16 * frame) 16))
+code_of_none : (version : Version) (gs : List (List ℤ)) (number : ℕ) → group_in gs number ≡ [] → 0 ≡ code_in version gs number
+code_of_none version gs number none = no_code version ∙ sym (ap (λ (g : List ℤ). group_code version (length g)) none)
+
+word_at_start : (version : Version) (first last : ℤ) (gs : List (List ℤ)) (frame : ℕ) → frame_word version first last gs (16 * frame) ≡ number_from_digits 4 (map (code_in version gs) (range_with_len (16 * frame) 16))
 unfolding frame_word codes_word
-word_at_start first last gs frame =
+word_at_start version first last gs frame =
     let whole : eqb ((16 * frame) % 16) 0 ≡ true = eq-eqb ((16 * frame) % 16) 0 (omega arith) in
     rw whole refl
 
-word_one : (first last : ℤ) (gs : List (List ℤ)) → frame_word Two first last gs 1 ≡ cast_unsigned w32 first
+word_one : (version : Version) (first last : ℤ) (gs : List (List ℤ)) → frame_word version first last gs 1 ≡ cast_unsigned w32 first
 unfolding frame_word
-word_one first last gs = refl
+word_one version first last gs = refl
 
-word_two : (first last : ℤ) (gs : List (List ℤ)) → frame_word Two first last gs 2 ≡ cast_unsigned w32 last
+word_two : (version : Version) (first last : ℤ) (gs : List (List ℤ)) → frame_word version first last gs 2 ≡ cast_unsigned w32 last
 unfolding frame_word
-word_two first last gs = refl
+word_two version first last gs = refl
 
-word_data : (first last : ℤ) (gs : List (List ℤ)) (number : ℕ) → 3 ≤ number → (number % 16 ≡ 0 → ⊥) → frame_word Two first last gs number ≡ group_word Two (group_in gs number)
+word_data : (version : Version) (first last : ℤ) (gs : List (List ℤ)) (number : ℕ) → 3 ≤ number → (number % 16 ≡ 0 → ⊥) → frame_word version first last gs number ≡ group_word version (group_in gs number)
 unfolding frame_word
-word_data first last gs number high inside =
+word_data version first last gs number high inside =
     let a : eqb (number % 16) 0 ≡ false = ne_eqb (number % 16) 0 inside in
     let b : eqb number 1 ≡ false = ne_eqb number 1 (λ e. omega arith) in
     let c : eqb number 2 ≡ false = ne_eqb number 2 (λ e. omega arith) in
     rw (a, b, c) refl
 
-pub constant_one : (number : ℕ) (first last : ℤ) (gs : List (List ℤ)) → number ≡ 1 → cast_unsigned w32 first ≡ frame_word Two first last gs number
-constant_one number first last gs one = sym (ap (frame_word Two first last gs) one ∙ word_one first last gs)
+pub constant_one : (version : Version) (number : ℕ) (first last : ℤ) (gs : List (List ℤ)) → number ≡ 1 → cast_unsigned w32 first ≡ frame_word version first last gs number
+constant_one version number first last gs one = sym (ap (frame_word version first last gs) one ∙ word_one version first last gs)
 
-pub constant_two : (number : ℕ) (first last : ℤ) (gs : List (List ℤ)) → number ≡ 2 → cast_unsigned w32 last ≡ frame_word Two first last gs number
-constant_two number first last gs two = sym (ap (frame_word Two first last gs) two ∙ word_two first last gs)
+pub constant_two : (version : Version) (number : ℕ) (first last : ℤ) (gs : List (List ℤ)) → number ≡ 2 → cast_unsigned w32 last ≡ frame_word version first last gs number
+constant_two version number first last gs two = sym (ap (frame_word version first last gs) two ∙ word_two version first last gs)
 
 -- one code more
 pub codes_below_more : (codes code k : ℕ) → codes < 4 ^ k → code < 4 → {new : ℕ} → new ≡ codes * 4 + code → new < 4 ^ (k + 1)
@@ -237,57 +242,57 @@ codes_below_more codes code k few small {new} same =
 -- ---- frame by frame
 
 -- so many frames are filled
-pub record IsFramed (gs : List (List ℤ)) (ds : List ℤ) (first last : ℤ) (frame at used : ℕ) (old area : List ℕ) : Type 0 where
-  pub left : IsCanonicalDivision Two (drop (15 * frame - 2) gs) (drop at ds)
+pub record IsFramed (version : Version) (gs : List (List ℤ)) (ds : List ℤ) (first last : ℤ) (frame at used : ℕ) (old area : List ℕ) : Type 0 where
+  pub left : IsCanonicalDivision version (drop (15 * frame - 2) gs) (drop at ds)
   pub number : used + length (drop (15 * frame - 2) gs) ≡ length gs
-  pub bytes : area ≡ flat_map (big_bytes 4) (map (frame_word Two first last gs) (range_with_len 0 (16 * frame))) ++ drop (4 * (16 * frame)) old
+  pub bytes : area ≡ flat_map (big_bytes 4) (map (frame_word version first last gs) (range_with_len 0 (16 * frame))) ++ drop (4 * (16 * frame)) old
 
 -- and so many words of the next one, behind its codes, which are still 0
-pub record IsFilled (gs : List (List ℤ)) (ds : List ℤ) (first last : ℤ) (frame slot at used codes : ℕ) (old area : List ℕ) : Type 0 where
-  pub left : IsCanonicalDivision Two (drop (15 * frame + slot - 2) gs) (drop at ds)
+pub record IsFilled (version : Version) (gs : List (List ℤ)) (ds : List ℤ) (first last : ℤ) (frame slot at used codes : ℕ) (old area : List ℕ) : Type 0 where
+  pub left : IsCanonicalDivision version (drop (15 * frame + slot - 2) gs) (drop at ds)
   pub number : used + length (drop (15 * frame + slot - 2) gs) ≡ length gs
-  pub codes_are : codes ≡ number_from_digits 4 (map (code_in Two gs) (range_with_len (16 * frame) (slot + 1)))
-  pub bytes : area ≡ flat_map (big_bytes 4) (map (frame_word Two first last gs) (range_with_len 0 (16 * frame)) ++ 0 ∷ map (frame_word Two first last gs) (range_with_len (16 * frame + 1) slot))
+  pub codes_are : codes ≡ number_from_digits 4 (map (code_in version gs) (range_with_len (16 * frame) (slot + 1)))
+  pub bytes : area ≡ flat_map (big_bytes 4) (map (frame_word version first last gs) (range_with_len 0 (16 * frame)) ++ 0 ∷ map (frame_word version first last gs) (range_with_len (16 * frame + 1) slot))
       ++ drop (4 * (16 * frame + slot + 1)) old
 
-module _ (gs : List (List ℤ)) (ds : List ℤ) (first last : ℤ) (frame at used : ℕ) (old area new : List ℕ) where
-  pub frame_begins : IsFramed gs ds first last frame at used old area → new ≡ take (4 * (16 * frame)) area ++ (big_bytes 4 0 ++ drop (4 * (16 * frame) + 4) area) → IsFilled gs ds first last frame 0 at used 0 old new
+module _ (version : Version) (gs : List (List ℤ)) (ds : List ℤ) (first last : ℤ) (frame at used : ℕ) (old area new : List ℕ) where
+  pub frame_begins : IsFramed version gs ds first last frame at used old area → new ≡ take (4 * (16 * frame)) area ++ (big_bytes 4 0 ++ drop (4 * (16 * frame) + 4) area) → IsFilled version gs ds first last frame 0 at used 0 old new
   frame_begins is put =
-      let f = frame_word Two first last gs in
+      let f = frame_word version first last gs in
       let same : 15 * frame + 0 - 2 ≡ 15 * frame - 2 = omega arith in
       let place : 16 * frame + 1 ≡ 16 * frame + 0 + 1 = omega arith in
       record {
-        left = subst (λ n. IsCanonicalDivision Two (drop n gs) (drop at ds)) (sym same) is.left;
+        left = subst (λ n. IsCanonicalDivision version (drop n gs) (drop at ds)) (sym same) is.left;
         number = subst (λ n. used + length (drop n gs) ≡ length gs) (sym same) is.number;
-        codes_are = code_of_none gs (16 * frame) (frame_start gs frame) ∙ sym (zero-add (code_in Two gs (16 * frame)));
+        codes_are = code_of_none version gs (16 * frame) (frame_start gs frame) ∙ sym (zero-add (code_in version gs (16 * frame)));
         bytes = put_next (map f (range_with_len 0 (16 * frame))) 0 (16 * frame) old area new (length-map-range_with_len f 0 (16 * frame)) is.bytes put
             ∙ ap (λ n. flat_map (big_bytes 4) (map f (range_with_len 0 (16 * frame)) ++ 0 ∷ []) ++ drop (4 * n) old) place;
       }
 
-  pub frame_ends : (slot codes : ℕ) → slot ≡ 15 → IsFilled gs ds first last frame slot at used codes old area → new ≡ take (4 * (16 * frame)) area ++ (big_bytes 4 codes ++ drop (4 * (16 * frame) + 4) area) → IsFramed gs ds first last (frame + 1) at used old new
+  pub frame_ends : (slot codes : ℕ) → slot ≡ 15 → IsFilled version gs ds first last frame slot at used codes old area → new ≡ take (4 * (16 * frame)) area ++ (big_bytes 4 codes ++ drop (4 * (16 * frame) + 4) area) → IsFramed version gs ds first last (frame + 1) at used old new
   frame_ends slot codes all is' put =
-      let is : IsFilled gs ds first last frame 15 at used codes old area = subst (λ s. IsFilled gs ds first last frame s at used codes old area) all is' in
-      let f = frame_word Two first last gs in
+      let is : IsFilled version gs ds first last frame 15 at used codes old area = subst (λ s. IsFilled version gs ds first last frame s at used codes old area) all is' in
+      let f = frame_word version first last gs in
       let same : 15 * frame + 15 - 2 ≡ 15 * (frame + 1) - 2 = omega arith in
       let place : 16 * frame + 15 + 1 ≡ 16 * (frame + 1) = omega arith in
       let number : 16 * frame + 16 ≡ 16 * (frame + 1) = omega arith in
-      let codes_is : codes ≡ f (16 * frame) = is.codes_are ∙ sym (word_at_start first last gs frame) in
+      let codes_is : codes ≡ f (16 * frame) = is.codes_are ∙ sym (word_at_start version first last gs frame) in
       let ps = map f (range_with_len 0 (16 * frame)) in
       let rs = map f (range_with_len (16 * frame + 1) 15) in
       let whole : ps ++ codes ∷ rs ≡ map f (range_with_len 0 (16 * (frame + 1))) = ap (λ w. ps ++ w ∷ rs) codes_is ∙ ap (λ a. ps ++ map f (range_with_len a 16)) (sym (zero-add (16 * frame))) ∙ sym (range_join f 0 (16 * frame) 16) ∙ ap (λ n. map f (range_with_len 0 n)) number in
       record {
-        left = subst (λ n. IsCanonicalDivision Two (drop n gs) (drop at ds)) same is.left;
+        left = subst (λ n. IsCanonicalDivision version (drop n gs) (drop at ds)) same is.left;
         number = subst (λ n. used + length (drop n gs) ≡ length gs) same is.number;
         bytes = put_back ps rs 0 codes (16 * frame) (drop (4 * (16 * frame + 15 + 1)) old) area new (length-map-range_with_len f 0 (16 * frame)) is.bytes put
             ∙ ap (λ ws. flat_map (big_bytes 4) ws ++ drop (4 * (16 * frame + 15 + 1)) old) whole
             ∙ ap (λ n. flat_map (big_bytes 4) (map f (range_with_len 0 (16 * (frame + 1)))) ++ drop (4 * n) old) place;
       }
 
-  module _ (slot codes : ℕ) (is : IsFilled gs ds first last frame slot at used codes old area) (small : slot < 15) where
-    words_more : (w : ℕ) → w ≡ frame_word Two first last gs (16 * frame + slot + 1) → new ≡ take (4 * (16 * frame + slot + 1)) area ++ (big_bytes 4 w ++ drop (4 * (16 * frame + slot + 1) + 4) area)
-        → new ≡ flat_map (big_bytes 4) (map (frame_word Two first last gs) (range_with_len 0 (16 * frame)) ++ 0 ∷ map (frame_word Two first last gs) (range_with_len (16 * frame + 1) (slot + 1))) ++ drop (4 * (16 * frame + (slot + 1) + 1)) old
+  module _ (slot codes : ℕ) (is : IsFilled version gs ds first last frame slot at used codes old area) (small : slot < 15) where
+    words_more : (w : ℕ) → w ≡ frame_word version first last gs (16 * frame + slot + 1) → new ≡ take (4 * (16 * frame + slot + 1)) area ++ (big_bytes 4 w ++ drop (4 * (16 * frame + slot + 1) + 4) area)
+        → new ≡ flat_map (big_bytes 4) (map (frame_word version first last gs) (range_with_len 0 (16 * frame)) ++ 0 ∷ map (frame_word version first last gs) (range_with_len (16 * frame + 1) (slot + 1))) ++ drop (4 * (16 * frame + (slot + 1) + 1)) old
     words_more w w_is put =
-        let f = frame_word Two first last gs in
+        let f = frame_word version first last gs in
         let ps = map f (range_with_len 0 (16 * frame)) in
         let rs = map f (range_with_len (16 * frame + 1) slot) in
         let a : length ps ≡ 16 * frame = length-map-range_with_len f 0 (16 * frame) in
@@ -300,38 +305,38 @@ module _ (gs : List (List ℤ)) (ds : List ℤ) (first last : ℤ) (frame at use
         ∙ ap (λ ws. flat_map (big_bytes 4) ws ++ drop (4 * (16 * frame + slot + 1 + 1)) old) (append_assoc ps (0 ∷ rs) (w ∷ []) ∙ ap (λ v. ps ++ 0 ∷ (rs ++ v ∷ [])) w_is ∙ ap (λ ws. ps ++ 0 ∷ ws) (sym more))
         ∙ ap (λ n. flat_map (big_bytes 4) (ps ++ 0 ∷ map f (range_with_len (16 * frame + 1) (slot + 1))) ++ drop (4 * n) old) place
 
-    codes_and : (code : ℕ) → code ≡ code_in Two gs (16 * frame + slot + 1) → codes * 4 + code ≡ number_from_digits 4 (map (code_in Two gs) (range_with_len (16 * frame) (slot + 1 + 1)))
+    codes_and : (code : ℕ) → code ≡ code_in version gs (16 * frame + slot + 1) → codes * 4 + code ≡ number_from_digits 4 (map (code_in version gs) (range_with_len (16 * frame) (slot + 1 + 1)))
     codes_and code code_is =
         let place : 16 * frame + slot + 1 ≡ 16 * frame + (slot + 1) = omega arith in
         ap (λ n. n * 4 + code) is.codes_are
-        ∙ ap (λ n. number_from_digits 4 (map (code_in Two gs) (range_with_len (16 * frame) (slot + 1))) * 4 + n) (code_is ∙ ap (code_in Two gs) place)
-        ∙ sym (codes_more Two gs (16 * frame) (slot + 1))
+        ∙ ap (λ n. number_from_digits 4 (map (code_in version gs) (range_with_len (16 * frame) (slot + 1))) * 4 + n) (code_is ∙ ap (code_in version gs) place)
+        ∙ sym (codes_more version gs (16 * frame) (slot + 1))
 
     -- one of the two constants
-    pub constant_more : (w : ℕ) → 16 * frame + slot + 1 < 3 → codes ≡ 0 → w ≡ frame_word Two first last gs (16 * frame + slot + 1)
-        → new ≡ take (4 * (16 * frame + slot + 1)) area ++ (big_bytes 4 w ++ drop (4 * (16 * frame + slot + 1) + 4) area) → IsFilled gs ds first last frame (slot + 1) at used codes old new
+    pub constant_more : (w : ℕ) → 16 * frame + slot + 1 < 3 → codes ≡ 0 → w ≡ frame_word version first last gs (16 * frame + slot + 1)
+        → new ≡ take (4 * (16 * frame + slot + 1)) area ++ (big_bytes 4 w ++ drop (4 * (16 * frame + slot + 1) + 4) area) → IsFilled version gs ds first last frame (slot + 1) at used codes old new
     constant_more w low none w_is put =
         let same : 15 * frame + slot - 2 ≡ 15 * frame + (slot + 1) - 2 = omega arith in
         record {
-          left = subst (λ n. IsCanonicalDivision Two (drop n gs) (drop at ds)) same is.left;
+          left = subst (λ n. IsCanonicalDivision version (drop n gs) (drop at ds)) same is.left;
           number = subst (λ n. used + length (drop n gs) ≡ length gs) same is.number;
-          codes_are = (let twice : codes ≡ codes * 4 + 0 = omega arith in twice ∙ codes_and 0 (code_of_none gs (16 * frame + slot + 1) (no_data gs (16 * frame + slot + 1) low)));
+          codes_are = (let twice : codes ≡ codes * 4 + 0 = omega arith in twice ∙ codes_and 0 (code_of_none version gs (16 * frame + slot + 1) (no_data gs (16 * frame + slot + 1) low)));
           bytes = words_more w w_is put;
         }
 
     -- a group, or nothing behind the last
-    pub group_more : (w code size used' : ℕ) → 3 ≤ 16 * frame + slot + 1 → IsLongestGroup (drop at ds) size → code ≡ group_code Two size → w ≡ group_word Two (take size (drop at ds))
+    pub group_more : (w code size used' : ℕ) → 3 ≤ 16 * frame + slot + 1 → (IsCanonicalDivision version (drop (15 * frame + slot - 2) gs) (drop at ds) → IsNext version (drop (15 * frame + slot - 2) gs) (drop at ds) size) → size ≤ length (drop at ds) → code ≡ group_code version size → w ≡ group_word version (take size (drop at ds))
         → (0 < size → used' ≡ used + 1) → (size ≡ 0 → used' ≡ used)
-        → new ≡ take (4 * (16 * frame + slot + 1)) area ++ (big_bytes 4 w ++ drop (4 * (16 * frame + slot + 1) + 4) area) → IsFilled gs ds first last frame (slot + 1) (at + size) used' (codes * 4 + code) old new
-    group_more w code size used' high longest code_is w_is more same put =
+        → new ≡ take (4 * (16 * frame + slot + 1)) area ++ (big_bytes 4 w ++ drop (4 * (16 * frame + slot + 1) + 4) area) → IsFilled version gs ds first last frame (slot + 1) (at + size) used' (codes * 4 + code) old new
+    group_more w code size used' high follows within code_is w_is more same put =
         let k = 15 * frame + slot - 2 in
-        let next : IsNext (drop (15 * frame + slot - 2) gs) (drop at ds) size = next_is (drop (15 * frame + slot - 2) gs) (drop at ds) size is.left longest in
+        let next : IsNext version (drop (15 * frame + slot - 2) gs) (drop at ds) size = follows is.left in
         let zero_off : 15 * frame + slot - 2 + 0 ≡ 15 * frame + slot - 2 = omega arith in
         let group : group_in gs (16 * frame + slot + 1) ≡ take size (drop at ds) =
         data_word gs frame slot small (omega arith) ∙ ap (λ n. get_or gs n []) (sym zero_off) ∙ sym (get_or-drop (15 * frame + slot - 2) gs 0 []) ∙ next.group in
-        let long : length (take size (drop at ds)) ≡ size = (let l = length-take size (drop at ds) in let w = longest.within in omega arith) in
-        let word : w ≡ frame_word Two first last gs (16 * frame + slot + 1) = w_is ∙ sym (ap (group_word Two) group) ∙ sym (word_data first last gs (16 * frame + slot + 1) high (λ e. omega arith)) in
-        let code' : code ≡ code_in Two gs (16 * frame + slot + 1) = code_is ∙ sym (ap (group_code Two) long) ∙ sym (ap (λ (g : List ℤ). group_code Two (length g)) group) in
+        let long : length (take size (drop at ds)) ≡ size = (let l = length-take size (drop at ds) in omega arith) in
+        let word : w ≡ frame_word version first last gs (16 * frame + slot + 1) = w_is ∙ sym (ap (group_word version) group) ∙ sym (word_data version first last gs (16 * frame + slot + 1) high (λ e. omega arith)) in
+        let code' : code ≡ code_in version gs (16 * frame + slot + 1) = code_is ∙ sym (ap (group_code version) long) ∙ sym (ap (λ (g : List ℤ). group_code version (length g)) group) in
         let places : 1 + (15 * frame + slot - 2) ≡ 15 * frame + (slot + 1) - 2 = omega arith in
         let places' : (15 * frame + slot - 2) + 1 ≡ 15 * frame + (slot + 1) - 2 = omega arith in
         let gs_left : drop 1 (drop (15 * frame + slot - 2) gs) ≡ drop (15 * frame + (slot + 1) - 2) gs = drop-drop 1 (15 * frame + slot - 2) gs ∙ ap (λ n. drop n gs) places' in
@@ -339,7 +344,7 @@ module _ (gs : List (List ℤ)) (ds : List ℤ) (first last : ℤ) (frame at use
         let gone : length (drop 1 (drop (15 * frame + slot - 2) gs)) ≡ length (drop (15 * frame + (slot + 1) - 2) gs) = ap length gs_left in
         let before : used + length (drop (15 * frame + slot - 2) gs) ≡ length gs = is.number in
         record {
-          left = subst (λ hs. IsCanonicalDivision Two hs (drop (at + size) ds)) gs_left (subst (IsCanonicalDivision Two (drop 1 (drop (15 * frame + slot - 2) gs))) ds_left next.rest);
+          left = subst (λ hs. IsCanonicalDivision version hs (drop (at + size) ds)) gs_left (subst (IsCanonicalDivision version (drop 1 (drop (15 * frame + slot - 2) gs))) ds_left next.rest);
           number = elim (cases_lt 0 size) [
             | inl some ↦ let a = next.some some in let b = more some in omega arith
             | inr none ↦
@@ -350,13 +355,13 @@ module _ (gs : List (List ℤ)) (ds : List ℤ) (first last : ℤ) (frame at use
           bytes = words_more w word put;
         }
 
-pub framed_all : (gs : List (List ℤ)) (ds : List ℤ) (first last : ℤ) (last_frame frame at used : ℕ) (old area : List ℕ) → last_frame ≡ frame → IsFramed gs ds first last last_frame at used old area → length old ≡ 64 * frame → length gs + 2 ≤ 15 * frame
-    → (area ≡ frame_bytes Two first last gs frame) × (used ≡ length gs)
-framed_all gs ds first last last_frame frame at used old area all is' size room =
-    let is : IsFramed gs ds first last frame at used old area = subst (λ f. IsFramed gs ds first last f at used old area) all is' in
+pub framed_all : (version : Version) (gs : List (List ℤ)) (ds : List ℤ) (first last : ℤ) (last_frame frame at used : ℕ) (old area : List ℕ) → last_frame ≡ frame → IsFramed version gs ds first last last_frame at used old area → length old ≡ 64 * frame → length gs + 2 ≤ 15 * frame
+    → (area ≡ frame_bytes version first last gs frame) × (used ≡ length gs)
+framed_all version gs ds first last last_frame frame at used old area all is' size room =
+    let is : IsFramed version gs ds first last frame at used old area = subst (λ f. IsFramed version gs ds first last f at used old area) all is' in
     let none : drop (4 * (16 * frame)) old ≡ [] = drop_all (4 * (16 * frame)) old (omega arith) in
     let left = length-drop (15 * frame - 2) gs in
     let number = is.number in (
-      is.bytes ∙ ap (λ x. flat_map (big_bytes 4) (map (frame_word Two first last gs) (range_with_len 0 (16 * frame))) ++ x) none ∙ append-nil (flat_map (big_bytes 4) (map (frame_word Two first last gs) (range_with_len 0 (16 * frame)))),
+      is.bytes ∙ ap (λ x. flat_map (big_bytes 4) (map (frame_word version first last gs) (range_with_len 0 (16 * frame))) ++ x) none ∙ append-nil (flat_map (big_bytes 4) (map (frame_word version first last gs) (range_with_len 0 (16 * frame)))),
       omega arith,
     )

@@ -1,12 +1,12 @@
 -- The fields of a word, made from differences.
-use Rattle.std.proofs.Common.{◌≡◌, ◌<◌, ◌≤◌, ℕ, zero, suc, ◌+◌, ◌-◌, ◌*◌, ◌/◌, ◌%◌, ◌^◌, ℤ, pos, negsuc, get_or, take, List, [], ◌∷◌, ◌++◌, length, refl, sym, ap, ◌∙◌, subst, arith, w64, SFits, of_z, bit_and, bit_or, Some, lit<}
-use Rattle.std.specs.Prelude.{unwrap_or, Option}
+use Rattle.std.proofs.Common.{◌≡◌, ◌<◌, ◌≤◌, ℕ, zero, suc, ◌+◌, ◌-◌, ◌*◌, ◌/◌, ◌%◌, ◌^◌, ℤ, pos, negsuc, get_or, take, List, [], ◌∷◌, ◌++◌, length, sym, ap, ◌∙◌, subst, arith, w64, SFits, of_z, bit_and, bit_or, Some, Bool, true, false, cond, eqb, lit<, lit≤}
+use Rattle.std.specs.Prelude.{IsSomeAnd, unwrap_or, Option, replicate}
 use Rattle.std.specs.List.{AllByRecursion}
 use Rattle.std.proofs.lemmas.List.{append-nil, take_more, length-take-le}
 use Rattle.std.proofs.lemmas.Nat.{and_mask, mod-mul-add, pow_pos, pow-add}
-use Rattle.std.proofs.Math.Nat.{pow-le-pow_right, mul-le-mul_right}
-use Rattle.msr_steim.specs.declared.word.Version.TheVariants.{Two}
-use Rattle.msr_steim.specs.Word.{FitsBits, group_top, group_width, group_word, joined_fields, twos_complement}
+use Rattle.std.proofs.Math.Nat.{pow-le-pow_right, mul-le-mul_right, mul-lt-mul_of_pos_right}
+use Rattle.msr_steim.specs.declared.word.Version.TheVariants.{One, Two}
+use Rattle.msr_steim.specs.Word.{FitsBits, IsGroup, padding_of, group_top, group_width, group_word, joined_fields, twos_complement}
 use Rattle.msr_steim.proofs.Fields.{field_bound, joined_fields_lt, joined_fields_push, ones_shr, power_is_half, push_field}
 
 mask_64 : (width : ℕ) → width ≤ 32 → 18446744073709551615 / 2 ^ (64 - width) ≡ 2 ^ width - 1
@@ -85,3 +85,43 @@ word_is ys size width top fields long width_is top_is fields_is =
     let t : group_top Two (length ys) ≡ top = ap (group_top Two) long ∙ sym top_is in
     let j : joined_fields (unwrap_or (group_width Two (length ys)) 0) (ys ++ []) ≡ fields = ap (λ n. joined_fields n (ys ++ [])) w ∙ ap (joined_fields width) (append-nil ys) ∙ sym fields_is in
     sym (ap (λ n. n * 2 ^ 30 + joined_fields (unwrap_or (group_width Two (length ys)) 0) (ys ++ [])) t ∙ ap (λ n. top * 2 ^ 30 + n) j)
+
+-- ---- the words of Steim-1
+
+-- all differences of a group fit its width
+pub group_bits : (ys : List ℤ) (size width : ℕ) → length ys ≡ size → group_width One size ≡ Some width → IsGroup One ys → AllByRecursion (FitsBits width) ys
+group_bits ys size width long width_is is = subst (λ o. IsSomeAnd o (λ w. AllByRecursion (FitsBits w) ys)) (ap (group_width One) long ∙ width_is) is
+
+padded : (padding : ℕ) (ys : List ℤ) (width : ℕ) → padding ≤ 1 → joined_fields width ys * 2 ^ (padding * width) ≡ joined_fields width (ys ++ replicate padding (pos 0))
+padded zero ys width few =
+    let none : 0 * width ≡ 0 = omega arith in
+    let one : joined_fields width ys * 2 ^ 0 ≡ joined_fields width ys = omega arith in
+    ap (λ n. joined_fields width ys * 2 ^ n) none ∙ one ∙ ap (joined_fields width) (sym (append-nil ys))
+padded (suc zero) ys width few =
+    let one : 1 * width ≡ width = omega arith in
+    let none : joined_fields width ys * 2 ^ width ≡ joined_fields width ys * 2 ^ width + 0 = omega arith in
+    ap (λ n. joined_fields width ys * 2 ^ n) one ∙ none ∙ sym (joined_fields_push width ys (pos 0))
+padded (suc (suc padding)) ys width few = absurd (omega arith)
+
+padding_few : (n : ℕ) → padding_of One n ≤ 1
+padding_few n = either (eqb n 3)
+  where
+    either : (b : Bool) → cond b 1 0 ≤ 1
+    either true = lit≤ tt
+    either false = lit≤ tt
+
+pub shifted_word_is : (ys : List ℤ) (size width left fields : ℕ) → length ys ≡ size → group_width One size ≡ Some width → left ≡ padding_of One size * width → fields ≡ joined_fields width ys
+    → fields < 2 ^ (size * width) → size * width + left ≤ 32 → ((fields * 2 ^ left) % 2 ^ 64 ≡ group_word One ys) × (group_word One ys < 2 ^ 32)
+shifted_word_is ys size width left fields long width_is left_is fields_is few within =
+    let w : unwrap_or (group_width One (length ys)) 0 ≡ width = ap (λ n. unwrap_or (group_width One n) 0) long ∙ ap (λ (o : Option ℕ). unwrap_or o 0) width_is in
+    let p : padding_of One (length ys) ≡ padding_of One size = ap (padding_of One) long in
+    let whole : fields * 2 ^ left ≡ joined_fields (unwrap_or (group_width One (length ys)) 0) (ys ++ replicate (padding_of One (length ys)) (pos 0)) =
+    ap (λ n. n * 2 ^ left) fields_is ∙ ap (λ n. joined_fields width ys * 2 ^ n) left_is ∙ padded (padding_of One size) ys width (padding_few size)
+    ∙ ap (λ n. joined_fields width (ys ++ replicate n (pos 0))) (sym p) ∙ ap (λ n. joined_fields n (ys ++ replicate (padding_of One (length ys)) (pos 0))) (sym w) in
+    let top : joined_fields (unwrap_or (group_width One (length ys)) 0) (ys ++ replicate (padding_of One (length ys)) (pos 0)) ≡ group_word One ys = omega arith in
+    let scaled : fields * 2 ^ left < 2 ^ (size * width) * 2 ^ left = mul-lt-mul_of_pos_right few (pow_pos left) in
+    let product : 2 ^ (size * width) * 2 ^ left ≡ 2 ^ (size * width + left) = sym (pow-add 2 (size * width) left) in
+    let most : 2 ^ (size * width + left) ≤ 2 ^ 32 = pow-le-pow_right {n = 2} (lit< tt) {i = size * width + left} {j = 32} within in
+    let same : fields * 2 ^ left ≡ group_word One ys = whole ∙ top in
+    let none : (fields * 2 ^ left) % 2 ^ 64 ≡ fields * 2 ^ left = omega arith in
+    (none ∙ same, omega arith)

@@ -1,5 +1,5 @@
 -- The size of the longest group, by the sizes of seven differences.
-use Rattle.std.proofs.Common.{◌≡◌, ◌<◌, ◌≤◌, ◌↔◌, ℕ, suc, ◌+◌, ◌-◌, ◌^◌, ℤ, pos, get_or, take, drop, List, [], ◌∷◌, length, Option, Some, None, zero, refl, sym, ap, ◌∙◌, subst, arith, bit_or, true}
+use Rattle.std.proofs.Common.{◌≡◌, ◌<◌, ◌≤◌, ◌↔◌, ℕ, suc, ◌+◌, ◌-◌, ◌^◌, ℤ, pos, get_or, take, drop, List, [], ◌∷◌, length, Option, Some, None, zero, refl, sym, ap, ◌∙◌, arith, bit_or, true}
 use Rattle.std.proofs.lemmas.Nat.{le_or_l, le_or_r, or_lt}
 use Rattle.std.proofs.lemmas.List.{get_or-drop, length-drop}
 use Rattle.msr_steim.specs.declared.word.Version.TheVariants.{Two}

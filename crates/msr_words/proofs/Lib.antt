@@ -4,8 +4,10 @@ pub mod Dominance
 pub mod Fill
 pub mod FillFields
 pub mod FillSizes
+pub mod FirstGroups
 pub mod Greedy
 pub mod GreedyReach
+pub mod GroupSizes
 pub mod Parts
 pub mod Plain
 pub mod Pushes

@@ -1,49 +1,19 @@
 -- What one more difference does to the least numbers of Steim-1 groups.
-use Rattle.std.proofs.Common.{◌≡◌, ◌↔◌, ◌<◌, ◌≤◌, ℕ, zero, suc, ◌+◌, ◌-◌, min, ℤ, Bool, true, false, List, [], ◌∷◌, length, take, drop, refl, sym, ap, ◌∙◌, subst, arith, length-append, Some, ◌⊎◌, inl, inr}
-use Rattle.std.specs.Prelude.{IsSomeAnd}
-use Rattle.std.specs.List.{AllByRecursion}
+use Rattle.std.proofs.Common.{◌≡◌, ◌↔◌, ◌<◌, ◌≤◌, ℕ, zero, suc, ◌+◌, ◌-◌, ℤ, Bool, true, false, List, [], ◌∷◌, length, take, drop, sym, ap, ◌∙◌, subst, arith, length-append, ◌⊎◌, inl, inr, bit_or, ◌^◌, lit<}
 use Rattle.std.proofs.lemmas.Bool.{cases_lt}
 use Rattle.std.proofs.lemmas.List.{length-take, take-append-drop}
 use Rattle.msr_steim.specs.declared.word.Version.TheVariants.{One}
-use Rattle.msr_steim.specs.Word.{FitsBits, IsGroup, IsGroupAt, group_width}
+use Rattle.msr_steim.specs.Word.{IsGroup, IsGroupAt}
 use Rattle.msr_words.specs.declared.counts.LeastCounts.{LeastCounts}
-use Rattle.msr_words.specs.Counts.{AtMost, EndsIn, IsLeastUpTo, IsStretch, Parts}
+use Rattle.msr_words.specs.Counts.{AtMost, EndsIn, IsLeastUpTo, Parts}
+use Rattle.msr_words.specs.FirstGroup.{AreFewest, IsSizeAt}
+use Rattle.msr_words.proofs.FillSizes.{HasSize}
+use Rattle.msr_words.proofs.GroupSizes.{four_is, pair_is, size_here, size_later, triple_at}
+use Rattle.std.proofs.Math.Nat.{pow-le-pow_right}
 use Rattle.msr_words.specs.AreCounts.{AreCounts}
 use Rattle.msr_words.specs.Lemmas.LeastCounts.{a_group_has_few, front_is}
 use Rattle.msr_words.specs.Lemmas.SteimLaws.{one_has_few, inner_is_group}
 use Rattle.msr_words.specs.Lemmas.Ends.{least_of_ends, none_least}
-
--- ---- how many of the newest differences are small
-
-pub stretch_yes : (width most r : ℕ) (d : ℤ) (past : List ℤ) → FitsBits width d → IsStretch width most r past → IsStretch width most (min most (r + 1)) (d ∷ past)
-stretch_yes width most r d past fits is = record { within = (let w = is.within in omega arith); exact = exact }
-  where
-    exact : (k : ℕ) → k ≤ most → k ≤ length (d ∷ past) → (k ≤ min most (r + 1) ↔ AllByRecursion (FitsBits width) (take k (d ∷ past)))
-    exact zero few in' = (λ le. tt, λ all. omega arith)
-    exact (suc k) few in' =
-        let old = is.exact k (omega arith) (omega arith) in
-        (λ le. (fits, old.0 (omega arith)), λ all. let le = old.1 all.1 in omega arith)
-
-pub stretch_no : (width most r : ℕ) (d : ℤ) (past : List ℤ) → (FitsBits width d → ⊥) → IsStretch width most 0 (d ∷ past)
-stretch_no width most r d past not = record { within = omega arith; exact = exact }
-  where
-    exact : (k : ℕ) → k ≤ most → k ≤ length (d ∷ past) → (k ≤ 0 ↔ AllByRecursion (FitsBits width) (take k (d ∷ past)))
-    exact zero few in' = (λ le. tt, λ all. omega arith)
-    exact (suc k) few in' = (λ le. absurd (omega arith), λ all. absurd (not all.0))
-
--- a group of k differences of so many bits
-module _ (k width most r : ℕ) (row : group_width One k ≡ Some width) (past : List ℤ) (is : IsStretch width most r past) (few : k ≤ most) where
-  size : k ≤ length past → length (take k past) ≡ k
-  size in' = let l = length-take k past in omega arith
-
-  pub group_of : k ≤ r → (k ≤ length past) × IsGroup One (take k past)
-  group_of le =
-      let in' : k ≤ length past = (let w = is.within in omega arith) in
-      (in', subst (λ o. IsSomeAnd o (λ w. AllByRecursion (FitsBits w) (take k past))) (sym (ap (group_width One) (size in') ∙ row)) ((is.exact k few in').0 le))
-
-  pub of_group : k ≤ length past → IsGroup One (take k past) → k ≤ r
-  of_group in' group =
-      (is.exact k few in').1 (subst (λ o. IsSomeAnd o (λ w. AllByRecursion (FitsBits w) (take k past))) (ap (group_width One) (size in') ∙ row) group)
 
 -- ---- the newest group
 
@@ -63,65 +33,72 @@ ends_of last k n c words past small e size least =
     let count = (least in' (n - 1) (omega arith)).1 (record { number = e.number; few = omega arith; parts = subst (Parts One e.number) (sym front.1) e.parts }) in
     (in', subst (IsGroupAt One last) (sym front.0) e.newest, omega arith)
 
-module _ (words : ℕ) (d : ℤ) (past : List ℤ) (old : LeastCounts) (is : AreCounts words past old) (eight sixteen : ℕ)
-    (eight_is : IsStretch 8 4 eight (d ∷ past)) (sixteen_is : IsStretch 16 2 sixteen (d ∷ past)) (a b q : ℕ)
-    (a_is : (n : ℕ) → n ≤ words → (a ≤ n ↔ FitsBits 32 d × (old.now < n)))
-    (b_is : (n : ℕ) → n ≤ words → (b ≤ n ↔ (2 ≤ sixteen) × (old.one < n)))
-    (q_is : (n : ℕ) → n ≤ words → (q ≤ n ↔ (4 ≤ eight) × (old.three < n))) where
-  found : (n : ℕ) → n ≤ words → min (min a b) q ≤ n → EndsIn One false n (d ∷ past)
-  found n small le = elim (cases_lt n a) [
-    | inr first ↦
-        let h = (a_is n small).0 first in
-        ends_with false 1 n old.now words (d ∷ past) small ((h.0, tt), λ e. absurd (omega arith)) is.now_is h.1
-    | inl not_first ↦ elim (cases_lt n b) [
-      | inr second ↦
-          let h = (b_is n small).0 second in
-          let g = group_of 2 16 2 sixteen refl (d ∷ past) sixteen_is (omega arith) h.0 in
-          let l = length-take 2 (d ∷ past) in
-          let in' = g.0 in
-          ends_with false 2 n old.one words (d ∷ past) small (g.1, λ e. absurd (omega arith)) (is.one_is (omega arith)) h.1
-      | inl not_second ↦
-          let h = (q_is n small).0 (omega arith) in
-          let g = group_of 4 8 4 eight refl (d ∷ past) eight_is (omega arith) h.0 in
-          let l = length-take 4 (d ∷ past) in
-          let in' = g.0 in
-          ends_with false 4 n old.three words (d ∷ past) small (g.1, λ e. absurd (omega arith)) (is.three_is (omega arith)) h.1
-    ]
-  ]
+module _ (words : ℕ) (d : ℤ) (past : List ℤ) (old : LeastCounts) (is : AreCounts words past old) (size fewest count : ℕ) (here : HasSize d size)
+    (fewest_is : AreFewest old.now old.one old.three size (bit_or size old.first) (bit_or (bit_or (bit_or size old.first) old.second) old.third) words fewest)
+    (count_is : (n : ℕ) → n ≤ words → (count ≤ n ↔ fewest < n)) where
+  two_group : bit_or size old.first < 32768 ↔ (2 ≤ length (d ∷ past)) × IsGroup One (take 2 (d ∷ past))
+  two_group = pair_is d past size old.first here is.first_is
 
-  only : (n : ℕ) → n ≤ words → EndsIn One false n (d ∷ past) → min (min a b) q ≤ n
+  four_group : bit_or (bit_or (bit_or size old.first) old.second) old.third < 128 ↔ (4 ≤ length (d ∷ past)) × IsGroup One (take 4 (d ∷ past))
+  four_group = four_is d past size old.first old.second old.third here is.first_is is.second_is is.third_is
+
+  found : (n : ℕ) → n ≤ words → count ≤ n → EndsIn One false n (d ∷ past)
+  found n small le =
+      let less : fewest < n = (count_is n small).0 le in
+      elim fewest_is.which [
+        | inl first ↦ ends_with false 1 n old.now words (d ∷ past) small (((here 32).1 (omega (arith, first.0)), tt), λ e. absurd (omega arith)) is.now_is (omega (arith, first.1))
+        | inr more ↦ elim more [
+          | inl second ↦
+              let g = two_group.0 second.0 in
+              let l = length-take 2 (d ∷ past) in
+              let in' = g.0 in
+              ends_with false 2 n old.one words (d ∷ past) small (g.1, λ e. absurd (omega arith)) (is.one_is (omega arith)) (omega (arith, second.1))
+          | inr many ↦ elim many [
+            | inl fourth ↦
+                let g = four_group.0 fourth.0 in
+                let l = length-take 4 (d ∷ past) in
+                let in' = g.0 in
+                ends_with false 4 n old.three words (d ∷ past) small (g.1, λ e. absurd (omega arith)) (is.three_is (omega arith)) (omega (arith, fourth.1))
+            | inr none ↦ absurd (omega arith)
+          ]
+        ]
+      ]
+
+  only : (n : ℕ) → n ≤ words → EndsIn One false n (d ∷ past) → count ≤ n
   only n small e =
       let some = (a_group_has_few One false e.group e.newest).0 in
       let most = one_has_few e.group e.newest.0 in
       elim (cases_lt (length e.group) 2) [
         | inl one ↦
             let h = ends_of false 1 n old.now words (d ∷ past) small e (omega arith) (λ _. is.now_is) in
-            let r = (a_is n small).1 (h.1.0.0, h.2) in omega arith
+            let fits = (here 32).0 h.1.0.0 in
+            let few = fewest_is.of_one (omega arith) in (count_is n small).1 (omega (arith, h.2))
         | inr more ↦ elim (cases_lt (length e.group) 3) [
           | inl two ↦
               let h = ends_of false 2 n old.one words (d ∷ past) small e (omega arith) (λ in'. is.one_is (omega arith)) in
-              let r = (b_is n small).1 (of_group 2 16 2 sixteen refl (d ∷ past) sixteen_is (omega arith) h.0 h.1.0, h.2) in omega arith
+              let few = fewest_is.of_two (two_group.1 (h.0, h.1.0)) in (count_is n small).1 (omega (arith, h.2))
           | inr many ↦ elim (cases_lt (length e.group) 4) [
             | inl three ↦ absurd (e.newest.1 (omega arith))
             | inr four ↦
                 let h = ends_of false 4 n old.three words (d ∷ past) small e (omega arith) (λ in'. is.three_is (omega arith)) in
-                let r = (q_is n small).1 (of_group 4 8 4 eight refl (d ∷ past) eight_is (omega arith) h.0 h.1.0, h.2) in omega arith
+                let few = fewest_is.of_four (four_group.1 (h.0, h.1.0)) in (count_is n small).1 (omega (arith, h.2))
           ]
         ]
       ]
 
-  pub least_with : IsLeastUpTo (AtMost One) words (min (min a b) q) (d ∷ past)
-  least_with = least_of_ends One words (min (min a b) q) d past (λ n small. (found n small, only n small))
+  least_with : IsLeastUpTo (AtMost One) words count (d ∷ past)
+  least_with = least_of_ends One words count d past (λ n small. (found n small, only n small))
 
-  pub counted_with : (new : LeastCounts) → new.now ≡ min (min a b) q → new.one ≡ old.now → new.two ≡ old.one → new.three ≡ old.two → new.eight ≡ eight → new.sixteen ≡ sixteen →
+  pub counted_with : (new : LeastCounts) → new.now ≡ count → new.one ≡ old.now → new.two ≡ old.one → new.three ≡ old.two → new.first ≡ size → new.second ≡ old.first → new.third ≡ old.second →
       AreCounts words (d ∷ past) new
-  counted_with new e f g h i j = record {
+  counted_with new e f g h i j k = record {
     now_is = subst (λ c. IsLeastUpTo (AtMost One) words c (d ∷ past)) (sym e) least_with;
     one_is = λ in'. subst (λ c. IsLeastUpTo (AtMost One) words c past) (sym f) is.now_is;
     two_is = λ in'. subst (λ c. IsLeastUpTo (AtMost One) words c (drop 1 past)) (sym g) (is.one_is (omega arith));
     three_is = λ in'. subst (λ c. IsLeastUpTo (AtMost One) words c (drop 2 past)) (sym h) (is.two_is (omega arith));
-    eight_is = subst (λ r. IsStretch 8 4 r (d ∷ past)) (sym i) eight_is;
-    sixteen_is = subst (λ r. IsStretch 16 2 r (d ∷ past)) (sym j) sixteen_is;
+    first_is = subst (IsSizeAt (d ∷ past) 0) (sym i) (size_here d past size here);
+    second_is = subst (IsSizeAt (d ∷ past) 1) (sym j) (size_later d past 0 old.first is.first_is);
+    third_is = subst (IsSizeAt (d ∷ past) 2) (sym k) (size_later d past 1 old.second is.second_is);
   }
 
 -- ---- whether the words hold all
@@ -132,22 +109,25 @@ at_most_ends n (suc m) past few some parts =
     record { group = parts.0; rest = parts.1; number = m; few = omega arith; newest = inner_is_group One parts.0 parts.2; parts = parts.3; join = parts.4 }
 
 module _ (words : ℕ) (past : List ℤ) (counts : LeastCounts) (is : AreCounts words past counts) (some : 0 < length past) where
-  pub within_yes : (counts.now ≤ words) ⊎ ((3 ≤ counts.eight) × (counts.three < words)) → EndsIn One true words past
+  three_group : bit_or (bit_or counts.first counts.second) counts.third < 128 ↔ (3 ≤ length past) × IsGroup One (take 3 past)
+  three_group = triple_at past counts.first counts.second counts.third is.first_is is.second_is is.third_is
+
+  pub within_yes : (counts.now ≤ words) ⊎ ((bit_or (bit_or counts.first counts.second) counts.third < 128) × (counts.three < words)) → EndsIn One true words past
   within_yes why = elim why [
     | inl few ↦ let a = (is.now_is words (omega arith)).0 few in at_most_ends words a.number past a.few some a.parts
     | inr three ↦
-        let g = group_of 3 8 4 counts.eight refl past is.eight_is (omega arith) three.0 in
+        let g = three_group.0 three.0 in
         ends_with true 3 words counts.three words past (omega arith) g.1 (is.three_is g.0) three.1
   ]
 
-  pub within_no : (words < counts.now) → (3 ≤ counts.eight → counts.three < words → ⊥) → EndsIn One true words past → ⊥
+  pub within_no : (words < counts.now) → (bit_or (bit_or counts.first counts.second) counts.third < 128 → counts.three < words → ⊥) → EndsIn One true words past → ⊥
   within_no many three e = elim (cases_lt (length e.group) 3) [
     | inl less ↦ inner (λ h. absurd (omega arith))
     | inr more ↦ elim (cases_lt 3 (length e.group)) [
       | inl four ↦ inner (λ h. absurd (omega arith))
       | inr same ↦
           let h = ends_of true 3 words counts.three words past (omega arith) e (omega arith) is.three_is in
-          three (of_group 3 8 4 counts.eight refl past is.eight_is (omega arith) h.0 h.1) h.2
+          three (three_group.1 (h.0, h.1)) h.2
     ]
   ]
     where
@@ -159,19 +139,18 @@ module _ (words : ℕ) (past : List ℤ) (counts : LeastCounts) (is : AreCounts 
 
 -- ---- no differences
 
-stretch_none : (width most : ℕ) → IsStretch width most 0 []
-stretch_none width most = record { within = omega arith; exact = exact }
-  where
-    exact : (k : ℕ) → k ≤ most → k ≤ length {A = ℤ} [] → (k ≤ 0 ↔ AllByRecursion (FitsBits width) (take k []))
-    exact zero few in' = (λ le. tt, λ all. omega arith)
-    exact (suc k) few in' = absurd (omega arith)
+no_size : (at size : ℕ) → 4294967296 ≤ size → IsSizeAt [] at size
+no_size at size large width small =
+    let most : 2 ^ (width - 1) ≤ 2 ^ 32 = pow-le-pow_right {n = 2} (lit< tt) {i = width - 1} {j = 32} (omega arith) in
+    (λ less. absurd (omega arith), λ fits. let e = fits.0 in absurd (omega arith))
 
-pub none_counted : (words : ℕ) (counts : LeastCounts) → counts.now ≡ 0 → counts.eight ≡ 0 → counts.sixteen ≡ 0 → AreCounts words [] counts
-none_counted words counts e f g = record {
+pub none_counted : (words : ℕ) (counts : LeastCounts) → counts.now ≡ 0 → 4294967296 ≤ counts.first → 4294967296 ≤ counts.second → 4294967296 ≤ counts.third → AreCounts words [] counts
+none_counted words counts e f g h = record {
   now_is = subst (λ c. IsLeastUpTo (AtMost One) words c []) (sym e) (none_least One words);
   one_is = λ h. absurd (omega arith);
   two_is = λ h. absurd (omega arith);
   three_is = λ h. absurd (omega arith);
-  eight_is = subst (λ r. IsStretch 8 4 r []) (sym f) (stretch_none 8 4);
-  sixteen_is = subst (λ r. IsStretch 16 2 r []) (sym g) (stretch_none 16 2);
+  first_is = no_size 0 counts.first f;
+  second_is = no_size 1 counts.second g;
+  third_is = no_size 2 counts.third h;
 }

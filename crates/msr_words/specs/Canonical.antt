@@ -1,10 +1,9 @@
 -- The one division of a record's differences that is written (a choice of this profile).
-use Rattle.std.specs.Prelude.{◌≡◌, ◌<◌, ◌≤◌, ◌==◌, ℕ, ◌-◌, ℤ, List, [], ◌∷◌, length, take, drop, slice_index, ⊤}
+use Rattle.std.specs.Prelude.{◌≡◌, ◌<◌, ◌≤◌, ◌==◌, ℕ, ◌-◌, ℤ, List, [], ◌∷◌, length, take, drop, ⊤}
 use Rattle.msr_steim.specs.declared.word.Version.{Version}
 use Rattle.msr_steim.specs.Area.{differences}
 use Rattle.msr_steim.specs.Word.{AreGroups, IsGroupAt}
 use Rattle.msr_words.specs.Division.{CanDivide}
-use Rattle.msr_words.specs.Counts.{IsLeastUpTo}
 
 -- at each group, no division of the differences from there on into as few groups begins with a longer one
 abbrev pub BeginLongest : Version → List (List ℤ) → Type 0
@@ -28,14 +27,3 @@ pub record DividesFrom (version : Version) (n size : ℕ) (ds : List ℤ) : Type
   pub some : 0 < n
   pub group : IsGroupAt version (size == length ds) (take size ds)
   pub can : CanDivide version (n - 1) (drop size ds)
-
--- the least number of groups, and the largest size of the first group with which there are no more, as far as numbers up to `words` go
-pub record IsChoice (version : Version) (words : ℕ) (ds : List ℤ) (size count : ℕ) : Type 0 where
-  pub least : IsLeastUpTo (CanDivide version) words count ds
-  pub found : count ≤ words → DividesFrom version count size ds
-  pub longest : (other : ℕ) → count ≤ words → DividesFrom version count other ds → other ≤ size
-
--- for each number of last differences below n: the least number of their groups
-pub record AreSuffixCounts (version : Version) (words : ℕ) (ds : List ℤ) (counts : List ℕ) (n : ℕ) : Type 0 where
-  pub within : n ≤ length counts
-  pub each : (m : ℕ) → m < n → IsLeastUpTo (CanDivide version) words (slice_index counts m) (drop (length ds - m) ds)

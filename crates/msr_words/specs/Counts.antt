@@ -1,8 +1,7 @@
 -- The least number of groups of a run that grows, seen from its end.
-use Rattle.std.specs.Prelude.{◌≡◌, ◌<◌, ◌≤◌, ◌↔◌, ℕ, suc, zero, ℤ, Bool, List, [], ◌++◌, length, take}
-use Rattle.std.specs.List.{AllByRecursion}
+use Rattle.std.specs.Prelude.{◌≡◌, ◌<◌, ◌≤◌, ℕ, suc, zero, ℤ, Bool, List, [], ◌++◌}
 use Rattle.msr_steim.specs.declared.word.Version.{Version}
-use Rattle.msr_steim.specs.Word.{FitsBits, IsGroupAt, IsInnerGroup}
+use Rattle.msr_steim.specs.Word.{IsGroupAt, IsInnerGroup}
 
 -- The newest first: these differences are divided into exactly so many groups that others may follow.
 abbrev pub Parts : Version → ℕ → List ℤ → Type 0
@@ -28,8 +27,3 @@ pub record EndsIn (version : Version) (last : Bool) (n : ℕ) (past : List ℤ) 
 -- c is the least number for which P holds of these differences, as far as numbers up to `words` go
 abbrev pub IsLeastUpTo : (ℕ → List ℤ → Type 0) → ℕ → ℕ → List ℤ → Type 0
 IsLeastUpTo P words c past = (n : ℕ) → n ≤ words → ((c ≤ n → P n past) × (P n past → c ≤ n))
-
--- r is how many of the newest differences in a row are numbers of so many bits, as far as up to `most` go
-pub record IsStretch (width most r : ℕ) (past : List ℤ) : Type 0 where
-  pub within : r ≤ length past
-  pub exact : (k : ℕ) → k ≤ most → k ≤ length past → (k ≤ r ↔ AllByRecursion (FitsBits width) (take k past))

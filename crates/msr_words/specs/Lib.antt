@@ -8,6 +8,9 @@ pub mod Packing
 pub mod Canonical
 pub mod Counts
 pub mod AreCounts
+pub mod FirstGroup
+pub mod Following
+pub mod Filled
 pub mod Groups
 pub mod Bounds
 pub mod Trackers

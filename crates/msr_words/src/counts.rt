@@ -1,9 +1,10 @@
 //! How many differences share a word, and the least number of Steim-1 groups, as differences come.
 
-ghost use Rattle.std.specs.Prelude.{◌≡◌, ◌<◌, ◌≤◌, ◌↔◌, ◌∷◌, [], ℕ, ℤ, List, ◌+◌, ◌-◌, ◌^◌, IsTrue, cond, true, length};
+ghost use Rattle.std.specs.Prelude.{◌≡◌, ◌<◌, ◌≤◌, ◌↔◌, ◌∷◌, [], ℕ, ℤ, List, ◌+◌, ◌-◌, ◌^◌, bit_or, IsTrue, cond, true, length};
 ghost use Rattle.msr_steim.specs.declared.word.Version.TheVariants.{One};
 ghost use Rattle.msr_steim.specs.Word.{FitsBits};
-ghost use Rattle.msr_words.specs.Counts.{EndsIn, IsStretch};
+ghost use Rattle.msr_words.specs.Counts.{EndsIn};
+ghost use Rattle.msr_words.specs.FirstGroup.{AreFewest};
 ghost use Rattle.msr_words.specs.Groups.{IsCapacity, IsOneBelow};
 ghost use Rattle.msr_words.specs.Bounds.{is_wide, quarters};
 ghost use Rattle.msr_words.specs.Laws.{IsNarrow};
@@ -18,23 +19,16 @@ pub fn fits_bits(number: i64, width: u32) -> bool
     -half <= number && number < half
 }
 
-/// One more than so many groups, where a group ends here; else, or past `words`, more than `words`.
-fn with_group(count: u32, ends: bool, words: u32) -> u32
+/// One more than so many groups; past `words`, more than `words`.
+fn one_more(fewest: u32, words: u32) -> u32
     requires { words < 2 ^ 31 }
-    ensures { (n : ℕ) → n ≤ words → (result ≤ n ↔ IsTrue ends × (count < n)) }
+    ensures { (n : ℕ) → n ≤ words → (result ≤ n ↔ fewest < n) }
 {
-    if ends && has_word_left(count, words) {
-        count + 1
+    if has_word_left(fewest, words) {
+        fewest + 1
     } else {
         words + 1
     }
-}
-
-/// Whether there are so many.
-fn has(number: u8, wanted: u8) -> bool
-    ensures { IsTrue result ↔ wanted ≤ number }
-{
-    wanted <= number
 }
 
 /// Whether there is room for one more group.
@@ -44,24 +38,9 @@ fn has_word_left(count: u32, words: u32) -> bool
     count < words
 }
 
-/// How many of the newest differences in a row are of `width` bits, up to `most`, with one more.
-fn stretch(so_far: u8, difference: i64, width: u32, most: u8) -> u8
-    requires positive { 0 < width }
-    requires small { width ≤ 32 }
-    requires few { most ≤ 4 }
-    requires below { so_far ≤ most }
-    ensures most { result ≤ most }
-    ensures stretch { (past : List ℤ) → IsStretch width most so_far past → IsStretch width most result (difference ∷ past) }
-{
-    if fits_bits(difference, width) {
-        most.min(so_far + 1)
-    } else {
-        0
-    }
-}
-
 /// What is left of a run that grows: the least numbers of groups that others may follow, each exact up to
-/// the number of words and greater where there is none so small, and how many of its newest differences are small.
+/// the number of words and greater where there is none so small, and how large its newest differences are, or
+/// `u64::MAX` where there are fewer.
 #[derive(Clone, Copy, Debug, PartialEq, Eq)]
 pub struct LeastCounts {
     /// Of all differences.
@@ -72,12 +51,9 @@ pub struct LeastCounts {
     two: u32,
     /// Of all but the newest three.
     three: u32,
-    /// How many of the newest differences in a row are of 8 bits, up to four.
-    eight: u8,
-    /// How many are of 16 bits, up to two.
-    sixteen: u8,
-    ghost four: { eight ≤ 4 },
-    ghost pair: { sixteen ≤ 2 },
+    first: u64,
+    second: u64,
+    third: u64,
 }
 
 impl LeastCounts {
@@ -92,8 +68,31 @@ impl LeastCounts {
             one: 0,
             two: 0,
             three: 0,
-            eight: 0,
-            sixteen: 0,
+            first: u64::MAX,
+            second: u64::MAX,
+            third: u64::MAX,
+        }
+    }
+
+    /// The least number of groups before the newest one, which ends in a difference of this size, where that one and
+    /// the one before it, and it and the three before it, are so large; where there is none, so many as there are words.
+    fn fewest_before(self, size: u64, pair: u64, four: u64, words: u32) -> u32
+        requires pair { size ≤ pair }
+        requires four { pair ≤ four }
+        ensures { AreFewest self.now self.one self.three size pair four words result }
+    {
+        if pair >= 32_768 {
+            return if size < 2_147_483_648 {
+                self.now
+            } else {
+                words
+            };
+        }
+        let fewest = self.now.min(self.one);
+        if four < 128 {
+            fewest.min(self.three)
+        } else {
+            fewest
         }
     }
 
@@ -102,19 +101,26 @@ impl LeastCounts {
         requires { words < 2 ^ 31 }
         ensures { (past : List ℤ) → AreCounts words past self → AreCounts words (difference ∷ past) result }
     {
-        let eight = stretch(self.eight, difference, 8, 4);
-        let sixteen = stretch(self.sixteen, difference, 16, 2);
-        let single = with_group(self.now, fits_bits(difference, 32), words);
-        let pair = with_group(self.one, has(sixteen, 2), words);
-        let four = with_group(self.three, has(eight, 4), words);
+        let size = magnitude(difference);
+        let pair = size | self.first;
+        let four = pair | self.second | self.third;
+        let fewest = self.fewest_before(size, pair, four, words);
         LeastCounts {
-            now: single.min(pair).min(four),
+            now: one_more(fewest, words),
             one: self.now,
             two: self.one,
             three: self.two,
-            eight,
-            sixteen,
+            first: size,
+            second: self.first,
+            third: self.second,
         }
+    }
+
+    /// Whether the newest three differences are of 8 bits.
+    fn ends_in_three(self) -> bool
+        ensures { IsTrue result ↔ bit_or (bit_or self.first self.second) self.third < 128 }
+    {
+        self.first | self.second | self.third < 128
     }
 
     /// Whether the words hold the run, which may end in a group of three.
@@ -124,7 +130,7 @@ impl LeastCounts {
         if self.now <= words {
             return true;
         }
-        has(self.eight, 3) && has_word_left(self.three, words)
+        self.ends_in_three() && has_word_left(self.three, words)
     }
 }
 

@@ -1,92 +1,47 @@
 //! The division of differences that is written.
 
-ghost use Rattle.std.specs.Prelude.{◌≡◌, ◌<◌, ◌≤◌, ◌==◌, ◌+◌, ◌-◌, ◌*◌, ◌^◌, ℕ, ℤ, List, IfOk, IfSome, IsNone, length, map};
+ghost use Rattle.std.specs.Prelude.{◌≡◌, ◌<◌, ◌≤◌, ◌↔◌, ℤ, List, IfOk, IfSome, IsNone, IsTrue, length, map};
 ghost use Rattle.msr_steim.specs.declared.word.Version.{Version};
 ghost use Rattle.msr_steim.specs.declared.word.Version.TheVariants.{One, Two};
 ghost use Rattle.std.specs.List.{AllByRecursion};
-ghost use Rattle.msr_steim.specs.Word.{FitsBits, IsGroupAt};
+ghost use Rattle.msr_steim.specs.Word.{FitsBits};
 ghost use Rattle.msr_words.specs.Lengths.{bytes_of};
 ghost use Rattle.msr_words.specs.RecordLength.{words_of};
 ghost use Rattle.msr_words.specs.Division.{CanDivide};
-ghost use Rattle.msr_words.specs.Counts.{IsLeastUpTo};
 ghost use Rattle.msr_words.specs.Groups.{IsCapacity};
-ghost use Rattle.msr_words.specs.Canonical.{AreSuffixCounts, IsChoice, IsCanonicalDivision};
+ghost use Rattle.msr_words.specs.Canonical.{IsCanonicalDivision};
+ghost use Rattle.msr_words.specs.FirstGroup.{AreSizes};
 
-use crate::counts::steim2_capacity;
+use crate::counts::{fits_bits, steim2_capacity};
+use crate::first_group::Following;
 use crate::lengths::Length;
-use msr_steim::{Group, Version, is_group};
+use msr_steim::{Group, Version};
 use std::alloc::{AllocError, Global};
 
-/// The most differences that a Steim-1 group has.
-const LARGEST_GROUP: usize = 4;
-
-/// One more than the least number of groups after this one, or more than `words`.
-fn count_with(last: bool, group: &[i64], after: u32, words: u32) -> u32
-    requires { words < 2 ^ 31 }
-    ensures bound { result ≤ words + 1 }
-    ensures least { (n : ℕ) → n ≤ words → ((result ≤ n → IsGroupAt One last group.now × after < n) × (IsGroupAt One last group.now → after < n → result ≤ n)) }
+/// Whether each difference is one of 32 bits.
+fn are_32_bit(differences: &[i64]) -> bool
+    ensures { IsTrue result ↔ AllByRecursion (FitsBits 32) differences.now }
 {
-    if after < words && is_group(Version::One, last, group) {
-        after + 1
-    } else {
-        words + 1
-    }
-}
-
-/// The size of a first group, and the number of groups with it.
-#[derive(Clone, Copy, Debug)]
-struct Choice {
-    size: usize,
-    count: u32,
-}
-
-/// This choice, or the next size where there are no more groups with it.
-fn better(choice: Choice, size: usize, count: u32) -> Choice
-    ensures taken { count ≤ choice.count → (result.size ≡ size) × (result.count ≡ count) }
-    ensures kept { choice.count < count → (result.size ≡ choice.size) × (result.count ≡ choice.count) }
-{
-    if count <= choice.count {
-        Choice { size, count }
-    } else {
-        choice
-    }
-}
-
-/// The largest size of the first group of these differences with which there are fewest groups, and
-/// their number, or more than `words`. Three differences are a group at the end alone.
-fn first_choice(words: u32, rest: &[i64], counts: &[u32]) -> Choice
-    requires bound { words < 2 ^ 31 }
-    requires some { 0 < length rest.now }
-    requires counts { AreSuffixCounts One words rest.now counts.now (length rest.now) }
-    ensures { IsChoice One words rest.now result.size result.count }
-{
-    let mut choice = Choice {
-        size: 0,
-        count: words + 1,
-    };
-    for size in 1..rest.len().min(LARGEST_GROUP) + 1 {
-        if size == 3 && size < rest.len() {
-            continue;
+    for difference in differences {
+        if !fits_bits(*difference, 32) {
+            return false;
         }
-        let left = rest.len() - size;
-        let count = count_with(size == rest.len(), &rest[..size], counts[left], words);
-        choice = better(choice, size, count);
     }
-    choice
+    true
 }
 
-/// For each number of last differences the least number of their groups, or more than `words`.
-fn counts_of(alloc: Global, words: u32, differences: &[i64]) -> Result<Vec<u32>, AllocError>
-    requires { words < 2 ^ 31 }
-    ensures { IfOk result (λ counts. AreSuffixCounts One words differences.now counts.items (length differences.now + 1)) }
+/// For each difference the size of the group that begins there in the division that is written.
+fn sizes_of(alloc: Global, differences: &[i64]) -> Result<Vec<u8>, AllocError>
+    requires { AllByRecursion (FitsBits 32) differences.now }
+    ensures { IfOk result (λ sizes. AreSizes differences.now 0 sizes.items) }
 {
-    let mut counts = Vec::with_capacity(alloc, differences.len().saturating_add(1))?;
-    counts.push(0)?;
-    for place in (0..differences.len()).rev() {
-        let choice = first_choice(words, &differences[place..], &counts);
-        counts.push(choice.count)?;
+    let mut sizes = vec![in alloc; 0u8; differences.len()]?;
+    let mut following = Following::nothing();
+    for at in (0..differences.len()).rev() {
+        following = following.behind(differences[at]);
+        sizes[at] = following.group;
     }
-    Ok(counts)
+    Ok(sizes)
 }
 
 /// A group of these differences.
@@ -102,45 +57,32 @@ fn group_of(differences: &[i64]) -> Group
     group
 }
 
-/// The groups, each in turn the longest with which there are no more.
-fn divide(
-    alloc: Global,
-    words: u32,
-    differences: &[i64],
-    counts: &[u32],
-) -> Result<Vec<Group>, AllocError>
-    requires bound { words < 2 ^ 31 }
-    requires counts { AreSuffixCounts One words differences.now counts.now (length differences.now + 1) }
-    requires can { CanDivide One words differences.now }
-    ensures { IfOk result (λ groups. IsCanonicalDivision One (map (λ g. g.items) groups.items) differences.now) }
-{
-    let mut groups = Vec::new(alloc);
-    let mut place = 0;
-    while place < differences.len() {
-        let rest = &differences[place..];
-        let size = first_choice(words, rest, counts).size;
-        groups.push(group_of(&rest[..size]))?;
-        place += size;
-    }
-    Ok(groups)
-}
-
-/// The groups of Steim-1, by the counts of the last differences.
+/// The groups of Steim-1, by the size of each.
 fn steim1_groups(
     alloc: Global,
     words: u32,
     differences: &[i64],
 ) -> Result<Option<Vec<Group>>, AllocError>
-    requires { words < 2 ^ 31 }
     ensures chosen { IfOk result (λ o. IfSome o (λ groups. IsCanonicalDivision One (map (λ g. g.items) groups.items) differences.now)) }
     ensures few { IfOk result (λ o. IfSome o (λ groups. length groups.items ≤ words)) }
     ensures none { IfOk result (λ o. IsNone o → CanDivide One words differences.now → ⊥) }
 {
-    let counts = counts_of(alloc, words, differences)?;
-    if counts[differences.len()] > words {
+    if !are_32_bit(differences) {
         return Ok(None);
     }
-    Ok(Some(divide(alloc, words, differences, &counts)?))
+    let sizes = sizes_of(alloc, differences)?;
+    let mut groups = Vec::new(alloc);
+    let mut at = 0;
+    while at < differences.len() {
+        if groups.len() >= words as usize {
+            return Ok(None);
+        }
+        let rest = &differences[at..];
+        let size = usize::from(sizes[at]);
+        groups.push(group_of(&rest[..size]))?;
+        at += size;
+    }
+    Ok(Some(groups))
 }
 
 /// A difference that stands in a word with others of its size.

@@ -17,10 +17,10 @@ use byteorder::{BigEndian, ByteOrder};
 
 /// A word, with its code, and how many differences it holds.
 #[derive(Clone, Copy, Debug)]
-struct NextWord {
-    size: usize,
-    code: u32,
-    word: u32,
+pub(crate) struct NextWord {
+    pub size: usize,
+    pub code: u32,
+    pub word: u32,
 }
 
 /// How a group of so many differences is written.
@@ -43,7 +43,13 @@ fn field_of(difference: i64, width: u32) -> u64
 }
 
 /// The fields of so many differences of the run side by side.
-fn fields_from(before: Option<i32>, run: &[i32], at: usize, size: usize, width: u32) -> u32
+pub(crate) fn fields_from(
+    before: Option<i32>,
+    run: &[i32],
+    at: usize,
+    size: usize,
+    width: u32,
+) -> u32
     requires positive { 0 < width }
     requires within { size * width ≤ 32 }
     requires room { at + size ≤ length run.now }
@@ -84,7 +90,7 @@ fn form_of(size: usize) -> Form
 }
 
 /// The difference of a sample that is not the first.
-fn difference_inside(run: &[i32], at: usize) -> i64
+pub(crate) fn difference_inside(run: &[i32], at: usize) -> i64
     requires some { 0 < at }
     requires within { at < length run.now }
     ensures { result ≡ difference_at run.now at }
@@ -137,7 +143,7 @@ pub fn longest_steim2_group(samples: &[i32], at: usize) -> usize
 }
 
 /// The fields of so many differences of the run side by side, where none is that of its first sample.
-fn fields_inside(run: &[i32], at: usize, size: usize, width: u32) -> u32
+pub(crate) fn fields_inside(run: &[i32], at: usize, size: usize, width: u32) -> u32
     requires some { 0 < at }
     requires positive { 0 < width }
     requires within { size * width ≤ 32 }
@@ -234,7 +240,7 @@ fn next_word(before: Option<i32>, run: &[i32], at: usize) -> NextWord
 }
 
 /// Writes a word, big-endian, at its number.
-fn put_word(area: &mut [u8], number: usize, word: u32)
+pub(crate) fn put_word(area: &mut [u8], number: usize, word: u32)
     requires { 4 * number + 4 ≤ length area.old }
     ensures { area.new ≡ take (4 * number) area.old ++ (big_bytes 4 word ++ drop (4 * number + 4) area.old) }
 {

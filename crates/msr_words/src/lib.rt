@@ -7,8 +7,10 @@ mod codecs;
 mod counts;
 mod division;
 mod filling;
+mod first_group;
 mod kinds;
 mod lengths;
+mod steim1_filling;
 #[cfg(test)]
 mod tests;
 
@@ -22,3 +24,4 @@ pub use division::{groups, one_division};
 pub use filling::{fill_steim2, longest_steim2_group};
 pub use kinds::{Kind, Run, difference, first_kind, run_fits, steim2_dominates};
 pub use lengths::Length;
+pub use steim1_filling::fill_steim1;

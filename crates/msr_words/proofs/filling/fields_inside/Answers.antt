@@ -1,5 +1,5 @@
 -- One more field.
-use Rattle.std.proofs.Common.{rules, arith, ◌≡◌, ◌<◌, ◌≤◌, ◌+◌, ◌-◌, ◌∙◌, length, drop, take, get_or, pos, subst, sym, w64, SFits, None, bit_or, ◌*◌, ◌%◌, ◌^◌}
+use Rattle.std.proofs.Common.{rules, arith, ◌≡◌, ◌<◌, ◌+◌, ◌-◌, ◌∙◌, drop, take, get_or, pos, subst, sym, w64, SFits, None, bit_or, ◌*◌, ◌%◌, ◌^◌}
 use Rattle.std.proofs.lemmas.Int.{to_z-of_z}
 use Rattle.std.proofs.lemmas.List.{length-drop}
 use Rattle.msr_steim.specs.Word.{FitsBits, joined_fields, twos_complement}

@@ -1,14 +1,12 @@
 -- Word by word, and frame by frame.
-use Rattle.std.proofs.Common.{rules, arith, ◌≡◌, ◌<◌, ◌≤◌, ◌+◌, ◌-◌, ◌*◌, ◌/◌, ◌%◌, ◌^◌, ◌++◌, ℕ, ℤ, List, length, drop, take, pos, slice_index_or, refl, sym, ap, ◌∙◌, lit<, to_z, of_z, w32, SFits, get_or}
+use Rattle.std.proofs.Common.{rules, arith, ◌≡◌, ◌<◌, ◌≤◌, ◌+◌, ◌-◌, ◌*◌, ◌/◌, length, pos, slice_index_or, refl, ◌∙◌, lit<, w32, SFits}
 use Rattle.std.proofs.lemmas.List.{length-drop}
 use Rattle.std.proofs.lemmas.Int.{to_z-of_z}
 use Rattle.msr_steim.specs.declared.word.Version.TheVariants.{Two}
-use Rattle.msr_steim.specs.Frames.{frame_word}
 use Rattle.msr_steim.proofs.Filling.{codes_fit}
-use Rattle.msr_words.specs.Canonical.{IsCanonicalDivision}
 use Rattle.msr_words.specs.Segment.{differences}
 use Rattle.msr_words.proofs.Plain.{length_differences}
-use Rattle.msr_words.proofs.Fill.{IsFilled, IsFramed, codes_below_more, constant_more, constant_one, constant_two, frame_begins, frame_ends, framed_all, group_more}
+use Rattle.msr_words.proofs.Fill.{codes_below_more, constant_more, constant_one, constant_two, frame_begins, frame_ends, framed_all, group_more, next_is}
 use Rattle.msr_words.proofs.filling.fill_steim2.Goals as goal
 use Rattle.msr_words.proofs.filling.fill_steim2.Goals.{then-number-eq1, else-number-eq1, then-next-gt0, else-next-gt0}
 
@@ -18,7 +16,7 @@ loop-slot-init c = record {
   few = omega (arith, c.loop-frame.invariant.few);
   small = lit< tt;
   low = λ l. refl;
-  filled = λ gs chosen. frame_begins gs (differences c.args.before c.args.run.now) (slice_index_or c.args.run.now 0 (pos 0)) (slice_index_or c.args.run.now (length c.args.run.now - 1) (pos 0))
+  filled = λ gs chosen. frame_begins Two gs (differences c.args.before c.args.run.now) (slice_index_or c.args.run.now 0 (pos 0)) (slice_index_or c.args.run.now (length c.args.run.now - 1) (pos 0))
       c.loop-frame.frame c.loop-frame.at c.loop-frame.used c.args.area.now c.loop-frame.area c.put_word.new.area (c.loop-frame.invariant.framed gs chosen) c.put_word.ensures;
 }
 
@@ -37,12 +35,12 @@ loop-slot-preserved-then-number-lt3 c =
       few = omega arith;
       small = codes_below_more c.loop-slot.codes 0 (c.loop-slot.slot + 1) inv.small (lit< tt) (omega arith);
       low = λ l. none;
-      filled = λ gs chosen. constant_more gs (differences c.args.before c.args.run.now) (slice_index_or c.args.run.now 0 (pos 0)) (slice_index_or c.args.run.now (length c.args.run.now - 1) (pos 0))
+      filled = λ gs chosen. constant_more Two gs (differences c.args.before c.args.run.now) (slice_index_or c.args.run.now 0 (pos 0)) (slice_index_or c.args.run.now (length c.args.run.now - 1) (pos 0))
           c.loop-frame.frame c.loop-slot.at c.loop-slot.used c.args.area.now c.loop-slot.area c.put_word-then-number-lt3.new.area c.loop-slot.slot c.loop-slot.codes
           (inv.filled gs chosen) c.loop-slot-test.true c.if-number-eq1.put_word low none
           (elim c.if-number-eq1.branch [
-            | then-number-eq1 w ↦ w.put_word-is ∙ first_is ∙ constant_one (16 * c.loop-frame.frame + c.loop-slot.slot + 1) (slice_index_or c.args.run.now 0 (pos 0)) (slice_index_or c.args.run.now (length c.args.run.now - 1) (pos 0)) gs w.if-number-eq1.true
-            | else-number-eq1 w ↦ w.put_word-is ∙ last_is ∙ constant_two (16 * c.loop-frame.frame + c.loop-slot.slot + 1) (slice_index_or c.args.run.now 0 (pos 0)) (slice_index_or c.args.run.now (length c.args.run.now - 1) (pos 0)) gs (omega (arith, w.if-number-eq1.false, low))
+            | then-number-eq1 w ↦ w.put_word-is ∙ first_is ∙ constant_one Two (16 * c.loop-frame.frame + c.loop-slot.slot + 1) (slice_index_or c.args.run.now 0 (pos 0)) (slice_index_or c.args.run.now (length c.args.run.now - 1) (pos 0)) gs w.if-number-eq1.true
+            | else-number-eq1 w ↦ w.put_word-is ∙ last_is ∙ constant_two Two (16 * c.loop-frame.frame + c.loop-slot.slot + 1) (slice_index_or c.args.run.now 0 (pos 0)) (slice_index_or c.args.run.now (length c.args.run.now - 1) (pos 0)) gs (omega (arith, w.if-number-eq1.false, low))
           ])
           c.put_word-then-number-lt3.ensures;
     }
@@ -76,10 +74,10 @@ loop-slot-preserved c =
       few = omega arith;
       small = codes_below_more c.loop-slot.codes c.next_word-next.result.code (c.loop-slot.slot + 1) inv.small c.next_word-next.ensures.small refl;
       low = λ l. absurd (omega arith);
-      filled = λ gs chosen. group_more gs (differences c.args.before c.args.run.now) (slice_index_or c.args.run.now 0 (pos 0)) (slice_index_or c.args.run.now (length c.args.run.now - 1) (pos 0))
+      filled = λ gs chosen. group_more Two gs (differences c.args.before c.args.run.now) (slice_index_or c.args.run.now 0 (pos 0)) (slice_index_or c.args.run.now (length c.args.run.now - 1) (pos 0))
           c.loop-frame.frame c.loop-slot.at c.loop-slot.used c.args.area.now c.loop-slot.area c.put_word-in-loop-slot.new.area c.loop-slot.slot c.loop-slot.codes
           (inv.filled gs chosen) c.loop-slot-test.true c.next_word-next.result.word c.next_word-next.result.code c.next_word-next.result.size c.if-next-gt0.used
-          high c.next_word-next.ensures.longest c.next_word-next.ensures.code c.next_word-next.ensures.word
+          high (λ left. next_is _ _ _ left c.next_word-next.ensures.longest) in' c.next_word-next.ensures.code c.next_word-next.ensures.word
           (λ some. elim c.if-next-gt0.branch [
             | then-next-gt0 w ↦ w.used-is
             | else-next-gt0 w ↦ absurd (omega (arith, w.if-next-gt0.false))
@@ -99,7 +97,7 @@ loop-frame-preserved c =
     record {
       within = inv.within;
       few = omega arith;
-      framed = λ gs chosen. frame_ends gs (differences c.args.before c.args.run.now) (slice_index_or c.args.run.now 0 (pos 0)) (slice_index_or c.args.run.now (length c.args.run.now - 1) (pos 0))
+      framed = λ gs chosen. frame_ends Two gs (differences c.args.before c.args.run.now) (slice_index_or c.args.run.now 0 (pos 0)) (slice_index_or c.args.run.now (length c.args.run.now - 1) (pos 0))
           c.loop-frame.frame c.loop-slot.at c.loop-slot.used c.args.area.now c.loop-slot.area c.put_word-in-loop-frame.new.area c.loop-slot.slot c.loop-slot.codes all
           (inv.filled gs chosen) c.put_word-in-loop-frame.ensures;
     }
@@ -109,6 +107,6 @@ returns c = record {
   filled = λ gs chosen room.
       let all : c.loop-frame.frame ≡ length c.args.area.now / 64 = omega arith in
       let whole : length c.args.area.now ≡ 64 * (length c.args.area.now / 64) = omega (arith, c.requires.frames) in
-      framed_all gs (differences c.args.before c.args.run.now) (slice_index_or c.args.run.now 0 (pos 0)) (slice_index_or c.args.run.now (length c.args.run.now - 1) (pos 0))
+      framed_all Two gs (differences c.args.before c.args.run.now) (slice_index_or c.args.run.now 0 (pos 0)) (slice_index_or c.args.run.now (length c.args.run.now - 1) (pos 0))
       c.loop-frame.frame (length c.args.area.now / 64) c.loop-frame.at c.loop-frame.used c.args.area.now c.loop-frame.area all (c.loop-frame.invariant.framed gs chosen) whole room;
 }

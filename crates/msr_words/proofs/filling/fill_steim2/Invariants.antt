@@ -11,7 +11,7 @@ invariant-loop-frame l = record {
   within : l.at ≤ length l.run;
   few : l.used ≤ 15 * l.frame;
   framed : (gs : List (List ℤ)) → IsCanonicalDivision Two gs (differences l.before l.run)
-      → IsFramed gs (differences l.before l.run) (slice_index_or l.run 0 (pos 0)) (slice_index_or l.run (length l.run - 1) (pos 0)) l.frame l.at l.used l.fn.area l.area;
+      → IsFramed Two gs (differences l.before l.run) (slice_index_or l.run 0 (pos 0)) (slice_index_or l.run (length l.run - 1) (pos 0)) l.frame l.at l.used l.fn.area l.area;
 }
 
 abbrev pub invariant-loop-slot : goal.invariant-loop-slot
@@ -21,5 +21,5 @@ invariant-loop-slot l = record {
   small : l.codes < 4 ^ (l.slot + 1);
   low : 16 * l.frame + l.slot < 3 → l.codes ≡ 0;
   filled : (gs : List (List ℤ)) → IsCanonicalDivision Two gs (differences l.before l.run)
-      → IsFilled gs (differences l.before l.run) (slice_index_or l.run 0 (pos 0)) (slice_index_or l.run (length l.run - 1) (pos 0)) l.frame l.slot l.at l.used l.codes l.fn.area l.area;
+      → IsFilled Two gs (differences l.before l.run) (slice_index_or l.run 0 (pos 0)) (slice_index_or l.run (length l.run - 1) (pos 0)) l.frame l.slot l.at l.used l.codes l.fn.area l.area;
 }

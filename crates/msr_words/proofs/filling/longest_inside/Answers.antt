@@ -1,7 +1,7 @@
 -- By the sizes of the seven differences.
-use Rattle.std.proofs.Common.{rules, arith, ◌≡◌, ◌<◌, ◌≤◌, ◌+◌, ◌∙◌, ℕ, ℤ, pos, get_or, drop, List, ◌∷◌, subst, refl, length, w64, SFits}
+use Rattle.std.proofs.Common.{rules, arith, ◌≡◌, ◌≤◌, ◌+◌, ◌∙◌, drop, ◌∷◌, subst, refl, length, w64, SFits}
 use Rattle.std.proofs.lemmas.Int.{to_z-of_z}
-use Rattle.msr_words.specs.Segment.{difference_at, difference_from, differences}
+use Rattle.msr_words.specs.Segment.{difference_from, differences}
 use Rattle.msr_words.specs.Groups.{IsLongestGroup}
 use Rattle.msr_words.proofs.FillSizes.{HasSize, from_inside, longest_0, longest_1, longest_2, longest_3, longest_4, longest_5, longest_6, longest_7, seven_at}
 use Rattle.msr_words.proofs.filling.longest_inside.Goals as goal

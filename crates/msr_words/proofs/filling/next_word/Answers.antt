@@ -1,5 +1,5 @@
 -- The group has a form, and its word is made of its fields.
-use Rattle.std.proofs.Common.{rules, arith, ◌≡◌, ◌<◌, ◌≤◌, ◌+◌, ◌-◌, ◌∙◌, length, drop, take, subst, sym, ap}
+use Rattle.std.proofs.Common.{arith, ◌≡◌, take, subst}
 use Rattle.std.proofs.lemmas.List.{length-drop}
 use Rattle.msr_words.specs.Segment.{differences}
 use Rattle.msr_words.proofs.Plain.{length_differences}

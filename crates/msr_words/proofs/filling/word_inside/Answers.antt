@@ -1,5 +1,5 @@
 -- By the size.
-use Rattle.std.proofs.Common.{arith, ◌≡◌, None, drop, subst, sym}
+use Rattle.std.proofs.Common.{arith, ◌≡◌, None, drop, subst}
 use Rattle.msr_words.specs.Segment.{differences}
 use Rattle.msr_words.specs.Groups.{IsLongestGroup}
 use Rattle.msr_words.proofs.filling.word_inside.Goals as goal
