@@ -41,10 +41,13 @@ fn areas_carry_samples(rt: HostRuntime) -> Result<(), Fail> {
     for (width, order, area, count, samples) in rows {
         let decoded = decode_plain(rt.alloc(), width, order, &area, count)?;
         assert_eq!(rt; decoded.as_slice(), samples);
-        let viewed = plain_samples(width, order, &area, count).ok_or("short")?;
+        let mut viewed = plain_samples(width, order, &area, count).ok_or("short")?;
         let copied: Vec<i32> = viewed.clone()?.collect(rt.alloc())?;
         assert_eq!(rt; copied.as_slice(), samples);
-        assert_eq!(rt; viewed.count(), samples.len());
+        for sample in copied {
+            assert_eq!(rt; viewed.next(), Some(sample));
+        }
+        assert_eq!(rt; viewed.next(), None);
     }
     Ok(())
 }

@@ -1,5 +1,5 @@
 -- The first number is given, and the others are left.
-use Rattle.std.proofs.Common.{rules, ◌≡◌, ◌<◌, ◌∷◌, ◌-◌, [], length, take, drop, to_z, of_z, w32, SFits, sym, ap, ◌∙◌, arith}
+use Rattle.std.proofs.Common.{rules, ◌≡◌, ◌<◌, ◌∷◌, ◌-◌, [], length, take, drop, w32, SFits, sym, ap, ◌∙◌, arith}
 use Rattle.std.proofs.lemmas.Int.{to_z-of_z}
 use Rattle.msr_plain.specs.Plain.{numbers_in}
 use Rattle.msr_plain.proofs.InOrder.{first_number, goes_on}
