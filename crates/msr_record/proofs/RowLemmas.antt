@@ -1,6 +1,6 @@
 -- How the answers of the parts make a row or a refusal.
 use Rattle.std.proofs.Common.{◌≡◌, ℕ, ◌≤◌, ◌^◌, Bool, true, false, ℤ, List, [], ◌∷◌, length, refl, sym, ap, ◌∙◌, arith, Some, None, Ok}
-use Rattle.std.specs.Prelude.{◌&&◌, nat_le, slice_range, is_some, IsTrue, ◌↔◌, Result, Err}
+use Rattle.std.specs.Prelude.{◌&&◌, nat_le, slice_range, is_some, IsTrue, ◌↔◌}
 use Rattle.std.proofs.lemmas.Bool.{both_ways, leb-true}
 use Rattle.std.proofs.Math.Pow.{pow_mono}
 use Rattle.msr_time.specs.SampleRate.{SampleRate}
@@ -15,7 +15,7 @@ use Rattle.msr_record.specs.declared.row.Key.{Key}
 use Rattle.msr_record.specs.declared.row.Row.{Row}
 use Rattle.msr_record.proofs.HeaderFacts.{one_header}
 use Rattle.msr_record.specs.declared.fault.FaultKind.{FaultKind}
-use Rattle.msr_record.specs.declared.fault.FaultKind.TheVariants.{NoRate, OtherEncoding, BadDataOffset, Memory}
+use Rattle.msr_record.specs.declared.fault.FaultKind.TheVariants.{NoRate, OtherEncoding, BadDataOffset}
 
 pub has_area_from : (bytes : List ℕ) (h : Header) (kind : Kind) → header_of bytes ≡ Ok h → (h.samples ≡ 0 → ⊥) → first_fault (field_faults h) ≡ None → kind_of_code h.encoding ≡ Some kind → HasArea bytes h kind
 has_area_from bytes h kind read some fields code = record { has_samples = record { read = read; some = omega (arith, some) }; fields = fields; kind_is = code }

@@ -1,7 +1,7 @@
 //! The samples of a data area, one after the other, read from its bytes.
 ghost use Rattle.std.specs.Prelude.{◌≡◌, ◌≤◌, ◌↔◌, ℤ, ⊤, [], length, IfOk, IfErr, IsTrue};
 ghost use Rattle.std.specs.Iterator.{item_count};
-ghost use Rattle.msr_steim.specs.InOrder.{GivesFirst};
+ghost use Rattle.msr_steim.specs.Left.{GivesFirst};
 ghost use Rattle.msr_plain.specs.Plain.{CarriesPlain};
 ghost use Rattle.msr_steim.specs.Area.{CarriesSteim, ReverseAgrees as FramesAgree};
 ghost use Rattle.msr_record.specs.Area.{Carries, AreaHasFault, IntegersHaveFault, FramesHaveFault, ReverseAgrees};
@@ -29,11 +29,11 @@ pub struct Samples<'a> {
 }
 
 impl<'a> Model for Samples<'a> {
-    ghost use Rattle.msr_steim.specs.InOrder.{SamplesLeft};
+    ghost use Rattle.msr_steim.specs.Left.{SamplesLeft};
 
     ghost Value = { SamplesLeft };
 
-    ghost use Rattle.msr_record.specs.Left.{left_of};
+    ghost use Rattle.msr_record.specs.NumbersLeft.{left_of};
 
     ghost view = { λ samples. left_of samples.numbers };
 }

@@ -36,7 +36,7 @@ impl<'a> Model for RecordView<'a> {
 
     ghost Value = { Viewed };
 
-    ghost use Rattle.msr_record.specs.Shown.{viewed_of};
+    ghost use Rattle.msr_record.specs.ViewFields.{viewed_of};
 
     ghost view = { viewed_of };
 }

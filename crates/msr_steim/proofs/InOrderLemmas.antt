@@ -12,7 +12,8 @@ use Rattle.msr_header.specs.declared.header.Order.{Order}
 use Rattle.msr_steim.specs.declared.borrowed.Fields.{Fields}
 use Rattle.msr_steim.specs.declared.word.Version.{Version}
 use Rattle.msr_steim.specs.Area.{CarriesSteim, FirstWordsHold, IsUndefined, WordHolds, arranged_word, code_of, constant, differences, samples_of, sums_after, word_count}
-use Rattle.msr_steim.specs.InOrder.{HasFields, HoldsEnough, SamplesLeft, differences_from, differences_of, last_after, numbers_of, word_differences}
+use Rattle.msr_steim.specs.InOrder.{HasFields, HoldsEnough, differences_from, differences_of, last_after, numbers_of, word_differences}
+use Rattle.msr_steim.specs.Left.{SamplesLeft}
 use Rattle.msr_steim.specs.Word.{AreFields, numbers_in, signed_of}
 use Rattle.msr_steim.proofs.Decoding.{differences_push, length-sums_after, one_more_held}
 use Rattle.msr_steim.proofs.OneOutcome.{samples_more}

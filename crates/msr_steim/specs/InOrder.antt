@@ -1,6 +1,5 @@
 -- The samples of an area in order, one word after the other.
-use Rattle.std.specs.Prelude.{◌≡◌, ◌≤◌, ℕ, zero, suc, ◌-◌, ◌/◌, ◌^◌, ℤ, List, [], ◌∷◌, ◌++◌, length, Bool, Option, Some, None}
-use Rattle.std.specs.Iterator.{YieldsFirst}
+use Rattle.std.specs.Prelude.{◌≡◌, ◌≤◌, ℕ, zero, suc, ◌-◌, ◌/◌, ◌^◌, ℤ, List, [], ◌∷◌, ◌++◌, length, Option, Some, None}
 use Rattle.msr_header.specs.declared.header.Order.{Order}
 use Rattle.msr_steim.specs.declared.borrowed.Fields.{Fields}
 use Rattle.msr_steim.specs.declared.word.Division.{Division}
@@ -44,16 +43,6 @@ pub record HoldsEnough (version : Version) (order : Order) (area : List ℕ) (co
   pub held : FirstWordsHold version order area groups
   pub in_order : differences_from version order area 0 ≡ differences groups ++ differences_from version order area (length groups)
   pub enough : count ≤ length (differences groups)
-
--- What is left of the samples of an area: these samples, and whether the last one of the area is the reverse
--- constant.
-pub record SamplesLeft : Type 0 where
-  pub samples : List ℤ
-  pub agrees : Bool
-
--- `next` gives the first sample that is left, and leaves the others
-abbrev pub GivesFirst : SamplesLeft → Option ℤ → SamplesLeft → Type 0
-GivesFirst old given new = YieldsFirst (λ left. left.samples) old given new × (new.agrees ≡ old.agrees)
 
 -- the last of some samples, of which one came before
 abbrev pub last_after : ℤ → List ℤ → ℤ

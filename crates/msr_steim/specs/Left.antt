@@ -1,13 +1,12 @@
--- What is left of the samples of an area.
-use Rattle.std.specs.Prelude.{ℤ, List, take}
-use Rattle.std.specs.Ordering.{int_eq}
-use Rattle.msr_steim.specs.Area.{sums_after}
-use Rattle.msr_steim.specs.InOrder.{SamplesLeft, last_after}
-use Rattle.msr_steim.specs.declared.borrowed.SteimSamples.TheInside.{Inside}
+-- What an iterator leaves of the samples of an area.
+use Rattle.std.specs.Prelude.{◌≡◌, ℤ, List, Bool, Option}
+use Rattle.std.specs.Iterator.{YieldsFirst}
 
--- the sums of the differences that are left, as many as samples are left
-abbrev pub sums_left : Inside → List ℤ
-sums_left s = take s.left (sums_after s.last s.differences)
+-- what is left: these samples, and whether the last one of the area is the reverse constant
+pub record SamplesLeft : Type 0 where
+  pub samples : List ℤ
+  pub agrees : Bool
 
-abbrev pub samples_left : Inside → SamplesLeft
-samples_left s = record { samples = sums_left s; agrees = int_eq (last_after s.last (sums_left s)) s.reverse }
+-- `next` gives the first sample that is left, and leaves the others
+abbrev pub GivesFirst : SamplesLeft → Option ℤ → SamplesLeft → Type 0
+GivesFirst old given new = YieldsFirst (λ left. left.samples) old given new × (new.agrees ≡ old.agrees)

@@ -3,7 +3,8 @@
 ghost use Rattle.std.specs.Prelude.{◌≡◌, ◌<◌, ◌≤◌, ◌↔◌, ◌++◌, ◌*◌, ℕ, ℤ, List, ⊤, IfOk, IfSome, IsErrOf, IsNone, IsSome, IsTrue, OnOk, [], length};
 ghost use Rattle.std.specs.Iterator.{YieldsFirst, item_count};
 ghost use Rattle.msr_steim.specs.Area.{CarriesSteim, EndsBefore, IsUndefined, IsUndefinedBefore, ReverseAgrees, code_of, word_count};
-ghost use Rattle.msr_steim.specs.InOrder.{GivesFirst, HasFields, HoldsEnough, differences_from};
+ghost use Rattle.msr_steim.specs.InOrder.{HasFields, HoldsEnough, differences_from};
+ghost use Rattle.msr_steim.specs.Left.{GivesFirst};
 ghost use Rattle.msr_steim.specs.Word.{numbers_in};
 
 use crate::area::{SteimFault, arranged_word_at, code_in, constant_at, whole_word_at};
@@ -58,11 +59,11 @@ pub struct SteimSamples<'a> {
 }
 
 impl<'a> Model for SteimSamples<'a> {
-    ghost use Rattle.msr_steim.specs.InOrder.{SamplesLeft};
+    ghost use Rattle.msr_steim.specs.Left.{SamplesLeft};
 
     ghost Value = { SamplesLeft };
 
-    ghost use Rattle.msr_steim.specs.Left.{samples_left};
+    ghost use Rattle.msr_steim.specs.SumsLeft.{samples_left};
 
     ghost view = { samples_left };
 }

@@ -1,5 +1,4 @@
 -- A row that is not in time.
-use Rattle.std.proofs.Common.{◌≡◌}
 use Rattle.std.proofs.lemmas.Result.{err_from_is_err_and}
 use Rattle.msr_record.proofs.RowLemmas.{out_of_range}
 use Rattle.msr_record.proofs.reading.decode.Goals as goal

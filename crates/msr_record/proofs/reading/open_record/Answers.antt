@@ -1,10 +1,7 @@
 -- By the header's bounds and the test of the fields.
-use Rattle.std.proofs.Common.{◌≡◌, ◌≤◌, ◌^◌, sym, ◌∙◌, arith, refl}
-use Rattle.std.specs.Prelude.{Option, Some, None}
+use Rattle.std.proofs.Common.{◌≤◌, ◌^◌, sym, ◌∙◌, arith}
 use Rattle.std.proofs.lemmas.Result.{err_from_is_err_and}
 use Rattle.msr_header.proofs.FoundLemmas.{header_sound}
-use Rattle.msr_record.specs.Views.{IsOpened}
-use Rattle.msr_record.specs.declared.reading.Opened.{Opened}
 use Rattle.msr_record.proofs.RowLemmas.{begins_within, fields_refused, has_area_from, pow_most}
 use Rattle.msr_record.proofs.reading.open_record.Goals.{then-header-eq0, else-header-eq0+in_ok-read_fields}
 use Rattle.msr_record.proofs.reading.open_record.Goals as goal

@@ -1,5 +1,5 @@
 -- The new part of the output is the record.
-use Rattle.std.proofs.Common.{rules, arith, ◌≡◌, ◌≤◌, ◌+◌, ◌-◌, ℕ, List, ◌++◌, length, take, replicate, ap, sym, ◌∙◌, FitsSigned, w64, to_z-of_z}
+use Rattle.std.proofs.Common.{rules, arith, ◌≡◌, ◌+◌, ◌-◌, ℕ, List, ◌++◌, length, take, replicate, ap, sym, ◌∙◌, FitsSigned, w64, to_z-of_z}
 use Rattle.std.proofs.lemmas.Result.{on_ok_weaker}
 use Rattle.std.proofs.lemmas.List.{take_all, length-replicate}
 use Rattle.msr_words.specs.Lengths.{bytes_of}

@@ -1,7 +1,6 @@
-use Rattle.std.proofs.Common.{◌≡◌, ◌≤◌, ◌+◌, ◌*◌, ◌<◌, ◌-◌, ◌/◌, ◌%◌, ◌^◌, length, map, pos, w32, FitsSigned, arith, ap, refl, sym, ◌∙◌, subst, slice_index_or}
+use Rattle.std.proofs.Common.{◌≡◌, ◌≤◌, ◌+◌, ◌*◌, ◌-◌, ◌/◌, ◌^◌, length, pos, w32, FitsSigned, arith, ap, refl, ◌∙◌}
 use Rattle.std.proofs.lemmas.List.Elements.{All-get_or}
 use Rattle.msr_steim.specs.declared.word.Version.TheVariants.{Two}
-use Rattle.msr_steim.specs.Frames.{frame_bytes}
 use Rattle.msr_words.specs.Lengths.{bytes_of}
 use Rattle.msr_words.specs.RecordLength.{words_of}
 use Rattle.msr_words.specs.Segment.{differences}
