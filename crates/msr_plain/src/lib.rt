@@ -4,11 +4,13 @@
 ghost use Rattle.std.specs.Prelude.{◌≡◌, ◌<◌, ◌≤◌, ◌↔◌, ◌++◌, ◌-◌, ◌*◌, All, replicate, IfOk, IsErrOf, OnErr, OnOk, drop, length};
 ghost use Rattle.msr_plain.specs.Plain.{CarriesPlain, FitsWidth, bytes_of, bytes_of_all, number_in, size_of};
 
+mod borrowed;
 mod laws;
 mod samples;
 #[cfg(test)]
 mod tests;
 
+pub use borrowed::{PlainSamples, plain_samples};
 use byteorder::{BigEndian, ByteOrder, LittleEndian};
 pub use laws::{filled_area_carries, one_outcome};
 use msr_header::Order;

@@ -1,5 +1,7 @@
 // Areas from outside, and what no clause says: that a call succeeds, and the text of a fault.
-use crate::{PlainFault, Samples, Width, decode_plain, decode_plain_into, fill_plain};
+use crate::{
+    PlainFault, Samples, Width, decode_plain, decode_plain_into, fill_plain, plain_samples,
+};
 use msr_header::Order;
 use std::test::Fail;
 
@@ -39,6 +41,13 @@ fn areas_carry_samples(rt: HostRuntime) -> Result<(), Fail> {
     for (width, order, area, count, samples) in rows {
         let decoded = decode_plain(rt.alloc(), width, order, &area, count)?;
         assert_eq!(rt; decoded.as_slice(), samples);
+        let mut viewed = plain_samples(width, order, &area, count).ok_or("short")?;
+        let copied: Vec<i32> = viewed.clone()?.collect(rt.alloc())?;
+        assert_eq!(rt; copied.as_slice(), samples);
+        for sample in copied {
+            assert_eq!(rt; viewed.next(), Some(sample));
+        }
+        assert_eq!(rt; viewed.next(), None);
     }
     Ok(())
 }
@@ -65,6 +74,7 @@ fn short_areas(rt: HostRuntime) {
     for (width, area, count) in rows {
         let decoded = decode_plain(rt.alloc(), width, Order::Big, &area, count);
         assert_eq!(rt; decoded.err(), Some(PlainFault::DataShort));
+        assert!(rt; plain_samples(width, Order::Big, &area, count).is_none());
     }
 }
 

@@ -1,7 +1,7 @@
 -- How the answers of the parts make a row or a refusal.
 use Rattle.std.proofs.Common.{◌≡◌, ℕ, ◌≤◌, ◌^◌, Bool, true, false, ℤ, List, [], ◌∷◌, length, refl, sym, ap, ◌∙◌, arith, Some, None, Ok}
-use Rattle.std.specs.Prelude.{slice_range, is_some, IsTrue, ◌↔◌, Result, Err}
-use Rattle.std.proofs.lemmas.Bool.{both_ways}
+use Rattle.std.specs.Prelude.{◌&&◌, nat_le, slice_range, is_some, IsTrue, ◌↔◌}
+use Rattle.std.proofs.lemmas.Bool.{both_ways, leb-true}
 use Rattle.std.proofs.Math.Pow.{pow_mono}
 use Rattle.msr_time.specs.SampleRate.{SampleRate}
 use Rattle.msr_header.specs.Reading.{header_of}
@@ -9,13 +9,13 @@ use Rattle.msr_header.specs.declared.header.Header.{Header}
 use Rattle.msr_record.specs.Kinds.{kind_of_code}
 use Rattle.msr_record.specs.Correction.{key_of, start_of}
 use Rattle.msr_record.specs.Area.{Carries, ReverseAgrees}
-use Rattle.msr_record.specs.Records.{unless, has_rate, has_area, field_faults, first_fault, data_area, HasSamples, HasArea, IsRowOf, AgreesAtEnd, IsInTime, IsRefused}
+use Rattle.msr_record.specs.Records.{unless, has_rate, has_area, field_faults, first_fault, data_area, HasSamples, HasArea, IsOutOfTime, IsRowOf, AgreesAtEnd, IsInTime, IsRefused}
 use Rattle.msr_words.specs.declared.kinds.Kind.{Kind}
 use Rattle.msr_record.specs.declared.row.Key.{Key}
 use Rattle.msr_record.specs.declared.row.Row.{Row}
 use Rattle.msr_record.proofs.HeaderFacts.{one_header}
 use Rattle.msr_record.specs.declared.fault.FaultKind.{FaultKind}
-use Rattle.msr_record.specs.declared.fault.FaultKind.TheVariants.{NoRate, OtherEncoding, BadDataOffset, Memory}
+use Rattle.msr_record.specs.declared.fault.FaultKind.TheVariants.{NoRate, OtherEncoding, BadDataOffset}
 
 pub has_area_from : (bytes : List ℕ) (h : Header) (kind : Kind) → header_of bytes ≡ Ok h → (h.samples ≡ 0 → ⊥) → first_fault (field_faults h) ≡ None → kind_of_code h.encoding ≡ Some kind → HasArea bytes h kind
 has_area_from bytes h kind read some fields code = record { has_samples = record { read = read; some = omega (arith, some) }; fields = fields; kind_is = code }
@@ -60,13 +60,6 @@ fields_refused bytes h (OtherEncoding code) s e = record { header = h; has_sampl
 fields_refused bytes h BadDataOffset s e = record { header = h; has_samples = s; first = e }
 fields_refused bytes h _ s e = absurd (is_field_fault h _ e)
 
--- want of memory is none of them
-pub not_memory : {T : Type 0} → (h : Header) (result : Result T FaultKind) (y fault : FaultKind) → result ≡ Err y → y ≡ fault → first_fault (field_faults h) ≡ Some fault → result ≡ Err Memory → ⊥
-not_memory h result y fault r f e m =
-    let same : fault ≡ Memory = cc in
-    let none = rw same at e in
-    is_field_fault h Memory none
-
 -- the test of the time, for the row
 pub in_time_of : (h : Header) (rate : SampleRate) (key : Key) (start : ℤ) (count : ℕ) (b : Bool) → rate.factor ≡ h.factor → rate.multiplier ≡ h.multiplier → key ≡ key_of h → count ≡ h.samples → (IsTrue b ↔ IsInTime rate start h.samples) → b ≡ true → IsInTime key.rate start count
 in_time_of h rate key start count b f m k e test true_is = rw (key_rate h rate key f m k, e) (test.0 true_is)
@@ -79,3 +72,20 @@ out_of_time h rate key start count b f m k e test false_is = λ t.
 -- a record has at most 2 ^ 20 bytes
 pub pow_most : {e : ℕ} → e ≤ 20 → 2 ^ e ≤ 1048576
 pow_most {e} h = pow_mono h
+
+second_true : (a b : Bool) → (a && b) ≡ true → b ≡ true
+second_true true b e = e
+second_true false b e = cc
+
+-- where the fields have no fault, the data area begins within the record
+pub begins_within : (h : Header) → has_area h ≡ true → h.data_at ≤ 2 ^ h.exponent
+begins_within h e = leb-true h.data_at (2 ^ h.exponent) (second_true (nat_le h.chain_end h.data_at) (nat_le h.data_at (2 ^ h.exponent)) e)
+
+-- a record whose area carries its samples, and whose time is not in range
+pub out_of_range : (bytes : List ℕ) (h : Header) (kind : Kind) (samples : List ℤ) → HasArea bytes h kind → length samples ≡ h.samples → Carries kind h.data_order (data_area h bytes) samples
+    → (IsInTime (key_of h).rate (start_of h) h.samples → ⊥) → IsOutOfTime bytes
+out_of_range bytes h kind samples area count carried out = record {
+  the_row = record { key = key_of h; start = start_of h; kind = kind; samples = samples };
+  is_row = record { header = h; has_area = area; key_is = refl; start_is = refl; count = count; carried = carried };
+  out = λ t. out (rw count at t);
+}

@@ -1,5 +1,9 @@
 pub mod Kinds
 pub mod Correction
 pub mod Area
+pub mod NumbersLeft
+pub mod Opening
 pub mod Records
+pub mod ViewFields
+pub mod Views
 pub mod Written

@@ -6,8 +6,10 @@ mod fault;
 mod laws;
 mod reading;
 mod row;
+mod samples;
 #[cfg(test)]
 mod tests;
+mod view;
 mod writing;
 mod written_area;
 
@@ -16,4 +18,6 @@ pub use laws::{one_answer, one_written, own_bytes_decide, rows_are_writable};
 pub use msr_words::{Kind, Length};
 pub use reading::decode_record;
 pub use row::{Key, Record, Row};
+pub use samples::Samples;
+pub use view::{RecordView, view_record};
 pub use writing::encode_record;

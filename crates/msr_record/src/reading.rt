@@ -1,10 +1,11 @@
 //! Reading a record.
-ghost use Rattle.std.specs.Prelude.{take, ◌≡◌, ◌≢◌, ◌↔◌, IsTrue, ◌≤◌, ◌^◌, Some, None, true, false, length, vec_len, MatchResult, IfOk, IfErr, IfSome, OnErr, OnOk, IsErrOf, Ok, pos, ◌+ℤ◌, ◌*ℤ◌};
+ghost use Rattle.std.specs.Prelude.{take, ◌≡◌, ◌≢◌, ◌↔◌, IsTrue, ◌≤◌, ◌^◌, Some, None, true, false, length, vec_len, MatchResult, IfOk, IfErr, IfSome, IsSome, OnErr, OnOk, IsErrOf, Ok, pos, ◌+ℤ◌, ◌*ℤ◌};
 ghost use Rattle.msr_time.specs.Instant.{IsTime};
 ghost use Rattle.msr_header.specs.Reading.{header_of};
 ghost use Rattle.msr_record.specs.Kinds.{kind_of_code};
 ghost use Rattle.msr_record.specs.Correction.{is_pending, activity_of, correction_micros, timing_micros, timing_quality, start_of, key_of};
-ghost use Rattle.msr_record.specs.Records.{first_bytes, first_fault, field_faults, has_area, IsInTime, IsRecordOf, IsRefused, TakesMemory};
+ghost use Rattle.msr_record.specs.Records.{first_bytes, first_fault, data_area, field_faults, has_area, IsInTime, IsRecordOf, IsRefused, TakesMemory};
+ghost use Rattle.msr_record.specs.Opening.{IsOpened};
 
 use crate::area::decode_area;
 use crate::fault::FaultKind;
@@ -148,6 +149,65 @@ fn is_in_time(rate: &Rate, start: i64, count: u16) -> bool
     last.is_some()
 }
 
+/// A record whose header and fields have no fault.
+#[derive(Clone, Copy, Debug)]
+pub(crate) struct Opened {
+    pub header: Header,
+    pub length: u32,
+    /// The rate and the kind of its samples, where it has any.
+    pub fields: Option<(Rate, Kind)>,
+}
+
+/// Reads the header and the fields of the record that the bytes begin with.
+pub(crate) fn open_record(rest: &[u8]) -> Result<Opened, FaultKind>
+    ensures opened { IfOk result (IsOpened rest.now) }
+    ensures refused { IfErr result (IsRefused rest.now) }
+    ensures first_bytes { header_of (take 1_048_576 rest.now) ≡ header_of rest.now }
+{
+    let header = read_header(rest)?;
+    let length = record_length(header.exponent);
+    let fields = if header.samples == 0 {
+        None
+    } else {
+        Some(read_fields(&header)?)
+    };
+    Ok(Opened {
+        header,
+        length,
+        fields,
+    })
+}
+
+/// The data area of a record with samples.
+pub(crate) fn area_of<'a>(opened: &Opened, rest: &'a [u8]) -> &'a [u8]
+    requires opened { IsOpened rest.now opened.now }
+    requires some { IsSome opened.now.fields }
+    ensures area { result.now ≡ data_area opened.now.header rest.now }
+    ensures small { length result.now ≤ 1_048_576 }
+{
+    &rest[opened.header.data_at as usize..opened.length as usize]
+}
+
+/// The key of a record with samples, and the instant of the first, where the first and the last are in
+/// time.
+pub(crate) fn place_in_time(header: &Header, rate: Rate) -> Result<(Key, i64), FaultKind>
+    requires factor { rate.factor ≡ header.now.factor }
+    requires multiplier { rate.multiplier ≡ header.now.multiplier }
+    requires time { IsTime header.now.time }
+    requires some { 1 ≤ header.now.samples }
+    ensures key { IfOk result (λ place. place.0 ≡ key_of header.now) }
+    ensures start { IfOk result (λ place. place.1 ≡ start_of header.now) }
+    ensures in_time { OnOk result (IsInTime (key_of header.now).rate (start_of header.now) header.now.samples) }
+    ensures fault { IfErr result (λ fault. fault ≡ FaultKind.TimeRange) }
+    ensures out { OnErr result (IsInTime (key_of header.now).rate (start_of header.now) header.now.samples → ⊥) }
+{
+    let start = start_of(header);
+    if !is_in_time(&rate, start, header.samples) {
+        return Err(FaultKind::TimeRange);
+    }
+    Ok((key_of(header, rate), start))
+}
+
 /// The record that the bytes begin with.
 fn decode(alloc: Global, rest: &[u8]) -> Result<Record, FaultKind>
     ensures found { IfOk result (IsRecordOf rest.now) }
@@ -156,24 +216,21 @@ fn decode(alloc: Global, rest: &[u8]) -> Result<Record, FaultKind>
     ensures memory { IsErrOf result FaultKind.Memory → TakesMemory rest.now }
     ensures first_bytes { header_of (take 1_048_576 rest.now) ≡ header_of rest.now }
 {
-    let header = read_header(rest)?;
-    let length = record_length(header.exponent);
-    if header.samples == 0 {
+    let opened = open_record(rest)?;
+    let header = opened.header;
+    let length = opened.length;
+    let Some((rate, kind)) = opened.fields else {
         return Ok(Record {
             length,
             row: None,
             reverse_agrees: true,
         });
-    }
-    let (rate, kind) = read_fields(&header)?;
-    let area = &rest[header.data_at as usize..length as usize];
+    };
+    let area = area_of(&opened, rest);
     let decoded = decode_area(alloc, kind, header.data_order, area, header.samples)?;
-    let start = start_of(&header);
-    if !is_in_time(&rate, start, header.samples) {
-        return Err(FaultKind::TimeRange);
-    }
+    let (key, start) = place_in_time(&header, rate)?;
     let row = Row {
-        key: key_of(&header, rate),
+        key,
         start,
         kind,
         samples: decoded.samples,

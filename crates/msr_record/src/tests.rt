@@ -1,5 +1,5 @@
 //! Records from outside, which say that the definitions are the standard's, and the faults' texts.
-use crate::{FaultKind, Key, Kind, Length, Record, Row, decode_record, encode_record};
+use crate::{FaultKind, Key, Kind, Length, Record, Row, decode_record, encode_record, view_record};
 use msr_time::{Rate, is_instant};
 use std::alloc::Global;
 use std::process::Abort;
@@ -65,6 +65,20 @@ fn plain(rt: &impl Abort, header: &[u8; 64], edits: &[(usize, &[u8])]) -> [u8; 2
     bytes
 }
 
+// That the record's view shows this row.
+fn assert_viewed(rt: &impl Abort, bytes: &[u8], row: &Row) {
+    let Ok(view) = view_record(bytes) else {
+        panic!(rt; "refused")
+    };
+    assert_eq!(rt; view.length(), 256);
+    assert!(rt; view.place() == Some((row.key, row.start)));
+    let mut samples = view.samples();
+    for sample in row.samples.as_slice() {
+        assert_eq!(rt; samples.next(), Some(*sample));
+    }
+    assert_eq!(rt; samples.next(), None);
+}
+
 fn read(rt: &impl Abort, alloc: Global, bytes: &[u8]) -> Row {
     match decode_record(alloc, bytes) {
         Ok(
@@ -75,6 +89,7 @@ fn read(rt: &impl Abort, alloc: Global, bytes: &[u8]) -> Row {
             },
         ) => {
             assert_eq!(rt; length, 256);
+            assert_viewed(rt, bytes, &row);
             row
         }
         _ => panic!(rt; "no row"),
@@ -86,6 +101,7 @@ fn text(rt: &impl Abort, alloc: Global, bytes: &[u8], want: &str) -> Result<(), 
         panic!(rt; "read, and not {want}")
     };
     assert_eq!(rt; format!(in alloc; "{fault}")?.as_str(), want);
+    assert!(rt; view_record(bytes).err() == Some(fault));
     Ok(())
 }
 
@@ -212,20 +228,49 @@ fn corrections(rt: HostRuntime) {
 
 #[test]
 fn reverse_constants_and_empty_records(rt: HostRuntime) {
-    let Ok(found) = decode_record(rt.alloc(), &steim(&rt, &[])) else {
-        panic!(rt; "refused")
-    };
-    assert!(rt; found.reverse_agrees);
-    let Ok(found) = decode_record(rt.alloc(), &steim(&rt, &[(72, &[0, 0, 0, 1])])) else {
-        panic!(rt; "refused")
-    };
-    assert!(rt; !found.reverse_agrees && found.row.is_some());
-    let empty = steim(&rt, &[(30, &[0, 0]), (32, &[0, 0]), (52, &[0])]);
-    let Ok(found) = decode_record(rt.alloc(), &empty) else {
-        panic!(rt; "refused")
-    };
-    assert!(rt; found.reverse_agrees && found.row.is_none());
-    assert_eq!(rt; found.length, 256);
+    // the edits of a record, whether the reverse constant agrees, whether it has samples
+    let rows: [(&[(usize, &[u8])], bool, bool); 4] = [
+        (&[], true, true),
+        (&[(72, &[0, 0, 0, 1])], false, true),
+        (&[(30, &[0, 0]), (32, &[0, 0]), (52, &[0])], true, false),
+        (&[(30, &[0, 0]), (44, &[0xff, 0xff])], true, false),
+    ];
+    for (edits, agrees, some) in rows {
+        let bytes = steim(&rt, edits);
+        let Ok(found) = decode_record(rt.alloc(), &bytes) else {
+            panic!(rt; "refused")
+        };
+        assert_eq!(rt; (found.reverse_agrees, found.row.is_some()), (agrees, some));
+        assert_eq!(rt; found.length, 256);
+        let Ok(view) = view_record(&bytes) else {
+            panic!(rt; "refused")
+        };
+        assert_eq!(rt;
+            (view.reverse_agrees(), view.place().is_some()),
+            (agrees, some)
+        );
+        assert_eq!(rt; view.length(), 256);
+        assert_eq!(rt; view.header().station, *b"TEST ");
+        assert_eq!(rt; view.area().len(), if some { 192 } else { 0 });
+    }
+}
+
+#[test]
+fn samples_of_views(rt: HostRuntime) -> Result<(), Fail> {
+    let rows: [(&[(usize, &[u8])], usize); 2] = [
+        (&[], 301),
+        (&[(30, &[0, 0]), (44, &[0xff, 0xff])], 0),
+    ];
+    for (edits, count) in rows {
+        let bytes = steim(&rt, edits);
+        let Ok(view) = view_record(&bytes) else {
+            panic!(rt; "refused")
+        };
+        let samples: Vec<i32> = view.samples().clone()?.collect(rt.alloc())?;
+        assert_eq!(rt; samples.len(), count);
+        assert!(rt; samples.iter().all(|sample| *sample == 0));
+    }
+    Ok(())
 }
 
 #[test]

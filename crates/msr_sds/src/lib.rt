@@ -49,7 +49,6 @@ impl<'a> Model for SdsName<'a> {
 
 impl<'a> SdsName<'a> {
     /// Reads a path.
-    /// Reads a path.
     pub fn parse(text: &'a str) -> Result<SdsName<'a>, SdsFault>
         ensures found { IfOk result (λ name. ReadsAsDay text.now name) }
         ensures only { (path : SdsPath) → ReadsAsDay text.now path → result ≡ Ok path }

@@ -1,5 +1,5 @@
 -- The samples that a data area of Steim frames carries (SEED 2.4, appendix B).
-use Rattle.std.specs.Prelude.{◌≡◌, ◌<◌, ◌≤◌, ◌==◌, ◌||◌, nat_lt, ℕ, ◌+◌, ◌-◌, ◌*◌, ◌/◌, ◌%◌, ◌^◌, ℤ, pos, ◌+ℤ◌, List, [], ◌∷◌, length, take, drop, slice_index_or, slice_get, flat_map, Some, if◌then◌else◌}
+use Rattle.std.specs.Prelude.{◌≡◌, ◌<◌, ◌≤◌, ◌==◌, ◌||◌, nat_lt, ℕ, ◌+◌, ◌-◌, ◌*◌, ◌/◌, ◌%◌, ◌^◌, ℤ, ◌+ℤ◌, List, [], ◌∷◌, length, take, drop, slice_index_or, slice_get, flat_map, Some, if◌then◌else◌}
 use Rattle.std.specs.Int.{int_wrap, cast_signed, w32}
 use Rattle.byteorder.specs.Endian.{big_number, little_number}
 use Rattle.msr_header.specs.declared.header.Order.{Order}

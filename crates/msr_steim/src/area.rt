@@ -48,7 +48,7 @@ impl From<AllocError> for SteimFault {
 }
 
 /// The number of a word, read as one 32-bit number.
-fn whole_word_at(order: Order, area: &[u8], number: usize) -> u32
+pub(crate) fn whole_word_at(order: Order, area: &[u8], number: usize) -> u32
     requires { 4 * number + 4 ≤ length area.now }
     ensures { result ≡ whole_word order area.now number }
 {
@@ -60,7 +60,7 @@ fn whole_word_at(order: Order, area: &[u8], number: usize) -> u32
 
 /// The code of a word of a frame with these codes.
 #[inline(always)]
-fn code_in(codes: u32, slot: usize) -> u8
+pub(crate) fn code_in(codes: u32, slot: usize) -> u8
     requires { slot < 16 }
     ensures value { result ≡ codes / 2 ^ (30 - 2 * slot) % 4 }
     ensures small { result < 4 }
@@ -78,7 +78,13 @@ fn first_slot(frame: usize) -> usize
 }
 
 /// A word with this code as a big-endian frame has it.
-fn arranged_word_at(version: Version, order: Order, code: u8, area: &[u8], number: usize) -> u32
+pub(crate) fn arranged_word_at(
+    version: Version,
+    order: Order,
+    code: u8,
+    area: &[u8],
+    number: usize,
+) -> u32
     requires { 4 * number + 4 ≤ length area.now }
     ensures { result ≡ arranged_word version order code area.now number }
 {
@@ -130,7 +136,7 @@ fn start_of(version: Version, code: u8, word: u32, first: i32, at: Place) -> Pla
 }
 
 /// A constant of the first frame.
-fn constant_at(order: Order, area: &[u8], number: usize) -> i32
+pub(crate) fn constant_at(order: Order, area: &[u8], number: usize) -> i32
     requires { 4 * number + 4 ≤ length area.now }
     ensures { result ≡ constant order area.now number }
 {

@@ -3,6 +3,7 @@
 #![tactic(auto)]
 
 mod area;
+mod borrowed;
 mod frames;
 mod group;
 mod sums;
@@ -11,6 +12,7 @@ mod tests;
 mod word;
 
 pub use area::{Decoded, SteimFault, decode_steim, decode_steim_into, one_outcome};
+pub use borrowed::{SteimSamples, steim_samples};
 pub use frames::{fill_steim, filled_area_carries};
 pub use group::{group_width, is_group};
 pub use word::{BadCode, Group, Version, holds_one_list, read_word, write_word};

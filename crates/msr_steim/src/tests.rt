@@ -4,7 +4,7 @@ ghost use Rattle.msr_steim.specs.Word.{AreGroups};
 
 use crate::{
     BadCode, Group, SteimFault, Version, decode_steim, decode_steim_into, fill_steim, group_width,
-    is_group, read_word, write_word,
+    is_group, read_word, steim_samples, write_word,
 };
 use byteorder::{BigEndian, ByteOrder};
 use msr_header::Order;
@@ -130,6 +130,20 @@ fn areas_carry_samples(rt: HostRuntime) -> Result<(), Fail> {
         let decoded = decode_steim(rt.alloc(), version, order, &frame_of(words), count)?;
         assert_eq!(rt; decoded.samples.as_slice(), samples);
         assert_eq!(rt; decoded.reverse_agrees, agrees);
+
+        let area = frame_of(words);
+        let mut viewed = steim_samples(version, order, &area, count)?;
+        let copied: Vec<i32> = viewed.clone()?.collect(rt.alloc())?;
+        assert_eq!(rt; copied.as_slice(), samples);
+        assert_eq!(rt; viewed.reverse_agrees(), agrees);
+        assert_eq!(rt; viewed.next(), samples.first().copied());
+        let left: Vec<i32> = viewed.clone()?.collect(rt.alloc())?;
+        assert_eq!(rt; left.as_slice(), &samples[1..]);
+        for sample in left {
+            assert_eq!(rt; viewed.next(), Some(sample));
+        }
+        assert_eq!(rt; viewed.next(), None);
+        assert_eq!(rt; viewed.reverse_agrees(), agrees);
     }
     Ok(())
 }
@@ -163,6 +177,8 @@ fn areas_with_faults(rt: HostRuntime) {
         assert!(rt; area.len() <= 1048576);
         let decoded = decode_steim(rt.alloc(), version, Order::Big, area, count);
         assert_eq!(rt; decoded.err(), Some(fault));
+        let viewed = steim_samples(version, Order::Big, area, count);
+        assert_eq!(rt; viewed.err(), Some(fault));
     }
 }
 
@@ -266,6 +282,10 @@ fn records_byte_for_byte(rt: HostRuntime) -> Result<(), Fail> {
             let high = place % 2 == 1 || place >= 84;
             assert_eq!(rt; *sample, if high { last } else { first });
         }
+        let viewed = steim_samples(version, Order::Big, &area, count)?;
+        assert!(rt; viewed.reverse_agrees());
+        let copied: Vec<i32> = viewed.collect(rt.alloc())?;
+        assert_eq!(rt; copied.as_slice(), decoded.samples.as_slice());
     }
     Ok(())
 }

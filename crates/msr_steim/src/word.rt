@@ -41,7 +41,7 @@ pub(crate) struct Row {
 pub struct BadCode;
 
 /// How a word with this code and these top two bits is divided.
-fn division_for(version: Version, code: u8, top: u32) -> Option<Division>
+pub(crate) fn division_for(version: Version, code: u8, top: u32) -> Option<Division>
     ensures { result ≡ division_of version code top }
 {
     match (version, code, top) {

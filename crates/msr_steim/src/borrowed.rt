@@ -1,0 +1,268 @@
+//! The samples of a data area of Steim frames, one after the other, without memory.
+
+ghost use Rattle.std.specs.Prelude.{◌≡◌, ◌<◌, ◌≤◌, ◌↔◌, ◌++◌, ◌*◌, ℕ, ℤ, List, ⊤, IfOk, IfSome, IsErrOf, IsNone, IsSome, IsTrue, OnOk, [], length};
+ghost use Rattle.std.specs.Iterator.{YieldsFirst, item_count};
+ghost use Rattle.msr_steim.specs.Area.{CarriesSteim, EndsBefore, IsUndefined, IsUndefinedBefore, ReverseAgrees, code_of, word_count};
+ghost use Rattle.msr_steim.specs.InOrder.{HasFields, HoldsEnough, differences_from};
+ghost use Rattle.msr_steim.specs.Left.{GivesFirst};
+ghost use Rattle.msr_steim.specs.Word.{numbers_in};
+
+use crate::area::{SteimFault, arranged_word_at, code_in, constant_at, whole_word_at};
+use crate::word::{Version, difference_at, division_for};
+use msr_header::Order;
+use std::alloc::AllocError;
+use std::marker::Model;
+
+/// The fields of a word that are left: so many of so many bits each, in its lowest bits.
+#[derive(Clone, Copy, Debug, PartialEq, Eq)]
+struct Fields {
+    word: u32,
+    count: u32,
+    width: u32,
+}
+
+/// The differences of an area, word after word. Contracts see the list of those that are left.
+#[derive(Debug, Drop)]
+struct Differences<'a> {
+    version: Version,
+    order: Order,
+    area: &'a [u8],
+    /// The next word.
+    number: usize,
+    /// What is left of the word before.
+    fields: Fields,
+}
+
+impl<'a> Model for Differences<'a> {
+    ghost use Rattle.std.specs.Prelude.{◌≤◌, ◌<◌, ◌*◌, ◌++◌, List, ℤ, length};
+
+    ghost Value = { List ℤ };
+
+    ghost use Rattle.msr_steim.specs.InOrder.{differences_from};
+    ghost use Rattle.msr_steim.specs.Word.{numbers_in};
+
+    ghost view = { λ d. numbers_in d.fields.word d.fields.width d.fields.count
+        ++ differences_from d.version d.order d.area.now d.number };
+
+    ghost invariant = { λ d. (length d.area.now ≤ 1048576) × (0 < d.fields.count → 0 < d.fields.width) × (d.fields.count * d.fields.width ≤ 32) };
+}
+
+/// The samples of an area, read from its words one by one. Contracts see those that are left, and whether
+/// the last of all is the reverse constant.
+#[derive(Debug, Drop)]
+pub struct SteimSamples<'a> {
+    differences: Differences<'a>,
+    /// The sample before, to which the next difference is added.
+    last: i32,
+    reverse: i32,
+    left: u16,
+}
+
+impl<'a> Model for SteimSamples<'a> {
+    ghost use Rattle.msr_steim.specs.Left.{SamplesLeft};
+
+    ghost Value = { SamplesLeft };
+
+    ghost use Rattle.msr_steim.specs.SumsLeft.{samples_left};
+
+    ghost view = { samples_left };
+}
+
+/// The code of the word with this number. A word that has no differences has code 0.
+#[inline(always)]
+fn code_at(order: Order, area: &[u8], number: usize) -> u8
+    requires { number < word_count area.now }
+    ensures value { result ≡ code_of order area.now number }
+    ensures small { result < 4 }
+{
+    if number < 3 || number % 16 == 0 {
+        return 0;
+    }
+    code_in(whole_word_at(order, area, number / 16 * 16), number % 16)
+}
+
+/// The fields of the word with this number, or `None` where it is undefined.
+#[inline(always)]
+fn fields_at(version: Version, order: Order, area: &[u8], number: usize) -> Option<Fields>
+    requires { number < word_count area.now }
+    ensures some { IfSome result (HasFields version order area.now number) }
+    ensures none { IsNone result → IsUndefined version order area.now number }
+    ensures few { IfSome result (λ fields. fields.count ≤ 7) }
+    ensures positive { IfSome result (λ fields. 0 < fields.count → 0 < fields.width) }
+    ensures within { IfSome result (λ fields. fields.count * fields.width ≤ 32) }
+{
+    let code = code_at(order, area, number);
+    let word = arranged_word_at(version, order, code, area, number);
+    let division = division_for(version, code, word >> 30)?;
+    Some(Fields {
+        word,
+        count: division.count,
+        width: division.width,
+    })
+}
+
+/// The first fields from a word on, and the number of the word after theirs. Undefined words are passed
+/// over.
+fn next_fields(version: Version, order: Order, area: &[u8], from: usize) -> Option<(Fields, usize)>
+    requires { length area.now ≤ 1048576 }
+    ensures some { IfSome result (λ next. differences_from version order area.now from
+        ≡ numbers_in next.0.word next.0.width next.0.count ++ differences_from version order area.now next.1) }
+    ensures none { IsNone result → differences_from version order area.now from ≡ [] }
+    ensures fields { IfSome result (λ next. 0 < next.0.count) }
+    ensures positive { IfSome result (λ next. 0 < next.0.width) }
+    ensures within { IfSome result (λ next. next.0.count * next.0.width ≤ 32) }
+{
+    for number in from..area.len() / 64 * 16 {
+        let Some(fields) = fields_at(version, order, area, number) else {
+            continue;
+        };
+        if fields.count > 0 {
+            return Some((fields, number + 1));
+        }
+    }
+    None
+}
+
+impl<'a> Differences<'a> {
+    fn copy(&self) -> Differences<'a>
+        ensures { result ≡ self.now }
+    {
+        Differences {
+            version: self.version,
+            order: self.order,
+            area: self.area,
+            number: self.number,
+            fields: self.fields,
+        }
+    }
+}
+
+impl<'a> Iterator for Differences<'a> {
+    type Item = i32;
+
+    ghost next_gives = { YieldsFirst {A = ℤ} (λ left. left) };
+
+    ghost remaining = { item_count {A = ℤ} (λ left. left) };
+
+    fn next(&mut self) -> Option<i32> {
+        if self.fields.count == 0 {
+            let (fields, number) = next_fields(self.version, self.order, self.area, self.number)?;
+            self.fields = fields;
+            self.number = number;
+        }
+        self.fields.count -= 1;
+        Some(difference_at(self.fields.word, self.fields.count, self.fields.width))
+    }
+}
+
+impl<'a> Iterator for SteimSamples<'a> {
+    type Item = i32;
+
+    ghost next_gives = { GivesFirst };
+
+    ghost remaining = { item_count {A = ℤ} (λ left. left.samples) };
+
+    fn next(&mut self) -> Option<i32> {
+        if self.left == 0 {
+            return None;
+        }
+        let difference = self.differences.next()?;
+        self.last = self.last.wrapping_add(difference);
+        self.left -= 1;
+        Some(self.last)
+    }
+}
+
+impl<'a> SteimSamples<'a> {
+    fn copy(&self) -> SteimSamples<'a>
+        ensures { result ≡ self.now }
+    {
+        SteimSamples {
+            differences: self.differences.copy(),
+            last: self.last,
+            reverse: self.reverse,
+            left: self.left,
+        }
+    }
+
+    /// Whether the last sample of the area is the reverse constant. Reads the samples that are left.
+    pub fn reverse_agrees(&self) -> bool
+        ensures { result ≡ self.now.agrees }
+    {
+        let mut last = self.last;
+        for sample in self.copy() {
+            last = sample;
+        }
+        last == self.reverse
+    }
+}
+
+/// A copy takes no memory.
+impl<'a> Clone for SteimSamples<'a> {
+    ghost is_clone = { λ samples copy. copy ≡ samples };
+
+    ghost is_infallible = { λ _. ⊤ };
+
+    fn clone(&self) -> Result<SteimSamples<'a>, AllocError> {
+        Ok(self.copy())
+    }
+}
+
+/// Whether the first words hold so many differences, before an undefined word or the end comes.
+fn check_words(version: Version, order: Order, area: &[u8], count: u16) -> Result<(), SteimFault>
+    requires some { 1 ≤ count }
+    requires small { length area.now ≤ 1048576 }
+    ensures enough { OnOk result (HoldsEnough version order area.now count) }
+    ensures short { IsErrOf result SteimFault.DataShort → EndsBefore version order area.now count }
+    ensures bad { (number : ℕ) → IsErrOf result (SteimFault.BadCode number)
+        → IsUndefinedBefore version order area.now count number }
+    ensures never_memory { IsErrOf result SteimFault.Memory → ⊥ }
+{
+    let mut found = 0;
+    for number in 0..area.len() / 64 * 16 {
+        let Some(fields) = fields_at(version, order, area, number) else {
+            return Err(SteimFault::BadCode(number as u32));
+        };
+        found += fields.count;
+        if found >= u32::from(count) {
+            return Ok(());
+        }
+    }
+    Err(SteimFault::DataShort)
+}
+
+/// The first `count` samples that the area carries, as `decode_steim` gives them. Takes no memory, and
+/// there is one outcome: `one_outcome`.
+pub fn steim_samples<'a>(
+    version: Version,
+    order: Order,
+    area: &'a [u8],
+    count: u16,
+) -> Result<SteimSamples<'a>, SteimFault>
+    requires some { 1 ≤ count }
+    requires small { length area.now ≤ 1048576 }
+    ensures samples { IfOk result (λ s. CarriesSteim version order area.now s.samples) }
+    ensures count { IfOk result (λ s. length s.samples ≡ count) }
+    ensures reverse { IfOk result (λ s. IsTrue s.agrees ↔ ReverseAgrees order area.now s.samples) }
+    ensures short { IsErrOf result SteimFault.DataShort → EndsBefore version order area.now count }
+    ensures bad { (number : ℕ) → IsErrOf result (SteimFault.BadCode number)
+        → IsUndefinedBefore version order area.now count number }
+    ensures never_memory { IsErrOf result SteimFault.Memory → ⊥ }
+{
+    check_words(version, order, area, count)?;
+    let (fields, number) = next_fields(version, order, area, 0).unwrap();
+    // The first difference is not used: with it, the first sample is the constant.
+    let difference = difference_at(fields.word, fields.count - 1, fields.width);
+    Ok(SteimSamples {
+        differences: Differences {
+            version,
+            order,
+            area,
+            number,
+            fields,
+        },
+        last: constant_at(order, area, 1).wrapping_sub(difference),
+        reverse: constant_at(order, area, 2),
+        left: count,
+    })
+}
