@@ -12,8 +12,8 @@ ghost use Rattle.msr_words.specs.Segment.{difference_at, run_points};
 ghost use Rattle.msr_packer.specs.Steps.{AreEnds, AreInt16, AreNarrowThrough, IsStepAmong, NonePast, NotLess};
 
 use msr_words::{
-    Int16, Int32, Kind, Length, Steim1, Tracker, difference, fits_bits, is_narrow,
-    longest_steim2_group, magnitude, quarters_of, steim2_greedy_reach, wide_one,
+    Int16, Int32, Kind, Length, Steim1, Tracker, Window, difference, fits_bits, is_narrow,
+    magnitude, quarters_of, steim2_greedy_reach, wide_one,
 };
 
 /// One record more: it starts at `start`, reaches to `end`, and is of that kind.
@@ -98,10 +98,11 @@ fn steim2_reach(samples: &[i32], record_length: Length, start: usize) -> Reach
 {
     steim2_greedy_reach();
     let words = record_length.data_words();
+    let mut window = Window::new();
     let mut at = start;
     let mut least = 7;
     for _word in 0..words {
-        let size = longest_steim2_group(samples, at);
+        let size = window.longest_steim2_group(samples, at);
         if size == 0 {
             return reach_to(samples, at, least);
         }

@@ -11,4 +11,5 @@ pub mod AreCounts
 pub mod Groups
 pub mod Bounds
 pub mod Trackers
+pub mod Window
 pub mod Lemmas

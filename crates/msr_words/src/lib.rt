@@ -11,6 +11,7 @@ mod kinds;
 mod lengths;
 #[cfg(test)]
 mod tests;
+mod window;
 
 pub use any_kind::AnyKind;
 pub use bounds::{
@@ -19,6 +20,7 @@ pub use bounds::{
 pub use codecs::{Codec, Int16, Int32, Steim1, Steim2, Tracker};
 pub use counts::{fits_bits, is_narrow, magnitude, quarters_of, wide_one};
 pub use division::{groups, one_division};
-pub use filling::{fill_steim2, longest_steim2_group};
+pub use filling::fill_steim2;
 pub use kinds::{Kind, Run, any_fits, difference, first_kind, run_fits, steim2_dominates};
 pub use lengths::Length;
+pub use window::Window;

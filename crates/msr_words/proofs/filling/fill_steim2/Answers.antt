@@ -1,20 +1,22 @@
 -- Word by word, and frame by frame.
-use Rattle.std.proofs.Common.{rules, arith, ◌≡◌, ◌<◌, ◌≤◌, ◌+◌, ◌-◌, ◌*◌, ◌/◌, ◌%◌, ◌^◌, ◌++◌, ℕ, ℤ, List, length, drop, take, pos, slice_index_or, refl, sym, ap, ◌∙◌, lit<, to_z, of_z, w32, SFits, get_or}
+use Rattle.std.proofs.Common.{rules, arith, ◌≡◌, ◌<◌, ◌≤◌, ◌+◌, ◌-◌, ◌*◌, ◌/◌, length, pos, slice_index_or, refl, ◌∙◌, lit<, lit≤, w32, SFits}
 use Rattle.std.proofs.lemmas.List.{length-drop}
 use Rattle.std.proofs.lemmas.Int.{to_z-of_z}
-use Rattle.msr_steim.specs.declared.word.Version.TheVariants.{Two}
-use Rattle.msr_steim.specs.Frames.{frame_word}
 use Rattle.msr_steim.proofs.Filling.{codes_fit}
-use Rattle.msr_words.specs.Canonical.{IsCanonicalDivision}
 use Rattle.msr_words.specs.Segment.{differences}
 use Rattle.msr_words.proofs.Plain.{length_differences}
-use Rattle.msr_words.proofs.Fill.{IsFilled, IsFramed, codes_below_more, constant_more, constant_one, constant_two, frame_begins, frame_ends, framed_all, group_more}
+use Rattle.msr_words.proofs.Fill.{codes_below_more, constant_more, constant_one, constant_two, frame_begins, frame_ends, framed_all, group_more}
+use Rattle.msr_words.proofs.Windows.{window_on}
 use Rattle.msr_words.proofs.filling.fill_steim2.Goals as goal
 use Rattle.msr_words.proofs.filling.fill_steim2.Goals.{then-number-eq1, else-number-eq1, then-next-gt0, else-next-gt0}
+
+pub loop-frame-init : goal.loop-frame-init
+loop-frame-init c = record { within = omega arith; window = c.new-window.ensures c.args.run.now 0; few = lit≤ tt; framed = search rules }
 
 pub loop-slot-init : goal.loop-slot-init
 loop-slot-init c = record {
   within = c.loop-frame.invariant.within;
+  window = c.loop-frame.invariant.window;
   few = omega (arith, c.loop-frame.invariant.few);
   small = lit< tt;
   low = λ l. refl;
@@ -34,6 +36,7 @@ loop-slot-preserved-then-number-lt3 c =
     let last_is = simp to_z-of_z at c.cast_unsigned-last.ensures in
     record {
       within = inv.within;
+      window = inv.window;
       few = omega arith;
       small = codes_below_more c.loop-slot.codes 0 (c.loop-slot.slot + 1) inv.small (lit< tt) (omega arith);
       low = λ l. none;
@@ -73,6 +76,7 @@ loop-slot-preserved c =
     ] in
     record {
       within = omega arith;
+      window = window_on c.args.run.now c.loop-slot.at (c.loop-slot.at + c.next_word-next.result.size) c.next_word-next.new.window (omega arith) c.next_word-next.ensures.window;
       few = omega arith;
       small = codes_below_more c.loop-slot.codes c.next_word-next.result.code (c.loop-slot.slot + 1) inv.small c.next_word-next.ensures.small refl;
       low = λ l. absurd (omega arith);
@@ -98,6 +102,7 @@ loop-frame-preserved c =
     let all : c.loop-slot.slot ≡ 15 = omega arith in
     record {
       within = inv.within;
+      window = inv.window;
       few = omega arith;
       framed = λ gs chosen. frame_ends gs (differences c.args.before c.args.run.now) (slice_index_or c.args.run.now 0 (pos 0)) (slice_index_or c.args.run.now (length c.args.run.now - 1) (pos 0))
           c.loop-frame.frame c.loop-slot.at c.loop-slot.used c.args.area.now c.loop-slot.area c.put_word-in-loop-frame.new.area c.loop-slot.slot c.loop-slot.codes all

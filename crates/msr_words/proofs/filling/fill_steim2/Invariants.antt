@@ -3,12 +3,14 @@ use Rattle.std.proofs.Common.{◌≡◌, ◌<◌, ◌≤◌, ◌+◌, ◌-◌, �
 use Rattle.msr_steim.specs.declared.word.Version.TheVariants.{Two}
 use Rattle.msr_words.specs.Canonical.{IsCanonicalDivision}
 use Rattle.msr_words.specs.Segment.{differences}
+use Rattle.msr_words.specs.Window.{IsWindow}
 use Rattle.msr_words.proofs.Fill.{IsFilled, IsFramed}
 use Rattle.msr_words.proofs.filling.fill_steim2.Given as goal
 
 abbrev pub invariant-loop-frame : goal.invariant-loop-frame
 invariant-loop-frame l = record {
   within : l.at ≤ length l.run;
+  window : IsWindow l.run l.at l.window;
   few : l.used ≤ 15 * l.frame;
   framed : (gs : List (List ℤ)) → IsCanonicalDivision Two gs (differences l.before l.run)
       → IsFramed gs (differences l.before l.run) (slice_index_or l.run 0 (pos 0)) (slice_index_or l.run (length l.run - 1) (pos 0)) l.frame l.at l.used l.fn.area l.area;
@@ -17,6 +19,7 @@ invariant-loop-frame l = record {
 abbrev pub invariant-loop-slot : goal.invariant-loop-slot
 invariant-loop-slot l = record {
   within : l.at ≤ length l.run;
+  window : IsWindow l.run l.at l.window;
   few : l.used ≤ 15 * l.frame + l.slot;
   small : l.codes < 4 ^ (l.slot + 1);
   low : 16 * l.frame + l.slot < 3 → l.codes ≡ 0;
