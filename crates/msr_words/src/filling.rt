@@ -151,7 +151,9 @@ fn word_seen(window: &Window, place: usize) -> NextWord
     }
 }
 
-/// The word of the longest group from that difference on, of differences taken one after another.
+/// The word of the longest group from that difference on, of differences taken one after another. It is called near
+/// the ends of a run alone, and is kept out of the loop over words.
+#[inline(never)]
 fn word_outside(before: Option<i32>, run: &[i32], at: usize) -> NextWord
     requires { at ≤ length run.now }
     ensures longest { IsLongestGroup (drop at (differences before run.now)) result.size }
@@ -201,8 +203,25 @@ fn put_word(area: &mut [u8], number: usize, word: u32)
     BigEndian::write_u32(&mut area[4 * number..], word);
 }
 
+/// Writes the constants behind the codes of the first frame, and gives how many words of this frame they take.
+fn put_constants(area: &mut [u8], frame: usize, first: u32, last: u32) -> usize
+    requires { 64 * frame + 64 ≤ length area.old }
+    ensures most { result ≤ 2 }
+    ensures first { frame ≡ 0 → let one = take (4 * (16 * frame + 1)) area.old ++ (big_bytes 4 first ++ drop (4 * (16 * frame + 1) + 4) area.old) in
+        (result ≡ 2) × (area.new ≡ take (4 * (16 * frame + 2)) one ++ (big_bytes 4 last ++ drop (4 * (16 * frame + 2) + 4) one)) }
+    ensures others { 0 < frame → (result ≡ 0) × (area.new ≡ area.old) }
+{
+    if frame > 0 {
+        return 0;
+    }
+    put_word(area, 16 * frame + 1, first);
+    put_word(area, 16 * frame + 2, last);
+    2
+}
+
 /// Fills the area, of whole frames, with the words of the run's differences, big-endian: each group in turn is the
 /// longest, and the constants are the first and the last sample. Gives the number of groups.
+#[inline(never)]
 pub fn fill_steim2(before: Option<i32>, run: &[i32], area: &mut [u8]) -> usize
     requires some { 1 ≤ length run.now }
     requires frames { length area.old % 64 ≡ 0 }
@@ -217,14 +236,9 @@ pub fn fill_steim2(before: Option<i32>, run: &[i32], area: &mut [u8]) -> usize
     for frame in 0..area.len() / 64 {
         let mut codes: u32 = 0;
         put_word(area, 16 * frame, 0);
-        for slot in 0..15 {
-            let number = 16 * frame + slot + 1;
-            if number < 3 {
-                put_word(area, number, if number == 1 { first } else { last });
-                continue;
-            }
+        for slot in put_constants(area, frame, first, last)..15 {
             let next = next_word(before, run, &mut window, at);
-            put_word(area, number, next.word);
+            put_word(area, 16 * frame + slot + 1, next.word);
             codes = codes * 4 + next.code;
             at += next.size;
             if next.size > 0 {

@@ -1,5 +1,5 @@
 -- Whatever the groups of the division that is written are, their words stand in the area so far.
-use Rattle.std.proofs.Common.{◌≡◌, ◌<◌, ◌≤◌, ◌+◌, ◌-◌, ◌*◌, ◌^◌, ℤ, List, length, pos, slice_index_or}
+use Rattle.std.proofs.Common.{◌<◌, ◌≤◌, ◌+◌, ◌-◌, ◌*◌, ◌^◌, ℤ, List, length, pos, slice_index_or}
 use Rattle.msr_steim.specs.declared.word.Version.TheVariants.{Two}
 use Rattle.msr_words.specs.Canonical.{IsCanonicalDivision}
 use Rattle.msr_words.specs.Segment.{differences}
@@ -22,7 +22,7 @@ invariant-loop-slot l = record {
   window : IsWindow l.run l.at l.window;
   few : l.used ≤ 15 * l.frame + l.slot;
   small : l.codes < 4 ^ (l.slot + 1);
-  low : 16 * l.frame + l.slot < 3 → l.codes ≡ 0;
+  high : 2 ≤ 16 * l.frame + l.slot;
   filled : (gs : List (List ℤ)) → IsCanonicalDivision Two gs (differences l.before l.run)
       → IsFilled gs (differences l.before l.run) (slice_index_or l.run 0 (pos 0)) (slice_index_or l.run (length l.run - 1) (pos 0)) l.frame l.slot l.at l.used l.codes l.fn.area l.area;
 }
