@@ -9,11 +9,12 @@ ghost use Rattle.msr_words.specs.Fit.{Fits, FitsAny, IsRun};
 ghost use Rattle.msr_words.specs.Packing.{IsStep};
 ghost use Rattle.msr_words.specs.Laws.{IsNarrow};
 ghost use Rattle.msr_words.specs.Segment.{difference_at, run_points};
+ghost use Rattle.msr_words.specs.Window.{IsSize};
 ghost use Rattle.msr_packer.specs.Steps.{AreEnds, AreInt16, AreNarrowThrough, IsStepAmong, NonePast, NotLess};
 
 use msr_words::{
     Int16, Int32, Kind, Length, Steim1, Tracker, Window, difference, fits_bits, is_narrow,
-    magnitude, quarters_of, steim2_greedy_reach, wide_one,
+    quarters_of, steim2_greedy_reach, wide_one,
 };
 
 /// One record more: it starts at `start`, reaches to `end`, and is of that kind.
@@ -126,6 +127,17 @@ fn are_narrow(samples: &[i32], start: usize, end: usize) -> bool
     true
 }
 
+/// How far a sample is from 0, or from -1 where it is negative, in 32 bits, of which a vector holds most.
+fn size_of(sample: i32) -> u32
+    ensures { IsSize sample result }
+{
+    if sample < 0 {
+        (-(sample + 1)) as u32
+    } else {
+        sample as u32
+    }
+}
+
 /// Whether the bits of the samples from `start` to `end - 1` tell together that each of them is of 16 bits.
 fn all_int16(samples: &[i32], start: usize, end: usize) -> bool
     requires order { start ≤ end }
@@ -134,7 +146,7 @@ fn all_int16(samples: &[i32], start: usize, end: usize) -> bool
 {
     let mut sizes = 0;
     for at in start..end {
-        sizes |= magnitude(i64::from(samples[at]));
+        sizes |= size_of(samples[at]);
     }
     sizes < 32_768
 }
