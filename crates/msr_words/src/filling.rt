@@ -42,7 +42,9 @@ fn field_of(difference: i64, width: u32) -> u64
     difference.cast_unsigned() & (u64::MAX >> (64 - width))
 }
 
-/// The fields of so many differences of the run side by side.
+/// The fields of so many differences of the run side by side. It is called near the ends of a run alone, and is kept
+/// out of the loop over words.
+#[inline(never)]
 fn fields_from(before: Option<i32>, run: &[i32], at: usize, size: usize, width: u32) -> u32
     requires positive { 0 < width }
     requires within { size * width ≤ 32 }
@@ -151,9 +153,7 @@ fn word_seen(window: &Window, place: usize) -> NextWord
     }
 }
 
-/// The word of the longest group from that difference on, of differences taken one after another. It is called near
-/// the ends of a run alone, and is kept out of the loop over words.
-#[inline(never)]
+/// The word of the longest group from that difference on, of differences taken one after another.
 fn word_outside(before: Option<i32>, run: &[i32], at: usize) -> NextWord
     requires { at ≤ length run.now }
     ensures longest { IsLongestGroup (drop at (differences before run.now)) result.size }
