@@ -9,11 +9,12 @@ ghost use Rattle.msr_words.specs.Fit.{Fits, FitsAny, IsRun};
 ghost use Rattle.msr_words.specs.Packing.{IsStep};
 ghost use Rattle.msr_words.specs.Laws.{IsNarrow};
 ghost use Rattle.msr_words.specs.Segment.{difference_at, run_points};
+ghost use Rattle.msr_words.specs.Window.{IsSize};
 ghost use Rattle.msr_packer.specs.Steps.{AreEnds, AreInt16, AreNarrowThrough, IsStepAmong, NonePast, NotLess};
 
 use msr_words::{
-    Int16, Int32, Kind, Length, Steim1, Tracker, difference, fits_bits, is_narrow,
-    longest_steim2_group, magnitude, quarters_of, steim2_greedy_reach, wide_one,
+    Int16, Int32, Kind, Length, Steim1, Tracker, Window, difference, fits_bits, is_narrow,
+    quarters_of, steim2_greedy_reach, wide_one,
 };
 
 /// One record more: it starts at `start`, reaches to `end`, and is of that kind.
@@ -98,10 +99,11 @@ fn steim2_reach(samples: &[i32], record_length: Length, start: usize) -> Reach
 {
     steim2_greedy_reach();
     let words = record_length.data_words();
+    let mut window = Window::new();
     let mut at = start;
     let mut least = 7;
     for _word in 0..words {
-        let size = longest_steim2_group(samples, at);
+        let size = window.longest_steim2_group(samples, at);
         if size == 0 {
             return reach_to(samples, at, least);
         }
@@ -125,6 +127,17 @@ fn are_narrow(samples: &[i32], start: usize, end: usize) -> bool
     true
 }
 
+/// How far a sample is from 0, or from -1 where it is negative, in 32 bits, of which a vector holds most.
+fn size_of(sample: i32) -> u32
+    ensures { IsSize sample result }
+{
+    if sample < 0 {
+        (-(sample + 1)) as u32
+    } else {
+        sample as u32
+    }
+}
+
 /// Whether the bits of the samples from `start` to `end - 1` tell together that each of them is of 16 bits.
 fn all_int16(samples: &[i32], start: usize, end: usize) -> bool
     requires order { start ≤ end }
@@ -133,7 +146,7 @@ fn all_int16(samples: &[i32], start: usize, end: usize) -> bool
 {
     let mut sizes = 0;
     for at in start..end {
-        sizes |= magnitude(i64::from(samples[at]));
+        sizes |= size_of(samples[at]);
     }
     sizes < 32_768
 }

@@ -106,7 +106,7 @@ struct Row {
 }
 
 /// Those of noise were found by a search over all cuts, starts and divisions into groups.
-const ROWS: [Row; 15] = [
+const ROWS: [Row; 20] = [
     // 43 words of seven differences
     Row {
         record_length: 256,
@@ -224,6 +224,91 @@ const ROWS: [Row; 15] = [
             (288, 300, Kind::Steim2),
         ],
         separators: &[0, 96, 192, 288],
+    },
+    // noise of 250 counts
+    Row {
+        record_length: 256,
+        made: Made::Noise {
+            count: 300,
+            seed: 5,
+            calm: 250,
+            loud: 250,
+            stretch: 1,
+        },
+        runs: &[
+            (0, 140, Kind::Steim2),
+            (140, 285, Kind::Steim2),
+            (285, 300, Kind::Steim2),
+        ],
+        separators: &[0, 140, 285],
+    },
+    // noise of 5000 counts
+    Row {
+        record_length: 256,
+        made: Made::Noise {
+            count: 260,
+            seed: 6,
+            calm: 5_000,
+            loud: 5_000,
+            stretch: 1,
+        },
+        runs: &[
+            (0, 96, Kind::Int16),
+            (96, 192, Kind::Int16),
+            (192, 260, Kind::Steim2),
+        ],
+        separators: &[0, 96, 192],
+    },
+    // noise of 10 and of 20000 counts in turn
+    Row {
+        record_length: 256,
+        made: Made::Noise {
+            count: 300,
+            seed: 7,
+            calm: 10,
+            loud: 20_000,
+            stretch: 12,
+        },
+        runs: &[
+            (0, 118, Kind::Steim2),
+            (118, 232, Kind::Steim2),
+            (232, 300, Kind::Steim2),
+        ],
+        separators: &[0, 118, 232],
+    },
+    // noise of 40 and of 40000 counts in turn, where Steim-1 reaches furthest
+    Row {
+        record_length: 256,
+        made: Made::Noise {
+            count: 260,
+            seed: 9,
+            calm: 40,
+            loud: 40_000,
+            stretch: 6,
+        },
+        runs: &[
+            (0, 101, Kind::Steim1),
+            (101, 202, Kind::Steim1),
+            (202, 260, Kind::Steim2),
+        ],
+        separators: &[0, 101, 202],
+    },
+    // noise of 250 and of 33000 counts in turn: Steim-1, then 16-bit integers
+    Row {
+        record_length: 256,
+        made: Made::Noise {
+            count: 200,
+            seed: 10,
+            calm: 250,
+            loud: 33_000,
+            stretch: 5,
+        },
+        runs: &[
+            (0, 99, Kind::Steim1),
+            (99, 195, Kind::Int16),
+            (195, 200, Kind::Steim2),
+        ],
+        separators: &[0, 99, 195],
     },
     // noise where Steim-1 reaches furthest from before the frontier
     Row {

@@ -1,5 +1,5 @@
 -- The words of the groups that are written, one after the other.
-use Rattle.std.proofs.Common.{◌≡◌, ◌<◌, ◌≤◌, ◌↔◌, min, ℕ, zero, suc, ◌+◌, ◌-◌, ◌*◌, ◌/◌, ◌%◌, ◌^◌, ◌||◌, ltb, eqb, Bool, true, false, cond, ℤ, pos, negsuc, get_or, take, drop, List, [], ◌∷◌, ◌++◌, length, map, refl, sym, ap, ◌∙◌, subst, arith, inl, inr, append_assoc, length-append, zero-add, lit≤}
+use Rattle.std.proofs.Common.{lit<, ◌≡◌, ◌<◌, ◌≤◌, ◌↔◌, min, ℕ, zero, suc, ◌+◌, ◌-◌, ◌*◌, ◌/◌, ◌%◌, ◌^◌, ◌||◌, ltb, eqb, Bool, true, false, cond, ℤ, pos, negsuc, get_or, take, drop, List, [], ◌∷◌, ◌++◌, length, map, refl, sym, ap, ◌∙◌, subst, arith, inl, inr, append_assoc, length-append, zero-add, lit≤}
 use Rattle.std.specs.Prelude.{flat_map}
 use Rattle.std.specs.Int.{cast_unsigned, w32}
 use Rattle.std.specs.List.{range_with_len}
@@ -239,6 +239,14 @@ codes_below_more codes code k few small {new} same =
     let one : 4 ^ (k + 1) ≡ 4 ^ k * 4 = pow_more 4 k in
     omega arith
 
+pub some_codes : (k : ℕ) → 0 < 4 ^ k
+some_codes zero = lit< tt
+some_codes (suc k) =
+    let less = some_codes k in
+    let one : 4 ^ (k + 1) ≡ 4 ^ k * 4 = pow_more 4 k in
+    let next : k + 1 ≡ suc k = omega arith in
+    subst (λ n. 0 < 4 ^ n) next (omega arith)
+
 -- ---- frame by frame
 
 -- so many frames are filled
@@ -354,6 +362,22 @@ module _ (version : Version) (gs : List (List ℤ)) (ds : List ℤ) (first last 
           codes_are = codes_and code code';
           bytes = words_more w word put;
         }
+
+-- both constants, behind the codes of the first frame
+pub constants_more : (gs : List (List ℤ)) (ds : List ℤ) (first last : ℤ) (frame at used : ℕ) (old area one new : List ℕ) → frame ≡ 0 → IsFilled Two gs ds first last frame 0 at used 0 old area
+    → one ≡ take (4 * (16 * frame + 1)) area ++ (big_bytes 4 (cast_unsigned w32 first) ++ drop (4 * (16 * frame + 1) + 4) area)
+    → new ≡ take (4 * (16 * frame + 2)) one ++ (big_bytes 4 (cast_unsigned w32 last) ++ drop (4 * (16 * frame + 2) + 4) one)
+    → IsFilled Two gs ds first last frame 2 at used 0 old new
+constants_more gs ds first last frame at used old area one new start is put_first put_last =
+    let place : 16 * frame + 1 ≡ 16 * frame + 0 + 1 = omega arith in
+    let next : 16 * frame + 2 ≡ 16 * frame + 1 + 1 = omega arith in
+    let w = cast_unsigned w32 first in
+    let v = cast_unsigned w32 last in
+    let is_one : IsFilled Two gs ds first last frame 1 at used 0 old one =
+    constant_more Two gs ds first last frame at used old area one 0 0 is (omega arith) w (omega arith) refl (constant_one Two (16 * frame + 0 + 1) first last gs (omega arith))
+    (subst (λ n. one ≡ take (4 * n) area ++ (big_bytes 4 (cast_unsigned w32 first) ++ drop (4 * n + 4) area)) place put_first) in
+    constant_more Two gs ds first last frame at used old one new 1 0 is_one (omega arith) v (omega arith) refl (constant_two Two (16 * frame + 1 + 1) first last gs (omega arith))
+    (subst (λ n. new ≡ take (4 * n) one ++ (big_bytes 4 (cast_unsigned w32 last) ++ drop (4 * n + 4) one)) next put_last)
 
 pub framed_all : (version : Version) (gs : List (List ℤ)) (ds : List ℤ) (first last : ℤ) (last_frame frame at used : ℕ) (old area : List ℕ) → last_frame ≡ frame → IsFramed version gs ds first last last_frame at used old area → length old ≡ 64 * frame → length gs + 2 ≤ 15 * frame
     → (area ≡ frame_bytes version first last gs frame) × (used ≡ length gs)

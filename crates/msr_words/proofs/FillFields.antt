@@ -4,6 +4,7 @@ use Rattle.std.specs.Prelude.{IsSomeAnd, unwrap_or, Option, replicate}
 use Rattle.std.specs.List.{AllByRecursion}
 use Rattle.std.proofs.lemmas.List.{append-nil, take_more, length-take-le}
 use Rattle.std.proofs.lemmas.Nat.{and_mask, mod-mul-add, pow_pos, pow-add}
+use Rattle.std.proofs.Common.{mod-lt}
 use Rattle.std.proofs.Math.Nat.{pow-le-pow_right, mul-le-mul_right, mul-lt-mul_of_pos_right}
 use Rattle.msr_steim.specs.declared.word.Version.TheVariants.{One, Two}
 use Rattle.msr_steim.specs.Word.{FitsBits, IsGroup, padding_of, group_top, group_width, group_word, joined_fields, twos_complement}
@@ -35,6 +36,18 @@ low_bits (negsuc n) width positive small fits here =
 pub field_is : (z : ℤ) (width bits : ℕ) → 0 < width → width ≤ 32 → SFits w64 z → FitsBits width z → bits ≡ of_z w64 z → bit_and bits (18446744073709551615 / 2 ^ (64 - width)) ≡ twos_complement width z
 field_is z width bits positive small fits here e =
     ap (bit_and bits) (mask_64 width small) ∙ and_mask bits width ∙ ap (λ m. m % 2 ^ width) e ∙ low_bits z width positive small fits here
+
+pub field_small : (width bits : ℕ) → width ≤ 32 → bit_and bits (18446744073709551615 / 2 ^ (64 - width)) < 2 ^ width
+field_small width bits small =
+    subst (λ n. n < 2 ^ width) (sym (ap (bit_and bits) (mask_64 width small) ∙ and_mask bits width)) (mod-lt bits (pow_pos width))
+
+pub fields_few : (width i fields field : ℕ) → fields < 2 ^ (i * width) → (i + 1) * width ≤ 32 → field < 2 ^ width → bit_or ((fields * 2 ^ width) % 2 ^ 64) field < 2 ^ ((i + 1) * width)
+fields_few width i fields field few room one =
+    let e : i * width + width ≡ (i + 1) * width = omega arith in
+    let product : 2 ^ ((i + 1) * width) ≡ 2 ^ (i * width) * 2 ^ width = ap (λ n. 2 ^ n) (sym e) ∙ pow-add 2 (i * width) width in
+    let more : suc fields * 2 ^ width ≤ 2 ^ (i * width) * 2 ^ width = mul-le-mul_right (2 ^ width) (omega arith) in
+    let joined = push_field width i fields field few room one in
+    omega arith
 
 -- ---- fields side by side
 

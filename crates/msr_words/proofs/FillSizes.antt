@@ -1,17 +1,14 @@
 -- The size of the longest group, by the sizes of seven differences.
-use Rattle.std.proofs.Common.{◌≡◌, ◌<◌, ◌≤◌, ◌↔◌, ℕ, suc, ◌+◌, ◌-◌, ◌^◌, ℤ, pos, get_or, take, drop, List, [], ◌∷◌, length, Option, Some, None, zero, refl, sym, ap, ◌∙◌, arith, bit_or, true}
+use Rattle.std.proofs.Common.{◌≡◌, ◌<◌, ◌≤◌, ◌↔◌, ℕ, suc, ◌+◌, ℤ, pos, get_or, take, drop, List, [], ◌∷◌, length, Option, Some, None, zero, refl, ◌∙◌, arith, bit_or, true}
 use Rattle.std.proofs.lemmas.Nat.{le_or_l, le_or_r, or_lt}
-use Rattle.std.proofs.lemmas.List.{get_or-drop, length-drop}
+use Rattle.std.proofs.lemmas.List.{get_or-drop}
 use Rattle.msr_steim.specs.declared.word.Version.TheVariants.{Two}
-use Rattle.msr_steim.specs.Word.{FitsBits, IsGroup}
+use Rattle.msr_steim.specs.Word.{IsGroup}
 use Rattle.msr_words.specs.Groups.{IsLongestGroup}
 use Rattle.msr_words.specs.Segment.{differences, difference_at, difference_from}
+use Rattle.msr_words.specs.Window.{IsSize}
 use Rattle.msr_words.specs.Lemmas.LeastCounts.{a_group_has_few}
-use Rattle.msr_words.proofs.Plain.{difference_of, length_differences}
-
--- so much is its size: a number of `width` bits is one whose size is below half the power
-abbrev pub HasSize : ℤ → ℕ → Type 0
-HasSize d size = (width : ℕ) → (FitsBits width d ↔ size < 2 ^ (width - 1))
+use Rattle.msr_words.proofs.Plain.{difference_of}
 
 -- ---- seven differences of a run
 
@@ -25,26 +22,8 @@ seven_of (a ∷ b ∷ c ∷ d ∷ []) h = absurd (omega arith)
 seven_of (a ∷ b ∷ c ∷ d ∷ e ∷ []) h = absurd (omega arith)
 seven_of (a ∷ b ∷ c ∷ d ∷ e ∷ f ∷ []) h = absurd (omega arith)
 
-there : (before : Option ℤ) (run : List ℤ) (at i : ℕ) → at + i < length run → get_or (drop at (differences before run)) i (pos 0) ≡ difference_from before run (at + i)
+pub there : (before : Option ℤ) (run : List ℤ) (at i : ℕ) → at + i < length run → get_or (drop at (differences before run)) i (pos 0) ≡ difference_from before run (at + i)
 there before run at i h = get_or-drop at (differences before run) i (pos 0) ∙ difference_of before run (at + i) h
-
-pub seven_at : (before : Option ℤ) (run : List ℤ) (at : ℕ) (a b c d e f g : ℤ) → at + 7 ≤ length run
-    → a ≡ difference_from before run at → b ≡ difference_from before run (at + 1) → c ≡ difference_from before run (at + 2) → d ≡ difference_from before run (at + 3)
-    → e ≡ difference_from before run (at + 4) → f ≡ difference_from before run (at + 5) → g ≡ difference_from before run (at + 6)
-    → a ∷ b ∷ c ∷ d ∷ e ∷ f ∷ g ∷ drop 7 (drop at (differences before run)) ≡ drop at (differences before run)
-seven_at before run at a b c d e f g h ea eb ec ed ee ef eg =
-    let xs = drop at (differences before run) in
-    let long = length_differences before run in
-    let l = length-drop at (differences before run) in
-    let none : at + 0 ≡ at = omega arith in
-    let pa : get_or xs 0 (pos 0) ≡ a = there before run at 0 (omega arith) ∙ ap (difference_from before run) none ∙ sym ea in
-    let pb : get_or xs 1 (pos 0) ≡ b = there before run at 1 (omega arith) ∙ sym eb in
-    let pc : get_or xs 2 (pos 0) ≡ c = there before run at 2 (omega arith) ∙ sym ec in
-    let pd : get_or xs 3 (pos 0) ≡ d = there before run at 3 (omega arith) ∙ sym ed in
-    let pe : get_or xs 4 (pos 0) ≡ e = there before run at 4 (omega arith) ∙ sym ee in
-    let pf : get_or xs 5 (pos 0) ≡ f = there before run at 5 (omega arith) ∙ sym ef in
-    let pg : get_or xs 6 (pos 0) ≡ g = there before run at 6 (omega arith) ∙ sym eg in
-    sym (rw (pa, pb, pc, pd, pe, pf, pg) at (seven_of (drop at (differences before run)) (omega arith)))
 
 pub from_inside : (before : Option ℤ) (run : List ℤ) (at : ℕ) → 0 < at → difference_at run at ≡ difference_from before run at
 from_inside None run at later = refl
@@ -60,17 +39,17 @@ inside_same (Some x) (y ∷ run) (suc at) later = refl
 
 -- ---- groups by sizes
 
-group_1 : (a : ℤ) (ma : ℕ) → HasSize a ma → (ma < 536870912 ↔ IsGroup Two (a ∷ []))
+group_1 : (a : ℤ) (ma : ℕ) → IsSize a ma → (ma < 536870912 ↔ IsGroup Two (a ∷ []))
 group_1 a ma ha =
     (λ small. ((ha 30).1 (omega arith), tt), λ t. (ha 30).0 t.0)
 
-group_2 : (a b : ℤ) (ma mb : ℕ) → HasSize a ma → HasSize b mb → (bit_or ma mb < 16384 ↔ IsGroup Two (a ∷ b ∷ []))
+group_2 : (a b : ℤ) (ma mb : ℕ) → IsSize a ma → IsSize b mb → (bit_or ma mb < 16384 ↔ IsGroup Two (a ∷ b ∷ []))
 group_2 a b ma mb ha hb =
     let l1 = le_or_l (ma) mb in
     let r1 = le_or_r (ma) mb in
     (λ small. ((ha 15).1 (omega arith), ((hb 15).1 (omega arith), tt)), λ t. or_lt 14 (ma) mb ((ha 15).0 t.0) ((hb 15).0 (t.1.0)))
 
-group_3 : (a b c : ℤ) (ma mb mc : ℕ) → HasSize a ma → HasSize b mb → HasSize c mc → (bit_or (bit_or ma mb) mc < 512 ↔ IsGroup Two (a ∷ b ∷ c ∷ []))
+group_3 : (a b c : ℤ) (ma mb mc : ℕ) → IsSize a ma → IsSize b mb → IsSize c mc → (bit_or (bit_or ma mb) mc < 512 ↔ IsGroup Two (a ∷ b ∷ c ∷ []))
 group_3 a b c ma mb mc ha hb hc =
     let l1 = le_or_l (ma) mb in
     let r1 = le_or_r (ma) mb in
@@ -78,7 +57,7 @@ group_3 a b c ma mb mc ha hb hc =
     let r2 = le_or_r (bit_or ma mb) mc in
     (λ small. ((ha 10).1 (omega arith), ((hb 10).1 (omega arith), ((hc 10).1 (omega arith), tt))), λ t. or_lt 9 (bit_or ma mb) mc (or_lt 9 (ma) mb ((ha 10).0 t.0) ((hb 10).0 (t.1.0))) ((hc 10).0 (t.1.1.0)))
 
-group_4 : (a b c d : ℤ) (ma mb mc md : ℕ) → HasSize a ma → HasSize b mb → HasSize c mc → HasSize d md → (bit_or (bit_or (bit_or ma mb) mc) md < 128 ↔ IsGroup Two (a ∷ b ∷ c ∷ d ∷ []))
+group_4 : (a b c d : ℤ) (ma mb mc md : ℕ) → IsSize a ma → IsSize b mb → IsSize c mc → IsSize d md → (bit_or (bit_or (bit_or ma mb) mc) md < 128 ↔ IsGroup Two (a ∷ b ∷ c ∷ d ∷ []))
 group_4 a b c d ma mb mc md ha hb hc hd =
     let l1 = le_or_l (ma) mb in
     let r1 = le_or_r (ma) mb in
@@ -88,7 +67,7 @@ group_4 a b c d ma mb mc md ha hb hc hd =
     let r3 = le_or_r (bit_or (bit_or ma mb) mc) md in
     (λ small. ((ha 8).1 (omega arith), ((hb 8).1 (omega arith), ((hc 8).1 (omega arith), ((hd 8).1 (omega arith), tt)))), λ t. or_lt 7 (bit_or (bit_or ma mb) mc) md (or_lt 7 (bit_or ma mb) mc (or_lt 7 (ma) mb ((ha 8).0 t.0) ((hb 8).0 (t.1.0))) ((hc 8).0 (t.1.1.0))) ((hd 8).0 (t.1.1.1.0)))
 
-group_5 : (a b c d e : ℤ) (ma mb mc md me : ℕ) → HasSize a ma → HasSize b mb → HasSize c mc → HasSize d md → HasSize e me → (bit_or (bit_or (bit_or (bit_or ma mb) mc) md) me < 32 ↔ IsGroup Two (a ∷ b ∷ c ∷ d ∷ e ∷ []))
+group_5 : (a b c d e : ℤ) (ma mb mc md me : ℕ) → IsSize a ma → IsSize b mb → IsSize c mc → IsSize d md → IsSize e me → (bit_or (bit_or (bit_or (bit_or ma mb) mc) md) me < 32 ↔ IsGroup Two (a ∷ b ∷ c ∷ d ∷ e ∷ []))
 group_5 a b c d e ma mb mc md me ha hb hc hd he =
     let l1 = le_or_l (ma) mb in
     let r1 = le_or_r (ma) mb in
@@ -100,7 +79,7 @@ group_5 a b c d e ma mb mc md me ha hb hc hd he =
     let r4 = le_or_r (bit_or (bit_or (bit_or ma mb) mc) md) me in
     (λ small. ((ha 6).1 (omega arith), ((hb 6).1 (omega arith), ((hc 6).1 (omega arith), ((hd 6).1 (omega arith), ((he 6).1 (omega arith), tt))))), λ t. or_lt 5 (bit_or (bit_or (bit_or ma mb) mc) md) me (or_lt 5 (bit_or (bit_or ma mb) mc) md (or_lt 5 (bit_or ma mb) mc (or_lt 5 (ma) mb ((ha 6).0 t.0) ((hb 6).0 (t.1.0))) ((hc 6).0 (t.1.1.0))) ((hd 6).0 (t.1.1.1.0))) ((he 6).0 (t.1.1.1.1.0)))
 
-group_6 : (a b c d e f : ℤ) (ma mb mc md me mf : ℕ) → HasSize a ma → HasSize b mb → HasSize c mc → HasSize d md → HasSize e me → HasSize f mf → (bit_or (bit_or (bit_or (bit_or (bit_or ma mb) mc) md) me) mf < 16 ↔ IsGroup Two (a ∷ b ∷ c ∷ d ∷ e ∷ f ∷ []))
+group_6 : (a b c d e f : ℤ) (ma mb mc md me mf : ℕ) → IsSize a ma → IsSize b mb → IsSize c mc → IsSize d md → IsSize e me → IsSize f mf → (bit_or (bit_or (bit_or (bit_or (bit_or ma mb) mc) md) me) mf < 16 ↔ IsGroup Two (a ∷ b ∷ c ∷ d ∷ e ∷ f ∷ []))
 group_6 a b c d e f ma mb mc md me mf ha hb hc hd he hf =
     let l1 = le_or_l (ma) mb in
     let r1 = le_or_r (ma) mb in
@@ -114,7 +93,7 @@ group_6 a b c d e f ma mb mc md me mf ha hb hc hd he hf =
     let r5 = le_or_r (bit_or (bit_or (bit_or (bit_or ma mb) mc) md) me) mf in
     (λ small. ((ha 5).1 (omega arith), ((hb 5).1 (omega arith), ((hc 5).1 (omega arith), ((hd 5).1 (omega arith), ((he 5).1 (omega arith), ((hf 5).1 (omega arith), tt)))))), λ t. or_lt 4 (bit_or (bit_or (bit_or (bit_or ma mb) mc) md) me) mf (or_lt 4 (bit_or (bit_or (bit_or ma mb) mc) md) me (or_lt 4 (bit_or (bit_or ma mb) mc) md (or_lt 4 (bit_or ma mb) mc (or_lt 4 (ma) mb ((ha 5).0 t.0) ((hb 5).0 (t.1.0))) ((hc 5).0 (t.1.1.0))) ((hd 5).0 (t.1.1.1.0))) ((he 5).0 (t.1.1.1.1.0))) ((hf 5).0 (t.1.1.1.1.1.0)))
 
-group_7 : (a b c d e f g : ℤ) (ma mb mc md me mf mg : ℕ) → HasSize a ma → HasSize b mb → HasSize c mc → HasSize d md → HasSize e me → HasSize f mf → HasSize g mg → (bit_or (bit_or (bit_or (bit_or (bit_or (bit_or ma mb) mc) md) me) mf) mg < 8 ↔ IsGroup Two (a ∷ b ∷ c ∷ d ∷ e ∷ f ∷ g ∷ []))
+group_7 : (a b c d e f g : ℤ) (ma mb mc md me mf mg : ℕ) → IsSize a ma → IsSize b mb → IsSize c mc → IsSize d md → IsSize e me → IsSize f mf → IsSize g mg → (bit_or (bit_or (bit_or (bit_or (bit_or (bit_or ma mb) mc) md) me) mf) mg < 8 ↔ IsGroup Two (a ∷ b ∷ c ∷ d ∷ e ∷ f ∷ g ∷ []))
 group_7 a b c d e f g ma mb mc md me mf mg ha hb hc hd he hf hg =
     let l1 = le_or_l (ma) mb in
     let r1 = le_or_r (ma) mb in
@@ -132,49 +111,49 @@ group_7 a b c d e f g ma mb mc md me mf mg ha hb hc hd he hf hg =
 
 -- ---- the longest
 
-pub longest_0 : (a : ℤ) (rest : List ℤ) (ma : ℕ) → HasSize a ma → 536870912 ≤ ma → IsLongestGroup (a ∷ rest) 0
+pub longest_0 : (a : ℤ) (rest : List ℤ) (ma : ℕ) → IsSize a ma → 536870912 ≤ ma → IsLongestGroup (a ∷ rest) 0
 longest_0 a rest ma ha not = record {
   within = omega arith;
   group = λ some. absurd (omega arith);
   no_more = λ less is. let few = (group_1 a ma ha).1 is in absurd (omega arith);
 }
 
-pub longest_1 : (a b : ℤ) (rest : List ℤ) (ma mb : ℕ) → HasSize a ma → HasSize b mb → ma < 536870912 → 16384 ≤ bit_or ma mb → IsLongestGroup (a ∷ b ∷ rest) 1
+pub longest_1 : (a b : ℤ) (rest : List ℤ) (ma mb : ℕ) → IsSize a ma → IsSize b mb → ma < 536870912 → 16384 ≤ bit_or ma mb → IsLongestGroup (a ∷ b ∷ rest) 1
 longest_1 a b rest ma mb ha hb fits not = record {
   within = omega arith;
   group = λ some. (group_1 a ma ha).0 fits;
   no_more = λ less is. let few = (group_2 a b ma mb ha hb).1 is in absurd (omega arith);
 }
 
-pub longest_2 : (a b c : ℤ) (rest : List ℤ) (ma mb mc : ℕ) → HasSize a ma → HasSize b mb → HasSize c mc → bit_or ma mb < 16384 → 512 ≤ bit_or (bit_or ma mb) mc → IsLongestGroup (a ∷ b ∷ c ∷ rest) 2
+pub longest_2 : (a b c : ℤ) (rest : List ℤ) (ma mb mc : ℕ) → IsSize a ma → IsSize b mb → IsSize c mc → bit_or ma mb < 16384 → 512 ≤ bit_or (bit_or ma mb) mc → IsLongestGroup (a ∷ b ∷ c ∷ rest) 2
 longest_2 a b c rest ma mb mc ha hb hc fits not = record {
   within = omega arith;
   group = λ some. (group_2 a b ma mb ha hb).0 fits;
   no_more = λ less is. let few = (group_3 a b c ma mb mc ha hb hc).1 is in absurd (omega arith);
 }
 
-pub longest_3 : (a b c d : ℤ) (rest : List ℤ) (ma mb mc md : ℕ) → HasSize a ma → HasSize b mb → HasSize c mc → HasSize d md → bit_or (bit_or ma mb) mc < 512 → 128 ≤ bit_or (bit_or (bit_or ma mb) mc) md → IsLongestGroup (a ∷ b ∷ c ∷ d ∷ rest) 3
+pub longest_3 : (a b c d : ℤ) (rest : List ℤ) (ma mb mc md : ℕ) → IsSize a ma → IsSize b mb → IsSize c mc → IsSize d md → bit_or (bit_or ma mb) mc < 512 → 128 ≤ bit_or (bit_or (bit_or ma mb) mc) md → IsLongestGroup (a ∷ b ∷ c ∷ d ∷ rest) 3
 longest_3 a b c d rest ma mb mc md ha hb hc hd fits not = record {
   within = omega arith;
   group = λ some. (group_3 a b c ma mb mc ha hb hc).0 fits;
   no_more = λ less is. let few = (group_4 a b c d ma mb mc md ha hb hc hd).1 is in absurd (omega arith);
 }
 
-pub longest_4 : (a b c d e : ℤ) (rest : List ℤ) (ma mb mc md me : ℕ) → HasSize a ma → HasSize b mb → HasSize c mc → HasSize d md → HasSize e me → bit_or (bit_or (bit_or ma mb) mc) md < 128 → 32 ≤ bit_or (bit_or (bit_or (bit_or ma mb) mc) md) me → IsLongestGroup (a ∷ b ∷ c ∷ d ∷ e ∷ rest) 4
+pub longest_4 : (a b c d e : ℤ) (rest : List ℤ) (ma mb mc md me : ℕ) → IsSize a ma → IsSize b mb → IsSize c mc → IsSize d md → IsSize e me → bit_or (bit_or (bit_or ma mb) mc) md < 128 → 32 ≤ bit_or (bit_or (bit_or (bit_or ma mb) mc) md) me → IsLongestGroup (a ∷ b ∷ c ∷ d ∷ e ∷ rest) 4
 longest_4 a b c d e rest ma mb mc md me ha hb hc hd he fits not = record {
   within = omega arith;
   group = λ some. (group_4 a b c d ma mb mc md ha hb hc hd).0 fits;
   no_more = λ less is. let few = (group_5 a b c d e ma mb mc md me ha hb hc hd he).1 is in absurd (omega arith);
 }
 
-pub longest_5 : (a b c d e f : ℤ) (rest : List ℤ) (ma mb mc md me mf : ℕ) → HasSize a ma → HasSize b mb → HasSize c mc → HasSize d md → HasSize e me → HasSize f mf → bit_or (bit_or (bit_or (bit_or ma mb) mc) md) me < 32 → 16 ≤ bit_or (bit_or (bit_or (bit_or (bit_or ma mb) mc) md) me) mf → IsLongestGroup (a ∷ b ∷ c ∷ d ∷ e ∷ f ∷ rest) 5
+pub longest_5 : (a b c d e f : ℤ) (rest : List ℤ) (ma mb mc md me mf : ℕ) → IsSize a ma → IsSize b mb → IsSize c mc → IsSize d md → IsSize e me → IsSize f mf → bit_or (bit_or (bit_or (bit_or ma mb) mc) md) me < 32 → 16 ≤ bit_or (bit_or (bit_or (bit_or (bit_or ma mb) mc) md) me) mf → IsLongestGroup (a ∷ b ∷ c ∷ d ∷ e ∷ f ∷ rest) 5
 longest_5 a b c d e f rest ma mb mc md me mf ha hb hc hd he hf fits not = record {
   within = omega arith;
   group = λ some. (group_5 a b c d e ma mb mc md me ha hb hc hd he).0 fits;
   no_more = λ less is. let few = (group_6 a b c d e f ma mb mc md me mf ha hb hc hd he hf).1 is in absurd (omega arith);
 }
 
-pub longest_6 : (a b c d e f g : ℤ) (rest : List ℤ) (ma mb mc md me mf mg : ℕ) → HasSize a ma → HasSize b mb → HasSize c mc → HasSize d md → HasSize e me → HasSize f mf → HasSize g mg → bit_or (bit_or (bit_or (bit_or (bit_or ma mb) mc) md) me) mf < 16 → 8 ≤ bit_or (bit_or (bit_or (bit_or (bit_or (bit_or ma mb) mc) md) me) mf) mg → IsLongestGroup (a ∷ b ∷ c ∷ d ∷ e ∷ f ∷ g ∷ rest) 6
+pub longest_6 : (a b c d e f g : ℤ) (rest : List ℤ) (ma mb mc md me mf mg : ℕ) → IsSize a ma → IsSize b mb → IsSize c mc → IsSize d md → IsSize e me → IsSize f mf → IsSize g mg → bit_or (bit_or (bit_or (bit_or (bit_or ma mb) mc) md) me) mf < 16 → 8 ≤ bit_or (bit_or (bit_or (bit_or (bit_or (bit_or ma mb) mc) md) me) mf) mg → IsLongestGroup (a ∷ b ∷ c ∷ d ∷ e ∷ f ∷ g ∷ rest) 6
 longest_6 a b c d e f g rest ma mb mc md me mf mg ha hb hc hd he hf hg fits not = record {
   within = omega arith;
   group = λ some. (group_6 a b c d e f ma mb mc md me mf ha hb hc hd he hf).0 fits;
@@ -185,7 +164,7 @@ too_long : (a b c d e f g : ℤ) (rest : List ℤ) → 7 < length (a ∷ b ∷ c
 too_long a b c d e f g [] less is = absurd (omega arith)
 too_long a b c d e f g (h ∷ rest) less is = let few = (a_group_has_few Two true (a ∷ b ∷ c ∷ d ∷ e ∷ f ∷ g ∷ h ∷ []) is).1 in absurd (omega arith)
 
-pub longest_7 : (a b c d e f g : ℤ) (rest : List ℤ) (ma mb mc md me mf mg : ℕ) → HasSize a ma → HasSize b mb → HasSize c mc → HasSize d md → HasSize e me → HasSize f mf → HasSize g mg → bit_or (bit_or (bit_or (bit_or (bit_or (bit_or ma mb) mc) md) me) mf) mg < 8 → IsLongestGroup (a ∷ b ∷ c ∷ d ∷ e ∷ f ∷ g ∷ rest) 7
+pub longest_7 : (a b c d e f g : ℤ) (rest : List ℤ) (ma mb mc md me mf mg : ℕ) → IsSize a ma → IsSize b mb → IsSize c mc → IsSize d md → IsSize e me → IsSize f mf → IsSize g mg → bit_or (bit_or (bit_or (bit_or (bit_or (bit_or ma mb) mc) md) me) mf) mg < 8 → IsLongestGroup (a ∷ b ∷ c ∷ d ∷ e ∷ f ∷ g ∷ rest) 7
 longest_7 a b c d e f g rest ma mb mc md me mf mg ha hb hc hd he hf hg fits = record {
   within = omega arith;
   group = λ some. (group_7 a b c d e f g ma mb mc md me mf mg ha hb hc hd he hf hg).0 fits;

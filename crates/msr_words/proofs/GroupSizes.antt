@@ -4,11 +4,11 @@ use Rattle.std.proofs.lemmas.Nat.{le_or_l, le_or_r, or_lt}
 use Rattle.msr_steim.specs.declared.word.Version.TheVariants.{One}
 use Rattle.msr_steim.specs.Word.{IsGroup}
 use Rattle.msr_words.specs.FirstGroup.{IsSizeAt}
-use Rattle.msr_words.proofs.FillSizes.{HasSize}
+use Rattle.msr_words.specs.Window.{IsSize}
 
 -- ---- the sizes of the differences
 
-pub size_here : (d : ℤ) (ds : List ℤ) (size : ℕ) → HasSize d size → IsSizeAt (d ∷ ds) 0 size
+pub size_here : (d : ℤ) (ds : List ℤ) (size : ℕ) → IsSize d size → IsSizeAt (d ∷ ds) 0 size
 size_here d ds size here width small = (λ less. (omega arith, (here width).1 less), λ fits. (here width).0 fits.1)
 
 pub size_later : (d : ℤ) (ds : List ℤ) (at size : ℕ) → IsSizeAt ds at size → IsSizeAt (d ∷ ds) (suc at) size
@@ -16,7 +16,7 @@ size_later d ds at size there width small = (λ less. let h = (there width small
 
 -- ---- groups by sizes
 
-pub pair_is : (d : ℤ) (ds : List ℤ) (size first : ℕ) → HasSize d size → IsSizeAt ds 0 first → (bit_or size first < 32768 ↔ (2 ≤ length (d ∷ ds)) × IsGroup One (take 2 (d ∷ ds)))
+pub pair_is : (d : ℤ) (ds : List ℤ) (size first : ℕ) → IsSize d size → IsSizeAt ds 0 first → (bit_or size first < 32768 ↔ (2 ≤ length (d ∷ ds)) × IsGroup One (take 2 (d ∷ ds)))
 pair_is d [] size first here one =
     let r = le_or_r size first in
     (λ small. let e = ((one 16 (lit≤ tt)).0 (omega arith)).0 in absurd (omega arith), λ group. let e = group.0 in absurd (omega arith))
@@ -48,11 +48,11 @@ triple_at (x ∷ y ∷ z ∷ ds) first second third one two three =
       λ group. or_lt 7 (bit_or first second) third (or_lt 7 first second ((one 8 (lit≤ tt)).1 (omega arith, group.1.0)) ((two 8 (lit≤ tt)).1 (omega arith, group.1.1.0))) ((three 8 (lit≤ tt)).1 (omega arith, group.1.1.1.0)),
     )
 
-pub triple_is : (d : ℤ) (ds : List ℤ) (size first second : ℕ) → HasSize d size → IsSizeAt ds 0 first → IsSizeAt ds 1 second
+pub triple_is : (d : ℤ) (ds : List ℤ) (size first second : ℕ) → IsSize d size → IsSizeAt ds 0 first → IsSizeAt ds 1 second
     → (bit_or (bit_or size first) second < 128 ↔ (3 ≤ length (d ∷ ds)) × IsGroup One (take 3 (d ∷ ds)))
 triple_is d ds size first second here one two = triple_at (d ∷ ds) size first second (size_here d ds size here) (size_later d ds 0 first one) (size_later d ds 1 second two)
 
-pub four_is : (d : ℤ) (ds : List ℤ) (size first second third : ℕ) → HasSize d size → IsSizeAt ds 0 first → IsSizeAt ds 1 second → IsSizeAt ds 2 third
+pub four_is : (d : ℤ) (ds : List ℤ) (size first second third : ℕ) → IsSize d size → IsSizeAt ds 0 first → IsSizeAt ds 1 second → IsSizeAt ds 2 third
     → (bit_or (bit_or (bit_or size first) second) third < 128 ↔ (4 ≤ length (d ∷ ds)) × IsGroup One (take 4 (d ∷ ds)))
 four_is d [] size first second third here one two three =
     let r = le_or_r (bit_or (bit_or size first) second) third in

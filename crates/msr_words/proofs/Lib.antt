@@ -18,3 +18,4 @@ pub mod Steim1Pushes
 pub mod Steim2Groups
 pub mod Steim2Pushes
 pub mod WordRoom
+pub mod Windows

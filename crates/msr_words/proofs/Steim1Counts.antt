@@ -7,7 +7,7 @@ use Rattle.msr_steim.specs.Word.{IsGroup, IsGroupAt}
 use Rattle.msr_words.specs.declared.counts.LeastCounts.{LeastCounts}
 use Rattle.msr_words.specs.Counts.{AtMost, EndsIn, IsLeastUpTo, Parts}
 use Rattle.msr_words.specs.FirstGroup.{AreFewest, IsSizeAt}
-use Rattle.msr_words.proofs.FillSizes.{HasSize}
+use Rattle.msr_words.specs.Window.{IsSize}
 use Rattle.msr_words.proofs.GroupSizes.{four_is, pair_is, size_here, size_later, triple_at}
 use Rattle.std.proofs.Math.Nat.{pow-le-pow_right}
 use Rattle.msr_words.specs.AreCounts.{AreCounts}
@@ -33,7 +33,7 @@ ends_of last k n c words past small e size least =
     let count = (least in' (n - 1) (omega arith)).1 (record { number = e.number; few = omega arith; parts = subst (Parts One e.number) (sym front.1) e.parts }) in
     (in', subst (IsGroupAt One last) (sym front.0) e.newest, omega arith)
 
-module _ (words : ℕ) (d : ℤ) (past : List ℤ) (old : LeastCounts) (is : AreCounts words past old) (size fewest count : ℕ) (here : HasSize d size)
+module _ (words : ℕ) (d : ℤ) (past : List ℤ) (old : LeastCounts) (is : AreCounts words past old) (size fewest count : ℕ) (here : IsSize d size)
     (fewest_is : AreFewest old.now old.one old.three size (bit_or size old.first) (bit_or (bit_or (bit_or size old.first) old.second) old.third) words fewest)
     (count_is : (n : ℕ) → n ≤ words → (count ≤ n ↔ fewest < n)) where
   two_group : bit_or size old.first < 32768 ↔ (2 ≤ length (d ∷ past)) × IsGroup One (take 2 (d ∷ past))

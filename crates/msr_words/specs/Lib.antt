@@ -14,4 +14,5 @@ pub mod Filled
 pub mod Groups
 pub mod Bounds
 pub mod Trackers
+pub mod Window
 pub mod Lemmas

@@ -9,10 +9,11 @@ ghost use Rattle.msr_steim.specs.Word.{FitsBits, group_code, group_top, group_wi
 ghost use Rattle.msr_steim.specs.Frames.{frame_bytes};
 ghost use Rattle.msr_words.specs.Canonical.{IsCanonicalDivision};
 ghost use Rattle.msr_words.specs.Groups.{IsLongestGroup};
-ghost use Rattle.msr_words.specs.Segment.{difference_at, differences};
+ghost use Rattle.msr_words.specs.Segment.{differences};
+ghost use Rattle.msr_words.specs.Window.{AreSeen, IsWindow};
 
-use crate::counts::magnitude;
 use crate::kinds::{difference_after, longest_group};
+use crate::window::Window;
 use byteorder::{BigEndian, ByteOrder};
 
 /// A word, with its code, and how many differences it holds.
@@ -31,18 +32,19 @@ struct Form {
     width: u32,
 }
 
-/// The field of `width` bits that a difference is in two's complement.
-fn field_of(difference: i64, width: u32) -> u64
+/// The field of `width` bits that a difference of so many bits is in two's complement.
+pub(crate) fn field_of(difference: i64, width: u32) -> u64
     requires positive { 0 < width }
     requires small { width ≤ 32 }
-    requires fits { FitsBits width difference }
-    ensures same { result ≡ twos_complement width difference }
+    ensures same { FitsBits width difference → result ≡ twos_complement width difference }
     ensures within { result < 2 ^ width }
 {
     difference.cast_unsigned() & (u64::MAX >> (64 - width))
 }
 
-/// The fields of so many differences of the run side by side.
+/// The fields of so many differences of the run side by side. It is called near the ends of a run alone, and is kept
+/// out of the loop over words.
+#[inline(never)]
 pub(crate) fn fields_from(
     before: Option<i32>,
     run: &[i32],
@@ -89,83 +91,29 @@ fn form_of(size: usize) -> Form
     Form { code, top, width }
 }
 
-/// The difference of a sample that is not the first.
-pub(crate) fn difference_inside(run: &[i32], at: usize) -> i64
-    requires some { 0 < at }
-    requires within { at < length run.now }
-    ensures { result ≡ difference_at run.now at }
-{
-    run[at] as i64 - run[at - 1] as i64
-}
-
-/// How many differences of the run, from this one on, stand together in a word, as many as can, where there are
-/// seven behind the first: by the bits that are set in the size of any of them.
-fn longest_inside(run: &[i32], at: usize) -> usize
-    requires some { 0 < at }
-    requires within { at + 7 ≤ length run.now }
-    ensures longest { (before : Option ℤ) → IsLongestGroup (drop at (differences before run.now)) result }
-    ensures most { result ≤ 7 }
-{
-    let one = magnitude(difference_inside(run, at));
-    let two = one | magnitude(difference_inside(run, at + 1));
-    let three = two | magnitude(difference_inside(run, at + 2));
-    if three >= 512 {
-        if two < 16_384 {
-            return 2;
-        }
-        return if one < 536_870_912 { 1 } else { 0 };
-    }
-    let four = three | magnitude(difference_inside(run, at + 3));
-    if four >= 128 {
-        return 3;
-    }
-    let five = four | magnitude(difference_inside(run, at + 4));
-    if five >= 32 {
-        return 4;
-    }
-    let six = five | magnitude(difference_inside(run, at + 5));
-    if six >= 16 {
-        return 5;
-    }
-    let seven = six | magnitude(difference_inside(run, at + 6));
-    if seven >= 8 { 6 } else { 7 }
-}
-
-/// How many differences of a segment, from this sample's on, stand together in a Steim-2 word, as many as can.
-pub fn longest_steim2_group(samples: &[i32], at: usize) -> usize
-    requires { at ≤ length samples.now }
-    ensures { IsLongestGroup (drop at (differences None samples.now)) result }
-{
-    if 0 < at && samples.len() - at >= 7 {
-        return longest_inside(samples, at);
-    }
-    longest_group(None, samples, at)
-}
-
-/// The fields of so many differences of the run side by side, where none is that of its first sample.
-pub(crate) fn fields_inside(run: &[i32], at: usize, size: usize, width: u32) -> u32
-    requires some { 0 < at }
+/// The fields of so many differences from a place of the window on, side by side.
+#[inline(always)]
+fn fields_seen(window: &Window, place: usize, size: usize, width: u32) -> u32
     requires positive { 0 < width }
     requires within { size * width ≤ 32 }
-    requires room { at + size ≤ length run.now }
-    requires fit { AllByRecursion (FitsBits width) (take size (drop at (differences None run.now))) }
-    ensures same { result ≡ joined_fields width (take size (drop at (differences None run.now))) }
+    requires room { place + size ≤ 64 }
+    requires most { size ≤ 7 }
+    ensures same { (ds : List ℤ) → AreSeen ds window.now.sizes window.now.kept place → AllByRecursion (FitsBits width) (take size ds) → result ≡ joined_fields width (take size ds) }
     ensures few { result < 2 ^ (size * width) }
 {
     let mut fields: u64 = 0;
-    for next in at..at + size {
-        fields = (fields << width) | field_of(difference_inside(run, next), width);
+    for next in 0..size {
+        fields = (fields << width) | field_of(i64::from(window.kept[place + next]), width);
     }
     fields as u32
 }
 
-/// The word of this longest group, of this form, where no difference is that of the first sample.
-fn formed(run: &[i32], at: usize, size: usize, form: Form) -> NextWord
-    requires some { 0 < at }
-    requires room { at + 7 ≤ length run.now }
+/// The word of this longest group, of this form, from a place of the window on.
+#[inline(always)]
+fn formed(window: &Window, place: usize, size: usize, form: Form) -> NextWord
+    requires room { place + 7 ≤ 64 }
     requires full { 1 ≤ size }
     requires most { size ≤ 7 }
-    requires longest { IsLongestGroup (drop at (differences None run.now)) size }
     requires width { group_width Two size ≡ Some form.width }
     requires positive { 0 < form.width }
     requires within { size * form.width ≤ 32 }
@@ -173,12 +121,12 @@ fn formed(run: &[i32], at: usize, size: usize, form: Form) -> NextWord
     requires small { form.code < 4 }
     requires top { form.top ≡ group_top Two size }
     requires space { form.top * 2 ^ 30 + 2 ^ (size * form.width) ≤ 2 ^ 32 }
-    ensures longest { IsLongestGroup (drop at (differences None run.now)) result.size }
+    ensures size { result.size ≡ size }
     ensures code { result.code ≡ group_code Two result.size }
     ensures small { result.code < 4 }
-    ensures word { result.word ≡ group_word Two (take result.size (drop at (differences None run.now))) }
+    ensures word { (ds : List ℤ) → AreSeen ds window.now.sizes window.now.kept place → IsLongestGroup ds result.size → result.word ≡ group_word Two (take result.size ds) }
 {
-    let fields = fields_inside(run, at, size, form.width);
+    let fields = fields_seen(window, place, size, form.width);
     NextWord {
         size,
         code: form.code,
@@ -186,23 +134,23 @@ fn formed(run: &[i32], at: usize, size: usize, form: Form) -> NextWord
     }
 }
 
-/// The word of the longest group from that difference on, where there are seven behind the first.
-fn word_inside(run: &[i32], at: usize) -> NextWord
-    requires some { 0 < at }
-    requires room { at + 7 ≤ length run.now }
-    ensures longest { IsLongestGroup (drop at (differences None run.now)) result.size }
+/// The word of the longest group from a place of the window on.
+#[inline(always)]
+fn word_seen(window: &Window, place: usize) -> NextWord
+    requires { place + 7 ≤ 64 }
+    ensures longest { (ds : List ℤ) → AreSeen ds window.now.sizes window.now.kept place → IsLongestGroup ds result.size }
     ensures code { result.code ≡ group_code Two result.size }
     ensures small { result.code < 4 }
-    ensures word { result.word ≡ group_word Two (take result.size (drop at (differences None run.now))) }
+    ensures word { (ds : List ℤ) → AreSeen ds window.now.sizes window.now.kept place → IsLongestGroup ds result.size → result.word ≡ group_word Two (take result.size ds) }
 {
-    match longest_inside(run, at) {
-        1 => formed(run, at, 1, form_of(1)),
-        2 => formed(run, at, 2, form_of(2)),
-        3 => formed(run, at, 3, form_of(3)),
-        4 => formed(run, at, 4, form_of(4)),
-        5 => formed(run, at, 5, form_of(5)),
-        6 => formed(run, at, 6, form_of(6)),
-        7 => formed(run, at, 7, form_of(7)),
+    match window.longest_from(place) {
+        1 => formed(window, place, 1, form_of(1)),
+        2 => formed(window, place, 2, form_of(2)),
+        3 => formed(window, place, 3, form_of(3)),
+        4 => formed(window, place, 4, form_of(4)),
+        5 => formed(window, place, 5, form_of(5)),
+        6 => formed(window, place, 6, form_of(6)),
+        7 => formed(window, place, 7, form_of(7)),
         _ => NextWord {
             size: 0,
             code: 0,
@@ -211,17 +159,14 @@ fn word_inside(run: &[i32], at: usize) -> NextWord
     }
 }
 
-/// The word of the longest group from that difference on.
-fn next_word(before: Option<i32>, run: &[i32], at: usize) -> NextWord
+/// The word of the longest group from that difference on, of differences taken one after another.
+fn word_outside(before: Option<i32>, run: &[i32], at: usize) -> NextWord
     requires { at ≤ length run.now }
     ensures longest { IsLongestGroup (drop at (differences before run.now)) result.size }
     ensures code { result.code ≡ group_code Two result.size }
     ensures small { result.code < 4 }
     ensures word { result.word ≡ group_word Two (take result.size (drop at (differences before run.now))) }
 {
-    if 0 < at && run.len() - at >= 7 {
-        return word_inside(run, at);
-    }
     let size = longest_group(before, run, at);
     if size == 0 {
         return NextWord {
@@ -239,6 +184,23 @@ fn next_word(before: Option<i32>, run: &[i32], at: usize) -> NextWord
     }
 }
 
+/// The word of the longest group from that difference on.
+#[inline(always)]
+fn next_word(before: Option<i32>, run: &[i32], window: &mut Window, at: usize) -> NextWord
+    requires within { at ≤ length run.now }
+    requires window { IsWindow run.now at window.old }
+    ensures window { IsWindow run.now at window.new }
+    ensures longest { IsLongestGroup (drop at (differences before run.now)) result.size }
+    ensures code { result.code ≡ group_code Two result.size }
+    ensures small { result.code < 4 }
+    ensures word { result.word ≡ group_word Two (take result.size (drop at (differences before run.now))) }
+{
+    if window.reaches(run, at) {
+        return word_seen(window, at - window.first);
+    }
+    word_outside(before, run, at)
+}
+
 /// Writes a word, big-endian, at its number.
 pub(crate) fn put_word(area: &mut [u8], number: usize, word: u32)
     requires { 4 * number + 4 ≤ length area.old }
@@ -247,8 +209,25 @@ pub(crate) fn put_word(area: &mut [u8], number: usize, word: u32)
     BigEndian::write_u32(&mut area[4 * number..], word);
 }
 
+/// Writes the constants behind the codes of the first frame, and gives how many words of this frame they take.
+fn put_constants(area: &mut [u8], frame: usize, first: u32, last: u32) -> usize
+    requires { 64 * frame + 64 ≤ length area.old }
+    ensures most { result ≤ 2 }
+    ensures first { frame ≡ 0 → let one = take (4 * (16 * frame + 1)) area.old ++ (big_bytes 4 first ++ drop (4 * (16 * frame + 1) + 4) area.old) in
+        (result ≡ 2) × (area.new ≡ take (4 * (16 * frame + 2)) one ++ (big_bytes 4 last ++ drop (4 * (16 * frame + 2) + 4) one)) }
+    ensures others { 0 < frame → (result ≡ 0) × (area.new ≡ area.old) }
+{
+    if frame > 0 {
+        return 0;
+    }
+    put_word(area, 16 * frame + 1, first);
+    put_word(area, 16 * frame + 2, last);
+    2
+}
+
 /// Fills the area, of whole frames, with the words of the run's differences, big-endian: each group in turn is the
 /// longest, and the constants are the first and the last sample. Gives the number of groups.
+#[inline(never)]
 pub fn fill_steim2(before: Option<i32>, run: &[i32], area: &mut [u8]) -> usize
     requires some { 1 ≤ length run.now }
     requires frames { length area.old % 64 ≡ 0 }
@@ -257,19 +236,15 @@ pub fn fill_steim2(before: Option<i32>, run: &[i32], area: &mut [u8]) -> usize
 {
     let first = run[0].cast_unsigned();
     let last = run[run.len() - 1].cast_unsigned();
+    let mut window = Window::new();
     let mut at = 0;
     let mut used = 0;
     for frame in 0..area.len() / 64 {
         let mut codes: u32 = 0;
         put_word(area, 16 * frame, 0);
-        for slot in 0..15 {
-            let number = 16 * frame + slot + 1;
-            if number < 3 {
-                put_word(area, number, if number == 1 { first } else { last });
-                continue;
-            }
-            let next = next_word(before, run, at);
-            put_word(area, number, next.word);
+        for slot in put_constants(area, frame, first, last)..15 {
+            let next = next_word(before, run, &mut window, at);
+            put_word(area, 16 * frame + slot + 1, next.word);
             codes = codes * 4 + next.code;
             at += next.size;
             if next.size > 0 {

@@ -6,12 +6,12 @@ ghost use Rattle.msr_words.specs.Lengths.{bytes_of};
 ghost use Rattle.msr_steim.specs.declared.word.Version.TheVariants.{One, Two};
 ghost use Rattle.msr_words.specs.Segment.{points, run_points, differences, difference_at, difference_from};
 ghost use Rattle.msr_words.specs.Division.{CanDivide};
-ghost use Rattle.msr_words.specs.Groups.{IsLongestGroup};
+ghost use Rattle.msr_words.specs.Groups.{IsCapacity, IsLongestGroup};
 ghost use Rattle.msr_words.specs.Laws.{DominanceLaw, look_back_of, most_of};
 ghost use Rattle.msr_words.specs.Fit.{Fits, FitsAny, FitsSteim, IsRun, IsFirstKind, code_of};
 ghost use Rattle.msr_words.specs.RecordLength.{words_of};
 
-use crate::counts::{LeastCounts, steim2_capacity};
+use crate::counts::{LeastCounts, magnitude};
 use crate::lengths::Length;
 
 /// What a record holds.
@@ -105,6 +105,23 @@ fn fits_steim1(before: Option<i32>, run: &[i32], words: u32) -> bool
     true
 }
 
+/// The capacity of a Steim-2 word as `steim2_capacity` has it, by a few tests: few differences come here.
+fn tested_capacity(diff: i64) -> u8
+    ensures { IsCapacity diff result }
+{
+    let size = magnitude(diff);
+    if size < 128 {
+        if size < 16 {
+            return if size < 8 { 7 } else { 6 };
+        }
+        return if size < 32 { 5 } else { 4 };
+    }
+    if size < 16_384 {
+        return if size < 512 { 3 } else { 2 };
+    }
+    if size < 536_870_912 { 1 } else { 0 }
+}
+
 /// How many differences of the run, from this one on, stand together in a Steim-2 word, as many as can.
 pub(crate) fn longest_group(before: Option<i32>, run: &[i32], at: usize) -> usize
     requires { at ≤ length run.now }
@@ -112,7 +129,7 @@ pub(crate) fn longest_group(before: Option<i32>, run: &[i32], at: usize) -> usiz
 {
     let mut most = 7;
     for next in at..run.len() {
-        most = steim2_capacity(difference_after(before, run, next)).min(most);
+        most = tested_capacity(difference_after(before, run, next)).min(most);
         if next - at >= usize::from(most) {
             return next - at;
         }

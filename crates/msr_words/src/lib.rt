@@ -13,6 +13,7 @@ mod lengths;
 mod steim1_filling;
 #[cfg(test)]
 mod tests;
+mod window;
 
 pub use any_kind::AnyKind;
 pub use bounds::{
@@ -21,7 +22,8 @@ pub use bounds::{
 pub use codecs::{Codec, Int16, Int32, Steim1, Steim2, Tracker};
 pub use counts::{fits_bits, is_narrow, magnitude, quarters_of, wide_one};
 pub use division::{groups, one_division};
-pub use filling::{fill_steim2, longest_steim2_group};
+pub use filling::fill_steim2;
 pub use kinds::{Kind, Run, difference, first_kind, run_fits, steim2_dominates};
 pub use lengths::Length;
 pub use steim1_filling::fill_steim1;
+pub use window::Window;

@@ -3,16 +3,25 @@
 ghost use Rattle.std.specs.Prelude.{◌≡◌, ◌<◌, ◌≤◌, ◌+◌, ◌-◌, ◌*◌, ◌/◌, ◌%◌, ◌^◌, ℕ, ℤ, List, IfOk, None, Some, length, drop, take};
 ghost use Rattle.std.specs.List.{AllByRecursion};
 ghost use Rattle.msr_steim.specs.declared.word.Version.TheVariants.{One};
-ghost use Rattle.msr_steim.specs.Word.{FitsBits, IsGroup, group_code, group_width, group_word, padding_of};
+ghost use Rattle.msr_steim.specs.Word.{FitsBits, IsGroup, group_code, group_width, group_word, joined_fields, padding_of};
 ghost use Rattle.msr_words.specs.Division.{CanDivide};
 ghost use Rattle.msr_words.specs.Filled.{IsFilledArea};
 ghost use Rattle.msr_words.specs.FirstGroup.{AreSizes, IsCanonicalFirst};
-ghost use Rattle.msr_words.specs.Segment.{differences};
+ghost use Rattle.msr_words.specs.Segment.{difference_at, differences};
 
-use crate::filling::{NextWord, difference_inside, fields_from, fields_inside, put_word};
+use crate::filling::{NextWord, field_of, fields_from, put_word};
 use crate::first_group::Following;
 use crate::kinds::difference_after;
 use std::alloc::{AllocError, Global};
+
+/// The difference of a sample that is not the first.
+fn difference_inside(run: &[i32], at: usize) -> i64
+    requires some { 0 < at }
+    requires within { at < length run.now }
+    ensures { result ≡ difference_at run.now at }
+{
+    run[at] as i64 - run[at - 1] as i64
+}
 
 /// For each difference of the run the size of the group that begins there in the division that is written.
 fn sizes_of(alloc: Global, before: Option<i32>, run: &[i32]) -> Result<Vec<u8>, AllocError>
@@ -59,6 +68,23 @@ fn form_of(size: usize) -> Form
     Form { code, width, left }
 }
 
+/// The fields of so many differences of the run side by side, where none is that of its first sample.
+fn fields_inside(run: &[i32], at: usize, size: usize, width: u32) -> u32
+    requires some { 0 < at }
+    requires positive { 0 < width }
+    requires within { size * width ≤ 32 }
+    requires room { at + size ≤ length run.now }
+    requires fit { AllByRecursion (FitsBits width) (take size (drop at (differences None run.now))) }
+    ensures same { result ≡ joined_fields width (take size (drop at (differences None run.now))) }
+    ensures few { result < 2 ^ (size * width) }
+{
+    let mut fields: u64 = 0;
+    for next in at..at + size {
+        fields = (fields << width) | field_of(difference_inside(run, next), width);
+    }
+    fields as u32
+}
+
 /// The word of this group, of this form, where no difference is that of the first sample.
 fn formed(run: &[i32], at: usize, size: usize, form: Form) -> NextWord
     requires some { 0 < at }
@@ -79,7 +105,7 @@ fn formed(run: &[i32], at: usize, size: usize, form: Form) -> NextWord
     NextWord {
         size,
         code: form.code,
-        word: ((u64::from(fields) << form.left) as u32),
+        word: (u64::from(fields) << form.left) as u32,
     }
 }
 
@@ -122,7 +148,7 @@ fn word_of(before: Option<i32>, run: &[i32], at: usize, size: usize) -> NextWord
     NextWord {
         size,
         code: form.code,
-        word: ((u64::from(fields) << form.left) as u32),
+        word: (u64::from(fields) << form.left) as u32,
     }
 }
 

@@ -1,8 +1,8 @@
 //! Runs worked out by hand, by the trackers, by `Kind::fits` and by `groups`.
 
 use crate::{
-    AnyKind, Codec, Int16, Int32, Kind, Length, Run, Steim1, Steim2, Tracker, difference,
-    first_kind, groups, one_division, run_fits,
+    AnyKind, Codec, Int16, Int32, Kind, Length, Run, Steim1, Steim2, Tracker, Window, difference,
+    fill_steim2, first_kind, groups, one_division, run_fits,
 };
 use msr_steim::Version;
 use std::alloc::{AllocError, Global};
@@ -278,5 +278,80 @@ fn sevens_fill_a_record(rt: HostRuntime) -> Result<(), Fail> {
     let found = divided(rt.alloc(), Version::Two, &zeros[..301])?.ok_or("no division")?;
     assert_eq!(rt; found.len(), 43);
     assert!(rt; divided(rt.alloc(), Version::Two, &zeros)?.is_none());
+    Ok(())
+}
+
+/// Ten steps of each of these heights in turn, then of -1, and two samples as far apart as can be.
+fn stairs(alloc: Global) -> Result<Vec<i32>, AllocError> {
+    let mut samples = Vec::new(alloc);
+    let mut sample = 0i32;
+    for step in [1, 10, 20, 100, 500, 10_000, 100_000, -1, -1, -1] {
+        for _ in 0..10 {
+            samples.push(sample)?;
+            sample = sample.wrapping_add(step);
+        }
+    }
+    samples.push(2_147_483_647)?;
+    samples.push(-2_147_483_648)?;
+    for _ in 0..10 {
+        samples.push(0)?;
+    }
+    Ok(samples)
+}
+
+#[test]
+fn the_longest_groups(rt: HostRuntime) -> Result<(), Fail> {
+    let samples = stairs(rt.alloc())?;
+    for (at, size) in [
+        (0, 7),
+        (1, 7),
+        (8, 6),
+        (11, 6),
+        (21, 5),
+        (31, 4),
+        (41, 3),
+        (51, 2),
+        (61, 1),
+        (93, 7),
+        (96, 4),
+        (99, 1),
+        (100, 0),
+        (101, 0),
+        (102, 0),
+        (103, 7),
+        (108, 4),
+        (112, 0),
+    ] {
+        assert!(rt; at <= samples.len());
+        let mut window = Window::new();
+        let found = window.longest_steim2_group(&samples, at);
+        assert_eq!(rt; found, size, "{at}");
+    }
+    Ok(())
+}
+
+/// 100 samples that rise by one: fourteen words of seven differences, the first of which is 0, and one of two.
+#[test]
+fn an_area_of_steim2(rt: HostRuntime) -> Result<(), Fail> {
+    let mut samples = Vec::new(rt.alloc());
+    for sample in 0..100 {
+        samples.push(sample)?;
+    }
+    let mut area = [255; 192];
+    assert_eq!(rt; fill_steim2(None, &samples, &mut area), 15);
+    let mut expected = Vec::new(rt.alloc());
+    for word in [0x03FF_FFFFu32, 0, 99, 0x8011_1111] {
+        expected.extend_from_slice(&word.to_be_bytes())?;
+    }
+    for _ in 0..12 {
+        expected.extend_from_slice(&0x8111_1111u32.to_be_bytes())?;
+    }
+    for word in [0x3800_0000u32, 0x8111_1111, 0x8000_8001] {
+        expected.extend_from_slice(&word.to_be_bytes())?;
+    }
+    for _ in 0..116 {
+        expected.push(0)?;
+    }
+    assert!(rt; area.as_slice() == expected.as_slice());
     Ok(())
 }

@@ -1,10 +1,11 @@
 -- Word by word, until no group begins or no word is left.
-use Rattle.std.proofs.Common.{arith, ◌≡◌, ◌+◌, ◌-◌, suc, None, drop, length, refl, subst}
+use Rattle.std.proofs.Common.{arith, ◌≡◌, ◌+◌, ◌-◌, suc, None, drop, refl, subst}
 use Rattle.msr_words.specs.Bounds.{IsGreedyReach}
 use Rattle.msr_words.specs.Groups.{IsLongestGroup}
 use Rattle.msr_words.specs.RecordLength.{words_of}
 use Rattle.msr_words.specs.Segment.{differences}
 use Rattle.msr_words.proofs.GreedyReach.{none_reached}
+use Rattle.msr_words.proofs.Windows.{window_on}
 use Rattle.msr_packer.proofs.Narrow.{none_narrow}
 use Rattle.msr_packer.proofs.Reach.{IsWalked, group_narrow, narrow_through, walk_begins, walk_fits, walk_furthest, walk_more}
 use Rattle.msr_packer.proofs.step.steim2_reach.Goals as goal
@@ -14,6 +15,7 @@ loop-word-init c =
     let all : c.data_words-words.result ≡ c.data_words-words.result - 0 = omega arith in
     record {
       walked = subst (λ n. IsWalked c.data_words-words.result n c.args.samples.now c.args.start c.args.start) all (walk_begins c.data_words-words.result c.args.samples.now c.args.start c.requires);
+      window = c.new-window.ensures c.args.samples.now c.args.start;
       small = λ some. none_narrow c.args.samples.now c.args.start;
     }
 
@@ -23,9 +25,10 @@ loop-word-preserved c =
     let left : words - c.loop-word._word ≡ suc (words - (c.loop-word._word + 1)) = omega arith in
     let walked = c.loop-word.invariant.walked in
     record {
-      walked = walk_more words (words - (c.loop-word._word + 1)) c.args.samples.now c.args.start c.loop-word.at c.longest_steim2_group-size.result c.longest_steim2_group-size.ensures
+      walked = walk_more words (words - (c.loop-word._word + 1)) c.args.samples.now c.args.start c.loop-word.at c.longest_steim2_group-size.result c.longest_steim2_group-size.ensures.longest
           (subst (λ n. IsWalked words n c.args.samples.now c.args.start c.loop-word.at) left walked);
-      small = λ some. group_narrow c.args.samples.now c.args.start c.loop-word.at c.longest_steim2_group-size.result walked.from walked.within c.longest_steim2_group-size.ensures
+      window = window_on c.args.samples.now c.loop-word.at (c.loop-word.at + c.longest_steim2_group-size.result) c.longest_steim2_group-size.new.self (omega arith) c.longest_steim2_group-size.ensures.window;
+      small = λ some. group_narrow c.args.samples.now c.args.start c.loop-word.at c.longest_steim2_group-size.result walked.from walked.within c.longest_steim2_group-size.ensures.longest
           (omega (arith, c.min-least.ensures)) (c.loop-word.invariant.small (omega (arith, c.min-least.ensures)));
     }
 
@@ -37,7 +40,7 @@ returns-then-size-eq0 c =
     let at = c.loop-word.at in
     let xs = drop c.loop-word.at (differences None c.args.samples.now) in
     let none : IsLongestGroup (drop c.loop-word.at (differences None c.args.samples.now)) 0 =
-    subst (IsLongestGroup (drop c.loop-word.at (differences None c.args.samples.now))) c.if-size-eq0.true c.longest_steim2_group-size.ensures in
+    subst (IsLongestGroup (drop c.loop-word.at (differences None c.args.samples.now))) c.if-size-eq0.true c.longest_steim2_group-size.ensures.longest in
     let walked = c.loop-word.invariant.walked in
     let is : IsWalked (words_of bytes) (words - c.loop-word._word) samples c.args.start at =
     subst (λ w. IsWalked w (words - c.loop-word._word) c.args.samples.now c.args.start c.loop-word.at) c.data_words-words.ensures.same walked in

@@ -1,5 +1,6 @@
 -- The words that are filled, and whether their groups are of two or more.
 use Rattle.std.proofs.Common.{◌-◌, ◌<◌}
+use Rattle.msr_words.specs.Window.{IsWindow}
 use Rattle.msr_packer.specs.Steps.{AreNarrow}
 use Rattle.msr_packer.proofs.Reach.{IsWalked}
 use Rattle.msr_packer.proofs.step.steim2_reach.Given as goal
@@ -7,5 +8,6 @@ use Rattle.msr_packer.proofs.step.steim2_reach.Given as goal
 abbrev pub invariant-loop-word : goal.invariant-loop-word
 invariant-loop-word l = record {
   walked : IsWalked l.words (l.words - l._word) l.samples l.start l.at;
+  window : IsWindow l.samples l.at l.window;
   small : 1 < l.least → AreNarrow l.samples l.start l.at;
 }

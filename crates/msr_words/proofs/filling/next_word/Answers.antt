@@ -1,25 +1,17 @@
--- The group has a form, and its word is made of its fields.
-use Rattle.std.proofs.Common.{arith, ◌≡◌, take, subst}
-use Rattle.std.proofs.lemmas.List.{length-drop}
+-- The window has the differences from there on.
+use Rattle.std.proofs.Common.{◌-◌, drop}
 use Rattle.msr_words.specs.Segment.{differences}
-use Rattle.msr_words.proofs.Plain.{length_differences}
-use Rattle.msr_steim.specs.declared.word.Version.TheVariants.{Two}
-use Rattle.msr_steim.specs.Word.{group_word}
-use Rattle.msr_words.specs.Groups.{IsLongestGroup}
-use Rattle.msr_words.proofs.FillSizes.{inside_same}
+use Rattle.msr_words.specs.Window.{AreSeen}
+use Rattle.msr_words.proofs.Windows.{window_seen}
 use Rattle.msr_words.proofs.filling.next_word.Goals as goal
 
-pub fields_from-fields-requires-clause-room : goal.fields_from-fields-requires-clause-room
-fields_from-fields-requires-clause-room c =
-    let long = length_differences c.args.before c.args.run.now in
-    let l = length-drop c.args.at (differences c.args.before c.args.run.now) in
-    let w = c.longest_group-size.ensures.within in
-    omega (arith, c.requires)
+seen : (c : goal.After-word_seen) → AreSeen (drop c.args.at (differences c.args.before c.args.run.now)) c.reaches.new.self.sizes c.reaches.new.self.kept (c.args.at - c.reaches.new.self.first)
+seen c = window_seen c.args.run.now c.args.at c.reaches.new.self c.args.before c.reaches.ensures.window (c.reaches.ensures.seven c.if-reaches.true)
 
-pub returns-then-run-at-ge7-clause-longest : goal.returns-then-run-at-ge7-clause-longest
-returns-then-run-at-ge7-clause-longest c =
-    subst (λ xs. IsLongestGroup xs c.word_inside.result.size) (inside_same c.args.before c.args.run.now c.args.at (omega arith)) c.word_inside.ensures.longest
+pub returns-then-reaches-clause-longest : goal.returns-then-reaches-clause-longest
+returns-then-reaches-clause-longest c = c.word_seen.ensures.longest (drop c.args.at (differences c.args.before c.args.run.now)) (seen c)
 
-pub returns-then-run-at-ge7-clause-word : goal.returns-then-run-at-ge7-clause-word
-returns-then-run-at-ge7-clause-word c =
-    subst (λ xs. c.word_inside.result.word ≡ group_word Two (take c.word_inside.result.size xs)) (inside_same c.args.before c.args.run.now c.args.at (omega arith)) c.word_inside.ensures.word
+pub returns-then-reaches-clause-word : goal.returns-then-reaches-clause-word
+returns-then-reaches-clause-word c =
+    let ds = drop c.args.at (differences c.args.before c.args.run.now) in
+    c.word_seen.ensures.word ds (seen c) (c.word_seen.ensures.longest ds (seen c))

@@ -3,7 +3,7 @@ use Rattle.std.proofs.Common.{arith, ◌≡◌, ◌∷◌, ◌-◌, ◌+◌, bit
 use Rattle.std.proofs.lemmas.Int.{to_z-of_z}
 use Rattle.std.proofs.lemmas.Nat.{le_or_l}
 use Rattle.msr_words.specs.FirstGroup.{IsFirstGroup}
-use Rattle.msr_words.proofs.FillSizes.{HasSize}
+use Rattle.msr_words.specs.Window.{IsSize}
 use Rattle.msr_words.proofs.FirstGroups.{first_of, least_of}
 use Rattle.msr_words.proofs.GroupSizes.{four_is, pair_is, size_here, size_later, triple_is}
 use Rattle.msr_words.proofs.first_group.Following.behind.Goals as goal
@@ -17,7 +17,7 @@ first_group-found-requires-clause-triple c = le_or_l (bit_or (bit_or c.magnitude
 pub returns-clause-following : goal.returns-clause-following
 returns-clause-following c ds is =
     let self = c.args.self in
-    let size : HasSize c.args.difference c.magnitude-size.result = (let fits = c.ranges.difference in simp to_z-of_z at c.magnitude-size.ensures) in
+    let size : IsSize c.args.difference c.magnitude-size.result = (let fits = c.ranges.difference in simp to_z-of_z at c.magnitude-size.ensures) in
     let found : IsFirstGroup (c.args.difference ∷ ds) c.first_group-found.result.size c.first_group-found.result.after =
     first_of c.args.difference ds self.all self.one self.two self.three _ _ _ c.first_group-found.result.size c.first_group-found.result.after c.requires.fits c.first_group-found.ensures
     is.all_is is.one_is is.two_is is.three_is
@@ -37,7 +37,7 @@ returns-clause-following c ds is =
 pub returns-clause-group : goal.returns-clause-group
 returns-clause-group c ds is =
     let self = c.args.self in
-    let size : HasSize c.args.difference c.magnitude-size.result = (let fits = c.ranges.difference in simp to_z-of_z at c.magnitude-size.ensures) in
+    let size : IsSize c.args.difference c.magnitude-size.result = (let fits = c.ranges.difference in simp to_z-of_z at c.magnitude-size.ensures) in
     let found : IsFirstGroup (c.args.difference ∷ ds) c.first_group-found.result.size c.first_group-found.result.after =
     first_of c.args.difference ds self.all self.one self.two self.three _ _ _ c.first_group-found.result.size c.first_group-found.result.after c.requires.fits c.first_group-found.ensures
     is.all_is is.one_is is.two_is is.three_is

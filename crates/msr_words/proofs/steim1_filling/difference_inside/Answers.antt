@@ -1,7 +1,7 @@
 use Rattle.std.proofs.Common.{arith, ◌<◌}
 use Rattle.std.proofs.lemmas.Int.{ints}
 use Rattle.msr_words.proofs.Pushes.{difference_at_later}
-use Rattle.msr_words.proofs.filling.difference_inside.Goals as goal
+use Rattle.msr_words.proofs.steim1_filling.difference_inside.Goals as goal
 
 pub returns : goal.returns
 returns c =

@@ -6,19 +6,7 @@ use Rattle.msr_steim.specs.Word.{FitsBits, joined_fields, twos_complement}
 use Rattle.msr_words.specs.Segment.{differences}
 use Rattle.msr_words.proofs.Plain.{difference_behind, length_differences}
 use Rattle.msr_words.proofs.FillFields.{all_lt, fields_more, fits_there}
-use Rattle.msr_words.proofs.filling.fields_inside.Goals as goal
-
-pub field_of-requires-clause-fits : goal.field_of-requires-clause-fits
-field_of-requires-clause-fits c =
-    let xs = drop c.args.at (differences None c.args.run.now) in
-    let diff : SFits w64 c.difference_inside.result = search rules in
-    let long = length_differences None c.args.run.now in
-    let l = length-drop c.args.at (differences None c.args.run.now) in
-    let here : get_or (drop c.args.at (differences None c.args.run.now)) (c.loop-next.next - c.args.at) (pos 0) ≡ c.difference_inside.result =
-    difference_behind None c.args.run.now c.args.at c.loop-next.next (omega arith) (omega arith) ∙ sym c.difference_inside.ensures in
-    let fits : FitsBits c.args.width c.difference_inside.result = subst (FitsBits c.args.width) here
-    (fits_there c.args.width c.args.size xs c.requires.positive c.requires.within (omega (arith, c.requires.room)) c.requires.fit (c.loop-next.next - c.args.at) (omega arith)) in
-    simp to_z-of_z fits
+use Rattle.msr_words.proofs.steim1_filling.fields_inside.Goals as goal
 
 pub loop-next-preserved : goal.loop-next-preserved
 loop-next-preserved c =
@@ -29,7 +17,10 @@ loop-next-preserved c =
     let l = length-drop c.args.at (differences None c.args.run.now) in
     let here : get_or (drop c.args.at (differences None c.args.run.now)) (c.loop-next.next - c.args.at) (pos 0) ≡ c.difference_inside.result =
     difference_behind None c.args.run.now c.args.at c.loop-next.next (omega arith) (omega arith) ∙ sym c.difference_inside.ensures in
-    let field : c.field_of.result ≡ twos_complement c.args.width c.difference_inside.result = simp to_z-of_z at c.field_of.ensures.same in
+    let fits : FitsBits c.args.width c.difference_inside.result = subst (FitsBits c.args.width) here
+    (fits_there c.args.width c.args.size xs c.requires.positive c.requires.within (omega (arith, c.requires.room)) c.requires.fit (c.loop-next.next - c.args.at) (omega arith)) in
+    let same = simp to_z-of_z at c.field_of.ensures.same in
+    let field : c.field_of.result ≡ twos_complement c.args.width c.difference_inside.result = same fits in
     let one : (c.loop-next.next - c.args.at) + 1 ≡ c.loop-next.next + 1 - c.args.at = omega arith in
     let more = fields_more c.args.width c.args.size xs c.requires.positive c.requires.within (omega (arith, c.requires.room)) c.requires.fit i c.loop-next.fields c.field_of.result (omega arith) c.loop-next.invariant (rw here field) in
     subst (λ n. bit_or ((c.loop-next.fields * 2 ^ c.args.width) % 2 ^ 64) c.field_of.result ≡ joined_fields c.args.width (take n (drop c.args.at (differences None c.args.run.now)))) one more

@@ -1,0 +1,133 @@
+//! Differences with their sizes, taken a stretch at a time: a loop over places that are there takes a fraction of the
+//! instructions of one difference after another.
+
+ghost use Rattle.std.specs.Prelude.{◌≡◌, ◌<◌, ◌≤◌, ◌+◌, ◌-◌, ◌-ℤ◌, ℕ, ℤ, List, None, IsTrue, drop, length};
+ghost use Rattle.msr_words.specs.Groups.{IsLongestGroup};
+ghost use Rattle.msr_words.specs.Segment.{differences};
+ghost use Rattle.msr_words.specs.Window.{AreSeen, IsSize, IsWindow};
+
+use crate::kinds::longest_group;
+
+/// How many differences a window has.
+const PLACES: usize = 64;
+
+/// The differences of the samples from `first` to `end - 1`, with their sizes; at first of none.
+#[derive(Debug, Drop)]
+pub struct Window {
+    pub(crate) first: usize,
+    pub(crate) end: usize,
+    pub(crate) sizes: [u32; 64],
+    pub(crate) kept: [i32; 64],
+}
+
+/// The size of the difference of a sample from the one before it: how far it is from 0, or from -1 where it is
+/// negative.
+fn size_after(before: i32, sample: i32) -> u32
+    ensures { IsSize (sample -ℤ before) result }
+{
+    let difference = sample as i64 - before as i64;
+    if sample < before {
+        (-(difference + 1)) as u32
+    } else {
+        difference as u32
+    }
+}
+
+impl Window {
+    /// A window of no differences.
+    pub fn new() -> Window
+        ensures { (samples : List ℤ) (at : ℕ) → IsWindow samples at result }
+    {
+        Window {
+            first: 0,
+            end: 0,
+            sizes: [0; PLACES],
+            kept: [0; PLACES],
+        }
+    }
+
+    /// Takes the differences of the samples from `first` on.
+    #[inline(always)]
+    fn take(&mut self, samples: &[i32], first: usize)
+        requires some { 0 < first }
+        requires room { first + 64 ≤ length samples.now }
+        ensures window { IsWindow samples.now first self.new }
+        ensures first { self.new.first ≡ first }
+        ensures end { self.new.end ≡ first + 64 }
+    {
+        for place in 0..PLACES {
+            let before = samples[first + place - 1];
+            let sample = samples[first + place];
+            self.sizes[place] = size_after(before, sample);
+            self.kept[place] = sample.wrapping_sub(before);
+        }
+        self.first = first;
+        self.end = first + PLACES;
+    }
+
+    /// Whether the window has the differences of a sample and of the next six. It moves on where it has not, and
+    /// there are samples enough.
+    #[inline(always)]
+    pub(crate) fn reaches(&mut self, samples: &[i32], at: usize) -> bool
+        requires within { at ≤ length samples.now }
+        requires window { IsWindow samples.now at self.old }
+        ensures window { IsWindow samples.now at self.new }
+        ensures some { IsTrue result → 0 < at }
+        ensures seven { IsTrue result → at + 7 ≤ self.new.end }
+    {
+        if at + 7 <= self.end {
+            return true;
+        }
+        if at == 0 || samples.len() <= PLACES || samples.len() - at < 7 {
+            return false;
+        }
+        self.take(samples, at.min(samples.len() - PLACES));
+        true
+    }
+
+    /// How many differences from a place on stand together in a word, as many as can: by the bits that are set in the
+    /// size of any of them.
+    #[inline(always)]
+    pub(crate) fn longest_from(&self, place: usize) -> usize
+        requires { place + 7 ≤ 64 }
+        ensures longest { (ds : List ℤ) → AreSeen ds self.now.sizes self.now.kept place → IsLongestGroup ds result }
+        ensures most { result ≤ 7 }
+    {
+        let one = self.sizes[place];
+        let two = one | self.sizes[place + 1];
+        let three = two | self.sizes[place + 2];
+        if three >= 512 {
+            if two < 16_384 {
+                return 2;
+            }
+            return if one < 536_870_912 { 1 } else { 0 };
+        }
+        let four = three | self.sizes[place + 3];
+        if four >= 128 {
+            return 3;
+        }
+        let five = four | self.sizes[place + 4];
+        if five >= 32 {
+            return 4;
+        }
+        let six = five | self.sizes[place + 5];
+        if six >= 16 {
+            return 5;
+        }
+        let seven = six | self.sizes[place + 6];
+        if seven >= 8 { 6 } else { 7 }
+    }
+
+    /// How many differences of the segment, from this sample's on, stand together in a Steim-2 word, as many as can.
+    pub fn longest_steim2_group(&mut self, samples: &[i32], at: usize) -> usize
+        requires within { at ≤ length samples.now }
+        requires window { IsWindow samples.now at self.old }
+        ensures window { IsWindow samples.now at self.new }
+        ensures longest { IsLongestGroup (drop at (differences None samples.now)) result }
+    {
+        if self.reaches(samples, at) {
+            return self.longest_from(at - self.first);
+        }
+        longest_group(None, samples, at)
+    }
+}
