@@ -1,5 +1,5 @@
 -- Word by word, until no group begins or no word is left.
-use Rattle.std.proofs.Common.{arith, ◌≡◌, ◌+◌, ◌-◌, suc, None, drop, length, refl, subst}
+use Rattle.std.proofs.Common.{arith, ◌≡◌, ◌+◌, ◌-◌, suc, None, drop, refl, subst}
 use Rattle.msr_words.specs.Bounds.{IsGreedyReach}
 use Rattle.msr_words.specs.Groups.{IsLongestGroup}
 use Rattle.msr_words.specs.RecordLength.{words_of}
