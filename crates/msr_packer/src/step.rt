@@ -1,6 +1,6 @@
 //! One record more: how far a record reaches that starts at or before a frontier.
 
-ghost use Rattle.std.specs.Prelude.{pos, slice_index_or, ◌≡◌, ℕ, ◌+◌, ◌-◌, ◌^◌, ◌<◌, ◌≤◌, ◌⊎◌, ◌∷◌, [], length, List, IsTrue, IsFalse, IfSome, map, count_by, sum_by};
+ghost use Rattle.std.specs.Prelude.{pos, slice_index_or, ◌-ℤ◌, ◌≡◌, ℕ, ◌+◌, ◌-◌, ◌^◌, ◌<◌, ◌≤◌, ◌⊎◌, ◌∷◌, [], length, List, IsTrue, IsFalse, IfSome, map, count_by, sum_by};
 ghost use Rattle.msr_words.specs.declared.kinds.Kind.{Kind};
 ghost use Rattle.msr_words.specs.declared.kinds.Kind.TheVariants.{Int16 as Integers16, Int32 as Integers32, Steim1 as FirstSteim, Steim2 as SecondSteim};
 ghost use Rattle.msr_words.specs.Bounds.{BeginsWithFour, IsEnd, IsInt16, is_wide, quarters};
@@ -55,6 +55,24 @@ pub struct Found {
     pub ends: Ends,
 }
 
+/// The sample from which the difference of this one is taken: the one before it, or the first itself.
+fn sample_before(samples: &[i32], at: usize) -> i32
+    requires { at ≤ length samples.now }
+    ensures { at < length samples.now → difference_at samples.now at ≡ slice_index_or samples.now at (pos 0) -ℤ result }
+{
+    if at > 0 {
+        return samples[at - 1];
+    }
+    if samples.is_empty() { 0 } else { samples[0] }
+}
+
+/// The difference of a sample from the one before it.
+fn difference_between(before: i32, sample: i32) -> i64
+    ensures { result ≡ sample -ℤ before }
+{
+    sample as i64 - before as i64
+}
+
 /// The greatest end of a run from `start` on that fits.
 fn furthest<C: Tracker + Drop>(samples: &[i32], record_length: Length, start: usize) -> usize
     requires { start ≤ length samples.now }
@@ -62,10 +80,13 @@ fn furthest<C: Tracker + Drop>(samples: &[i32], record_length: Length, start: us
     ensures furthest { (end : ℕ) → IsRun (C.fits (bytes_of record_length)) samples.now start end → end ≤ result }
 {
     let mut tracker = C::start(record_length);
+    let mut last = sample_before(samples, start);
     for at in start..samples.len() {
-        if !tracker.push(samples[at], difference(samples, at)) {
+        let sample = samples[at];
+        if !tracker.push(sample, difference_between(last, sample)) {
             return at;
         }
+        last = sample;
     }
     samples.len()
 }

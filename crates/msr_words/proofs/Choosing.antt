@@ -3,7 +3,7 @@ use Rattle.std.proofs.Common.{◌≡◌, ◌<◌, ◌≤◌, ℕ, suc, ◌+◌, 
 use Rattle.std.specs.Prelude.{IsSomeAnd, IfSome}
 use Rattle.std.specs.List.{AllByRecursion}
 use Rattle.std.proofs.lemmas.Bool.Decides.{nat_tests}
-use Rattle.std.proofs.lemmas.List.{take-append-drop, take_all, length-take-le, take_at, drop_at, map-append}
+use Rattle.std.proofs.lemmas.List.{take-append-drop, take_all, take_at, drop_at, map-append}
 use Rattle.arrayvec.specs.ArrayVec.{ArrayVec}
 use Rattle.msr_steim.specs.declared.word.Version.{Version}
 use Rattle.msr_steim.specs.declared.word.Version.TheVariants.{One, Two}
@@ -48,12 +48,6 @@ divides_can version n size ds d = record {
   few = omega (arith, d.can.few, d.some);
 }
 
-can_more : (version : Version) (m n : ℕ) (ds : List ℤ) → m ≤ n → CanDivide version m ds → CanDivide version n ds
-can_more version m n ds le c = record { groups = c.groups; are_groups = c.are_groups; join = c.join; few = omega (arith, c.few) }
-
-pub divides_more : (version : Version) (m n size : ℕ) (ds : List ℤ) → m ≤ n → DividesFrom version m size ds → DividesFrom version n size ds
-divides_more version m n size ds le d = record { within = d.within; some = omega (arith, d.some); group = d.group; can = can_more version (m - 1) (n - 1) (drop size ds) (omega arith) d.can }
-
 -- a division by its first group
 pub starts_with : (version : Version) (g : List ℤ) (gs : List (List ℤ)) (ds : List ℤ) → AreGroups version (g ∷ gs) → differences (g ∷ gs) ≡ ds → DividesFrom version (suc (length gs)) (length g) ds
 starts_with version g gs ds are join =
@@ -78,12 +72,6 @@ starts_with version g gs ds are join =
         let less : length g < length ds = omega arith in
         let e : eqb (length g) (length ds) ≡ false = grind (arith, nat_tests) in
         subst (λ b. IsGroupAt version b g) (sym e) are.0
-
-size_few : (version : Version) (n size : ℕ) (ds : List ℤ) → DividesFrom version n size ds → (0 < size) × (size ≤ 7)
-size_few version n size ds d =
-    let few = a_group_has_few version (eqb size (length ds)) (take size ds) d.group in
-    let same : length (take size ds) ≡ size = length-take-le size ds d.within in
-    (omega (arith, few.0), omega (arith, few.1))
 
 pub at_place_is : (version : Version) (b : Bool) (g : List ℤ) → IsGroupAt version b g → IsGroup version g
 at_place_is version true g is = is

@@ -1,7 +1,8 @@
-use Rattle.std.proofs.Common.{rules, ◌+◌, ◌<◌, length, slice_index_or, pos, w32, w64, SFits, arith, inl, inr}
+use Rattle.std.proofs.Common.{rules, ◌≡◌, ◌+◌, ◌-◌, ◌-ℤ◌, ◌∙◌, refl, sym, ap, ◌<◌, length, slice_index_or, pos, w32, w64, SFits, arith, inl, inr}
 use Rattle.std.proofs.lemmas.Bool.{cases_lt}
 use Rattle.std.proofs.lemmas.Int.{to_z-of_z}
-use Rattle.msr_words.specs.Segment.{run_points}
+use Rattle.msr_words.specs.Segment.{difference_at, run_points}
+use Rattle.msr_words.proofs.Pushes.{difference_at_later}
 use Rattle.msr_words.proofs.Runs.{run_points_more, prefix_run}
 use Rattle.msr_packer.proofs.step.furthest.Goals as goal
 
@@ -10,9 +11,10 @@ returns-then-not-push-clause-furthest g c end run =
     let in' : c.loop-at.at < length c.args.samples.now = omega arith in
     let more = run_points_more c.args.samples.now c.args.start c.loop-at.at (omega arith) in' in
     let sample : SFits w32 (slice_index_or c.args.samples.now c.loop-at.at (pos 0)) = search rules in
-    let diff : SFits w64 c.difference.result = search rules in
+    let diff : SFits w64 c.difference_between.result = search rules in
+    let difference : c.difference_between.result ≡ difference_at c.args.samples.now c.loop-at.at = simp to_z-of_z at c.difference_between.ensures ∙ sym (c.loop-at.invariant.last_is in') in
     let push = simp to_z-of_z at (c.push.ensures c.args.record_length.bytes (run_points c.args.samples.now c.args.start c.loop-at.at) c.loop-at.invariant.pushed) in
-    let pushed = rw (c.difference.ensures, ← more) at push in
+    let pushed = rw (difference, ← more) at push in
     elim (cases_lt c.loop-at.at end) [
       | inl past ↦
           let shorter = prefix_run (g.C.Tracker.fits c.args.record_length.bytes) (g.met.C.Tracker.prefix c.args.record_length.bytes)
@@ -28,7 +30,14 @@ loop-at-preserved g c =
     let in' : c.loop-at.at < length c.args.samples.now = omega arith in
     let more = run_points_more c.args.samples.now c.args.start c.loop-at.at (omega arith) in' in
     let sample : SFits w32 (slice_index_or c.args.samples.now c.loop-at.at (pos 0)) = search rules in
-    let diff : SFits w64 c.difference.result = search rules in
+    let diff : SFits w64 c.difference_between.result = search rules in
+    let difference : c.difference_between.result ≡ difference_at c.args.samples.now c.loop-at.at = simp to_z-of_z at c.difference_between.ensures ∙ sym (c.loop-at.invariant.last_is in') in
     let push = simp to_z-of_z at (c.push.ensures c.args.record_length.bytes (run_points c.args.samples.now c.args.start c.loop-at.at) c.loop-at.invariant.pushed) in
-    let pushed = rw (c.difference.ensures, ← more) at push in
-    record { pushed = pushed.0; fits = pushed.1.0 c.if-not-push.false }
+    let pushed = rw (difference, ← more) at push in
+    record {
+      last_is = λ less.
+          let one : c.loop-at.at + 1 - 1 ≡ c.loop-at.at = omega arith in
+          difference_at_later c.args.samples.now (c.loop-at.at + 1) (omega arith) ∙ ap (λ n. slice_index_or c.args.samples.now (c.loop-at.at + 1) (pos 0) -ℤ slice_index_or c.args.samples.now n (pos 0)) one ∙ simp to_z-of_z refl;
+      pushed = pushed.0;
+      fits = pushed.1.0 c.if-not-push.false;
+    }
