@@ -13,6 +13,7 @@ ghost use Rattle.msr_words.specs.RecordLength.{words_of};
 
 use crate::counts::{LeastCounts, magnitude};
 use crate::lengths::Length;
+use crate::window::Window;
 
 /// What a record holds.
 #[derive(Clone, Copy, Debug, PartialEq, Eq)]
@@ -142,9 +143,10 @@ pub(crate) fn longest_group(before: Option<i32>, run: &[i32], at: usize) -> usiz
 fn fits_steim2(before: Option<i32>, run: &[i32], words: u32) -> bool
     ensures { IsTrue result ↔ CanDivide Two words (differences before run.now) }
 {
+    let mut window = Window::new();
     let mut at = 0;
     for _used in 0..words {
-        let count = longest_group(before, run, at);
+        let count = window.longest_after(before, run, at);
         if count == 0 {
             return at == run.len();
         }

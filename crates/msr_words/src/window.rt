@@ -118,6 +118,19 @@ impl Window {
         if seven >= 8 { 6 } else { 7 }
     }
 
+    /// How many differences of the run, from this one on, stand together in a Steim-2 word, as many as can.
+    pub(crate) fn longest_after(&mut self, before: Option<i32>, run: &[i32], at: usize) -> usize
+        requires within { at ≤ length run.now }
+        requires window { IsWindow run.now at self.old }
+        ensures window { IsWindow run.now at self.new }
+        ensures longest { IsLongestGroup (drop at (differences before run.now)) result }
+    {
+        if self.reaches(run, at) {
+            return self.longest_from(at - self.first);
+        }
+        longest_group(before, run, at)
+    }
+
     /// How many differences of the segment, from this sample's on, stand together in a Steim-2 word, as many as can.
     pub fn longest_steim2_group(&mut self, samples: &[i32], at: usize) -> usize
         requires within { at ≤ length samples.now }
@@ -125,9 +138,6 @@ impl Window {
         ensures window { IsWindow samples.now at self.new }
         ensures longest { IsLongestGroup (drop at (differences None samples.now)) result }
     {
-        if self.reaches(samples, at) {
-            return self.longest_from(at - self.first);
-        }
-        longest_group(None, samples, at)
+        self.longest_after(None, samples, at)
     }
 }

@@ -1,9 +1,0 @@
-use Rattle.std.proofs.Common.{None, drop}
-use Rattle.msr_words.specs.Segment.{differences}
-use Rattle.msr_words.proofs.Windows.{window_seen}
-use Rattle.msr_words.proofs.window.Window.longest_steim2_group.Goals as goal
-
-pub returns-then-reaches-clause-longest : goal.returns-then-reaches-clause-longest
-returns-then-reaches-clause-longest c =
-    c.longest_from.ensures.longest (drop c.args.at (differences None c.args.samples.now))
-    (window_seen c.args.samples.now c.args.at c.reaches.new.self None c.reaches.ensures.window (c.reaches.ensures.seven c.if-reaches.true))
