@@ -91,7 +91,8 @@ fn form_of(size: usize) -> Form
     Form { code, top, width }
 }
 
-/// The fields of so many differences from a place of the window on, side by side.
+/// The fields of so many differences from a place of the window on, side by side. Inlined where size and width are
+/// literals, no loop is left.
 #[inline(always)]
 fn fields_seen(window: &Window, place: usize, size: usize, width: u32) -> u32
     requires positive { 0 < width }

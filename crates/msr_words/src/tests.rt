@@ -1,5 +1,7 @@
 //! Runs worked out by hand, by the trackers, by `Kind::fits` and by `groups`.
 
+ghost use Rattle.std.specs.Prelude.{◌≤◌, length};
+
 use crate::{
     AnyKind, Codec, Int16, Int32, Kind, Length, Run, Steim1, Steim2, Tracker, Window, difference,
     fill_steim2, first_kind, groups, one_division, run_fits,
@@ -299,6 +301,14 @@ fn stairs(alloc: Global) -> Result<Vec<i32>, AllocError> {
     Ok(samples)
 }
 
+/// The size of the longest group, by a window of its own.
+fn longest_at(samples: &[i32], at: usize) -> usize
+    requires { at ≤ length samples.now }
+{
+    let mut window = Window::new();
+    window.longest_steim2_group(samples, at)
+}
+
 #[test]
 fn the_longest_groups(rt: HostRuntime) -> Result<(), Fail> {
     let samples = stairs(rt.alloc())?;
@@ -323,9 +333,7 @@ fn the_longest_groups(rt: HostRuntime) -> Result<(), Fail> {
         (112, 0),
     ] {
         assert!(rt; at <= samples.len());
-        let mut window = Window::new();
-        let found = window.longest_steim2_group(&samples, at);
-        assert_eq!(rt; found, size, "{at}");
+        assert_eq!(rt; longest_at(&samples, at), size, "{at}");
     }
     Ok(())
 }
@@ -337,6 +345,7 @@ fn an_area_of_steim2(rt: HostRuntime) -> Result<(), Fail> {
     for sample in 0..100 {
         samples.push(sample)?;
     }
+    assert_eq!(rt; samples.len(), 100);
     let mut area = [255; 192];
     assert_eq!(rt; fill_steim2(None, &samples, &mut area), 15);
     let mut expected = Vec::new(rt.alloc());

@@ -16,12 +16,13 @@ const PLACES: usize = 64;
 pub struct Window {
     pub(crate) first: usize,
     pub(crate) end: usize,
+    /// How far each is from 0, or from -1 where it is negative.
     pub(crate) sizes: [u32; 64],
+    /// Each itself, where it is of 32 bits.
     pub(crate) kept: [i32; 64],
 }
 
-/// The size of the difference of a sample from the one before it: how far it is from 0, or from -1 where it is
-/// negative.
+/// The size of the difference of a sample from the one before it, by a test of 32 bits, of which a vector holds more.
 fn size_after(before: i32, sample: i32) -> u32
     ensures { IsSize (sample -ℤ before) result }
 {
@@ -46,7 +47,7 @@ impl Window {
         }
     }
 
-    /// Takes the differences of the samples from `first` on.
+    /// Takes the differences of the samples from `first` on, always so many that the loop is laid out whole.
     #[inline(always)]
     fn take(&mut self, samples: &[i32], first: usize)
         requires some { 0 < first }
