@@ -44,7 +44,9 @@ impl<'a> Model for Differences<'a> {
     ghost view = { λ d. numbers_in d.fields.word d.fields.width d.fields.count
         ++ differences_from d.version d.order d.area.now d.number };
 
-    ghost invariant = { λ d. (length d.area.now ≤ 1048576) × (0 < d.fields.count → 0 < d.fields.width) × (d.fields.count * d.fields.width ≤ 32) };
+    ghost invariant = { λ d. (length d.area.now ≤ 1048576)
+        × (0 < d.fields.count → 0 < d.fields.width)
+        × (d.fields.count * d.fields.width ≤ 32) };
 }
 
 /// The samples of an area, read from its words one by one. Contracts see those that are left, and whether
