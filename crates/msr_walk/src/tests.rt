@@ -1,0 +1,7 @@
+//! Walks.
+use std::test::Fail;
+
+#[test]
+fn nothing(rt: HostRuntime) -> Result<(), Fail> {
+    Ok(())
+}
