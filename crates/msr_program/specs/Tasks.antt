@@ -1,7 +1,8 @@
 -- What the words of a command line ask for.
-use Rattle.std.specs.Prelude.{◌≡◌, ◌≢◌, ◌⊎◌, ◌≤◌, ℕ, ⊤, List, ◌++◌, ⊥, Option, None, Some, IfSome, codes}
+use Rattle.std.specs.Prelude.{◌≡◌, ◌≢◌, ◌⊎◌, ◌≤◌, ℕ, ⊤, List, ◌++◌, Option, None, Some, IfSome, codes}
 use Rattle.std.specs.Option.{option_map}
 use Rattle.msr_words.specs.Lengths.{bytes_of}
+use Rattle.msr_program.specs.declared.words.Folders.{Folders}
 use Rattle.msr_program.specs.declared.words.Task.{Task}
 use Rattle.msr_program.specs.declared.words.Task.TheVariants.{Repack, List as Listing, Check, Archive}
 use Rattle.msr_program.specs.declared.words.NoTask.{NoTask}
@@ -28,17 +29,17 @@ abbrev pub Overlap : (a b : List ℕ) → Type 0
 Overlap a b = (a ≡ b) ⊎ (IsBelow a b ⊎ IsBelow b a)
 
 -- no two of the folders overlap
-pub record StandApart (root out reports : List ℕ) : Type 0 where
-  pub out : ¬ (Overlap root out)
-  pub reports : ¬ (Overlap root reports)
-  pub outputs : ¬ (Overlap out reports)
+pub record StandApart (folders : Folders) : Type 0 where
+  pub out : ¬ (Overlap folders.root.now folders.out.now)
+  pub reports : ¬ (Overlap folders.root.now folders.reports.now)
+  pub outputs : ¬ (Overlap folders.out.now folders.reports.now)
 
 -- the output, where one is asked for, has another name than the input; the folders of an archive stand apart
 abbrev pub KeepsInput : Task → Type 0
 KeepsInput (Repack asked) = IfSome asked.output (λ name. name.now ≢ asked.input.now)
 KeepsInput (Listing asked) = ⊤
 KeepsInput (Check asked) = ⊤
-KeepsInput (Archive asked) = StandApart asked.root.now asked.out.now asked.reports.now
+KeepsInput (Archive asked) = StandApart asked.folders
 
 -- a file is to be repacked with these choices
 abbrev pub IsRepacking : (bytes tolerance : ℕ) → (input : List ℕ) → (output : Option (List ℕ)) → Task → Type 0
@@ -53,6 +54,13 @@ IsChecking packed report (Repack asked) = ⊥
 IsChecking packed report (Listing asked) = ⊥
 IsChecking packed report (Archive asked) = ⊥
 IsChecking packed report (Check asked) = (packed ≡ Some asked.packed.now) × (report ≡ Some asked.report.now)
+
+-- the archive in these folders is to be repacked with these choices
+abbrev pub IsArchiving : (bytes tolerance : ℕ) → (folders : Folders) → Task → Type 0
+IsArchiving bytes tolerance folders (Repack asked) = ⊥
+IsArchiving bytes tolerance folders (Listing asked) = ⊥
+IsArchiving bytes tolerance folders (Check asked) = ⊥
+IsArchiving bytes tolerance folders (Archive asked) = (bytes_of asked.length ≡ bytes) × (asked.tolerance ≡ tolerance) × (asked.folders ≡ folders)
 
 -- standard input is to be repacked to nowhere, with records of 512 bytes and a tolerance of 1000 microseconds
 abbrev pub IsDefault : Task → Type 0

@@ -181,9 +181,9 @@ fn repack_archive<'a, R: Files, O: Sink>(
         (O.device output.old) (O.device output.new) result }
 {
     let archive = Archive {
-        root: asked.root,
-        out: asked.out,
-        reports: asked.reports,
+        root: asked.folders.root,
+        out: asked.folders.out,
+        reports: asked.folders.reports,
         options: options_of(asked.length, asked.tolerance),
     };
     let refused = walk(rt, alloc, &archive, output)?;

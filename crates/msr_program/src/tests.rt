@@ -1,4 +1,5 @@
 //! Command lines, and runs over files and streams.
+mod archive;
 mod fixtures;
 mod streams;
 mod tasks;

@@ -1,10 +1,10 @@
 // The command line: what the words ask for.
-ghost use Rattle.std.specs.Prelude.{◌≡◌, ◌≢◌, ◌<◌, ◌↔◌, length, codes, IfOk, IfErr, IfSome, IsSome, IsOk, IsOkAnd};
+ghost use Rattle.std.specs.Prelude.{◌≡◌, ◌≢◌, ◌<◌, ◌↔◌, length, codes, IfOk, IfErr, IfSome, IsSome, IsOk, IsOkAnd, IsTrue};
 ghost use Rattle.std.specs.Option.{option_map};
 ghost use Rattle.msr_words.specs.RecordLength.{IsRecordLength};
 ghost use Rattle.msr_words.specs.Lengths.{bytes_of};
 ghost use Rattle.clap.specs.Words.{first_value, found_of};
-ghost use Rattle.msr_program.specs.Tasks.{HasStatus, HasTolerance, IsChecking, IsDefault, IsBelow, IsRepacking, IsTolerance, KeepsInput, Overlap};
+ghost use Rattle.msr_program.specs.Tasks.{HasStatus, HasTolerance, IsArchiving, IsBelow, IsChecking, IsDefault, IsRepacking, IsTolerance, KeepsInput, Overlap, StandApart};
 
 use crate::commands::command;
 use crate::texts;
@@ -44,6 +44,14 @@ pub struct Checking<'a> {
     pub report: &'a str,
 }
 
+/// The folders of an archive, of the records that are written, and of their reports.
+#[derive(Clone, Copy, Debug, PartialEq, Eq)]
+pub struct Folders<'a> {
+    pub root: &'a str,
+    pub out: &'a str,
+    pub reports: &'a str,
+}
+
 /// An archive whose day files are to be repacked.
 #[derive(Clone, Copy, Debug, PartialEq, Eq)]
 pub struct Archiving<'a> {
@@ -51,12 +59,7 @@ pub struct Archiving<'a> {
     pub length: Length,
     /// The tolerance in microseconds.
     pub tolerance: u32,
-    /// The folder of the archive.
-    pub root: &'a str,
-    /// The folder of the records.
-    pub out: &'a str,
-    /// The folder of the reports.
-    pub reports: &'a str,
+    pub folders: Folders<'a>,
 }
 
 /// What the program is asked to do.
@@ -209,12 +212,11 @@ fn is_below(folder: &str, path: &str) -> bool
     }
 }
 
-// The three folders of an archive, in the order of the words.
-fn folders_in<'a>(found: &ArgMatches<'a>) -> Option<[&'a str; 3]> {
+fn folders_in<'a>(found: &ArgMatches<'a>) -> Option<Folders<'a>> {
     let root = found.get_str("ROOT")?;
     let out = found.get_str("OUT")?;
     let reports = found.get_str("REPORTS")?;
-    Some([root, out, reports])
+    Some(Folders { root, out, reports })
 }
 
 // An archive to be repacked, exactly where the length is one of a record and no two folders overlap.
@@ -222,9 +224,11 @@ fn archiving_of<'a>(
     alloc: Global,
     bytes: u32,
     tolerance: u32,
-    folders: [&'a str; 3],
+    folders: Folders<'a>,
 ) -> Result<Task<'a>, NoTask>
     requires { IsTolerance tolerance }
+    ensures ok { IsOk result ↔ (IsRecordLength bytes × StandApart folders.entry) }
+    ensures asked { IfOk result (IsArchiving bytes tolerance folders.entry) }
     ensures tolerance { IfOk result HasTolerance }
     ensures keeps_input { IfOk result KeepsInput }
     ensures status { IfErr result HasStatus }
@@ -232,16 +236,14 @@ fn archiving_of<'a>(
     let Some(length) = Length::new(bytes) else {
         return Err(wrong(alloc, texts::NOT_A_LENGTH));
     };
-    let [root, out, reports] = folders;
+    let Folders { root, out, reports } = folders;
     if overlap(root, out) || overlap(root, reports) || overlap(out, reports) {
         return Err(wrong(alloc, texts::OVERLAP));
     }
     Ok(Task::Archive(Archiving {
         length,
         tolerance,
-        root,
-        out,
-        reports,
+        folders,
     }))
 }
 
