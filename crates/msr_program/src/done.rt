@@ -23,13 +23,7 @@ impl Done {
         match self {
             Done::Written => 0,
             Done::Checked(verdict) => verdict.status(),
-            Done::Walked { refused } => {
-                if *refused {
-                    1
-                } else {
-                    0
-                }
-            }
+            Done::Walked { refused } => { if *refused { 1 } else { 0 } }
         }
     }
 }

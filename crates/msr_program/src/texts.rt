@@ -92,7 +92,8 @@ pub const CHECK_AFTER: &str = "Example:
 
 pub const ARCHIVE_ABOUT: &str = "Repacks every day file of an SDS archive";
 
-pub const ARCHIVE_LONG_ABOUT: &str = "Repacks every day file of an archive that is kept as a SeisComP Data Structure.
+pub const ARCHIVE_LONG_ABOUT: &str =
+    "Repacks every day file of an archive that is kept as a SeisComP Data Structure.
 
 Walks the folders below ROOT, names in the order of their bytes, and repacks each file
 of waveform data, YEAR/NET/STA/CHAN.D/NET.STA.LOC.CHAN.D.YEAR.DAY, as `repack` does: its

@@ -125,12 +125,16 @@ pub walk-stops : (choice : Choice) (out0 out : Device) (fault : ToolFault) → T
 walk-stops choice out0 out fault told = record {
   printed = told.printed;
   prints = told.prints;
-  ends = (told.entries, told.rest ++ summary told.entries, record {
-    lines = told.printed ++ told.rest;
-    are_entries = told.are_entries;
-    are_lines = told.are_lines;
-    whole = sym (append_assoc told.printed told.rest (summary told.entries));
-  });
+  ends = (
+    told.entries,
+    told.rest ++ summary told.entries,
+    record {
+      lines = told.printed ++ told.rest;
+      are_entries = told.are_entries;
+      are_lines = told.are_lines;
+      whole = sym (append_assoc told.printed told.rest (summary told.entries));
+    },
+  );
 }
 
 -- a walk that stopped in the last lines
@@ -139,12 +143,16 @@ pub walk-cut : (choice : Choice) (out0 out1 out : Device) (tally0 tally : Tally)
 walk-cut choice out0 out1 out tally0 tally fault told front = record {
   printed = told.lines ++ front.taken;
   prints = takes-append out0 out1 out told.lines front.taken told.prints front.takes;
-  ends = (told.entries, front.rest, record {
-    lines = told.lines;
-    are_entries = told.are_entries;
-    are_lines = told.are_lines;
-    whole = append_assoc told.lines front.taken front.rest ∙ ap (λ (t : List ℕ). told.lines ++ t) (sym front.whole);
-  });
+  ends = (
+    told.entries,
+    front.rest,
+    record {
+      lines = told.lines;
+      are_entries = told.are_entries;
+      are_lines = told.are_lines;
+      whole = append_assoc told.lines front.taken front.rest ∙ ap (λ (t : List ℕ). told.lines ++ t) (sym front.whole);
+    },
+  );
 }
 
 pub walk-ends : (choice : Choice) (out0 out1 out : Device) (tally0 tally : Tally) (refused : Bool) →
@@ -153,12 +161,16 @@ pub walk-ends : (choice : Choice) (out0 out1 out : Device) (tally0 tally : Tally
 walk-ends choice out0 out1 out tally0 tally refused told prints refusals = record {
   printed = told.lines ++ summary told.entries;
   prints = takes-append out0 out1 out told.lines (summary told.entries) told.prints prints;
-  ends = (told.entries, record {
-    lines = told.lines;
-    are_entries = told.are_entries;
-    are_lines = told.are_lines;
-    whole = refl;
-  }, refusals);
+  ends = (
+    told.entries,
+    record {
+      lines = told.lines;
+      are_entries = told.are_entries;
+      are_lines = told.are_lines;
+      whole = refl;
+    },
+    refusals,
+  );
 }
 
 -- a count of refusals tells whether there is one

@@ -2,10 +2,10 @@
 ghost use Rattle.msr_walk.specs.Day.{IsRepackedDay};
 
 use crate::files::{NewFile, are_one_file, settle};
+use crate::folders::Archive;
 use crate::outcome::{Refusal, Repacked};
 use crate::paths::join;
 use crate::repacking::repack_day_of;
-use crate::folders::Archive;
 use msr_tool::{FromRead, FromWrite, Options};
 use std::alloc::{AllocError, Global};
 use std::fs::File;
@@ -31,12 +31,7 @@ impl Day {
 
     // Opens the input before anything is made. The report gets its name first, so that records that have theirs have a
     // report.
-    fn write<R: Files>(
-        &self,
-        rt: &R,
-        alloc: Global,
-        options: Options,
-    ) -> Result<Repacked, Refusal>
+    fn write<R: Files>(&self, rt: &R, alloc: Global, options: Options) -> Result<Repacked, Refusal>
         ensures { IsRepackedDay options result }
     {
         let Ok(input) = File::open(rt, self.input.as_str()) else {
@@ -69,7 +64,8 @@ impl Day {
         ensures { IsRepackedDay options result }
     {
         let input = self.input.as_str();
-        if are_one_file(rt, input, self.records.path()) || are_one_file(rt, input, self.report.path())
+        if are_one_file(rt, input, self.records.path())
+            || are_one_file(rt, input, self.report.path())
         {
             return Err(Refusal::CannotOpen);
         }

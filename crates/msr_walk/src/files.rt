@@ -52,7 +52,12 @@ pub struct NewFile {
 
 impl NewFile {
     /// The file below that folder with that path and ending.
-    pub fn new(alloc: Global, folder: &str, path: &str, ending: &str) -> Result<NewFile, AllocError> {
+    pub fn new(
+        alloc: Global,
+        folder: &str,
+        path: &str,
+        ending: &str,
+    ) -> Result<NewFile, AllocError> {
         let mut path = join(alloc, folder, path)?;
         let mut part = String::from_str(alloc, path.as_str())?;
         if !path.is_empty() {

@@ -2,6 +2,7 @@
 ghost use Rattle.std.specs.Prelude.{OnOk, OnErr};
 ghost use Rattle.msr_devices.specs.Device.{CanCountCall};
 ghost use Rattle.msr_sds.specs.SdsPath.{ReadsAsDay};
+ghost use Rattle.msr_tool.specs.Choice.{Choice};
 ghost use Rattle.msr_walk.specs.Entries.{IsOutcomeOf};
 ghost use Rattle.msr_walk.specs.Walk.{Tells, TellsInPart, Walks};
 
@@ -33,20 +34,21 @@ pub struct Archive<'a> {
 // How many folders a path of a day file has.
 const FOLDERS: u8 = 4;
 
-// Prints the line of an entry, and counts it.
+// Prints the line of an entry, and counts it. The channel is that of a day.
 fn tell<O: Sink>(
     alloc: Global,
-    archive: &Archive<'_>,
     path: &str,
     channel: &str,
     outcome: Outcome,
     out: &mut O,
     tally: &mut Tally,
 ) -> Result<(), ToolFault>
-    requires outcome { IsOutcomeOf archive.now.options path.now channel.now outcome }
-    requires count { CanCountCall (O.device out.old) }
-    ensures told { OnOk result (Tells archive.now.options (O.device out.old) (O.device out.new) tally.old tally.new) }
-    ensures part { OnErr result (TellsInPart archive.now.options (O.device out.old) (O.device out.new)) }
+    requires { CanCountCall (O.device out.old) }
+    // Whatever the choice with which the entry has this outcome.
+    ensures told { (choice : Choice) → IsOutcomeOf choice path.now channel.now outcome →
+        OnOk result (Tells choice (O.device out.old) (O.device out.new) tally.old tally.new) }
+    ensures part { (choice : Choice) → IsOutcomeOf choice path.now channel.now outcome →
+        OnErr result (TellsInPart choice (O.device out.old) (O.device out.new)) }
 {
     let line = outcome.line(alloc, path)?;
     write_all(out, line.as_bytes())?;
@@ -74,7 +76,7 @@ fn tell_day<R: Files, O: Sink>(
         Ok(repacked) => Outcome::Done(repacked),
         Err(refusal) => Outcome::Refused(refusal),
     };
-    tell(alloc, archive, path, channel.as_str(), outcome, out, tally)
+    tell(alloc, path, channel.as_str(), outcome, out, tally)
 }
 
 // What is no folder of the walk.
@@ -92,7 +94,7 @@ fn tell_file<R: Files, O: Sink>(
 {
     match SdsName::parse(path) {
         Ok(name) => tell_day(rt, alloc, archive, path, &name, out, tally),
-        Err(fault) => tell(alloc, archive, path, "", Outcome::Skipped(fault), out, tally),
+        Err(fault) => tell(alloc, path, "", Outcome::Skipped(fault), out, tally),
     }
 }
 
@@ -125,7 +127,7 @@ fn walk_folder<R: Files, O: Sink>(
         Err(ListFault::Listing) => {
             let path = if folder.is_empty() { "." } else { folder };
             let refused = Outcome::Refused(Refusal::Listing);
-            return tell(alloc, archive, path, "", refused, out, tally);
+            return tell(alloc, path, "", refused, out, tally);
         }
     };
     for name in &names {

@@ -11,8 +11,6 @@ mod paths;
 mod repacking;
 mod summary;
 mod tally;
-#[cfg(test)]
-mod tests;
 
 pub use files::settle;
 pub use folders::{Archive, walk};

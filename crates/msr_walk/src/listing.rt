@@ -4,10 +4,9 @@ ghost use Rattle.std.specs.List.Sorted.{IsSorted};
 ghost use Rattle.std.specs.String.{string_cmp};
 
 use std::alloc::{AllocError, AllocFailed, Global};
-use std::fs;
-use std::io;
 use std::io::ErrorKind;
 use std::rt::Files;
+use std::{fs, io};
 
 /// Why a folder has no list.
 #[derive(Clone, Copy)]

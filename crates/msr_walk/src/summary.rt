@@ -9,8 +9,8 @@ ghost use Rattle.msr_walk.specs.Walk.{channel_line, summary};
 
 use crate::tally::Tally;
 use msr_devices::write_all;
-use msr_totals::{Total, Totals};
 use msr_tool::{Sink, ToolFault};
+use msr_totals::{Total, Totals};
 use std::alloc::{AllocError, Global};
 
 fn channel_line(alloc: Global, name: &str, total: Total) -> Result<String, AllocError>

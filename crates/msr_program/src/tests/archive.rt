@@ -2,6 +2,7 @@
 use crate::tests::fixtures::{
     Folder, PLAIN, REPORT_OF_ZEROS, Ran, run_on, run_through, two_segments, zeros,
 };
+use crate::tests::odd_folder::OddFolder;
 use msr_tool::Behavior;
 use std::alloc::Global;
 use std::fs;
@@ -11,7 +12,9 @@ use std::rt::Files;
 use std::test::Fail;
 
 const DAY_1: &str = "2020/XX/TEST/BHZ.D/XX.TEST.00.BHZ.D.2020.001";
+
 const DAY_2: &str = "2020/XX/TEST/BHZ.D/XX.TEST.00.BHZ.D.2020.002";
+
 const DAY_3: &str = "2020/XX/TEST/BHZ.D/XX.TEST.00.BHZ.D.2020.003";
 
 // The folders of a walk.
@@ -131,15 +134,24 @@ fn three_files(rt: HostRuntime) -> Result<(), Fail> {
     walks(&rt, &tree, 1, LINES_OF_THREE)?;
     let records = tree.read(&rt, "out", DAY_1)?;
     assert_eq!(&rt; records.len(), 512);
-    assert_eq!(&rt; tree.read(&rt, "reports", report)?.as_slice(), REPORT_OF_ZEROS.as_bytes());
+    assert_eq!(&rt;
+        tree.read(&rt, "reports", report)?.as_slice(),
+        REPORT_OF_ZEROS.as_bytes()
+    );
     assert!(&rt; !tree.has(&rt, "out", part)?);
     assert!(&rt; !tree.has(&rt, "out", DAY_2)?);
     assert!(&rt; !tree.has(&rt, "reports", refused)?);
 
     // Once more over the same folders: the same lines and bytes.
     walks(&rt, &tree, 1, LINES_OF_THREE)?;
-    assert_eq!(&rt; tree.read(&rt, "out", DAY_1)?.as_slice(), records.as_slice());
-    assert_eq!(&rt; tree.read(&rt, "reports", report)?.as_slice(), REPORT_OF_ZEROS.as_bytes());
+    assert_eq!(&rt;
+        tree.read(&rt, "out", DAY_1)?.as_slice(),
+        records.as_slice()
+    );
+    assert_eq!(&rt;
+        tree.read(&rt, "reports", report)?.as_slice(),
+        REPORT_OF_ZEROS.as_bytes()
+    );
     tree.remove(&rt)
 }
 
@@ -168,8 +180,18 @@ fn entries_of_all_kinds(rt: HostRuntime) -> Result<(), Fail> {
     tree.write(&rt, "sds", "2020/readme", &[])?;
     let no_day = "2019/XX/TEST/BHZ.D/XX.TEST.00.BHZ.D.2019.366";
     tree.write(&rt, "sds", no_day, &[])?;
-    tree.write(&rt, "sds", "2020/XX/TEST/BHN.D/XX.TEST.00.BHN.D.2020.001/file", &[])?;
-    tree.write(&rt, "sds", "2020/XX/TEST/BHZ.D/XX.TEST.00.BHZ.D.2020.001.part", &[])?;
+    tree.write(
+        &rt,
+        "sds",
+        "2020/XX/TEST/BHN.D/XX.TEST.00.BHN.D.2020.001/file",
+        &[],
+    )?;
+    tree.write(
+        &rt,
+        "sds",
+        "2020/XX/TEST/BHZ.D/XX.TEST.00.BHZ.D.2020.001.part",
+        &[],
+    )?;
     tree.write(&rt, "sds", DAY_2, day.as_slice())?;
     symlink(&rt, "missing", tree.path("sds", DAY_3)?.as_str())?;
     symlink(&rt, "missing", tree.path("sds", "2020/dangling")?.as_str())?;
@@ -203,8 +225,18 @@ files 1 skipped 12 refused 2
 fn totals_of_channels(rt: HostRuntime) -> Result<(), Fail> {
     let tree = Tree::new(&rt)?;
     let day = zeros(rt.alloc())?;
-    tree.write(&rt, "sds", "2019/XX/TEST/BHZ.D/XX.TEST.00.BHZ.D.2019.001", day.as_slice())?;
-    tree.write(&rt, "sds", "2020/XX/TEST/BHN.D/XX.TEST..BHN.D.2020.001", &[])?;
+    tree.write(
+        &rt,
+        "sds",
+        "2019/XX/TEST/BHZ.D/XX.TEST.00.BHZ.D.2019.001",
+        day.as_slice(),
+    )?;
+    tree.write(
+        &rt,
+        "sds",
+        "2020/XX/TEST/BHN.D/XX.TEST..BHN.D.2020.001",
+        &[],
+    )?;
     tree.write(&rt, "sds", DAY_1, day.as_slice())?;
     let lines = "done 2019/XX/TEST/BHZ.D/XX.TEST.00.BHZ.D.2019.001 read 1 written 2
 done 2020/XX/TEST/BHN.D/XX.TEST..BHN.D.2020.001 read 0 written 0
@@ -251,7 +283,10 @@ files 0 skipped 0 refused 1
         ("out", "2020/XX"),
         ("reports", "2020/XX"),
         ("out", "2020/XX/TEST/BHZ.D/XX.TEST.00.BHZ.D.2020.001/folder"),
-        ("reports", "2020/XX/TEST/BHZ.D/XX.TEST.00.BHZ.D.2020.001.txt/folder"),
+        (
+            "reports",
+            "2020/XX/TEST/BHZ.D/XX.TEST.00.BHZ.D.2020.001.txt/folder",
+        ),
     ];
     for (top, path) in file_in_the_way {
         let tree = Tree::new(&rt)?;
@@ -259,7 +294,11 @@ files 0 skipped 0 refused 1
         tree.write(&rt, top, path, b"in the way")?;
         walks(&rt, &tree, 1, lines)?;
         let kept = tree.read(&rt, top, path)?;
-        assert_eq!(&rt; kept.as_slice(), b"in the way".as_slice(), "at {top} {path}");
+        assert_eq!(&rt;
+            kept.as_slice(),
+            b"in the way".as_slice(),
+            "at {top} {path}"
+        );
         if top == "out" {
             assert!(&rt; !tree.has(&rt, "reports", report)?, "at {path}");
         } else {
@@ -288,6 +327,39 @@ files 0 skipped 0 refused 2
     tree.remove(&rt)
 }
 
+// A folder that cannot be opened, one that cannot be read to its end, and one that has a name that is not UTF-8: its
+// other entry is not handled.
+#[test]
+fn folders_without_a_list(rt: HostRuntime) -> Result<(), Fail> {
+    let lines = "refused 2020/XX/TEST/BHN.D: listing
+done 2020/XX/TEST/BHZ.D/XX.TEST.00.BHZ.D.2020.001 read 1 written 2
+channel XX.TEST.00.BHZ files 1 read 1 written 2
+files 1 skipped 0 refused 1
+";
+    let names: [Option<&'static [u8]>; 3] = [None, Some(b"XX.TEST.00.BHN"), Some(b"a\0\xff\0")];
+    for names in names {
+        let tree = Tree::new(&rt)?;
+        let day = zeros(rt.alloc())?;
+        tree.write(&rt, "sds", DAY_1, day.as_slice())?;
+        tree.write(
+            &rt,
+            "sds",
+            "2020/XX/TEST/BHN.D/XX.TEST.00.BHN.D.2020.001",
+            day.as_slice(),
+        )?;
+        let path = tree.path("sds", "2020/XX/TEST/BHN.D/")?;
+        let odd = OddFolder {
+            rt: &rt,
+            path: path.as_str(),
+            names,
+        };
+        let ran = run_on(&odd, &tree.words(), &[])?;
+        shows(&rt, &ran, 1, lines);
+        tree.remove(&rt)?;
+    }
+    Ok(())
+}
+
 // Each line is printed at once. Where one is not, the walk ends there: the first call only tries the output.
 #[test]
 fn output_that_fails_on_the_way(rt: HostRuntime) -> Result<(), Fail> {
@@ -300,8 +372,15 @@ fn output_that_fails_on_the_way(rt: HostRuntime) -> Result<(), Fail> {
         };
         let ran = run_through(&rt, &tree.words(), &[], PLAIN, writing)?;
         assert_eq!(&rt; ran.status, 1, "at {text}");
-        assert_eq!(&rt; ran.complaint.as_slice(), "msrepack: write fault\n".as_bytes());
-        assert_eq!(&rt; ran.printed.as_slice(), &LINES_OF_THREE.as_bytes()[..whole], "at {text}");
+        assert_eq!(&rt;
+            ran.complaint.as_slice(),
+            "msrepack: write fault\n".as_bytes()
+        );
+        assert_eq!(&rt;
+            ran.printed.as_slice(),
+            &LINES_OF_THREE.as_bytes()[..whole],
+            "at {text}"
+        );
         whole += text.len();
         tree.remove(&rt)?;
     }
@@ -318,7 +397,15 @@ fn many_entries(rt: HostRuntime) -> Result<(), Fail> {
     }
     let ran = run_on(&rt, &tree.words(), &[])?;
     assert_eq!(&rt; ran.status, 0);
-    assert!(&rt; ran.printed.as_slice().starts_with(b"skipped 0: not an SDS path\nskipped 1: "));
-    assert!(&rt; ran.printed.as_slice().ends_with(b"files 0 skipped 10000 refused 0\n"));
+    assert!(&rt;
+        ran.printed
+            .as_slice()
+            .starts_with(b"skipped 0: not an SDS path\nskipped 1: ")
+    );
+    assert!(&rt;
+        ran.printed
+            .as_slice()
+            .ends_with(b"files 0 skipped 10000 refused 0\n")
+    );
     tree.remove(&rt)
 }

@@ -1,5 +1,8 @@
 //! What command lines are read as, and the text and status that the others end with.
-use crate::words::{Archiving, Checking, Ending, Folders, Listing, NoTask, Repacking, Task, default_length, read_words};
+use crate::words::{
+    Archiving, Checking, Ending, Folders, Listing, NoTask, Repacking, Task, default_length,
+    read_words,
+};
 use msr_words::Length;
 use std::alloc::{AllocError, Global};
 use std::test::Fail;
@@ -100,15 +103,27 @@ fn reads_check(rt: HostRuntime) -> Result<(), Fail> {
 #[test]
 fn reads_archive(rt: HostRuntime) -> Result<(), Fail> {
     let rows: [(&'static [&'static str], u32, [&'static str; 3]); 4] = [
-        (&["msrepack", "archive", "a", "b", "c"], 1000, ["a", "b", "c"]),
+        (
+            &["msrepack", "archive", "a", "b", "c"],
+            1000,
+            ["a", "b", "c"],
+        ),
         (
             &["msrepack", "archive", "--tolerance=7", "a/b", "a/c", "a/bb"],
             7,
             ["a/b", "a/c", "a/bb"],
         ),
         // Names are compared as they are written.
-        (&["msrepack", "archive", "a/", "a/b", "a/./b"], 1000, ["a/", "a/b", "a/./b"]),
-        (&["msrepack", "archive", "-", "--", "-a", "b"], 1000, ["-", "-a", "b"]),
+        (
+            &["msrepack", "archive", "a/", "a/b", "a/./b"],
+            1000,
+            ["a/", "a/b", "a/./b"],
+        ),
+        (
+            &["msrepack", "archive", "-", "--", "-a", "b"],
+            1000,
+            ["-", "-a", "b"],
+        ),
     ];
     for (words, tolerance, [root, out, reports]) in rows {
         let want = Some(Task::Archive(Archiving {
@@ -140,7 +155,10 @@ fn refuses_with_a_text_of_its_own(rt: HostRuntime) -> Result<(), Fail> {
         (&["msrepack", "repack", "a", "a"], same),
         (&["msrepack", "repack", "-", "-"], same),
         (&["msrepack", "repack", "--length", "256", "a", "a"], same),
-        (&["msrepack", "archive", "--length=300", "a", "a", "a"], length),
+        (
+            &["msrepack", "archive", "--length=300", "a", "a", "a"],
+            length,
+        ),
         (&["msrepack", "archive", "a", "a/b", "c"], overlap),
         (&["msrepack", "archive", "a/b", "a", "c"], overlap),
         (&["msrepack", "archive", "a", "b", "a/c"], overlap),
@@ -165,8 +183,8 @@ fn refuses_with_the_text_of_clap(rt: HostRuntime) -> Result<(), Fail> {
         ),
         (&["msrepack", "a"], "error: unrecognized subcommand 'a'\n"),
         (
-            &["msrepack", "archive", "a", "b", "c"],
-            "error: unrecognized subcommand 'archive'\n",
+            &["msrepack", "archive", "a", "b"],
+            "error: the following required arguments were not provided:\n  <REPORTS>\n",
         ),
         (
             &["msrepack", "feed", "a"],

@@ -31,8 +31,8 @@ returns-in_err-tell_file-clause-part g t c =
 
 pub loop-name-preserved : goal.loop-name-preserved
 loop-name-preserved g t c = elim c.if-levels-gt0.branch [
-    then-levels-gt0+then-is_folder+in_ok-walk_folder w ↦
-        rw (w.out-is, w.tally-is) (tells-more c.args.archive.now.options (g.O.Sink.device c.args.out.now) (g.O.Sink.device c.loop-name.out) (g.O.Sink.device w.walk_folder.new.out) c.args.tally.now c.loop-name.tally w.walk_folder.new.tally c.loop-name.invariant w.in_ok-walk_folder.ensures.told)
+  | then-levels-gt0+then-is_folder+in_ok-walk_folder w ↦
+      rw (w.out-is, w.tally-is) (tells-more c.args.archive.now.options (g.O.Sink.device c.args.out.now) (g.O.Sink.device c.loop-name.out) (g.O.Sink.device w.walk_folder.new.out) c.args.tally.now c.loop-name.tally w.walk_folder.new.tally c.loop-name.invariant w.in_ok-walk_folder.ensures.told)
   | else-levels-gt0+in_ok-tell_file w ↦
-        rw (w.out-is, w.tally-is) (tells-more c.args.archive.now.options (g.O.Sink.device c.args.out.now) (g.O.Sink.device c.loop-name.out) (g.O.Sink.device w.tell_file.new.out) c.args.tally.now c.loop-name.tally w.tell_file.new.tally c.loop-name.invariant w.in_ok-tell_file.ensures.told)
-  ]
+      rw (w.out-is, w.tally-is) (tells-more c.args.archive.now.options (g.O.Sink.device c.args.out.now) (g.O.Sink.device c.loop-name.out) (g.O.Sink.device w.tell_file.new.out) c.args.tally.now c.loop-name.tally w.tell_file.new.tally c.loop-name.invariant w.in_ok-tell_file.ensures.told)
+]
