@@ -1,5 +1,5 @@
 -- How tasks end that do not succeed.
-use Rattle.std.proofs.Common.{◌≡◌, ℕ, Bool, List, [], ◌++◌, codes, refl, subst, sym, inl, inr, append-nil, Result, Ok, Err}
+use Rattle.std.proofs.Common.{◌≡◌, ℕ, Bool, List, [], codes, refl, subst, sym, inr, append-nil, Result, Ok, Err}
 use Rattle.msr_devices.specs.Device.{Device, Takes}
 use Rattle.msr_devices.proofs.Chaining.{left-of, takes-append}
 use Rattle.msr_report.specs.declared.report.Counts.{Counts}

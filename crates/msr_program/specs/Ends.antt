@@ -1,5 +1,5 @@
 -- How a task ends: what was read and printed, for what the files of the system hold.
-use Rattle.std.specs.Prelude.{if◌then◌else◌, ◌≡◌, ◌⊎◌, ◌<◌, ◌≤◌, ℕ, ⊤, List, [], length, codes, string_bytes, Result, Ok, Err}
+use Rattle.std.specs.Prelude.{if◌then◌else◌, ◌≡◌, ◌⊎◌, ◌<◌, ◌≤◌, ℕ, ⊤, List, [], codes, string_bytes, Result, Ok, Err}
 use Rattle.msr_words.specs.declared.lengths.Length.{Length}
 use Rattle.msr_devices.specs.Device.{Device, HasFailed, HasLeft, Takes}
 use Rattle.msr_report.specs.declared.report.Counts.{Counts}
@@ -7,7 +7,6 @@ use Rattle.msr_report.specs.declared.report.Report.{Report}
 use Rattle.msr_tool.specs.Choice.{Choice}
 use Rattle.msr_tool.specs.Listing.{IsListed, ListAnswers}
 use Rattle.msr_tool.specs.Tasks.{IsReported, ReportAnswers, VerdictAnswers}
-use Rattle.msr_verdict.specs.declared.verdict.Verdict.{Verdict}
 use Rattle.msr_verdict.specs.declared.verdict.Verdict.TheVariants.{Least, NotShown}
 use Rattle.msr_tool.specs.declared.fault.ToolFault.{ToolFault}
 use Rattle.msr_walk.specs.Walk.{WalkEnds}

@@ -1,5 +1,5 @@
 -- Answers about days.
-use Rattle.std.proofs.Common.{◌≡◌, ℕ, List, [], ◌++◌, refl, inr, Result, Ok, Err}
+use Rattle.std.proofs.Common.{◌≡◌, [], inr, Result, Ok, Err}
 use Rattle.std.proofs.lemmas.List.{append-nil}
 use Rattle.msr_devices.specs.Device.{Device}
 use Rattle.msr_report.specs.Proper.{records_of}

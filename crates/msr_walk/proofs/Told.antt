@@ -1,5 +1,5 @@
 -- Entries told one after another, and walks put together from them.
-use Rattle.std.proofs.Common.{◌≡◌, ℕ, ◌<◌, nat_lt, arith, List, [], ◌∷◌, ◌++◌, ◌∙◌, refl, ap, sym, subst, append_assoc, take, drop, Bool, Result, Ok, Err, Some}
+use Rattle.std.proofs.Common.{◌≡◌, ℕ, nat_lt, arith, List, [], ◌∷◌, ◌++◌, ◌∙◌, refl, ap, sym, subst, append_assoc, take, drop, Bool, Ok, Err, Some}
 use Rattle.std.proofs.lemmas.List.{append-nil, take-append-drop}
 use Rattle.std.proofs.lemmas.Bool.{ltb-true, ltb-false}
 use Rattle.std.specs.List.{AllByRecursion}
@@ -9,7 +9,7 @@ use Rattle.msr_report.specs.Writing.{TakesFront}
 use Rattle.msr_tool.specs.Choice.{Choice}
 use Rattle.msr_tool.specs.declared.fault.ToolFault.{ToolFault}
 use Rattle.msr_walk.specs.Entries.{Entry, IsEntry, IsOutcomeOf, IsLineOf, AreLines, IsTally, counted, is_refused}
-use Rattle.msr_walk.specs.Walk.{Tells, TellsInPart, IsWalk, TellsRefusals, WalkEnds, Walks, summary}
+use Rattle.msr_walk.specs.Walk.{Tells, TellsInPart, TellsRefusals, Walks, summary}
 use Rattle.msr_walk.specs.declared.outcome.Outcome.{Outcome}
 use Rattle.msr_walk.specs.declared.tally.Tally.{Tally}
 

@@ -12,7 +12,6 @@ use Rattle.msr_walk.specs.Day.{IsRepackedDay}
 use Rattle.msr_walk.specs.Paths.{channel_of}
 use Rattle.msr_walk.specs.declared.outcome.Outcome.{Outcome}
 use Rattle.msr_walk.specs.declared.outcome.Outcome.TheVariants.{Done, Skipped, Refused}
-use Rattle.msr_walk.specs.declared.outcome.Refusal.{Refusal}
 use Rattle.msr_walk.specs.declared.outcome.Refusal.TheVariants.{CannotOpen, Listing, Tool}
 use Rattle.msr_walk.specs.declared.tally.Tally.{Tally}
 

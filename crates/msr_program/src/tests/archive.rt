@@ -352,12 +352,46 @@ files 1 skipped 0 refused 1
             rt: &rt,
             path: path.as_str(),
             names,
+            earlier: "",
+            later: "",
         };
         let ran = run_on(&odd, &tree.words(), &[])?;
         shows(&rt, &ran, 1, lines);
         tree.remove(&rt)?;
     }
     Ok(())
+}
+
+// Records that have their name have a report.
+#[test]
+fn the_report_gets_its_name_first(rt: HostRuntime) -> Result<(), Fail> {
+    let tree = Tree::new(&rt)?;
+    tree.write(&rt, "sds", DAY_1, zeros(rt.alloc())?.as_slice())?;
+    let records = tree.path("out", DAY_1)?;
+    let report = tree.path(
+        "reports",
+        "2020/XX/TEST/BHZ.D/XX.TEST.00.BHZ.D.2020.001.txt",
+    )?;
+    let orders = [
+        (report.as_str(), records.as_str(), 0),
+        (records.as_str(), report.as_str(), 1),
+    ];
+    for (earlier, later, status) in orders {
+        let odd = OddFolder {
+            rt: &rt,
+            path: "",
+            names: None,
+            earlier,
+            later,
+        };
+        let ran = run_on(&odd, &tree.words(), &[])?;
+        assert_eq!(&rt; ran.status, status);
+        // Where the report has no name, the records get none.
+        assert_eq!(&rt; tree.has(&rt, "out", DAY_1)?, status == 0);
+        fs::remove_file(&rt, records.as_str()).ok();
+        fs::remove_file(&rt, report.as_str()).ok();
+    }
+    tree.remove(&rt)
 }
 
 // Each line is printed at once. Where one is not, the walk ends there: the first call only tries the output.

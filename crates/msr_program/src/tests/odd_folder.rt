@@ -1,17 +1,19 @@
-//! The system's files, but for one folder.
+//! The system's files, but for one folder, and one name.
 use std::alloc::{Allocator, Global};
 use std::fs::{Metadata, OpenOptions};
 use std::io;
 use std::io::{ErrorKind, Read};
 use std::rt::Files;
 
-/// The folder with this path, which ends in a slash, has these names, each ended by a NUL, or cannot be opened. Where the
-/// last name is cut short, reading fails there.
+/// The folder with the path, which ends in a slash, has these names, each ended by a NUL, or cannot be opened. Where the
+/// last name is cut short, reading fails there. A file gets the later name only where the earlier one is there.
 #[derive(Clone, Copy)]
 pub struct OddFolder<'a> {
     pub rt: &'a HostRuntime,
     pub path: &'a str,
     pub names: Option<&'static [u8]>,
+    pub earlier: &'a str,
+    pub later: &'a str,
 }
 
 /// The names of a folder.
@@ -75,6 +77,9 @@ impl<'a> Files for OddFolder<'a> {
     }
 
     fn rename(&self, from: &str, to: &str) -> io::Result<()> {
+        if to == self.later {
+            self.rt.metadata(self.earlier)?;
+        }
         self.rt.rename(from, to)
     }
 

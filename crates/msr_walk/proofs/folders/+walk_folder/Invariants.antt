@@ -1,4 +1,3 @@
-use Rattle.std.proofs.Common.{ℕ}
 use Rattle.msr_walk.specs.Walk.{Tells}
 use Rattle.msr_walk.proofs.folders.+walk_folder.Given as goal
 

@@ -1,5 +1,5 @@
 use Rattle.std.proofs.lemmas.Result.{err_from_is_err_and}
-use Rattle.std.proofs.Common.{rules, refl}
+use Rattle.std.proofs.Common.{refl}
 use Rattle.msr_walk.proofs.Told.{part-none, part-line, part-one, tells-one}
 use Rattle.msr_walk.proofs.folders.tell.Goals as goal
 

@@ -1,5 +1,5 @@
 use Rattle.std.proofs.lemmas.Result.{err_from_is_err_and}
-use Rattle.msr_walk.proofs.Days.{day-done, day-stops}
+use Rattle.msr_walk.proofs.Days.{day-stops}
 use Rattle.msr_walk.proofs.repacking.repack_day_of.Goals as goal
 
 pub returns-in_err-report : goal.returns-in_err-report

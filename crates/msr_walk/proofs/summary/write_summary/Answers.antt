@@ -2,7 +2,7 @@ use Rattle.std.proofs.Common.{rules, ◌≡◌}
 use Rattle.std.proofs.lemmas.Result.{err_from_is_err_and}
 use Rattle.msr_devices.proofs.Chaining.{takes-append}
 use Rattle.msr_walk.specs.Walk.{counts_line}
-use Rattle.msr_walk.proofs.Channels.{front-before, front-after, front-all, summary-is}
+use Rattle.msr_walk.proofs.Channels.{front-after, summary-is}
 use Rattle.msr_walk.proofs.summary.write_summary.Goals as goal
 
 pub returns-in_err-write_all-clause-part : goal.returns-in_err-write_all-clause-part
