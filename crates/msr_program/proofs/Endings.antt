@@ -1,5 +1,5 @@
 -- How tasks end that do not succeed.
-use Rattle.std.proofs.Common.{◌≡◌, ℕ, List, [], ◌++◌, codes, refl, subst, sym, inl, inr, append-nil, Result, Ok, Err}
+use Rattle.std.proofs.Common.{◌≡◌, ℕ, Bool, List, [], codes, refl, subst, sym, inr, append-nil, Result, Ok, Err}
 use Rattle.msr_devices.specs.Device.{Device, Takes}
 use Rattle.msr_devices.proofs.Chaining.{left-of, takes-append, takes-none}
 use Rattle.msr_report.specs.declared.report.Counts.{Counts}
@@ -10,13 +10,14 @@ use Rattle.msr_tool.specs.Listing.{IsListed, ListAnswers}
 use Rattle.msr_tool.specs.Tasks.{Reports, Tells}
 use Rattle.msr_tool.specs.declared.fault.ToolFault.{ToolFault}
 use Rattle.msr_tool.specs.declared.fault.ToolFault.TheVariants as fault
+use Rattle.msr_walk.specs.Walk.{IsWalk, Walks}
 use Rattle.msr_program.specs.declared.done.Done.{Done}
-use Rattle.msr_program.specs.declared.done.Done.TheVariants.{Written, Checked}
+use Rattle.msr_program.specs.declared.done.Done.TheVariants.{Written, Checked, Walked}
 use Rattle.msr_program.specs.declared.stop.Stop.{Stop}
 use Rattle.msr_program.specs.declared.stop.Stop.TheVariants.{CannotOpen, SameFile, Closed, Tool}
 use Rattle.msr_program.specs.declared.words.Task.{Task}
-use Rattle.msr_program.specs.declared.words.Task.TheVariants.{Repack, List as Listing, Check}
-use Rattle.msr_program.specs.Ends.{Checks, Does, IsUncreated, IsUnopened, ListsNamed, Repacks, RepacksNamed, choice_of}
+use Rattle.msr_program.specs.declared.words.Task.TheVariants.{Repack, List as Listing, Check, Archive}
+use Rattle.msr_program.specs.Ends.{Checks, Does, IsUncreated, IsUnopened, ListsNamed, Repacks, RepacksNamed, WalksArchive, choice_of}
 
 -- a file that is needed cannot be opened
 
@@ -88,6 +89,7 @@ task-closed (Listing asked) standard out0 out none = record {
   ends = refl;
 }
 task-closed (Check asked) standard out0 out none = record { input = []; text = []; printed = []; prints = none; ends = refl }
+task-closed (Archive asked) standard out0 out none = record { printed = []; prints = none; ends = refl }
 
 -- what was tried before prints nothing
 
@@ -110,6 +112,11 @@ then-does (Listing asked) standard out0 out1 out result none does = record {
 then-does (Check asked) standard out0 out1 out result none does = record {
   input = does.input;
   text = does.text;
+  printed = does.printed;
+  ends = does.ends;
+  prints = takes-append out0 out1 out [] does.printed none does.prints;
+}
+then-does (Archive asked) standard out0 out1 out result none does = record {
   printed = does.printed;
   ends = does.ends;
   prints = takes-append out0 out1 out [] does.printed none does.prints;
@@ -146,6 +153,12 @@ check-stops packed report out0 out why does = record {
   prints = does.told_all;
   ends = does.answers;
 }
+
+pub archive-done : (choice : Choice) (out0 out : Device) (refused : Bool) → Walks choice out0 out (Ok refused) → WalksArchive choice out0 out (Ok (Walked refused))
+archive-done choice out0 out refused does = record { printed = does.printed; prints = does.prints; ends = does.ends }
+
+pub archive-stops : (choice : Choice) (out0 out : Device) (why : ToolFault) → Walks choice out0 out (Err why) → WalksArchive choice out0 out (Err (Tool why))
+archive-stops choice out0 out why does = record { printed = does.printed; prints = does.prints; ends = does.ends }
 
 -- a file, and not standard input, was listed, or is at fault
 
@@ -230,6 +243,7 @@ task-unsettled (Repack asked) standard out0 out Written does = record {
   };
 }
 task-unsettled (Repack asked) standard out0 out (Checked verdict) does = absurd does.ends
+task-unsettled (Repack asked) standard out0 out (Walked refused) does = absurd does.ends
 task-unsettled (Listing asked) standard out0 out Written does = record {
   input = does.input;
   printed = does.printed;
@@ -238,5 +252,17 @@ task-unsettled (Listing asked) standard out0 out Written does = record {
   ends = inr (record { counts = does.ends.counts; tail = []; listed = rw append-nil does.ends.listed });
 }
 task-unsettled (Listing asked) standard out0 out (Checked verdict) does = absurd does.ends
+task-unsettled (Listing asked) standard out0 out (Walked refused) does = absurd does.ends
 task-unsettled (Check asked) standard out0 out Written does = absurd does.ends
 task-unsettled (Check asked) standard out0 out (Checked verdict) does = check-unsettled out0 out verdict does
+task-unsettled (Check asked) standard out0 out (Walked refused) does = absurd does.ends
+task-unsettled (Archive asked) standard out0 out Written does = absurd does.ends
+task-unsettled (Archive asked) standard out0 out (Checked verdict) does = absurd does.ends
+task-unsettled (Archive asked) standard out0 out (Walked refused) does =
+    let choice = choice_of asked.length asked.tolerance in
+    let P : List ℕ → Type 0 = λ text. IsWalk choice text does.ends.0 in
+    record {
+      printed = does.printed;
+      prints = does.prints;
+      ends = (does.ends.0, [], subst P (sym (append-nil does.printed)) does.ends.1);
+    }

@@ -1,5 +1,5 @@
 -- How a task ends: what was read and printed, for what the files of the system hold.
-use Rattle.std.specs.Prelude.{◌≡◌, ◌⊎◌, ◌<◌, ◌≤◌, ℕ, ⊤, List, [], length, codes, string_bytes, Result, Ok, Err}
+use Rattle.std.specs.Prelude.{if◌then◌else◌, ◌≡◌, ◌⊎◌, ◌<◌, ◌≤◌, ℕ, ⊤, List, [], codes, string_bytes, Result, Ok, Err}
 use Rattle.msr_words.specs.declared.lengths.Length.{Length}
 use Rattle.std.specs.declared.io.Error.{Error}
 use Rattle.msr_devices.specs.Device.{Device, CountsError, HasFailed, HasLeft, Takes}
@@ -8,24 +8,25 @@ use Rattle.msr_report.specs.declared.report.Report.{Report}
 use Rattle.msr_tool.specs.Choice.{Choice}
 use Rattle.msr_tool.specs.Listing.{IsListed, ListAnswers}
 use Rattle.msr_tool.specs.Tasks.{IsReported, ReportAnswers, VerdictAnswers}
-use Rattle.msr_verdict.specs.declared.verdict.Verdict.{Verdict}
 use Rattle.msr_verdict.specs.declared.verdict.Verdict.TheVariants.{Least, NotShown}
 use Rattle.msr_tool.specs.declared.fault.ToolFault.{ToolFault}
+use Rattle.msr_walk.specs.Walk.{WalkEnds}
 use Rattle.msr_program.specs.declared.done.Done.{Done}
-use Rattle.msr_program.specs.declared.done.Done.TheVariants.{Written, Checked}
+use Rattle.msr_program.specs.declared.done.Done.TheVariants.{Written, Checked, Walked}
 use Rattle.msr_program.specs.declared.stop.Stop.{Stop}
 use Rattle.msr_program.specs.declared.stop.Stop.TheVariants.{CannotOpen, SameFile, Closed, Tool}
 use Rattle.msr_program.specs.declared.words.NoTask.{NoTask}
 use Rattle.msr_program.specs.declared.words.NoTask.TheVariants.{Ending, Memory}
 use Rattle.msr_program.specs.declared.words.Task.{Task}
-use Rattle.msr_program.specs.declared.words.Task.TheVariants.{Repack, List as Listing, Check}
+use Rattle.msr_program.specs.declared.words.Task.TheVariants.{Repack, List as Listing, Check, Archive}
 use Rattle.msr_program.specs.Tasks.{HasStatus, IsDefault}
 
--- 0 for what was written or is least, 3 for what is not shown
+-- 0 for what was written or is least, 3 for what is not shown, 1 for a walk on which an entry was refused
 abbrev pub status_of_done : Done → ℕ
 status_of_done Written = 0
 status_of_done (Checked Least) = 0
 status_of_done (Checked NotShown) = 3
+status_of_done (Walked refused) = if refused then 1 else 0
 
 -- 2 where the output is the input, which is a wrong command line, and else 1
 abbrev pub status_of_stop : Stop → ℕ
@@ -56,6 +57,7 @@ pub record StopsReport (choice : Choice) (input printed : List ℕ) (fault : Too
 abbrev pub RepackEnds : Choice → (input printed : List ℕ) → Result Done Stop → Type 0
 RepackEnds choice input printed (Ok Written) = WritesReport choice input printed
 RepackEnds choice input printed (Ok (Checked verdict)) = ⊥
+RepackEnds choice input printed (Ok (Walked refused)) = ⊥
 RepackEnds choice input printed (Err (CannotOpen name)) = printed ≡ []
 RepackEnds choice input printed (Err SameFile) = printed ≡ []
 RepackEnds choice input printed (Err Closed) = printed ≡ []
@@ -77,6 +79,7 @@ pub record WritesList (tolerance : ℕ) (input printed : List ℕ) : Type 0 wher
 abbrev pub ListEnds : ℕ → (input printed : List ℕ) → Result Done Stop → Type 0
 ListEnds tolerance input printed (Ok Written) = WritesList tolerance input printed
 ListEnds tolerance input printed (Ok (Checked verdict)) = ⊥
+ListEnds tolerance input printed (Ok (Walked refused)) = ⊥
 ListEnds tolerance input printed (Err (CannotOpen name)) = printed ≡ []
 ListEnds tolerance input printed (Err SameFile) = ⊥
 ListEnds tolerance input printed (Err Closed) = printed ≡ []
@@ -84,6 +87,7 @@ ListEnds tolerance input printed (Err (Tool fault)) = ListAnswers tolerance inpu
 
 abbrev pub CheckEnds : (input text printed : List ℕ) → Result Done Stop → Type 0
 CheckEnds input text printed (Ok Written) = ⊥
+CheckEnds input text printed (Ok (Walked refused)) = ⊥
 CheckEnds input text printed (Ok (Checked verdict)) = VerdictAnswers input text printed (Ok verdict)
 CheckEnds input text printed (Err (CannotOpen name)) = printed ≡ []
 CheckEnds input text printed (Err SameFile) = ⊥
@@ -138,12 +142,28 @@ pub record ListsNamed (tolerance : ℕ) (name : List ℕ) (standard out0 out : D
   pub prints : Takes out0 out printed
   pub ends : ListEnds tolerance input printed result
 
+abbrev pub ArchiveEnds : Choice → (printed : List ℕ) → Result Done Stop → Type 0
+ArchiveEnds choice printed (Ok Written) = ⊥
+ArchiveEnds choice printed (Ok (Checked verdict)) = ⊥
+ArchiveEnds choice printed (Ok (Walked refused)) = WalkEnds choice printed (Ok refused)
+ArchiveEnds choice printed (Err (CannotOpen name)) = ⊥
+ArchiveEnds choice printed (Err SameFile) = ⊥
+ArchiveEnds choice printed (Err Closed) = printed ≡ []
+ArchiveEnds choice printed (Err (Tool fault)) = WalkEnds choice printed (Err fault)
+
+-- Walking an archive, and what was printed.
+pub record WalksArchive (choice : Choice) (out0 out : Device) (result : Result Done Stop) : Type 0 where
+  pub printed : List ℕ
+  pub prints : Takes out0 out printed
+  pub ends : ArchiveEnds choice printed result
+
 -- what doing a task reads and prints, and how it ends
 abbrev pub Does : Task → (standard out0 out : Device) → Result Done Stop → Type 0
 Does (Repack asked) standard out0 out result =
     RepacksNamed (choice_of asked.length asked.tolerance) asked.input.now standard out0 out result
 Does (Listing asked) standard out0 out result = ListsNamed asked.tolerance asked.input.now standard out0 out result
 Does (Check asked) standard out0 out result = Checks out0 out result
+Does (Archive asked) standard out0 out result = WalksArchive (choice_of asked.length asked.tolerance) out0 out result
 
 -- The words ask for a task, with none for the default, and it ended with this status.
 pub record EndsTask (words : ℕ) (standard out0 out : Device) (status : ℕ) : Type 0 where

@@ -1,9 +1,10 @@
 -- What the words of a command line ask for.
-use Rattle.std.specs.Prelude.{◌≡◌, ◌≢◌, ◌⊎◌, ◌≤◌, ℕ, ⊤, List, Option, None, Some, IfSome, codes, string_bytes}
+use Rattle.std.specs.Prelude.{◌≡◌, ◌≢◌, ◌⊎◌, ◌≤◌, ℕ, ⊤, List, ◌++◌, Option, None, Some, IfSome, codes, string_bytes}
 use Rattle.std.specs.Option.{option_map}
 use Rattle.msr_words.specs.Lengths.{bytes_of}
+use Rattle.msr_program.specs.declared.words.Folders.{Folders}
 use Rattle.msr_program.specs.declared.words.Task.{Task}
-use Rattle.msr_program.specs.declared.words.Task.TheVariants.{Repack, List as Listing, Check}
+use Rattle.msr_program.specs.declared.words.Task.TheVariants.{Repack, List as Listing, Check, Archive}
 use Rattle.msr_program.specs.declared.words.NoTask.{NoTask}
 use Rattle.msr_program.specs.declared.words.NoTask.TheVariants.{Ending, Memory}
 
@@ -17,30 +18,56 @@ abbrev pub HasTolerance : Task → Type 0
 HasTolerance (Repack asked) = IsTolerance asked.tolerance
 HasTolerance (Listing asked) = IsTolerance asked.tolerance
 HasTolerance (Check asked) = ⊤
+HasTolerance (Archive asked) = IsTolerance asked.tolerance
 
--- the output, where one is asked for, has another name than the input
+-- the path begins with the folder's name and a slash
+abbrev pub IsBelow : (folder path : List ℕ) → Type 0
+IsBelow folder path = (rest : List ℕ) × (path ≡ folder ++ (codes "/" ++ rest))
+
+-- one folder is the other, or stands below it, by their names
+abbrev pub Overlap : (a b : List ℕ) → Type 0
+Overlap a b = (a ≡ b) ⊎ (IsBelow a b ⊎ IsBelow b a)
+
+-- no two of the folders overlap
+pub record StandApart (folders : Folders) : Type 0 where
+  pub out : ¬ (Overlap folders.root.now folders.out.now)
+  pub reports : ¬ (Overlap folders.root.now folders.reports.now)
+  pub outputs : ¬ (Overlap folders.out.now folders.reports.now)
+
+-- the output, where one is asked for, has another name than the input; the folders of an archive stand apart
 abbrev pub KeepsInput : Task → Type 0
 KeepsInput (Repack asked) = IfSome asked.output (λ name. name.now ≢ asked.input.now)
 KeepsInput (Listing asked) = ⊤
 KeepsInput (Check asked) = ⊤
+KeepsInput (Archive asked) = StandApart asked.folders
 
 -- a file is to be repacked with these choices
 abbrev pub IsRepacking : (bytes tolerance : ℕ) → (input : List ℕ) → (output : Option (List ℕ)) → Task → Type 0
 IsRepacking bytes tolerance input output (Repack asked) = (bytes_of asked.length ≡ bytes) × (asked.tolerance ≡ tolerance) × (asked.input.now ≡ input) × (option_map (λ name. name.now) asked.output ≡ output)
 IsRepacking bytes tolerance input output (Listing asked) = ⊥
 IsRepacking bytes tolerance input output (Check asked) = ⊥
+IsRepacking bytes tolerance input output (Archive asked) = ⊥
 
 -- the records of the first file are to be checked against the report in the second
 abbrev pub IsChecking : (packed report : Option (List ℕ)) → Task → Type 0
 IsChecking packed report (Repack asked) = ⊥
 IsChecking packed report (Listing asked) = ⊥
+IsChecking packed report (Archive asked) = ⊥
 IsChecking packed report (Check asked) = (packed ≡ Some asked.packed.now) × (report ≡ Some asked.report.now)
+
+-- the archive in these folders is to be repacked with these choices
+abbrev pub IsArchiving : (bytes tolerance : ℕ) → (folders : Folders) → Task → Type 0
+IsArchiving bytes tolerance folders (Repack asked) = ⊥
+IsArchiving bytes tolerance folders (Listing asked) = ⊥
+IsArchiving bytes tolerance folders (Check asked) = ⊥
+IsArchiving bytes tolerance folders (Archive asked) = (bytes_of asked.length ≡ bytes) × (asked.tolerance ≡ tolerance) × (asked.folders ≡ folders)
 
 -- standard input is to be repacked to nowhere, with records of 512 bytes and a tolerance of 1000 microseconds
 abbrev pub IsDefault : Task → Type 0
 IsDefault (Repack asked) = (bytes_of asked.length ≡ 512) × (asked.tolerance ≡ 1000) × (asked.input.now ≡ codes "-") × (asked.output ≡ None)
 IsDefault (Listing asked) = ⊥
 IsDefault (Check asked) = ⊥
+IsDefault (Archive asked) = ⊥
 
 -- a bad command line: the text to end with, and status 2, unless memory is refused
 abbrev pub IsWrong : (text : List ℕ) → NoTask → Type 0

@@ -59,6 +59,18 @@ fn check<'a>(alloc: Global) -> Result<Command<'a>, AllocError> {
         .arg(file(alloc, "REPORT").help(texts::REPORT))
 }
 
+fn archive<'a>(alloc: Global) -> Result<Command<'a>, AllocError> {
+    Command::new(alloc, "archive")
+        .about(texts::ARCHIVE_ABOUT)
+        .long_about(texts::ARCHIVE_LONG_ABOUT)
+        .after_long_help(texts::ARCHIVE_AFTER)
+        .arg(length(alloc))?
+        .arg(tolerance(alloc))?
+        .arg(file(alloc, "ROOT").help(texts::ROOT))?
+        .arg(file(alloc, "OUT").help(texts::OUT_FOLDER))?
+        .arg(file(alloc, "REPORTS").help(texts::REPORTS))
+}
+
 /// The command line of the program.
 pub fn command<'a>(alloc: Global) -> Result<Command<'a>, AllocError> {
     Command::new(alloc, "msrepack")
@@ -70,5 +82,6 @@ pub fn command<'a>(alloc: Global) -> Result<Command<'a>, AllocError> {
         .subcommand_required(true)
         .subcommand(repack(alloc)?)?
         .subcommand(list(alloc)?)?
-        .subcommand(check(alloc)?)
+        .subcommand(check(alloc)?)?
+        .subcommand(archive(alloc)?)
 }

@@ -11,6 +11,8 @@ pub enum Done {
     Written,
     /// A verdict was printed.
     Checked(Verdict),
+    /// An archive was walked to its end, and an entry was refused, or none.
+    Walked { refused: bool },
 }
 
 impl Done {
@@ -21,6 +23,7 @@ impl Done {
         match self {
             Done::Written => 0,
             Done::Checked(verdict) => verdict.status(),
+            Done::Walked { refused } => { if *refused { 1 } else { 0 } }
         }
     }
 }

@@ -4,9 +4,9 @@ ghost use Rattle.msr_program.specs.Ends.{IsUncreated, IsUnopened};
 
 use crate::stop::Stop;
 use msr_tool::ToolFault;
+use msr_walk::settle;
 use std::fs;
 use std::fs::{File, Metadata, OpenFile, OpenOptions};
-use std::io::ErrorKind;
 use std::os::unix::fs::MetadataExt;
 use std::rt::Files;
 
@@ -86,27 +86,8 @@ pub fn create_output<'a, R: Files>(
     }
 }
 
-/// Waits until the system has stored what was written to a regular file: a disk that is full, or a file server that
-/// lost it, may tell it only now. A file system that cannot wait for that tells nothing.
-pub fn settle<F: OpenFile>(file: &F) -> Result<(), ToolFault>
-    ensures { IfErr result (λ fault. fault ≡ ToolFault.Write) }
-{
-    let Ok(metadata) = file.metadata() else {
-        return Err(ToolFault::Write);
-    };
-    if !metadata.is_file() {
-        return Ok(());
-    }
-    match file.sync_data() {
-        Ok(()) => Ok(()),
-        Err(error) => match error.kind() {
-            ErrorKind::InvalidInput | ErrorKind::Unsupported => Ok(()),
-            _ => Err(ToolFault::Write),
-        },
-    }
-}
-
-/// The same for standard output, where it is redirected to a regular file that can be opened once more.
+/// Waits until the system has stored what was printed, where standard output is redirected to a regular file that can
+/// be opened once more.
 pub fn settle_standard_output<R: Files>(rt: &R) -> Result<(), ToolFault>
     ensures { IfErr result (λ fault. fault ≡ ToolFault.Write) }
 {

@@ -3,17 +3,18 @@
 ghost use Rattle.std.specs.Prelude.{◌≡◌};
 ghost use Rattle.msr_devices.specs.Device.{CanCountCall};
 ghost use Rattle.msr_program.specs.Tasks.{IsTolerance, HasTolerance};
-ghost use Rattle.msr_program.specs.Ends.{choice_of, Checks, Does, ListsNamed, OpensOutput, Repacks, RepacksNamed};
+ghost use Rattle.msr_program.specs.Ends.{choice_of, Checks, Does, ListsNamed, OpensOutput, Repacks, RepacksNamed, WalksArchive};
 
 use crate::done::Done;
 use crate::files::{
-    FileId, create_output, id_of_standard_input, open_file, settle, settle_standard_output,
+    FileId, create_output, id_of_standard_input, open_file, settle_standard_output,
 };
 use crate::stop::Stop;
-use crate::words::{Checking, Listing, Repacking, Task, default_length};
+use crate::words::{Archiving, Checking, Listing, Repacking, Task, default_length};
 use msr_tool::{
     FromRead, FromWrite, Options, Sink, Source, check_and_tell, list_segments, repack_and_report,
 };
+use msr_walk::{Archive, settle, walk};
 use msr_words::Length;
 use std::alloc::Global;
 use std::io;
@@ -56,6 +57,7 @@ fn do_open<'a, R: Files, I: Source, O: Sink>(
         Task::Repack(asked) => repack_file(rt, alloc, asked, input, output),
         Task::List(asked) => list_file(rt, alloc, asked, input, output),
         Task::Check(asked) => check_files(rt, alloc, asked, output),
+        Task::Archive(asked) => repack_archive(rt, alloc, asked, output),
     }
 }
 
@@ -165,6 +167,27 @@ fn check_files<'a, R: Files, O: Sink>(
     let mut report = FromRead::new(open_file(rt, asked.report)?.file);
     let verdict = check_and_tell(alloc, &mut packed, &mut report, output)?;
     Ok(Done::Checked(verdict))
+}
+
+fn repack_archive<'a, R: Files, O: Sink>(
+    rt: &R,
+    alloc: Global,
+    asked: Archiving<'a>,
+    output: &mut O,
+) -> Result<Done, Stop<'a>>
+    requires tolerance { IsTolerance asked.tolerance }
+    requires output { CanCountCall (O.device output.old) }
+    ensures { WalksArchive (choice_of asked.entry.length asked.entry.tolerance)
+        (O.device output.old) (O.device output.new) result }
+{
+    let archive = Archive {
+        root: asked.folders.root,
+        out: asked.folders.out,
+        reports: asked.folders.reports,
+        options: options_of(asked.length, asked.tolerance),
+    };
+    let refused = walk(rt, alloc, &archive, output)?;
+    Ok(Done::Walked { refused })
 }
 
 fn options_of(length: Length, tolerance: u32) -> Options

@@ -1,5 +1,7 @@
 //! Command lines, and runs over files and streams.
+mod archive;
 mod fixtures;
+mod odd_folder;
 mod streams;
 mod tasks;
 mod words;

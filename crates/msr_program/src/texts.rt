@@ -19,13 +19,15 @@ pub const AFTER: &str = "With no words msrepack does what `msrepack repack -` do
 
 Statuses:
   0  done
-  1  refused: an input has a fault, or a file cannot be opened, read or written
+  1  refused: an input has a fault, or a file cannot be opened, read or written;
+     for an archive, at least one of its files or folders
   2  the command line is wrong
   3  the report does not show that the records are the fewest
 
 Examples:
   msrepack repack --length 4096 day.mseed packed.mseed > packed.txt
-  msrepack check packed.mseed packed.txt";
+  msrepack check packed.mseed packed.txt
+  msrepack archive sds packed reports";
 
 pub const REPACK_ABOUT: &str = "Writes the segments of a file in the fewest records, and a report";
 
@@ -88,6 +90,42 @@ pub const CHECK_AFTER: &str = "Example:
   msrepack repack --length 4096 day.mseed packed.mseed > packed.txt
   msrepack check packed.mseed packed.txt";
 
+pub const ARCHIVE_ABOUT: &str = "Repacks every day file of an SDS archive";
+
+pub const ARCHIVE_LONG_ABOUT: &str =
+    "Repacks every day file of an archive that is kept as a SeisComP Data Structure.
+
+Walks the folders below ROOT, names in the order of their bytes, and repacks each file
+of waveform data, YEAR/NET/STA/CHAN.D/NET.STA.LOC.CHAN.D.YEAR.DAY, as `repack` does: its
+records go to the same path below OUT, its report to that path with .txt added, below
+REPORTS. Folders are made where a file needs them. Prints one line for each entry, as
+soon as it is done:
+
+done PATH read N written M            repacked, from N records to M
+skipped PATH: not an SDS path         left alone, as also where it says
+                                      `not waveform data` or `bad day`
+refused PATH: TEXT                    a fault, as repack tells it, or `cannot open`
+refused PATH: listing                 a folder that cannot be listed, or has a name that
+                                      is not UTF-8: nothing in it is handled
+
+and at the end, of the files that were done, one line for each channel, and the counts:
+
+channel NET.STA.LOC.CHAN files N read N written N
+files N skipped N refused N
+
+Records and report appear under their names whole or not at all: they are written beside
+them, with .part added, and then renamed, the report first. Those of a refused file are
+removed, also where they were there before. The walk goes on after a refused file.";
+
+pub const ARCHIVE_AFTER: &str = "Example:
+  msrepack archive --length 4096 sds packed reports > log.txt";
+
+pub const ROOT: &str = "The folder of the archive";
+
+pub const OUT_FOLDER: &str = "The folder of the records. It is made if it is missing";
+
+pub const REPORTS: &str = "The folder of the reports. It is made if it is missing";
+
 pub const PACKED: &str = "The file with the packed records";
 
 pub const REPORT: &str = "The file with their report";
@@ -110,6 +148,8 @@ pub const OUT: &str = "The file to write the records to. Without it they are not
 pub const NOT_A_LENGTH: &str = "msrepack: not a record length\n";
 
 pub const SAME_FILE: &str = "msrepack: the output is the input\n";
+
+pub const OVERLAP: &str = "msrepack: the folders overlap\n";
 
 pub const NO_COMMAND: &str = "error: no command\n";
 

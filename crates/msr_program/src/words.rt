@@ -1,10 +1,10 @@
 // The command line: what the words ask for.
-ghost use Rattle.std.specs.Prelude.{◌≡◌, ◌≢◌, ◌<◌, ◌↔◌, length, codes, IfOk, IfErr, IfSome, IsSome, IsOk, IsOkAnd};
+ghost use Rattle.std.specs.Prelude.{◌≡◌, ◌≢◌, ◌<◌, ◌↔◌, length, codes, IfOk, IfErr, IfSome, IsSome, IsOk, IsOkAnd, IsTrue};
 ghost use Rattle.std.specs.Option.{option_map};
 ghost use Rattle.msr_words.specs.RecordLength.{IsRecordLength};
 ghost use Rattle.msr_words.specs.Lengths.{bytes_of};
 ghost use Rattle.clap.specs.Words.{first_value, found_of};
-ghost use Rattle.msr_program.specs.Tasks.{HasStatus, HasTolerance, IsBadLine, IsChecking, IsDefault, IsRepacking, IsTolerance, IsWrong, KeepsInput};
+ghost use Rattle.msr_program.specs.Tasks.{HasStatus, HasTolerance, IsArchiving, IsBadLine, IsBelow, IsChecking, IsDefault, IsRepacking, IsTolerance, IsWrong, KeepsInput, Overlap, StandApart};
 
 use crate::commands::command;
 use crate::texts;
@@ -44,12 +44,31 @@ pub struct Checking<'a> {
     pub report: &'a str,
 }
 
+/// The folders of an archive, of the records that are written, and of their reports.
+#[derive(Clone, Copy, Debug, PartialEq, Eq)]
+pub struct Folders<'a> {
+    pub root: &'a str,
+    pub out: &'a str,
+    pub reports: &'a str,
+}
+
+/// An archive whose day files are to be repacked.
+#[derive(Clone, Copy, Debug, PartialEq, Eq)]
+pub struct Archiving<'a> {
+    /// The length of the records that are written.
+    pub length: Length,
+    /// The tolerance in microseconds.
+    pub tolerance: u32,
+    pub folders: Folders<'a>,
+}
+
 /// What the program is asked to do.
 #[derive(Clone, Copy, Debug, PartialEq, Eq)]
 pub enum Task<'a> {
     Repack(Repacking<'a>),
     List(Listing<'a>),
     Check(Checking<'a>),
+    Archive(Archiving<'a>),
 }
 
 /// The text to end with, and the status.
@@ -176,6 +195,58 @@ fn checking_of<'a>(found: &ArgMatches<'a>) -> Option<Task<'a>>
     Some(Task::Check(Checking { packed, report }))
 }
 
+// Whether one folder is the other, or stands below it, by their names.
+fn overlap(a: &str, b: &str) -> bool
+    ensures { IsTrue result ↔ Overlap a.now b.now }
+{
+    a == b || is_below(a, b) || is_below(b, a)
+}
+
+// Whether the second stands below the first, by their names.
+fn is_below(folder: &str, path: &str) -> bool
+    ensures { IsTrue result ↔ IsBelow folder.now path.now }
+{
+    match path.strip_prefix(folder) {
+        Some(rest) => rest.starts_with('/'),
+        None => false,
+    }
+}
+
+fn folders_in<'a>(found: &ArgMatches<'a>) -> Option<Folders<'a>> {
+    let root = found.get_str("ROOT")?;
+    let out = found.get_str("OUT")?;
+    let reports = found.get_str("REPORTS")?;
+    Some(Folders { root, out, reports })
+}
+
+// An archive to be repacked, exactly where the length is one of a record and no two folders overlap.
+fn archiving_of<'a>(
+    alloc: Global,
+    bytes: u32,
+    tolerance: u32,
+    folders: Folders<'a>,
+) -> Result<Task<'a>, NoTask>
+    requires { IsTolerance tolerance }
+    ensures ok { IsOk result ↔ (IsRecordLength bytes × StandApart folders.entry) }
+    ensures asked { IfOk result (IsArchiving bytes tolerance folders.entry) }
+    ensures tolerance { IfOk result HasTolerance }
+    ensures keeps_input { IfOk result KeepsInput }
+    ensures status { IfErr result IsBadLine }
+{
+    let Some(length) = Length::new(bytes) else {
+        return Err(wrong(alloc, texts::NOT_A_LENGTH));
+    };
+    let Folders { root, out, reports } = folders;
+    if overlap(root, out) || overlap(root, reports) || overlap(out, reports) {
+        return Err(wrong(alloc, texts::OVERLAP));
+    }
+    Ok(Task::Archive(Archiving {
+        length,
+        tolerance,
+        folders,
+    }))
+}
+
 // What clap found. It lets no line through without a command, its inputs and numbers in their ranges.
 fn task_of<'a>(alloc: Global, matches: &ArgMatches<'a>) -> Result<Task<'a>, NoTask>
     ensures tolerance { IfOk result HasTolerance }
@@ -194,16 +265,25 @@ fn task_of<'a>(alloc: Global, matches: &ArgMatches<'a>) -> Result<Task<'a>, NoTa
     let Some(tolerance) = tolerance_in(found) else {
         return Err(wrong(alloc, texts::NO_COMMAND));
     };
-    let Some(input) = found.get_str("IN") else {
-        return Err(wrong(alloc, texts::NO_COMMAND));
-    };
     if name == "list" {
-        return Ok(Task::List(Listing { tolerance, input }));
+        return match found.get_str("IN") {
+            Some(input) => Ok(Task::List(Listing { tolerance, input })),
+            None => Err(wrong(alloc, texts::NO_COMMAND)),
+        };
     }
     let Some(bytes) = found.get_one::<u32>("length") else {
         return Err(wrong(alloc, texts::NO_COMMAND));
     };
-    repacking_of(alloc, bytes, tolerance, input, found.get_str("OUT"))
+    if name == "archive" {
+        return match folders_in(found) {
+            Some(folders) => archiving_of(alloc, bytes, tolerance, folders),
+            None => Err(wrong(alloc, texts::NO_COMMAND)),
+        };
+    }
+    match found.get_str("IN") {
+        Some(input) => repacking_of(alloc, bytes, tolerance, input, found.get_str("OUT")),
+        None => Err(wrong(alloc, texts::NO_COMMAND)),
+    }
 }
 
 /// The task that the words ask for, of which the first is the program's name.

@@ -1,5 +1,8 @@
 //! What command lines are read as, and the text and status that the others end with.
-use crate::words::{Checking, Ending, Listing, NoTask, Repacking, Task, read_words};
+use crate::words::{
+    Archiving, Checking, Ending, Folders, Listing, NoTask, Repacking, Task, default_length,
+    read_words,
+};
 use msr_words::Length;
 use std::alloc::{AllocError, Global};
 use std::test::Fail;
@@ -97,12 +100,49 @@ fn reads_check(rt: HostRuntime) -> Result<(), Fail> {
     Ok(())
 }
 
-// Faults that clap finds come first, then a wrong length, then an output that is the input.
+#[test]
+fn reads_archive(rt: HostRuntime) -> Result<(), Fail> {
+    let rows: [(&'static [&'static str], u32, [&'static str; 3]); 4] = [
+        (
+            &["msrepack", "archive", "a", "b", "c"],
+            1000,
+            ["a", "b", "c"],
+        ),
+        (
+            &["msrepack", "archive", "--tolerance=7", "a/b", "a/c", "a/bb"],
+            7,
+            ["a/b", "a/c", "a/bb"],
+        ),
+        // Names are compared as they are written.
+        (
+            &["msrepack", "archive", "a/", "a/b", "a/./b"],
+            1000,
+            ["a/", "a/b", "a/./b"],
+        ),
+        (
+            &["msrepack", "archive", "-", "--", "-a", "b"],
+            1000,
+            ["-", "-a", "b"],
+        ),
+    ];
+    for (words, tolerance, [root, out, reports]) in rows {
+        let want = Some(Task::Archive(Archiving {
+            length: default_length(),
+            tolerance,
+            folders: Folders { root, out, reports },
+        }));
+        assert_eq!(&rt; read_words(rt.alloc(), words).ok(), want, "at {words:?}");
+    }
+    Ok(())
+}
+
+// Faults that clap finds come first, then a wrong length, then an output that is the input or folders that overlap.
 #[test]
 fn refuses_with_a_text_of_its_own(rt: HostRuntime) -> Result<(), Fail> {
     let length = "msrepack: not a record length\n";
     let same = "msrepack: the output is the input\n";
-    let rows: [(&'static [&'static str], &'static str); 9] = [
+    let overlap = "msrepack: the folders overlap\n";
+    let rows: [(&'static [&'static str], &'static str); 16] = [
         (&["msrepack", "repack", "--length", "300", "a"], length),
         (&["msrepack", "repack", "--length", "0", "a"], length),
         (&["msrepack", "repack", "--length", "128", "a"], length),
@@ -115,6 +155,16 @@ fn refuses_with_a_text_of_its_own(rt: HostRuntime) -> Result<(), Fail> {
         (&["msrepack", "repack", "a", "a"], same),
         (&["msrepack", "repack", "-", "-"], same),
         (&["msrepack", "repack", "--length", "256", "a", "a"], same),
+        (
+            &["msrepack", "archive", "--length=300", "a", "a", "a"],
+            length,
+        ),
+        (&["msrepack", "archive", "a", "a/b", "c"], overlap),
+        (&["msrepack", "archive", "a/b", "a", "c"], overlap),
+        (&["msrepack", "archive", "a", "b", "a/c"], overlap),
+        (&["msrepack", "archive", "a", "b", "b/c/d"], overlap),
+        (&["msrepack", "archive", "a", "b", "b"], overlap),
+        (&["msrepack", "archive", "a", "b", "a"], overlap),
     ];
     for (words, want) in rows {
         let ending = ending(rt.alloc(), words)?;
@@ -133,8 +183,8 @@ fn refuses_with_the_text_of_clap(rt: HostRuntime) -> Result<(), Fail> {
         ),
         (&["msrepack", "a"], "error: unrecognized subcommand 'a'\n"),
         (
-            &["msrepack", "archive", "a", "b", "c"],
-            "error: unrecognized subcommand 'archive'\n",
+            &["msrepack", "archive", "a", "b"],
+            "error: the following required arguments were not provided:\n  <REPORTS>\n",
         ),
         (
             &["msrepack", "feed", "a"],
@@ -213,7 +263,7 @@ fn refuses_with_the_text_of_clap(rt: HostRuntime) -> Result<(), Fail> {
 
 #[test]
 fn helps(rt: HostRuntime) -> Result<(), Fail> {
-    let rows: [(&'static [&'static str], &'static str); 13] = [
+    let rows: [(&'static [&'static str], &'static str); 15] = [
         (&["msrepack", "--help"], "Usage: msrepack <COMMAND>\n"),
         (&["msrepack", "--help"], "\nStatuses:\n  0  done\n"),
         (
@@ -238,7 +288,7 @@ fn helps(rt: HostRuntime) -> Result<(), Fail> {
         ),
         (
             &["msrepack", "--help"],
-            "\n  check   Says whether a report shows that packed records are the fewest\n",
+            "\n  check    Says whether a report shows that packed records are the fewest\n",
         ),
         (
             &["msrepack", "--help"],
@@ -255,6 +305,14 @@ fn helps(rt: HostRuntime) -> Result<(), Fail> {
         (
             &["msrepack", "help", "check"],
             "\nnot shown  The report does not show that: ",
+        ),
+        (
+            &["msrepack", "archive", "--help"],
+            "Usage: msrepack archive [OPTIONS] <ROOT> <OUT> <REPORTS>\n",
+        ),
+        (
+            &["msrepack", "help", "archive"],
+            "\nfiles N skipped N refused N\n",
         ),
         (&["msrepack", "--version"], "msrepack 0.1.0\n"),
     ];

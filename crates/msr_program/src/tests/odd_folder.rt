@@ -1,0 +1,101 @@
+//! The system's files, but for one folder, and one name.
+use std::alloc::{Allocator, Global};
+use std::fs::{Metadata, OpenOptions};
+use std::io;
+use std::io::{ErrorKind, Read};
+use std::rt::Files;
+
+/// The folder with the path, which ends in a slash, has these names, each ended by a NUL, or cannot be opened. Where the
+/// last name is cut short, reading fails there. A file gets the later name only where the earlier one is there.
+#[derive(Clone, Copy)]
+pub struct OddFolder<'a> {
+    pub rt: &'a HostRuntime,
+    pub path: &'a str,
+    pub names: Option<&'static [u8]>,
+    pub earlier: &'a str,
+    pub later: &'a str,
+}
+
+/// The names of a folder.
+#[derive(Drop)]
+pub enum Names {
+    Host(<HostRuntime as Files>::Dir),
+    Odd(&'static [u8]),
+}
+
+impl Read for Names {
+    fn read(&mut self, buf: &mut [u8]) -> io::Result<usize> {
+        match self {
+            Names::Host(dir) => dir.read(buf),
+            Names::Odd(names) => {
+                if !names.is_empty() && !names.ends_with(b"\0") {
+                    return Err(ErrorKind::Other.into());
+                }
+                names.read(buf)
+            }
+        }
+    }
+}
+
+impl<'a> Alloc for OddFolder<'a> {
+    type A = Global;
+
+    fn alloc(&self) -> Global {
+        self.rt.alloc()
+    }
+}
+
+impl<'a> Files for OddFolder<'a> {
+    type File = <HostRuntime as Files>::File;
+
+    type Dir = Names;
+
+    fn open_file(&self, how: &OpenOptions, path: &str) -> io::Result<Self::File> {
+        self.rt.open_file(how, path)
+    }
+
+    fn open_dir(&self, path: &str) -> io::Result<Names> {
+        if path != self.path {
+            return Ok(Names::Host(self.rt.open_dir(path)?));
+        }
+        match self.names {
+            Some(names) => Ok(Names::Odd(names)),
+            None => Err(ErrorKind::PermissionDenied.into()),
+        }
+    }
+
+    fn metadata(&self, path: &str) -> io::Result<Metadata> {
+        self.rt.metadata(path)
+    }
+
+    fn symlink_metadata(&self, path: &str) -> io::Result<Metadata> {
+        self.rt.symlink_metadata(path)
+    }
+
+    fn copy(&self, from: &str, to: &str) -> io::Result<u64> {
+        self.rt.copy(from, to)
+    }
+
+    fn rename(&self, from: &str, to: &str) -> io::Result<()> {
+        if to == self.later {
+            self.rt.metadata(self.earlier)?;
+        }
+        self.rt.rename(from, to)
+    }
+
+    fn remove_file(&self, path: &str) -> io::Result<()> {
+        self.rt.remove_file(path)
+    }
+
+    fn create_dir(&self, path: &str) -> io::Result<()> {
+        self.rt.create_dir(path)
+    }
+
+    fn remove_dir(&self, path: &str) -> io::Result<()> {
+        self.rt.remove_dir(path)
+    }
+
+    fn remove_dir_all<B: Allocator>(&self, alloc: B, path: &str) -> io::Result<()> {
+        self.rt.remove_dir_all(alloc, path)
+    }
+}

@@ -1,0 +1,38 @@
+use Rattle.std.proofs.lemmas.Result.{err_from_is_err_and}
+use Rattle.msr_walk.proofs.Days.{day-answer, day-unsettled}
+use Rattle.msr_walk.proofs.day.Day.write.Goals as goal
+
+pub returns-in_err-records : goal.returns-in_err-records
+returns-in_err-records g c =
+    let p = err_from_is_err_and c.from_residual.result c.from_residual.ensures.1 in
+    rw (p.1, p.2, c.in_err-records.ensures) tt
+
+pub returns-in_err-report : goal.returns-in_err-report
+returns-in_err-report g c =
+    let p = err_from_is_err_and c.from_residual-in_err-report.result c.from_residual-in_err-report.ensures.1 in
+    rw (p.1, p.2, c.in_err-report.ensures) tt
+
+pub returns-in_err-repacked : goal.returns-in_err-repacked
+returns-in_err-repacked g c =
+    let p = err_from_is_err_and c.from_residual-in_err-repacked.result c.from_residual-in_err-repacked.ensures.1 in
+    rw (p.1, p.2) (day-answer _ _ _ _ _ _ _ c.in_err-repacked.ensures)
+
+pub returns-in_err-settle : goal.returns-in_err-settle
+returns-in_err-settle g c =
+    let p = err_from_is_err_and c.from_residual-in_err-settle.result c.from_residual-in_err-settle.ensures.1 in
+    rw (p.1, p.2, c.in_err-settle.ensures) (day-unsettled _ _ _ _ _ _ _ c.in_ok-repacked.ensures)
+
+pub returns-in_err-settle-2 : goal.returns-in_err-settle-2
+returns-in_err-settle-2 g c =
+    let p = err_from_is_err_and c.from_residual-in_err-settle-2.result c.from_residual-in_err-settle-2.ensures.1 in
+    rw (p.1, p.2, c.in_err-settle-2.ensures) (day-unsettled _ _ _ _ _ _ _ c.in_ok-repacked.ensures)
+
+pub returns-in_err-keep : goal.returns-in_err-keep
+returns-in_err-keep g c =
+    let p = err_from_is_err_and c.from_residual-in_err-keep.result c.from_residual-in_err-keep.ensures.1 in
+    rw (p.1, p.2, c.in_err-keep.ensures) tt
+
+pub returns-in_err-keep-2 : goal.returns-in_err-keep-2
+returns-in_err-keep-2 g c =
+    let p = err_from_is_err_and c.from_residual-in_err-keep-2.result c.from_residual-in_err-keep-2.ensures.1 in
+    rw (p.1, p.2, c.in_err-keep-2.ensures) tt

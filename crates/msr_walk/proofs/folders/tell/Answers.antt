@@ -1,0 +1,25 @@
+use Rattle.std.proofs.lemmas.Result.{err_from_is_err_and}
+use Rattle.std.proofs.Common.{refl}
+use Rattle.msr_walk.proofs.Told.{part-none, part-line, part-one, tells-one}
+use Rattle.msr_walk.proofs.folders.tell.Goals as goal
+
+pub returns-in_err-line-clause-part : goal.returns-in_err-line-clause-part
+returns-in_err-line-clause-part g c =
+    let p = err_from_is_err_and c.from_residual.result c.from_residual.ensures.1 in
+    λ choice is. rw p.1 (part-none choice (g.O.Sink.device c.args.out.now))
+
+pub returns-in_err-write_all-clause-part : goal.returns-in_err-write_all-clause-part
+returns-in_err-write_all-clause-part g c =
+    let p = err_from_is_err_and c.from_residual-in_err-write_all.result c.from_residual-in_err-write_all.ensures.1 in
+    let part = c.in_err-write_all.ensures.part in
+    λ choice is. rw p.1 (part-line choice (g.O.Sink.device c.args.out.now) (g.O.Sink.device c.write_all.new.sink) part.0 c.args.path.now c.args.channel.now c.as_bytes.result.now c.args.outcome is (rw c.as_bytes.ensures.value c.in_ok-line.ensures) part.1)
+
+pub returns-in_err-add-clause-part : goal.returns-in_err-add-clause-part
+returns-in_err-add-clause-part g c =
+    let p = err_from_is_err_and c.from_residual-in_err-add.result c.from_residual-in_err-add.ensures.1 in
+    λ choice is. rw p.1 (part-one choice (g.O.Sink.device c.args.out.now) (g.O.Sink.device c.write_all.new.sink) c.args.path.now c.args.channel.now c.as_bytes.result.now c.args.outcome is (rw c.as_bytes.ensures.value c.in_ok-line.ensures) c.in_ok-write_all.ensures.all)
+
+pub returns-clause-told : goal.returns-clause-told
+returns-clause-told g c =
+    λ choice is. tells-one choice (g.O.Sink.device c.args.out.now) (g.O.Sink.device c.write_all.new.sink) c.args.tally.now c.add.new.self c.args.path.now c.args.channel.now c.as_bytes.result.now c.args.outcome is (rw c.as_bytes.ensures.value c.in_ok-line.ensures) c.in_ok-write_all.ensures.all c.in_ok-write_all.ensures.calm
+    (λ before h. c.in_ok-add.ensures before (record { path = c.args.path.now; channel = c.args.channel.now; outcome = c.args.outcome }) h refl refl)

@@ -1,0 +1,12 @@
+use Rattle.std.proofs.Common.{take}
+use Rattle.std.specs.List.{flat_map}
+use Rattle.msr_devices.specs.Device.{IsCalm, Takes}
+use Rattle.msr_walk.specs.Walk.{channel_line}
+use Rattle.msr_walk.proofs.summary.write_channels.Given as goal
+
+-- the lines of the channels so far are written
+abbrev pub invariant-loop-place : goal.invariant-loop-place
+invariant-loop-place g l = record {
+  prints : Takes (g.O.Sink.device l.fn.out) (g.O.Sink.device l.out) (flat_map channel_line (take l.place l.totals));
+  calm : IsCalm (g.O.Sink.device l.fn.out) (g.O.Sink.device l.out);
+}

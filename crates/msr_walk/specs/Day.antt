@@ -1,0 +1,48 @@
+-- What is said of a day file that was repacked, or refused.
+use Rattle.std.specs.Prelude.{◌≡◌, ℕ, ⊤, List, Result, Ok, Err}
+use Rattle.msr_devices.specs.Device.{Device, HasLeft, Takes}
+use Rattle.msr_report.specs.Proper.{records_of}
+use Rattle.msr_report.specs.declared.report.Report.{Report}
+use Rattle.msr_tool.specs.Choice.{Choice}
+use Rattle.msr_tool.specs.Tasks.{IsReported, ReportAnswers}
+use Rattle.msr_tool.specs.declared.fault.ToolFault.{ToolFault}
+use Rattle.msr_walk.specs.declared.outcome.Refusal.{Refusal}
+use Rattle.msr_walk.specs.declared.outcome.Refusal.TheVariants.{CannotOpen, Listing, Tool}
+use Rattle.msr_walk.specs.declared.outcome.Repacked.{Repacked}
+
+-- The input was repacked, what was told is the text of its report, and the counts are those of this report: the
+-- records that were read, and those that were written.
+pub record IsCounted (choice : Choice) (input records told : List ℕ) (repacked : Repacked) : Type 0 where
+  pub report : Report
+  pub reported : IsReported choice input records told report
+  pub read : repacked.read ≡ report.counts.read
+  pub written : repacked.written ≡ records_of report.segments.items
+
+-- what an answer says of the input, of the records that were written, and of the text of the report
+abbrev pub CountAnswers : Choice → (input written told : List ℕ) → Result Repacked ToolFault → Type 0
+CountAnswers choice input written told (Ok repacked) = IsCounted choice input written told repacked
+CountAnswers choice input written told (Err fault) = ReportAnswers choice input written told (Err fault)
+
+-- What repacking a day did with its devices, the source, the sink of the records and that of the report.
+pub record RepacksDay (choice : Choice) (source records0 records text0 text : Device) (result : Result Repacked ToolFault) : Type 0 where
+  pub input : List ℕ
+  pub written : List ℕ
+  pub told : List ℕ
+  pub left : HasLeft source input
+  pub wrote : Takes records0 records written
+  pub told_all : Takes text0 text told
+  pub answers : CountAnswers choice input written told result
+
+-- Some input, of which some records and some text were written, has this answer.
+pub record HasAnswer (choice : Choice) (result : Result Repacked ToolFault) : Type 0 where
+  pub input : List ℕ
+  pub written : List ℕ
+  pub told : List ℕ
+  pub answers : CountAnswers choice input written told result
+
+-- what an answer says of a day file; nothing is known of the files of the system but that they have some bytes
+abbrev pub IsRepackedDay : Choice → Result Repacked Refusal → Type 0
+IsRepackedDay choice (Ok repacked) = HasAnswer choice (Ok repacked)
+IsRepackedDay choice (Err CannotOpen) = ⊤
+IsRepackedDay choice (Err Listing) = ⊥
+IsRepackedDay choice (Err (Tool fault)) = HasAnswer choice (Err fault)

@@ -1,0 +1,4 @@
+pub mod Paths
+pub mod Day
+pub mod Entries
+pub mod Walk

@@ -1,0 +1,65 @@
+-- What a walk prints, and how it ends.
+use Rattle.std.specs.Prelude.{◌≡◌, ℕ, ◌<◌, Bool, true, false, List, ◌++◌, codes, Result, Ok, Err}
+use Rattle.std.specs.Fmt.{decimal}
+use Rattle.std.specs.List.{AllByRecursion, flat_map}
+use Rattle.msr_devices.specs.Device.{Device, IsCalm, Takes}
+use Rattle.msr_totals.specs.declared.Total.{Total}
+use Rattle.msr_tool.specs.Choice.{Choice}
+use Rattle.msr_tool.specs.declared.fault.ToolFault.{ToolFault}
+use Rattle.msr_walk.specs.Entries.{Entry, IsEntry, AreLines, IsTally, channels_of, counted, is_done, is_skipped, is_refused}
+use Rattle.msr_walk.specs.declared.tally.Tally.{Tally}
+
+-- the line of a channel's total
+abbrev pub channel_line : List ℕ × Total → List ℕ
+channel_line of =
+    codes "channel " ++ (of.0 ++ (codes " files " ++ (decimal of.1.files ++ (codes " read " ++ (decimal of.1.read ++ (codes " written " ++ (decimal of.1.written ++ codes "\n")))))))
+
+-- the last line
+abbrev pub counts_line : (done skipped refused : ℕ) → List ℕ
+counts_line done skipped refused =
+    codes "files " ++ (decimal done ++ (codes " skipped " ++ (decimal skipped ++ (codes " refused " ++ (decimal refused ++ codes "\n")))))
+
+-- the lines after those of the entries
+abbrev pub summary : List Entry → List ℕ
+summary entries = flat_map channel_line (channels_of entries) ++ counts_line (counted is_done entries) (counted is_skipped entries) (counted is_refused entries)
+
+-- Some more entries were told: their lines were printed, and they are counted.
+pub record Tells (choice : Choice) (out0 out : Device) (tally0 tally : Tally) : Type 0 where
+  pub entries : List Entry
+  pub lines : List ℕ
+  pub are_entries : AllByRecursion (IsEntry choice) entries
+  pub are_lines : AreLines entries lines
+  pub prints : Takes out0 out lines
+  pub calm : IsCalm out0 out
+  pub counts : (before : List Entry) → IsTally before tally0 → IsTally (before ++ entries) tally
+
+-- A prefix of the lines of some more entries was printed.
+pub record TellsInPart (choice : Choice) (out0 out : Device) : Type 0 where
+  pub entries : List Entry
+  pub printed : List ℕ
+  pub rest : List ℕ
+  pub are_entries : AllByRecursion (IsEntry choice) entries
+  pub are_lines : AreLines entries (printed ++ rest)
+  pub prints : Takes out0 out printed
+
+-- The text of a whole walk: a line for each of some entries, and then what these very entries sum up to.
+pub record IsWalk (choice : Choice) (text : List ℕ) (entries : List Entry) : Type 0 where
+  pub lines : List ℕ
+  pub are_entries : AllByRecursion (IsEntry choice) entries
+  pub are_lines : AreLines entries lines
+  pub whole : text ≡ lines ++ summary entries
+
+-- a walk that came to its end tells whether an entry was refused
+abbrev pub TellsRefusals : List Entry → Bool → Type 0
+TellsRefusals entries refused = (refused ≡ true → 0 < counted is_refused entries) × (refused ≡ false → counted is_refused entries ≡ 0)
+
+-- the whole text was printed, or a prefix of it
+abbrev pub WalkEnds : Choice → (printed : List ℕ) → Result Bool ToolFault → Type 0
+WalkEnds choice printed (Ok refused) = (entries : List Entry) × IsWalk choice printed entries × TellsRefusals entries refused
+WalkEnds choice printed (Err fault) = (entries : List Entry) × (rest : List ℕ) × IsWalk choice (printed ++ rest) entries
+
+-- What a walk printed, and how it ended.
+pub record Walks (choice : Choice) (out0 out : Device) (result : Result Bool ToolFault) : Type 0 where
+  pub printed : List ℕ
+  pub prints : Takes out0 out printed
+  pub ends : WalkEnds choice printed result

@@ -1,0 +1,159 @@
+//! The walk through the folders of an archive.
+ghost use Rattle.std.specs.Prelude.{OnOk, OnErr};
+ghost use Rattle.msr_devices.specs.Device.{CanCountCall};
+ghost use Rattle.msr_sds.specs.SdsPath.{ReadsAsDay};
+ghost use Rattle.msr_tool.specs.Choice.{Choice};
+ghost use Rattle.msr_walk.specs.Entries.{IsOutcomeOf};
+ghost use Rattle.msr_walk.specs.Walk.{Tells, TellsInPart, Walks};
+
+use crate::day::Day;
+use crate::listing::{ListFault, names_in};
+use crate::outcome::{Outcome, Refusal};
+use crate::paths::{channel_text, entry_path, join};
+use crate::summary::write_summary;
+use crate::tally::Tally;
+use msr_devices::write_all;
+use msr_sds::SdsName;
+use msr_tool::{Options, Sink, ToolFault};
+use std::alloc::Global;
+use std::fs;
+use std::rt::Files;
+
+/// An archive that is to be repacked.
+#[derive(Clone, Copy)]
+pub struct Archive<'a> {
+    /// The folder of the archive.
+    pub root: &'a str,
+    /// The folder of the records that are written.
+    pub out: &'a str,
+    /// The folder of their reports.
+    pub reports: &'a str,
+    pub options: Options,
+}
+
+// How many folders a path of a day file has.
+const FOLDERS: u8 = 4;
+
+// Prints the line of an entry, and counts it. The channel is that of a day.
+fn tell<O: Sink>(
+    alloc: Global,
+    path: &str,
+    channel: &str,
+    outcome: Outcome,
+    out: &mut O,
+    tally: &mut Tally,
+) -> Result<(), ToolFault>
+    requires { CanCountCall (O.device out.old) }
+    // Whatever the choice with which the entry has this outcome.
+    ensures told { (choice : Choice) → IsOutcomeOf choice path.now channel.now outcome →
+        OnOk result (Tells choice (O.device out.old) (O.device out.new) tally.old tally.new) }
+    ensures part { (choice : Choice) → IsOutcomeOf choice path.now channel.now outcome →
+        OnErr result (TellsInPart choice (O.device out.old) (O.device out.new)) }
+{
+    let line = outcome.line(alloc, path)?;
+    write_all(out, line.as_bytes())?;
+    tally.add(channel, outcome)?;
+    Ok(())
+}
+
+fn tell_day<R: Files, O: Sink>(
+    rt: &R,
+    alloc: Global,
+    archive: &Archive<'_>,
+    path: &str,
+    name: &SdsName<'_>,
+    out: &mut O,
+    tally: &mut Tally,
+) -> Result<(), ToolFault>
+    requires day { ReadsAsDay path.now name.now }
+    requires count { CanCountCall (O.device out.old) }
+    ensures told { OnOk result (Tells archive.now.options (O.device out.old) (O.device out.new) tally.old tally.new) }
+    ensures part { OnErr result (TellsInPart archive.now.options (O.device out.old) (O.device out.new)) }
+{
+    let channel = channel_text(alloc, name)?;
+    let day = Day::new(alloc, archive, path)?;
+    let outcome = match day.repack(rt, alloc, archive.options) {
+        Ok(repacked) => Outcome::Done(repacked),
+        Err(refusal) => Outcome::Refused(refusal),
+    };
+    tell(alloc, path, channel.as_str(), outcome, out, tally)
+}
+
+// What is no folder of the walk.
+fn tell_file<R: Files, O: Sink>(
+    rt: &R,
+    alloc: Global,
+    archive: &Archive<'_>,
+    path: &str,
+    out: &mut O,
+    tally: &mut Tally,
+) -> Result<(), ToolFault>
+    requires { CanCountCall (O.device out.old) }
+    ensures told { OnOk result (Tells archive.now.options (O.device out.old) (O.device out.new) tally.old tally.new) }
+    ensures part { OnErr result (TellsInPart archive.now.options (O.device out.old) (O.device out.new)) }
+{
+    match SdsName::parse(path) {
+        Ok(name) => tell_day(rt, alloc, archive, path, &name, out, tally),
+        Err(fault) => tell(alloc, path, "", Outcome::Skipped(fault), out, tally),
+    }
+}
+
+// Links are followed.
+fn is_folder<R: Files>(rt: &R, path: &str) -> bool {
+    match fs::metadata(rt, path) {
+        Ok(metadata) => metadata.is_dir(),
+        Err(_) => false,
+    }
+}
+
+// The entries of a folder with that path from the archive's own, below which folders stand that many levels deep.
+fn walk_folder<R: Files, O: Sink>(
+    rt: &R,
+    alloc: Global,
+    archive: &Archive<'_>,
+    folder: &str,
+    levels: u8,
+    out: &mut O,
+    tally: &mut Tally,
+) -> Result<(), ToolFault>
+    requires { CanCountCall (O.device out.old) }
+    ensures told { OnOk result (Tells archive.now.options (O.device out.old) (O.device out.new) tally.old tally.new) }
+    ensures part { OnErr result (TellsInPart archive.now.options (O.device out.old) (O.device out.new)) }
+{
+    let place = join(alloc, archive.root, folder)?;
+    let names = match names_in(rt, alloc, place.as_str()) {
+        Ok(names) => names,
+        Err(ListFault::Memory) => return Err(ToolFault::Memory),
+        Err(ListFault::Listing) => {
+            let path = if folder.is_empty() { "." } else { folder };
+            let refused = Outcome::Refused(Refusal::Listing);
+            return tell(alloc, path, "", refused, out, tally);
+        }
+    };
+    for name in &names {
+        let path = entry_path(alloc, folder, name.as_str())?;
+        let place = join(alloc, archive.root, path.as_str())?;
+        if 0 < levels && is_folder(rt, place.as_str()) {
+            walk_folder(rt, alloc, archive, path.as_str(), levels - 1, out, tally)?;
+        } else {
+            tell_file(rt, alloc, archive, path.as_str(), out, tally)?;
+        }
+    }
+    Ok(())
+}
+
+/// Walks the archive, and tells whether an entry was refused.
+pub fn walk<R: Files, O: Sink>(
+    rt: &R,
+    alloc: Global,
+    archive: &Archive<'_>,
+    out: &mut O,
+) -> Result<bool, ToolFault>
+    requires { CanCountCall (O.device out.old) }
+    ensures { Walks archive.now.options (O.device out.old) (O.device out.new) result }
+{
+    let mut tally = Tally::new(alloc);
+    walk_folder(rt, alloc, archive, "", FOLDERS, out, &mut tally)?;
+    write_summary(alloc, out, &tally)?;
+    Ok(0 < tally.refused)
+}

@@ -1,0 +1,16 @@
+//! Repacks an archive of day files: walks its folders, repacks each day of waveform data to the
+//! same path in another folder, and tells a line for each entry and the totals of the channels.
+#![tactic(auto)]
+
+mod day;
+mod files;
+mod folders;
+mod listing;
+mod outcome;
+mod paths;
+mod repacking;
+mod summary;
+mod tally;
+
+pub use files::settle;
+pub use folders::{Archive, walk};

@@ -1,0 +1,70 @@
+//! What becomes of an entry of a folder, and its line.
+ghost use Rattle.std.specs.Prelude.{◌≡◌, IfOk};
+ghost use Rattle.std.specs.String.{string_bytes};
+ghost use Rattle.msr_walk.specs.Entries.{IsLineOf};
+
+use msr_sds::SdsFault;
+use msr_tool::ToolFault;
+use std::alloc::{AllocError, Global};
+use thiserror::Error;
+
+/// Why a day file or a folder is refused.
+#[derive(Clone, Copy, Debug, Error)]
+pub enum Refusal {
+    /// A file could not be opened, or not be made under its name.
+    #[error("cannot open")]
+    CannotOpen,
+    /// A folder could not be listed, or has a name that is not UTF-8.
+    #[error("listing")]
+    Listing,
+    /// The file was not repacked.
+    #[error("{0}")]
+    Tool(ToolFault),
+}
+
+impl From<ToolFault> for Refusal {
+    ghost use Rattle.std.specs.Prelude.{◌≡◌};
+    ghost use Rattle.msr_walk.specs.declared.outcome.Refusal.TheVariants.{Tool};
+
+    ghost from_gives = { λ fault why. why ≡ Tool fault };
+
+    fn from(fault: ToolFault) -> Refusal {
+        Refusal::Tool(fault)
+    }
+}
+
+/// How many records a day file had, and how many were written for it.
+#[derive(Clone, Copy)]
+pub struct Repacked {
+    pub read: u64,
+    pub written: u64,
+}
+
+/// What became of an entry.
+#[derive(Clone, Copy)]
+pub enum Outcome {
+    Done(Repacked),
+    Skipped(SdsFault),
+    Refused(Refusal),
+}
+
+impl Outcome {
+    /// The line that tells it of the entry with this path.
+    pub fn line(self, alloc: Global, path: &str) -> Result<String, AllocError>
+        ensures { IfOk result (λ line. IsLineOf path.now self (string_bytes line)) }
+    {
+        match self {
+            Outcome::Done(Repacked { read, written }) => {
+                format!(in alloc; "done {path} read {read} written {written}\n")
+            }
+            Outcome::Skipped(fault) => {
+                let why = fault.to_string(alloc)?;
+                format!(in alloc; "skipped {path}: {why}\n")
+            }
+            Outcome::Refused(refusal) => {
+                let why = refusal.to_string(alloc)?;
+                format!(in alloc; "refused {path}: {why}\n")
+            }
+        }
+    }
+}
