@@ -120,6 +120,7 @@ impl Window {
     }
 
     /// How many differences of the run, from this one on, stand together in a Steim-2 word, as many as can.
+    #[inline(always)]
     pub(crate) fn longest_after(&mut self, before: Option<i32>, run: &[i32], at: usize) -> usize
         requires within { at ≤ length run.now }
         requires window { IsWindow run.now at self.old }
@@ -133,6 +134,7 @@ impl Window {
     }
 
     /// How many differences of the segment, from this sample's on, stand together in a Steim-2 word, as many as can.
+    #[inline(always)]
     pub fn longest_steim2_group(&mut self, samples: &[i32], at: usize) -> usize
         requires within { at ≤ length samples.now }
         requires window { IsWindow samples.now at self.old }
