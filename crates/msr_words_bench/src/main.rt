@@ -1,7 +1,7 @@
 //! Prints how many samples a second each tracker of msr_words takes, over a day of made-up samples.
 #![tactic(auto)]
 
-use msr_words::{AnyKind, Int16, Int32, Length, Steim1, Steim2, Tracker};
+use msr_words::{AnyKind, Codec, Int16, Int32, Length, Steim1, Steim2, Tracker};
 use std::alloc::{AllocError, Global};
 use std::time::Instant;
 use std::{env, io};
@@ -79,6 +79,19 @@ fn measure<T: Tracker + Drop>(
     println!(rt; "{name}: {rate} million samples a second, {filled} records")
 }
 
+/// The same for the tracker of one kind of record, with the number of its encoding.
+fn measure_kind<C: Codec + Drop>(
+    rt: &HostRuntime,
+    name: &str,
+    points: &[Point],
+    record_length: Length,
+    rounds: u32,
+) -> io::Result<()> {
+    let code = C::start(record_length).code();
+    print!(rt; "encoding {code}, ")?;
+    measure::<C>(rt, name, points, record_length, rounds)
+}
+
 fn main(rt: HostRuntime) -> io::Result<()> {
     let mut words = env::args(&rt)?;
     let _program = words.next();
@@ -95,16 +108,16 @@ fn main(rt: HostRuntime) -> io::Result<()> {
     };
     let points = make_day(rt.alloc())?;
     if chosen("Int16") {
-        measure::<Int16>(&rt, "Int16", &points, record_length, rounds)?;
+        measure_kind::<Int16>(&rt, "Int16", &points, record_length, rounds)?;
     }
     if chosen("Int32") {
-        measure::<Int32>(&rt, "Int32", &points, record_length, rounds)?;
+        measure_kind::<Int32>(&rt, "Int32", &points, record_length, rounds)?;
     }
     if chosen("Steim1") {
-        measure::<Steim1>(&rt, "Steim1", &points, record_length, rounds)?;
+        measure_kind::<Steim1>(&rt, "Steim1", &points, record_length, rounds)?;
     }
     if chosen("Steim2") {
-        measure::<Steim2>(&rt, "Steim2", &points, record_length, rounds)?;
+        measure_kind::<Steim2>(&rt, "Steim2", &points, record_length, rounds)?;
     }
     if chosen("AnyKind") {
         measure::<AnyKind>(&rt, "AnyKind", &points, record_length, rounds)?;
