@@ -19,6 +19,7 @@ import subprocess
 import sys
 import tempfile
 
+sys.dont_write_bytecode = True
 import inputs
 
 HERE = os.path.dirname(os.path.realpath(__file__))
