@@ -1,10 +1,9 @@
 -- Lines have no line feed inside.
-use Rattle.std.proofs.Common.{◌≡◌, ◌∙◌, ap, sym, refl, arith, ℕ, suc, ◌<◌, ◌≤◌, ◌^◌, ◌/◌, ◌%◌, ◌==◌, Bool, true, false, List, [], ◌∷◌, ◌++◌, append_assoc, ℤ, pos, negsuc, decimal, flat_map, cond, All, slice_index}
+use Rattle.std.proofs.Common.{◌≡◌, ◌∙◌, ap, sym, refl, arith, ℕ, suc, ◌<◌, ◌≤◌, ◌^◌, ◌/◌, ◌%◌, ◌==◌, Bool, true, false, List, [], ◌∷◌, ◌++◌, append_assoc, decimal, flat_map, cond, All, slice_index}
 use Rattle.std.specs.Char.{is_ascii_digit, is_ascii_alphanumeric}
-use Rattle.std.specs.Fmt.{signed_decimal, digit_glyph}
+use Rattle.std.specs.Fmt.{digit_glyph}
 use Rattle.std.specs.Str.{all_ascii_digits}
 use Rattle.std.proofs.lemmas.Bool.Decides.{nat_tests}
-use lib.Signed.{mag}
 use Rattle.msr_report.specs.Text.{hex_text, byte_text, field_text, padded_decimal}
 use Rattle.msr_certificate.specs.Fault.{IsOneLine, AreLines}
 use Rattle.msr_certificate.proofs.Digits.{both_true, decimal_is_digits}
@@ -25,10 +24,6 @@ digits_are_one (d ∷ ds) all =
 
 pub decimal_is_one : (n : ℕ) → n < 2 ^ 64 → IsOneLine (decimal n)
 decimal_is_one n small = digits_are_one (decimal n) (decimal_is_digits n small)
-
-pub signed_is_one : (z : ℤ) → mag z < 2 ^ 63 → IsOneLine (signed_decimal z)
-signed_is_one (pos n) small = decimal_is_one n (omega arith)
-signed_is_one (negsuc n) small = (refl, decimal_is_one (suc n) (omega arith))
 
 pub padded_is_one : (width n : ℕ) → 1 ≤ width → n < 10 ^ width → n < 10 ^ 6 → IsOneLine (padded_decimal width n)
 padded_is_one width n some fits small = digits_are_one (padded_decimal width n) (reads_padded width n some fits small).all

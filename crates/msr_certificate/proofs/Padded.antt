@@ -27,9 +27,6 @@ pub record ReadsDigits (digits : List ℕ) (i : ℕ) (value : ℕ) : Type 0 wher
   pub is : value ≡ number_after 0 (take i digits)
   pub small : value < 10 ^ 6
 
-pub reads_none : (digits : List ℕ) → ReadsDigits digits 0 0
-reads_none digits = record { all = refl; is = refl; small = omega arith }
-
 pub reads_more : (digits : List ℕ) (i value d : ℕ) → ReadsDigits digits i value → i < length digits → length digits ≤ 6 → d ≡ get_or digits i 0 → is_ascii_digit d ≡ true
     → ReadsDigits digits (i + 1) (value * 10 + (d - 48))
 reads_more digits i value d so_far more short is digit =

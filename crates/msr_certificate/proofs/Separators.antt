@@ -1,5 +1,5 @@
 use Rattle.std.proofs.Common.{◌≡◌, ◌∙◌, ap, sym, refl, arith, ℕ, suc, ◌<◌, ◌^◌, List, [], ◌∷◌, ◌++◌, append_assoc, All, codes, decimal, flat_map}
-use Rattle.std.proofs.lemmas.List.{append-nil, append_cancel_left}
+use Rattle.std.proofs.lemmas.List.{append-nil}
 use Rattle.msr_report.specs.Text.{separators_line}
 use Rattle.msr_certificate.specs.Fields.{EndsNumber}
 
@@ -19,19 +19,6 @@ pub record AreRead (text numbers rest : List ℕ) : Type 0 where
 
 pub line_then : (separators more : List ℕ) → separators_line separators ++ more ≡ codes "separators" ++ (flat_map spaced separators ++ (10 ∷ more))
 line_then separators more = simp append_assoc
-
-pub read_none : (text numbers rest : List ℕ) → numbers ≡ [] → text ≡ codes "separators" ++ rest → AreRead text numbers rest
-read_none text numbers rest none is = record {
-  is = rw none is;
-  left = λ separators more each line. record {
-    numbers = separators;
-    each = each;
-    is = append_cancel_left (codes "separators") rest (flat_map spaced separators ++ (10 ∷ more)) (sym is ∙ line ∙ line_then separators more);
-  };
-}
-
-pub read_line : (text numbers rest more : List ℕ) → AreRead text numbers rest → rest ≡ 10 ∷ more → text ≡ separators_line numbers ++ more
-read_line text numbers rest more so_far end = so_far.is ∙ ap (λ (l : List ℕ). codes "separators" ++ (flat_map spaced numbers ++ l)) end ∙ sym (line_then numbers more)
 
 one_more : (ns : List ℕ) (n : ℕ) (more : List ℕ) → flat_map spaced ns ++ (spaced n ++ more) ≡ flat_map spaced (ns ++ n ∷ []) ++ more
 one_more [] n more = ap (λ (l : List ℕ). l ++ more) (sym (append-nil (spaced n)))

@@ -33,15 +33,6 @@ segments-append (line ∷ lines) others text more h k =
 pub one_segment : (line : SegmentLine) (text : List ℕ) → IsSegmentText line text → AreSegmentTexts (line ∷ []) text
 one_segment line text h = (text, ([], (h, refl, sym (append-nil text))))
 
-pub written_first : (device : Device) (report : Report) (empty waits : List ℕ) → empty ≡ [] → waits ≡ empty ++ first_lines report → IsWritten device device report [] waits
-written_first device report empty waits none is = record {
-  segments = [];
-  are = refl;
-  taken = [];
-  takes = takes-none device;
-  whole = append-nil (first_lines report) ∙ sym (is ∙ ap (λ (t : List ℕ). t ++ first_lines report) none);
-}
-
 -- a front was taken of what waited with more text
 passed : (front text taken waits more pushed took left : List ℕ) → front ≡ taken ++ waits → pushed ≡ waits ++ text → pushed ++ [] ≡ took ++ left → front ++ text ≡ (taken ++ took) ++ left
 passed front text taken waits more pushed took left whole is passes =

@@ -6,7 +6,7 @@ use Rattle.std.proofs.lemmas.List.{append-nil}
 use Rattle.msr_words.specs.Lengths.{bytes_of}
 use Rattle.msr_words.proofs.Certificate.{least_by_separators}
 use Rattle.msr_record.specs.declared.row.Record.{Record}
-use Rattle.msr_devices.specs.Device.{Device, HasLeft, HasFailed, IsSteady}
+use Rattle.msr_devices.specs.Device.{Device, HasLeft, HasFailed}
 use Rattle.msr_devices.proofs.Chaining.{left-of, steady-sound}
 use Rattle.msr_segments.specs.Segments.{Part, rows_of, segment_of, IsDivision}
 use Rattle.msr_segments.specs.declared.joiner.Segment.{Segment}
@@ -63,12 +63,6 @@ memory-fails report start now reading records given why h tolerance memory =
       left = p.1;
       answers = record { records = records; rest = reading.waiting ++ (left-of now).0; are_read = record { begins = p.2; in_range = rw tolerance at h.in_range } };
     })
-
-pub memory-tells : (start now : Device) (why : ReadFault) → IsSteady start now → why ≡ fault.Memory → IsErrOf {T = Verdict} (Err why) fault.Read ↔ HasFailed start now
-memory-tells start now why steady memory = rw memory ((λ e. absurd cc), (λ failed. absurd (steady-sound start now steady failed)))
-
-pub ok-tells : (start now : Device) (verdict : Verdict) → IsSteady start now → IsErrOf {T = Verdict} (Ok verdict) fault.Read ↔ HasFailed start now
-ok-tells start now verdict steady = ((λ e. absurd cc), (λ failed. absurd (steady-sound start now steady failed)))
 
 -- the records and the parts by which a report shows the fewest records are those of the input
 same-parts : (report : Report) (input : List ℕ) (records : List Record) (parts : List Part) (h : ShowsLeast report input) → AreRead report.tolerance input records [] → IsDivision report.tolerance (rows_of_records records) parts → (h.records ≡ records) × (h.parts ≡ parts)
