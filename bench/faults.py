@@ -6,13 +6,13 @@
 strace lets a call of reading, writing, opening, closing, syncing or memory fail, once or from there on; a pipe gives
 single bytes; limits make a disk full at some byte, and memory short. Each run has to end as the undisturbed one does,
 or with status 1, the fault's line, and a prefix of the report and of the records. The last line is
-`N faults, M wrong`, and the status 0 where none is wrong. README.md says what is tried.
+`N faults, M wrong`, and the status 0 where none is wrong. README.md says what is tried; archive_faults.py tries it on
+`archive`.
 """
 import argparse
 import collections
 import fcntl
 import os
-import re
 import resource
 import shutil
 import signal
@@ -23,44 +23,16 @@ import tempfile
 import termios
 import threading
 
+import archive_faults
 import day
+from calls import IN_A_ROW, calls_in, faults_of, injected, words_of_trace
 
 OLD = b"what stood in OUT before"
 SAME = "no fault"
-IN_A_ROW = 64
-# What a call is for, by its name.
-KINDS = {
-    "reading": ("read", "pread64", "readv"),
-    "writing": ("write", "pwrite64", "writev"),
-    "opening": ("open", "openat", "creat"),
-    "looking": ("statx", "stat", "fstat", "newfstatat"),
-    "cutting": ("ftruncate",),
-    "syncing": ("fsync", "fdatasync"),
-    "closing": ("close",),
-    "memory": ("mmap", "mremap", "brk"),
-    "freeing": ("munmap",),
-}
-KIND_OF = {name: kind for kind, names in KINDS.items() for name in names}
-# What strace does to a call of each kind; brk tells by its answer that it failed.
-INJECTED = {
-    "reading": ("error=EIO",),
-    "writing": ("error=EIO", "error=ENOSPC", "retval=0"),
-    "opening": ("error=EIO", "error=EMFILE"),
-    "looking": ("error=EIO",),
-    "cutting": ("error=EIO",),
-    "syncing": ("error=EIO", "error=ENOSPC", "error=EINVAL"),
-    "closing": ("error=EIO",),
-    "memory": ("error=ENOMEM",),
-    "freeing": ("error=ENOMEM",),
-}
 
 # Words, what is standard input, and whether standard output is a pipe, not a file.
 Case = collections.namedtuple("Case", "title words input pipes")
-Call = collections.namedtuple("Call", "name kind number fd target result hit")
 Outcome = collections.namedtuple("Outcome", "status printed complained records")
-# What is done to a call: strace's words for it, how many calls in a row (0: all that follow), the bytes that a short
-# write takes.
-Fault = collections.namedtuple("Fault", "what row short", defaults=(None,))
 
 HELP = Case("help", ["repack", "--help"], None, False)
 
@@ -86,10 +58,9 @@ class Bench:
         with open(self.out, "rb") as records, open(printed, "rb") as text:
             return Outcome(ended.returncode, ended.stdout if case.pipes else text.read(), ended.stderr, records.read())
 
-    def traced(self, case, injected=()):
+    def traced(self, case, words=()):
         trace = f"{self.folder}/trace"
-        names = ",".join(("rt_sigaction", *KIND_OF))
-        outcome = self.run(case, ("strace", "-qq", "-y", "-s", "0", "-o", trace, "-e", f"trace={names}", *injected))
+        outcome = self.run(case, words_of_trace(trace, words))
         with open(trace, encoding="utf-8", errors="replace") as it:
             return outcome, it.read()
 
@@ -98,45 +69,6 @@ class Bench:
         if wrong:
             self.wrong += 1
             print(f"{title}: {wrong}", flush=True)
-
-
-def calls_in(trace):
-    """The calls of a trace, and the place of the first one that is not the loader's."""
-    calls, numbers, begin = [], collections.Counter(), None
-    for line in trace.splitlines():
-        found = re.match(r"(\w+)\((.*)\) += (-?\w+)", line)
-        if not found:
-            continue
-        if found[1] not in KIND_OF:
-            begin = len(calls) if begin is None and "SIGPIPE" in found[2] else begin
-            continue
-        numbers[found[1]] += 1
-        named = re.match(r'(?:AT_FDCWD<[^>]*>, )?"([^"]+)"', found[2])
-        opened = re.match(r"(\d+)<([^>]*)>", found[2])
-        fd, target = (None, named[1]) if named else (int(opened[1]), opened[2]) if opened else (None, "")
-        hit = line.endswith("(INJECTED)")
-        calls.append(Call(found[1], KIND_OF[found[1]], numbers[found[1]], fd, target, found[3], hit))
-    if begin is None:
-        sys.exit("the program's start was not found among its calls")
-    return calls, begin
-
-
-def faults_of(call):
-    """What is done to a call: each fault once and for good, and interruptions."""
-    asked = int(call.result) if call.kind == "writing" else 0
-    for what in INJECTED[call.kind]:
-        if what == "retval=0" and not asked:
-            continue
-        what = "retval=0" if call.name == "brk" else what
-        yield Fault(what, 1)
-        yield Fault(what, 0)
-    if call.kind in ("reading", "writing"):
-        yield Fault("error=EINTR", IN_A_ROW - 1)
-        yield Fault("error=EINTR", IN_A_ROW)
-    if call.kind not in ("memory", "freeing"):
-        yield Fault("error=EINTR", 1)
-    for short in {1, asked // 2, asked - 1} if asked > 1 else ():
-        yield Fault(f"retval={short}", 1, short)
 
 
 def allowed(case, call, fault):
@@ -233,13 +165,11 @@ def each_call(bench, case):
     calls, begin = calls_in(trace)
     for at in range(begin, len(calls)):
         for fault in faults_of(calls[at]):
-            call, row = calls[at], fault.row
-            when = f"{call.number}+" if row == 0 else f"{call.number}..{call.number + row - 1}"
-            injected = f"inject={call.name}:{fault.what}:when={when}"
-            outcome, trace = bench.traced(case, ("-e", injected))
+            call = calls[at]
+            outcome, trace = bench.traced(case, ("-e", injected(call, fault)))
             hit = [it for it in calls_in(trace)[0] if it.hit]
             wrong = judged(case, calm, calls, at, fault, outcome, hit)
-            bench.hold(f"{case.title}, {injected} at {call.target or call.name}", wrong)
+            bench.hold(f"{case.title}, {injected(call, fault)} at {call.target or call.name}", wrong)
 
 
 def ended(outcome, calm, line):
@@ -371,6 +301,7 @@ def main():
         for case in [*(it for title, name in inputs(folder) for it in cases_of(bench, title, name)), HELP]:
             if asked.only in case.title:
                 hold_case(bench, case)
+        archive_faults.hold_trees(bench, asked.only)
     print(f"{bench.faults} faults, {bench.wrong} wrong")
     sys.exit(bench.wrong > 0)
 

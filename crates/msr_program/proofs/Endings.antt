@@ -264,5 +264,5 @@ task-unsettled (Archive asked) standard out0 out (Walked refused) does =
     record {
       printed = does.printed;
       prints = does.prints;
-      ends = (does.ends.0, [], subst P (sym (append-nil does.printed)) does.ends.1);
+      ends = record { entries = does.ends.0; rest = []; walk = subst P (sym (append-nil does.printed)) does.ends.1 };
     }

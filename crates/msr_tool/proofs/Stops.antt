@@ -114,7 +114,7 @@ read-tells_sink sink0 sink read.Read steady = ((λ e. absurd cc), (λ has_failed
 read-tells_sink sink0 sink read.Memory steady = ((λ e. absurd cc), (λ has_failed. absurd (steady-sound sink0 sink steady has_failed)))
 
 -- the sink failed where writing says so
-write-tells_sink : {T : Type 0} (failed refused : Type 0) (sink0 sink : Device) (found : ToolFault) → StopsSink failed refused sink0 sink found → IsErrOf {T = T} (Err found) fault.Write ↔ HasFailed sink0 sink
+pub write-tells_sink : {T : Type 0} (failed refused : Type 0) (sink0 sink : Device) (found : ToolFault) → StopsSink failed refused sink0 sink found → IsErrOf {T = T} (Err found) fault.Write ↔ HasFailed sink0 sink
 write-tells_sink failed refused sink0 sink (fault.Input other) h = absurd h
 write-tells_sink failed refused sink0 sink (fault.Report line) h = absurd h
 write-tells_sink failed refused sink0 sink fault.Read h = absurd h

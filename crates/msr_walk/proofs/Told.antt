@@ -4,12 +4,14 @@ use Rattle.std.proofs.lemmas.List.{append-nil, take-append-drop}
 use Rattle.std.proofs.lemmas.Bool.{ltb-true, ltb-false}
 use Rattle.std.specs.List.{AllByRecursion}
 use Rattle.msr_devices.specs.Device.{Device, IsCalm, Takes}
-use Rattle.msr_devices.proofs.Chaining.{takes-append, calm-same, calm-calm}
+use Rattle.msr_devices.proofs.Chaining.{takes-append, calm-same, calm-calm, calm-failed, steady-steady}
 use Rattle.msr_report.specs.Writing.{TakesFront}
 use Rattle.msr_tool.specs.Choice.{Choice}
+use Rattle.msr_tool.specs.Writing.{StopsSink}
 use Rattle.msr_tool.specs.declared.fault.ToolFault.{ToolFault}
+use Rattle.msr_tool.specs.declared.fault.ToolFault.TheVariants.{Input, Report, Read, Write, Memory}
 use Rattle.msr_walk.specs.Entries.{Entry, IsEntry, IsOutcomeOf, IsLineOf, AreLines, IsTally, counted, is_refused}
-use Rattle.msr_walk.specs.Walk.{Tells, TellsInPart, TellsRefusals, Walks, summary}
+use Rattle.msr_walk.specs.Walk.{IsWalkInPart, StopsFront, StopsTelling, Tells, TellsInPart, TellsRefusals, Walks, summary}
 use Rattle.msr_walk.specs.declared.outcome.Outcome.{Outcome}
 use Rattle.msr_walk.specs.declared.tally.Tally.{Tally}
 
@@ -119,41 +121,80 @@ pub part-all : (choice : Choice) (out0 out : Device) (tally0 tally : Tally) → 
 part-all choice out0 out tally0 tally first =
     part-more choice out0 out out tally0 tally first (part-none choice out)
 
--- a walk that stopped at an entry
+-- Where a walk stops.
 
-pub walk-stops : (choice : Choice) (out0 out : Device) (fault : ToolFault) → TellsInPart choice out0 out → Walks choice out0 out (Err fault)
-walk-stops choice out0 out fault told = record {
+-- a part stops what it belongs to, where nothing failed before it
+pub stops-within : {Part Whole : Type 0} (out0 out1 out : Device) (fault : ToolFault) → IsCalm out0 out1 → (Part → Whole) →
+    StopsSink Part Part out1 out fault → StopsSink Whole Whole out0 out fault
+stops-within out0 out1 out (Input found) calm whole h = absurd h
+stops-within out0 out1 out (Report line) calm whole h = absurd h
+stops-within out0 out1 out Read calm whole h = absurd h
+stops-within out0 out1 out Write calm whole h = (whole h.0, calm-failed out0 out1 out calm h.1)
+stops-within out0 out1 out Memory calm whole h = (whole h.0, steady-steady out0 out1 out calm.steady h.1)
+
+pub stops-more : (choice : Choice) (out0 out1 out : Device) (tally0 tally1 : Tally) (fault : ToolFault) →
+    Tells choice out0 out1 tally0 tally1 → StopsTelling choice out1 out fault → StopsTelling choice out0 out fault
+stops-more choice out0 out1 out tally0 tally1 fault first second =
+    stops-within out0 out1 out fault first.calm (part-more choice out0 out1 out tally0 tally1 first) second
+
+-- a prefix of the text of a walk was printed
+pub record WalksInPart (choice : Choice) (out0 out : Device) : Type 0 where
+  pub printed : List ℕ
+  pub prints : Takes out0 out printed
+  pub walk : IsWalkInPart choice printed
+
+-- up to an entry
+entries-in_part : (choice : Choice) (out0 out : Device) → TellsInPart choice out0 out → WalksInPart choice out0 out
+entries-in_part choice out0 out told = record {
   printed = told.printed;
   prints = told.prints;
-  ends = (
-    told.entries,
-    told.rest ++ summary told.entries,
-    record {
+  walk = record {
+    entries = told.entries;
+    rest = told.rest ++ summary told.entries;
+    walk = record {
       lines = told.printed ++ told.rest;
       are_entries = told.are_entries;
       are_lines = told.are_lines;
       whole = sym (append_assoc told.printed told.rest (summary told.entries));
-    },
-  );
+    };
+  };
 }
 
--- a walk that stopped in the last lines
-pub walk-cut : (choice : Choice) (out0 out1 out : Device) (tally0 tally : Tally) (fault : ToolFault) →
-    (told : Tells choice out0 out1 tally0 tally) → TakesFront out1 out (summary told.entries) → Walks choice out0 out (Err fault)
-walk-cut choice out0 out1 out tally0 tally fault told front = record {
+-- all entries, and a front of the last lines
+summary-in_part : (choice : Choice) (out0 out1 out : Device) (tally0 tally : Tally) (told : Tells choice out0 out1 tally0 tally) →
+    TakesFront out1 out (summary told.entries) → WalksInPart choice out0 out
+summary-in_part choice out0 out1 out tally0 tally told front = record {
   printed = told.lines ++ front.taken;
   prints = takes-append out0 out1 out told.lines front.taken told.prints front.takes;
-  ends = (
-    told.entries,
-    front.rest,
-    record {
+  walk = record {
+    entries = told.entries;
+    rest = front.rest;
+    walk = record {
       lines = told.lines;
       are_entries = told.are_entries;
       are_lines = told.are_lines;
       whole = append_assoc told.lines front.taken front.rest ∙ ap (λ (t : List ℕ). told.lines ++ t) (sym front.whole);
-    },
-  );
+    };
+  };
 }
+
+pub stops-entries : (choice : Choice) (out0 out : Device) (fault : ToolFault) → StopsTelling choice out0 out fault →
+    StopsSink (WalksInPart choice out0 out) (WalksInPart choice out0 out) out0 out fault
+stops-entries choice out0 out fault told = stops-within out0 out0 out fault (calm-same out0) (entries-in_part choice out0 out) told
+
+pub stops-summary : (choice : Choice) (out0 out1 out : Device) (tally0 tally : Tally) (fault : ToolFault) →
+    (told : Tells choice out0 out1 tally0 tally) → StopsFront out1 out (summary told.entries) fault →
+    StopsSink (WalksInPart choice out0 out) (WalksInPart choice out0 out) out0 out fault
+stops-summary choice out0 out1 out tally0 tally fault told front =
+    stops-within out0 out1 out fault told.calm (summary-in_part choice out0 out1 out tally0 tally told) front
+
+pub walk-stops : (choice : Choice) (out0 out : Device) (fault : ToolFault) →
+    StopsSink (WalksInPart choice out0 out) (WalksInPart choice out0 out) out0 out fault → Walks choice out0 out (Err fault)
+walk-stops choice out0 out (Input found) h = absurd h
+walk-stops choice out0 out (Report line) h = absurd h
+walk-stops choice out0 out Read h = absurd h
+walk-stops choice out0 out Write h = record { printed = h.0.printed; prints = h.0.prints; ends = h.0.walk }
+walk-stops choice out0 out Memory h = record { printed = h.0.printed; prints = h.0.prints; ends = h.0.walk }
 
 pub walk-ends : (choice : Choice) (out0 out1 out : Device) (tally0 tally : Tally) (refused : Bool) →
     (told : Tells choice out0 out1 tally0 tally) → Takes out1 out (summary told.entries) → TellsRefusals told.entries refused →

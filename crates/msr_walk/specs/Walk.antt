@@ -3,9 +3,12 @@ use Rattle.std.specs.Prelude.{◌≡◌, ℕ, ◌<◌, Bool, true, false, List, 
 use Rattle.std.specs.Fmt.{decimal}
 use Rattle.std.specs.List.{AllByRecursion, flat_map}
 use Rattle.msr_devices.specs.Device.{Device, IsCalm, Takes}
+use Rattle.msr_report.specs.Writing.{TakesFront}
 use Rattle.msr_totals.specs.declared.Total.{Total}
 use Rattle.msr_tool.specs.Choice.{Choice}
+use Rattle.msr_tool.specs.Writing.{StopsSink}
 use Rattle.msr_tool.specs.declared.fault.ToolFault.{ToolFault}
+use Rattle.msr_tool.specs.declared.fault.ToolFault.TheVariants.{Input, Report, Read, Write, Memory}
 use Rattle.msr_walk.specs.Entries.{Entry, IsEntry, AreLines, IsTally, channels_of, counted, is_done, is_skipped, is_refused}
 use Rattle.msr_walk.specs.declared.tally.Tally.{Tally}
 
@@ -22,6 +25,10 @@ counts_line done skipped refused =
 -- the lines after those of the entries
 abbrev pub summary : List Entry → List ℕ
 summary entries = flat_map channel_line (channels_of entries) ++ counts_line (counted is_done entries) (counted is_skipped entries) (counted is_refused entries)
+
+-- a prefix of a text was printed where the walk stops: the sink failed, or else memory was refused
+abbrev pub StopsFront : Device → Device → List ℕ → ToolFault → Type 0
+StopsFront out0 out text fault = StopsSink (TakesFront out0 out text) (TakesFront out0 out text) out0 out fault
 
 -- Some more entries were told: their lines were printed, and they are counted.
 pub record Tells (choice : Choice) (out0 out : Device) (tally0 tally : Tally) : Type 0 where
@@ -42,6 +49,10 @@ pub record TellsInPart (choice : Choice) (out0 out : Device) : Type 0 where
   pub are_lines : AreLines entries (printed ++ rest)
   pub prints : Takes out0 out printed
 
+-- the same where the walk stops
+abbrev pub StopsTelling : Choice → Device → Device → ToolFault → Type 0
+StopsTelling choice out0 out fault = StopsSink (TellsInPart choice out0 out) (TellsInPart choice out0 out) out0 out fault
+
 -- The text of a whole walk: a line for each of some entries, and then what these very entries sum up to.
 pub record IsWalk (choice : Choice) (text : List ℕ) (entries : List Entry) : Type 0 where
   pub lines : List ℕ
@@ -53,10 +64,20 @@ pub record IsWalk (choice : Choice) (text : List ℕ) (entries : List Entry) : T
 abbrev pub TellsRefusals : List Entry → Bool → Type 0
 TellsRefusals entries refused = (refused ≡ true → 0 < counted is_refused entries) × (refused ≡ false → counted is_refused entries ≡ 0)
 
--- the whole text was printed, or a prefix of it
+-- A prefix of the text of a whole walk.
+pub record IsWalkInPart (choice : Choice) (printed : List ℕ) : Type 0 where
+  pub entries : List Entry
+  pub rest : List ℕ
+  pub walk : IsWalk choice (printed ++ rest) entries
+
+-- the whole text was printed, or a prefix of it where the walk stopped, which no input and no source can make it do
 abbrev pub WalkEnds : Choice → (printed : List ℕ) → Result Bool ToolFault → Type 0
 WalkEnds choice printed (Ok refused) = (entries : List Entry) × IsWalk choice printed entries × TellsRefusals entries refused
-WalkEnds choice printed (Err fault) = (entries : List Entry) × (rest : List ℕ) × IsWalk choice (printed ++ rest) entries
+WalkEnds choice printed (Err (Input found)) = ⊥
+WalkEnds choice printed (Err (Report line)) = ⊥
+WalkEnds choice printed (Err Read) = ⊥
+WalkEnds choice printed (Err Write) = IsWalkInPart choice printed
+WalkEnds choice printed (Err Memory) = IsWalkInPart choice printed
 
 -- What a walk printed, and how it ended.
 pub record Walks (choice : Choice) (out0 out : Device) (result : Result Bool ToolFault) : Type 0 where

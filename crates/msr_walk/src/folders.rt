@@ -1,10 +1,10 @@
 //! The walk through the folders of an archive.
-ghost use Rattle.std.specs.Prelude.{OnOk, OnErr};
-ghost use Rattle.msr_devices.specs.Device.{CanCountCall};
+ghost use Rattle.std.specs.Prelude.{◌↔◌, IfErr, IsErrOf, OnOk};
+ghost use Rattle.msr_devices.specs.Device.{CanCountCall, HasFailed};
 ghost use Rattle.msr_sds.specs.SdsPath.{ReadsAsDay};
 ghost use Rattle.msr_tool.specs.Choice.{Choice};
 ghost use Rattle.msr_walk.specs.Entries.{IsOutcomeOf};
-ghost use Rattle.msr_walk.specs.Walk.{Tells, TellsInPart, Walks};
+ghost use Rattle.msr_walk.specs.Walk.{StopsTelling, Tells, Walks};
 
 use crate::day::Day;
 use crate::listing::{ListFault, names_in};
@@ -17,6 +17,7 @@ use msr_sds::SdsName;
 use msr_tool::{Options, Sink, ToolFault};
 use std::alloc::Global;
 use std::fs;
+use std::io::ErrorKind;
 use std::rt::Files;
 
 /// An archive that is to be repacked.
@@ -47,8 +48,8 @@ fn tell<O: Sink>(
     // Whatever the choice with which the entry has this outcome.
     ensures told { (choice : Choice) → IsOutcomeOf choice path.now channel.now outcome →
         OnOk result (Tells choice (O.device out.old) (O.device out.new) tally.old tally.new) }
-    ensures part { (choice : Choice) → IsOutcomeOf choice path.now channel.now outcome →
-        OnErr result (TellsInPart choice (O.device out.old) (O.device out.new)) }
+    ensures stops { (choice : Choice) → IsOutcomeOf choice path.now channel.now outcome →
+        IfErr result (StopsTelling choice (O.device out.old) (O.device out.new)) }
 {
     let line = outcome.line(alloc, path)?;
     write_all(out, line.as_bytes())?;
@@ -68,7 +69,7 @@ fn tell_day<R: Files, O: Sink>(
     requires day { ReadsAsDay path.now name.now }
     requires count { CanCountCall (O.device out.old) }
     ensures told { OnOk result (Tells archive.now.options (O.device out.old) (O.device out.new) tally.old tally.new) }
-    ensures part { OnErr result (TellsInPart archive.now.options (O.device out.old) (O.device out.new)) }
+    ensures stops { IfErr result (StopsTelling archive.now.options (O.device out.old) (O.device out.new)) }
 {
     let channel = channel_text(alloc, name)?;
     let day = Day::new(alloc, archive, path)?;
@@ -90,7 +91,7 @@ fn tell_file<R: Files, O: Sink>(
 ) -> Result<(), ToolFault>
     requires { CanCountCall (O.device out.old) }
     ensures told { OnOk result (Tells archive.now.options (O.device out.old) (O.device out.new) tally.old tally.new) }
-    ensures part { OnErr result (TellsInPart archive.now.options (O.device out.old) (O.device out.new)) }
+    ensures stops { IfErr result (StopsTelling archive.now.options (O.device out.old) (O.device out.new)) }
 {
     match SdsName::parse(path) {
         Ok(name) => tell_day(rt, alloc, archive, path, &name, out, tally),
@@ -98,11 +99,12 @@ fn tell_file<R: Files, O: Sink>(
     }
 }
 
-// Links are followed.
-fn is_folder<R: Files>(rt: &R, path: &str) -> bool {
+// Links are followed. What the system does not tell of may be a folder: then it is refused where it has no list, and
+// no part of the archive is taken for something else.
+fn may_be_folder<R: Files>(rt: &R, path: &str) -> bool {
     match fs::metadata(rt, path) {
         Ok(metadata) => metadata.is_dir(),
-        Err(_) => false,
+        Err(error) => error.kind() != ErrorKind::NotFound,
     }
 }
 
@@ -118,7 +120,7 @@ fn walk_folder<R: Files, O: Sink>(
 ) -> Result<(), ToolFault>
     requires { CanCountCall (O.device out.old) }
     ensures told { OnOk result (Tells archive.now.options (O.device out.old) (O.device out.new) tally.old tally.new) }
-    ensures part { OnErr result (TellsInPart archive.now.options (O.device out.old) (O.device out.new)) }
+    ensures stops { IfErr result (StopsTelling archive.now.options (O.device out.old) (O.device out.new)) }
 {
     let place = join(alloc, archive.root, folder)?;
     let names = match names_in(rt, alloc, place.as_str()) {
@@ -133,7 +135,7 @@ fn walk_folder<R: Files, O: Sink>(
     for name in &names {
         let path = entry_path(alloc, folder, name.as_str())?;
         let place = join(alloc, archive.root, path.as_str())?;
-        if 0 < levels && is_folder(rt, place.as_str()) {
+        if 0 < levels && may_be_folder(rt, place.as_str()) {
             walk_folder(rt, alloc, archive, path.as_str(), levels - 1, out, tally)?;
         } else {
             tell_file(rt, alloc, archive, path.as_str(), out, tally)?;
@@ -150,7 +152,10 @@ pub fn walk<R: Files, O: Sink>(
     out: &mut O,
 ) -> Result<bool, ToolFault>
     requires { CanCountCall (O.device out.old) }
-    ensures { Walks archive.now.options (O.device out.old) (O.device out.new) result }
+    ensures answer { Walks archive.now.options (O.device out.old) (O.device out.new) result }
+
+    // A failure of the sink is answered as such, and nothing else is.
+    ensures write { IsErrOf result ToolFault.Write ↔ HasFailed (O.device out.old) (O.device out.new) }
 {
     let mut tally = Tally::new(alloc);
     walk_folder(rt, alloc, archive, "", FOLDERS, out, &mut tally)?;

@@ -1,13 +1,20 @@
+use Rattle.std.proofs.Common.{rules}
 use Rattle.std.proofs.lemmas.Result.{err_from_is_err_and}
+use Rattle.msr_devices.proofs.Chaining.{calm-same}
 use Rattle.msr_walk.proofs.Told.{part-none}
 use Rattle.msr_walk.proofs.folders.tell_day.Goals as goal
 
-pub returns-in_err-channel-clause-part : goal.returns-in_err-channel-clause-part
-returns-in_err-channel-clause-part g c =
+pub returns-in_err-channel-clause-stops : goal.returns-in_err-channel-clause-stops
+returns-in_err-channel-clause-stops g c =
     let p = err_from_is_err_and c.from_residual.result c.from_residual.ensures.1 in
-    rw p.1 (part-none c.args.archive.now.options (g.O.Sink.device c.args.out.now))
+    let out = g.O.Sink.device c.args.out.now in
+    rw (p.1, p.2) (part-none c.args.archive.now.options out, (calm-same out).steady)
 
-pub returns-in_err-day-clause-part : goal.returns-in_err-day-clause-part
-returns-in_err-day-clause-part g c =
+pub returns-in_err-day-clause-stops : goal.returns-in_err-day-clause-stops
+returns-in_err-day-clause-stops g c =
     let p = err_from_is_err_and c.from_residual-in_err-day.result c.from_residual-in_err-day.ensures.1 in
-    rw p.1 (part-none c.args.archive.now.options (g.O.Sink.device c.args.out.now))
+    let out = g.O.Sink.device c.args.out.now in
+    rw (p.1, p.2) (part-none c.args.archive.now.options out, (calm-same out).steady)
+
+pub returns-clause-stops : goal.returns-clause-stops
+returns-clause-stops g c = c.tell.ensures.stops c.args.archive.now.options (search rules)

@@ -1,22 +1,23 @@
 use Rattle.std.proofs.Common.{rules, ◌≡◌, Some}
 use Rattle.std.proofs.lemmas.Result.{err_from_is_err_and}
 use Rattle.std.specs.List.{slice_get}
-use Rattle.msr_devices.proofs.Chaining.{takes-append, calm-calm}
+use Rattle.msr_devices.proofs.Chaining.{calm-calm, calm-failed, takes-append}
 use Rattle.msr_walk.specs.Walk.{channel_line}
 use Rattle.msr_walk.proofs.Channels.{lines-next, front-of, front-in}
 use Rattle.msr_walk.proofs.summary.write_channels.Goals as goal
 
-pub returns-in_err-line-clause-part : goal.returns-in_err-line-clause-part
-returns-in_err-line-clause-part g c =
+pub returns-in_err-line-clause-stops : goal.returns-in_err-line-clause-stops
+returns-in_err-line-clause-stops g c =
     let p = err_from_is_err_and c.from_residual.result c.from_residual.ensures.1 in
-    rw p.1 (front-of channel_line c.args.totals.now c.loop-place.place _ _ c.loop-place.invariant.prints)
+    rw (p.1, p.2) (front-of channel_line c.args.totals.now c.loop-place.place _ _ c.loop-place.invariant.prints, c.loop-place.invariant.calm.steady)
 
-pub returns-in_err-write_all-clause-part : goal.returns-in_err-write_all-clause-part
-returns-in_err-write_all-clause-part g c =
+pub returns-in_err-write_all-clause-stops : goal.returns-in_err-write_all-clause-stops
+returns-in_err-write_all-clause-stops g c =
     let p = err_from_is_err_and c.from_residual-in_err-write_all.result c.from_residual-in_err-write_all.ensures.1 in
     let part = c.in_err-write_all.ensures.part in
     let found : slice_get c.args.totals.now c.loop-place.place ≡ Some (c.in-Some.name.now, c.in-Some.total) = search rules in
-    rw p.1 (front-in channel_line c.args.totals.now c.loop-place.place part.0 (c.in-Some.name.now, c.in-Some.total) c.as_bytes.result.now _ _ _ found (rw c.as_bytes.ensures.value c.in_ok-line.ensures) c.loop-place.invariant.prints part.1)
+    let failed = calm-failed (g.O.Sink.device c.args.out.now) (g.O.Sink.device c.loop-place.out) (g.O.Sink.device c.write_all.new.sink) c.loop-place.invariant.calm c.in_err-write_all.ensures.failed in
+    rw (p.1, p.2) (front-in channel_line c.args.totals.now c.loop-place.place part.0 (c.in-Some.name.now, c.in-Some.total) c.as_bytes.result.now _ _ _ found (rw c.as_bytes.ensures.value c.in_ok-line.ensures) c.loop-place.invariant.prints part.1, failed)
 
 pub loop-place-preserved : goal.loop-place-preserved
 loop-place-preserved g c =
@@ -27,5 +28,5 @@ loop-place-preserved g c =
       calm = calm-calm _ _ _ c.loop-place.invariant.calm c.in_ok-write_all.ensures.calm;
     }
 
-pub returns-clause-part : goal.returns-clause-part
-returns-clause-part g c = front-of channel_line c.args.totals.now c.loop-place.place _ _ c.loop-place.invariant.prints
+pub returns-clause-stops : goal.returns-clause-stops
+returns-clause-stops g c = (front-of channel_line c.args.totals.now c.loop-place.place _ _ c.loop-place.invariant.prints, c.loop-place.invariant.calm.steady)

@@ -1,20 +1,40 @@
 use Rattle.std.proofs.Common.{rules, ◌≡◌}
 use Rattle.std.proofs.lemmas.Result.{err_from_is_err_and}
-use Rattle.msr_devices.proofs.Chaining.{takes-append}
+use Rattle.msr_devices.proofs.Chaining.{calm-calm, calm-failed, calm-same, takes-append}
 use Rattle.msr_walk.specs.Walk.{counts_line}
-use Rattle.msr_walk.proofs.Channels.{front-after, summary-is}
+use Rattle.msr_walk.proofs.Channels.{front-after, front-all, front-before, summary-is}
+use Rattle.msr_walk.proofs.Told.{stops-within}
 use Rattle.msr_walk.proofs.summary.write_summary.Goals as goal
 
-pub returns-in_err-write_all-clause-part : goal.returns-in_err-write_all-clause-part
-returns-in_err-write_all-clause-part g c =
+pub returns-in_err-write_channels-clause-stops : goal.returns-in_err-write_channels-clause-stops
+returns-in_err-write_channels-clause-stops g c =
+    let p = err_from_is_err_and c.from_residual.result c.from_residual.ensures.1 in
+    let out0 = g.O.Sink.device c.args.out.now in
+    let out = g.O.Sink.device c.write_channels.new.out in
+    let tally = c.args.tally.now in
+    λ entries h. rw (p.1, p.2, ← summary-is entries tally h) (stops-within out0 out0 out c.in_err-write_channels.field-0.0 (calm-same out0) (front-before out0 out _ (counts_line tally.done tally.skipped tally.refused)) c.in_err-write_channels.ensures.stops)
+
+pub returns-in_err-line-clause-stops : goal.returns-in_err-line-clause-stops
+returns-in_err-line-clause-stops g c =
+    let p = err_from_is_err_and c.from_residual-in_err-line.result c.from_residual-in_err-line.ensures.1 in
+    let tally = c.args.tally.now in
+    λ entries h. rw (p.1, p.2, ← summary-is entries tally h) (front-all _ _ _ _ c.in_ok-write_channels.ensures.all, c.in_ok-write_channels.ensures.calm.steady)
+
+pub returns-in_err-write_all-clause-stops : goal.returns-in_err-write_all-clause-stops
+returns-in_err-write_all-clause-stops g c =
     let p = err_from_is_err_and c.from_residual-in_err-write_all.result c.from_residual-in_err-write_all.ensures.1 in
     let part = c.in_err-write_all.ensures.part in
     let tally = c.args.tally.now in
     let line : c.as_bytes.result.now ≡ counts_line tally.done tally.skipped tally.refused = search rules in
-    λ entries h. rw (p.1, ← summary-is entries tally h, ← line) (front-after _ _ _ _ _ part.0 c.in_ok-write_channels.ensures.all part.1)
+    let failed = calm-failed (g.O.Sink.device c.args.out.now) (g.O.Sink.device c.write_channels.new.out) (g.O.Sink.device c.write_all.new.sink) c.in_ok-write_channels.ensures.calm c.in_err-write_all.ensures.failed in
+    λ entries h. rw (p.1, p.2, ← summary-is entries tally h, ← line) (front-after _ _ _ _ _ part.0 c.in_ok-write_channels.ensures.all part.1, failed)
 
 pub returns-clause-all : goal.returns-clause-all
 returns-clause-all g c =
     let tally = c.args.tally.now in
     let line : c.as_bytes.result.now ≡ counts_line tally.done tally.skipped tally.refused = search rules in
     λ entries h. rw (← summary-is entries tally h, ← line) (takes-append _ _ _ _ _ c.in_ok-write_channels.ensures.all c.in_ok-write_all.ensures.all)
+
+pub returns-clause-calm : goal.returns-clause-calm
+returns-clause-calm g c =
+    calm-calm (g.O.Sink.device c.args.out.now) (g.O.Sink.device c.write_channels.new.out) (g.O.Sink.device c.write_all.new.sink) c.in_ok-write_channels.ensures.calm c.in_ok-write_all.ensures.calm

@@ -1,0 +1,276 @@
+"""What `msrepack archive` leaves where a call of the system fails, or where it is killed: the part of faults.py for a
+small archive.
+
+Each run has the folders anew. In those of the records and the reports stand what an earlier run left of one day, what a
+run that was killed left beside it, and a file of which the archive knows nothing. Whatever fails, each line printed is
+that of the undisturbed run, or tells that this very entry is refused, by a text for such a fault; the totals and the
+status are those of the lines; a day that is told as done has its records and its report whole, a refused one has
+neither; records that have their name have their report; and no other file is touched.
+"""
+import collections
+import os
+import re
+import resource
+import shutil
+import signal
+import subprocess
+
+import day
+from calls import IN_A_ROW, calls_in, faults_of, injected, words_of_trace
+
+BELOW = "2020/XX/TEST"
+FIRST = f"{BELOW}/BHN.D/XX.TEST.00.BHN.D.2020.001"
+SECOND = f"{BELOW}/BHZ.D/XX.TEST.00.BHZ.D.2020.001"
+OTHER = f"{BELOW}/LOG.L/XX.TEST.00.LOG.L.2020.001"
+# What stands in the folders of the output before a walk.
+LEFT = {
+    f"out/{FIRST}": b"old records",
+    f"out/{FIRST}.part": b"of a run that was killed",
+    f"reports/{FIRST}.txt": b"old report",
+    f"reports/{FIRST}.txt.part": b"of a run that was killed",
+    "out/2019/kept": b"of a day that is no more",
+    "reports/notes": b"of somebody else",
+}
+# The texts by which a line, or the program where it stops, may tell that such a call failed.
+TEXTS = {
+    "reading": {"read fault"},
+    "writing": {"write fault"},
+    "opening": {"cannot open", "listing"},
+    "looking": {"cannot open", "listing", "write fault"},
+    "cutting": {"cannot open"},
+    "syncing": {"write fault"},
+    "closing": set(),
+    "memory": {"out of memory"},
+    "freeing": set(),
+    "listing": {"listing"},
+    "making": {"cannot open"},
+    "naming": {"cannot open"},
+    "removing": {"cannot open"},
+}
+KILLED = -signal.SIGKILL
+
+Walked = collections.namedtuple("Walked", "status printed complained files")
+# What may have failed: kinds of calls, the texts that may tell it, whether standard error may have failed with it.
+Failed = collections.namedtuple("Failed", "kinds texts silent", defaults=(False,))
+
+
+class Tree:
+    def __init__(self, bench, title, cut, pipes):
+        self.bench, self.title, self.cut, self.pipes = bench, title, cut, pipes
+        self.top = f"{bench.folder}/tree"
+        self.calm = self.run()
+
+    def make(self):
+        shutil.rmtree(self.top, ignore_errors=True)
+        files = dict(LEFT)
+        for path in (FIRST, SECOND, OTHER):
+            with open(f"{day.ROOT}/examples/sds/{path}", "rb") as it:
+                files[f"sds/{path}"] = it.read()
+        if self.cut:
+            files[f"sds/{FIRST}"] = files[f"sds/{FIRST}"][:-1]
+        for path, text in files.items():
+            os.makedirs(os.path.dirname(f"{self.top}/{path}"), exist_ok=True)
+            with open(f"{self.top}/{path}", "wb") as it:
+                it.write(text)
+        return files
+
+    def run(self, before=(), limit=None):
+        """Walks the folders made anew; `before` are the words before the program's."""
+        self.made = self.make()
+        folders = [f"{self.top}/{name}" for name in ("sds", "out", "reports")]
+        words = [*before, self.bench.program, "archive", "--length", "256", *folders]
+        name = f"{self.bench.folder}/printed"
+        with open(name, "wb") as to:
+            output = subprocess.PIPE if self.pipes else to
+            settings = {"stdin": subprocess.DEVNULL, "stdout": output, "stderr": subprocess.PIPE, "preexec_fn": limit}
+            try:
+                ended = subprocess.run(words, **settings, timeout=60, check=False)
+            except subprocess.TimeoutExpired:
+                return Walked("none after a minute", "", "", self.files())
+        with open(name, "rb") as it:
+            printed = ended.stdout if self.pipes else it.read()
+        return Walked(ended.returncode, printed.decode(), ended.stderr.decode(), self.files())
+
+    def files(self):
+        found = {}
+        for folder, _, names in os.walk(self.top):
+            for name in names:
+                with open(f"{folder}/{name}", "rb") as it:
+                    found[os.path.relpath(f"{folder}/{name}", self.top)] = it.read()
+        return found
+
+    def traced(self, words=()):
+        trace = f"{self.bench.folder}/trace"
+        walked = self.run(words_of_trace(trace, words))
+        with open(trace, encoding="utf-8", errors="replace") as it:
+            return walked, it.read()
+
+    def hold(self, what, walked, failed):
+        self.bench.hold(f"{self.title}, {what}", wrong_with(self, walked, failed))
+
+
+def entries_of(printed):
+    """The lines of entries of a whole walk."""
+    return [line for line in printed.splitlines() if line.split(" ")[0] in ("done", "skipped", "refused")]
+
+
+def path_of(line):
+    return line.split(" ")[1].rstrip(":")
+
+
+def is_within(path, folder):
+    return folder == "." or path == folder or path.startswith(f"{folder}/")
+
+
+def last_lines(told):
+    """The lines that follow those of the entries."""
+    channels, count = {}, collections.Counter(line.split(" ")[0] for line in told)
+    for line in told:
+        found = re.fullmatch(r"done \S*/(\w+\.\w+\.\w*\.\w+)\.D\.\d+\.\d+ read (\d+) written (\d+)", line)
+        if found:
+            files, read, written = channels.get(found[1], (0, 0, 0))
+            channels[found[1]] = files + 1, read + int(found[2]), written + int(found[3])
+    for name, (files, read, written) in channels.items():
+        yield f"channel {name} files {files} read {read} written {written}"
+    yield f"files {count['done']} skipped {count['skipped']} refused {count['refused']}"
+
+
+def told_in(calm, printed, texts):
+    """The lines of the entries that were told, and what may follow them: the next line, in one of these forms."""
+    ahead, told = entries_of(calm.printed), []
+    for line in printed.splitlines(keepends=True):
+        if not ahead or not line.endswith("\n"):
+            break
+        path = path_of(line) if " " in line else ""
+        refused = line.startswith("refused ") and line[len(f"refused {path}: ") : -1] in texts
+        if line[:-1] == ahead[0]:
+            ahead = ahead[1:]
+        elif refused and is_within(path_of(ahead[0]), path):
+            ahead = [it for it in ahead if not is_within(path_of(it), path)]
+        else:
+            break
+        told.append(line[:-1])
+    if not ahead:
+        return told, ["".join(f"{line}\n" for line in last_lines(told))]
+    parts = path_of(ahead[0]).split("/")
+    places = [".", *("/".join(parts[:n]) for n in range(1, len(parts) + 1))]
+    refusals = [f"refused {place}: {text}\n" for place in places for text in texts]
+    return told, [f"{ahead[0]}\n", *refusals]
+
+
+def wrong_with(tree, walked, failed):
+    """What is wrong with a run, or None."""
+    told, following = told_in(tree.calm, walked.printed, failed.texts)
+    rest = walked.printed[sum(len(line) + 1 for line in told) :]
+    if not any(text.startswith(rest) for text in following):
+        return f"printed {rest[-120:]!r} behind {told[-1:]}"
+    whole = rest == following[0] and rest.startswith(("channel ", "files "))
+    complaints = {f"msrepack: {text}\n" for text in failed.texts}
+    refused = any(line.startswith("refused ") for line in told)
+    if walked.status == KILLED:
+        right = KILLED in failed.kinds
+    elif walked.complained:
+        right = walked.status == 1 and walked.complained in complaints
+    else:
+        right = whole and walked.status == int(refused) or failed.silent and walked.status == 1
+    if not right:
+        return f"status {walked.status}, {walked.complained!r}, behind {walked.printed[-120:]!r}"
+    return files_wrong_with(tree, walked, told, failed.kinds)
+
+
+def files_wrong_with(tree, walked, told, kinds):
+    """What is wrong with the files that a run left, or None."""
+    files, made, calm = dict(walked.files), dict(tree.made), tree.calm.files
+    for path in (FIRST, SECOND):
+        records, report = f"out/{path}", f"reports/{path}.txt"
+        has = [files.pop(name, None) for name in (records, report)]
+        new = [calm.get(name) for name in (records, report)]
+        old = [made.pop(name, None) for name in (records, report)]
+        parts = [files.pop(f"{name}.part", None) for name in (records, report)]
+        killed = [made.pop(f"{name}.part", None) for name in (records, report)]
+        line = next((it for it in told if is_within(path, path_of(it))), "")
+        stays = KILLED in kinds or "removing" in kinds or not line
+        if any(it not in (None, o, n) for it, o, n in zip(has, old, new)):
+            return f"{path}: neither whole nor as it was"
+        if has[0] is not None and has[0] == new[0] and has[1] != new[1]:
+            return f"{path}: records without their report"
+        if line.startswith("done ") and (has != new or None in has):
+            return f"{path}: done, and not as in the undisturbed run"
+        if line.startswith("refused ") and path_of(line) != path and (has, parts) != (old, killed):
+            return f"{path}: in a folder without a list, and touched"
+        if line.startswith("refused ") and path_of(line) == path and has != [None, None] and not stays:
+            return f"{path}: refused, and not removed"
+        if parts != [None, None] and not stays and (path_of(line) == path or parts != killed):
+            return f"{path}: something beside it is left"
+    return None if files == made else f"other files: {sorted(files.items() ^ made.items())}"
+
+
+def failed_of(hit, fault):
+    """What may follow where these calls were hit."""
+    kinds = {call.kind for call in hit}
+    silent = "writing" in kinds and fault.row == 0
+    if fault.what == "error=EINVAL":
+        return Failed(kinds, set())
+    # A write of nothing asks whether the output is open, and is asked once.
+    asks = any(call.kind == "writing" and call.fd == 1 and call.number == 1 for call in hit)
+    patient = kinds <= {"reading", "writing"} and fault.what == "error=EINTR" and fault.row < IN_A_ROW and not asks
+    return Failed(kinds, set() if patient else set().union(*(TEXTS[kind] for kind in kinds)), silent)
+
+
+def each_call(tree):
+    """Lets each call of the program fail in each way, and kills the program before it."""
+    calm, trace = tree.traced()
+    if calm != tree.calm:
+        raise SystemExit(f"{tree.title}: two undisturbed runs differ")
+    calls, begin = calls_in(trace)
+    for call in calls[begin:]:
+        for fault in faults_of(call):
+            if fault.short:
+                continue
+            walked, trace = tree.traced(("-e", injected(call, fault)))
+            hit = [it for it in calls_in(trace)[0] if it.hit]
+            failed = failed_of(hit, fault)
+            what = f"{injected(call, fault)} at {call.target or call.name}"
+            if hit:
+                tree.hold(what, walked, failed)
+            else:
+                tree.bench.hold(f"{tree.title}, {what}", "the call did not come again")
+        words = f"inject={call.name}:signal=KILL:when={call.number}"
+        walked, _ = tree.traced(("-e", words))
+        tree.hold(f"killed at {call.name} {call.target}", walked, Failed({KILLED}, set()))
+
+
+def limits(tree):
+    """Files that cannot grow past a byte, standard output that is lost, memory of more and more bytes."""
+    sizes = {n for text in tree.calm.files.values() for n in (0, 1, len(text) // 2, len(text) - 1)}
+    for size in sorted(sizes):
+
+        def small_files(size=size):
+            signal.signal(signal.SIGXFSZ, signal.SIG_IGN)
+            resource.setrlimit(resource.RLIMIT_FSIZE, (size, size))
+
+        failed = Failed({"writing"}, {"write fault"})
+        tree.hold(f"disk full at {size}", tree.run(limit=small_files), failed)
+    for to in (">&-", "> /dev/full"):
+        walked = tree.run(("sh", "-c", f'exec "$0" "$@" {to}'))
+        tree.hold(to, walked, Failed({"writing"}, {"write fault"}))
+    for size in range(3 << 20, 1 << 30, 1 << 17):
+
+        def small_memory(size=size):
+            resource.setrlimit(resource.RLIMIT_AS, (size, size))
+
+        walked = tree.run(limit=small_memory)
+        if "shared libraries" in walked.complained:
+            continue
+        tree.hold(f"{size} bytes of memory", walked, Failed({"memory"}, {"out of memory"}))
+        if walked == tree.calm:
+            break
+
+
+def hold_trees(bench, only):
+    titles = {"archive > FILE": (False, False), "archive with a day that is cut | ..": (True, True)}
+    for title, (cut, pipes) in titles.items():
+        if only in title:
+            tree = Tree(bench, title, cut, pipes)
+            each_call(tree)
+            limits(tree)
