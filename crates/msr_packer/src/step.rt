@@ -12,9 +12,10 @@ ghost use Rattle.msr_words.specs.Segment.{difference_at, run_points};
 ghost use Rattle.msr_words.specs.Window.{IsSize};
 ghost use Rattle.msr_packer.specs.Steps.{AreEnds, AreInt16, AreNarrowThrough, IsStepAmong, NonePast, NotLess};
 
+use crate::steim1::steim1_reach;
 use msr_words::{
-    Int16, Int32, Kind, Length, Steim1, Tracker, Window, difference, fits_bits, is_narrow,
-    quarters_of, steim2_greedy_reach, wide_one,
+    Int16, Int32, Kind, Length, Tracker, Window, difference, fits_bits, is_narrow, quarters_of,
+    steim2_greedy_reach, wide_one,
 };
 
 /// One record more: it starts at `start`, reaches to `end`, and is of that kind.
@@ -53,42 +54,6 @@ pub struct Ends {
 pub struct Found {
     pub step: Step,
     pub ends: Ends,
-}
-
-/// The sample from which the difference of this one is taken: the one before it, or the first itself.
-fn sample_before(samples: &[i32], at: usize) -> i32
-    requires { at ≤ length samples.now }
-    ensures { at < length samples.now → difference_at samples.now at ≡ slice_index_or samples.now at (pos 0) -ℤ result }
-{
-    if at > 0 {
-        return samples[at - 1];
-    }
-    if samples.is_empty() { 0 } else { samples[0] }
-}
-
-/// The difference of a sample from the one before it.
-fn difference_between(before: i32, sample: i32) -> i64
-    ensures { result ≡ sample -ℤ before }
-{
-    sample as i64 - before as i64
-}
-
-/// The greatest end of a run from `start` on that fits.
-fn furthest<C: Tracker + Drop>(samples: &[i32], record_length: Length, start: usize) -> usize
-    requires { start ≤ length samples.now }
-    ensures fits { IsRun (C.fits (bytes_of record_length)) samples.now start result }
-    ensures furthest { (end : ℕ) → IsRun (C.fits (bytes_of record_length)) samples.now start end → end ≤ result }
-{
-    let mut tracker = C::start(record_length);
-    let mut last = sample_before(samples, start);
-    for at in start..samples.len() {
-        let sample = samples[at];
-        if !tracker.push(sample, difference_between(last, sample)) {
-            return at;
-        }
-        last = sample;
-    }
-    samples.len()
 }
 
 /// The greatest end of a run; and, where it is set, all differences of the run and the one behind it are narrow.
@@ -320,7 +285,7 @@ fn steim1_step(samples: &[i32], record_length: Length, frontier: usize, end: usi
     if !begins_with_four(samples, frontier - 1) {
         return here;
     }
-    let before = furthest::<Steim1>(samples, record_length, frontier - 1);
+    let before = steim1_reach(samples, record_length, frontier - 1);
     if before > end {
         return Step {
             start: frontier - 1,
@@ -422,7 +387,7 @@ pub fn step_from(samples: &[i32], record_length: Length, frontier: usize) -> Fou
             },
         };
     }
-    let steim1 = furthest::<Steim1>(samples, record_length, frontier);
+    let steim1 = steim1_reach(samples, record_length, frontier);
     let by_steim1 = steim1_step(samples, record_length, frontier, steim1);
     Found {
         step: best.or(by_steim1).or(by_int32),
