@@ -1,7 +1,6 @@
 -- The next Steim-1 word, by the sizes of four differences.
-use Rattle.std.proofs.Common.{◌≡◌, ◌↔◌, ℕ, ◌+◌, ◌<◌, ◌≤◌, ℤ, Bool, true, IsTrue, List, arith, lit≤, inl, inr, bit_or, refl}
-use Rattle.std.specs.Prelude.{cond, nat_lt}
-use Rattle.std.proofs.lemmas.Bool.{cases_lt}
+use Rattle.std.proofs.Common.{◌↔◌, ℕ, ◌<◌, ◌≤◌, ℤ, Bool, IsTrue, List, arith, lit≤, inl, inr, bit_or, refl}
+use Rattle.std.specs.Prelude.{nat_lt}
 use Rattle.std.proofs.lemmas.Bool.Decides.{nat_tests}
 use Rattle.std.proofs.lemmas.Nat.{le_or_l, le_or_r, or_lt}
 use Rattle.msr_words.specs.FirstGroup.{IsSizeAt}
@@ -42,5 +41,12 @@ module _ (ds : List ℤ) (a b c d : ℕ) (s0 : IsSizeAt ds 0 a) (s1 : IsSizeAt d
   two_next small others =
       let l = le_or_l a b in
       let r = le_or_r a b in
-      record { which = inr (inr (inl (refl, (s0 16 (lit≤ tt)).0 (omega arith), (s1 16 (lit≤ tt)).0 (omega arith),
-        (λ three. let o = others (small_three three) in ((λ f. let h : d < 128 = (s3 8 (lit≤ tt)).1 f in let m = o.0 in omega arith), o.1)), tested 1 b s1))) }
+      record {
+        which = inr (inr (inl (
+          refl,
+          (s0 16 (lit≤ tt)).0 (omega arith),
+          (s1 16 (lit≤ tt)).0 (omega arith),
+          (λ three. let o = others (small_three three) in ((λ f. let h : d < 128 = (s3 8 (lit≤ tt)).1 f in let m = o.0 in omega arith), o.1)),
+          tested 1 b s1,
+        )));
+      }

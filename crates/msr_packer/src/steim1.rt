@@ -1,6 +1,6 @@
 //! How far a Steim-1 record reaches, word by word.
 
-ghost use Rattle.std.specs.Prelude.{◌≡◌, ◌<◌, ◌≤◌, ℕ, ℤ, List, None, drop, length};
+ghost use Rattle.std.specs.Prelude.{◌≤◌, ℤ, List, length};
 ghost use Rattle.msr_words.specs.declared.kinds.Kind.TheVariants.{Steim1 as FirstSteim};
 ghost use Rattle.msr_words.specs.Bounds.{IsEnd};
 ghost use Rattle.msr_words.specs.FirstGroup.{IsSizeAt};

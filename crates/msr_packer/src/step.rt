@@ -1,9 +1,9 @@
 //! One record more: how far a record reaches that starts at or before a frontier.
 
-ghost use Rattle.std.specs.Prelude.{pos, slice_index_or, ◌-ℤ◌, ◌≡◌, ℕ, ◌+◌, ◌-◌, ◌^◌, ◌<◌, ◌≤◌, ◌⊎◌, ◌∷◌, [], length, List, IsTrue, IsFalse, IfSome, map, count_by, sum_by};
+ghost use Rattle.std.specs.Prelude.{pos, slice_index_or, ◌≡◌, ℕ, ◌+◌, ◌<◌, ◌≤◌, ◌⊎◌, ◌∷◌, [], length, List, IsTrue, IsFalse, IfSome, map, count_by};
 ghost use Rattle.msr_words.specs.declared.kinds.Kind.{Kind};
 ghost use Rattle.msr_words.specs.declared.kinds.Kind.TheVariants.{Int16 as Integers16, Int32 as Integers32, Steim1 as FirstSteim, Steim2 as SecondSteim};
-ghost use Rattle.msr_words.specs.Bounds.{BeginsWithFour, IsEnd, IsInt16, is_wide, quarters};
+ghost use Rattle.msr_words.specs.Bounds.{BeginsWithFour, IsEnd, IsInt16, is_wide};
 ghost use Rattle.msr_words.specs.Lengths.{bytes_of};
 ghost use Rattle.msr_words.specs.Fit.{Fits, FitsAny, IsRun};
 ghost use Rattle.msr_words.specs.Packing.{IsStep};
@@ -14,7 +14,7 @@ ghost use Rattle.msr_packer.specs.Steps.{AreEnds, AreInt16, AreNarrowThrough, Is
 
 use crate::steim1::steim1_reach;
 use msr_words::{
-    Int16, Int32, Kind, Length, Tracker, Window, difference, fits_bits, is_narrow, quarters_of,
+    Int16, Int32, Kind, Length, Tracker, Window, difference, fits_bits, is_narrow,
     steim2_greedy_reach, wide_one,
 };
 
@@ -97,20 +97,6 @@ fn steim2_reach(samples: &[i32], record_length: Length, start: usize) -> Reach
         at += size;
     }
     reach_to(samples, at, least)
-}
-
-/// Whether the differences of the samples from `start` to `end` are narrow.
-fn are_narrow(samples: &[i32], start: usize, end: usize) -> bool
-    requires order { start ≤ end }
-    requires within { end ≤ length samples.now }
-    ensures { IsTrue result → AreNarrowThrough samples.now start end }
-{
-    for at in start..samples.len().min(end.saturating_add(1)) {
-        if !is_narrow(difference(samples, at)) {
-            return false;
-        }
-    }
-    true
 }
 
 /// How far a sample is from 0, or from -1 where it is negative, in 32 bits, of which a vector holds most.
@@ -204,23 +190,8 @@ fn int32_step(samples: &[i32], record_length: Length, frontier: usize) -> Step
     }
 }
 
-/// Whether the differences of the samples from `start` to `end - 1` take more than so many quarters of a Steim-1 word.
-fn take_more(samples: &[i32], start: usize, end: usize, most: usize) -> bool
-    requires order { start ≤ end }
-    requires within { end ≤ length samples.now }
-    requires few { end - start ≤ 2 ^ 40 }
-    ensures { IsTrue result → most < sum_by quarters (map (λ p. p.1) (run_points samples.now start end)) }
-{
-    let mut used = 0;
-    for at in start..end {
-        used += usize::from(quarters_of(difference(samples, at)));
-    }
-    used > most
-}
-
 /// Whether no Steim-1 record that starts at or before the frontier reaches behind the end of Steim-2 and close to `end`.
-/// It does not where the differences are narrow, where there are too many, and where they take more quarters of words
-/// than there are.
+/// It does not where the differences are narrow, and where there are too many: each takes a quarter of a word at least.
 fn steim1_is_short(
     samples: &[i32],
     record_length: Length,
@@ -239,16 +210,7 @@ fn steim1_is_short(
     if reach.narrow {
         return true;
     }
-    if end - frontier > 4 * words + 1 {
-        return true;
-    }
-    if are_narrow(samples, frontier, reach.end) {
-        return true;
-    }
-    if end == frontier {
-        return false;
-    }
-    take_more(samples, frontier, end - 1, 4 * words)
+    end - frontier > 4 * words + 1
 }
 
 /// Whether the difference of a sample and those of the next three are of 8 bits.

@@ -1,4 +1,4 @@
-use Rattle.std.proofs.Common.{arith, ◌<◌, inl, inr, bit_or}
+use Rattle.std.proofs.Common.{arith}
 use Rattle.msr_packer.proofs.Steim1Sizes.{four_next, none_next, single_next, three_next, two_next}
 use Rattle.msr_packer.proofs.steim1.next_word.Goals as goal
 use Rattle.msr_packer.proofs.steim1.next_word.Goals.{then-pair-sizes-lt128+else-sizes-lt128+else-spare, else-pair-sizes-lt128, then-sizes-lt2147483648, else-sizes-lt2147483648}
