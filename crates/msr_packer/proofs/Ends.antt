@@ -1,34 +1,23 @@
 -- The ends of runs from a frontier, by kind.
 use Rattle.std.proofs.Common.{◌≡◌, ℕ, ◌+◌, ◌-◌, ◌*◌, ◌<◌, ◌≤◌, ◌⊎◌, min, ℤ, pos, List, [], ◌∷◌, ◌++◌, length, map, arith, refl, sym, ap, ◌∙◌, subst, inl, inr}
-use Rattle.std.specs.Prelude.{slice_index_or, sum_by, cond, count_by}
+use Rattle.std.specs.Prelude.{slice_index_or, cond, count_by}
 use Rattle.std.proofs.lemmas.Bool.{cases_lt}
 use Rattle.std.proofs.lemmas.List.{map-append}
 use Rattle.std.proofs.lemmas.List.Sums.{sum_by-append, sum_by_push}
 use Rattle.msr_words.specs.declared.kinds.Kind.{Kind}
 use Rattle.msr_words.specs.declared.kinds.Kind.TheVariants.{Int16, Int32, Steim1, Steim2}
-use Rattle.msr_words.specs.Bounds.{BeginsWithFour, IsEnd, is_wide, quarters}
+use Rattle.msr_words.specs.Bounds.{BeginsWithFour, IsEnd, is_wide}
 use Rattle.msr_words.specs.Fit.{Fits, IsRun, IsFirstKind, rank}
 use Rattle.msr_words.specs.Laws.{BackStepLaw, most_of}
 use Rattle.msr_words.specs.RecordLength.{words_of}
 use Rattle.msr_words.specs.Segment.{difference_at, run_points}
 use Rattle.msr_words.specs.Lemmas.KindLaws.{back_step_kind, prefix_kind, size_kind}
 use Rattle.msr_words.proofs.Runs.{back_step_run, length_run_points, prefix_run, run_points_cut, run_points_more, run_points_none}
-use Rattle.msr_words.proofs.WordRoom.{empty_kind, quarters_of_run, rest_of_run}
+use Rattle.msr_words.proofs.WordRoom.{empty_kind, rest_of_run}
 use Rattle.msr_packer.specs.declared.step.Ends.{Ends}
 use Rattle.msr_packer.specs.Steps.{AreEnds, IsStepAmong, NonePast}
 use Rattle.msr_packer.proofs.Better.{one_kind}
 use Rattle.msr_packer.proofs.Search.{IsBest, best_first, step_found}
-
-pub no_quarters : (samples : List ℤ) (a : ℕ) → 0 ≡ sum_by quarters (map (λ p. p.1) (run_points samples a a))
-no_quarters samples a = rw run_points_none refl
-
-pub quarters_more : (samples : List ℤ) (a i : ℕ) → a ≤ i → i < length samples →
-    sum_by quarters (map (λ p. p.1) (run_points samples a (i + 1))) ≡ sum_by quarters (map (λ p. p.1) (run_points samples a i)) + quarters (difference_at samples i)
-quarters_more samples a i le less =
-    let p : ℤ × ℤ = (slice_index_or samples i (pos 0), difference_at samples i) in
-    let parts : map (λ (q : ℤ × ℤ). q.1) (run_points samples a (i + 1)) ≡ map (λ q. q.1) (run_points samples a i) ++ p.1 ∷ [] =
-    ap (map (λ (q : ℤ × ℤ). q.1)) (run_points_more samples a i le less) ∙ map-append (λ (q : ℤ × ℤ). q.1) (run_points samples a i) (p ∷ []) in
-    ap (sum_by quarters) parts ∙ sum_by_push quarters (map (λ q. q.1) (run_points samples a i)) p.1
 
 pub no_wide : (samples : List ℤ) (a : ℕ) → 0 ≡ count_by is_wide (map (λ p. p.1) (run_points samples a a))
 no_wide samples a = rw run_points_none refl
@@ -77,19 +66,6 @@ module _ (bytes : ℕ) (samples : List ℤ) (g : ℕ) where
       let up = r.0 in
       let in' = r.1 in
       omega arith)))
-
-  -- a Steim-1 record has no room for more quarters than four a word
-  pub none_with_more : (e most : ℕ) → g ≤ e → 4 * words_of bytes ≤ most → most < sum_by quarters (map (λ p. p.1) (run_points samples g e)) → (s b : ℕ) → s ≤ g → IsRun (Fits Steim1 bytes) samples s b → b < e
-  none_with_more e most order four more s b le run = elim (cases_lt b e) [
-    | inl less ↦ less
-    | inr not ↦
-        let shorter = prefix_run (Fits Steim1 bytes) (prefix_kind Steim1 bytes) samples s e b (omega arith) not run in
-        let all = quarters_of_run bytes (run_points samples s e) shorter.2 in
-        let parts : map (λ p. p.1) (run_points samples s e) ≡ map (λ p. p.1) (run_points samples s g) ++ map (λ p. p.1) (run_points samples g e) =
-        ap (map (λ (p : ℤ × ℤ). p.1)) (sym (run_points_cut samples s g e le order)) ∙ map-append (λ (p : ℤ × ℤ). p.1) (run_points samples s g) (run_points samples g e) in
-        let sum = ap (sum_by quarters) parts ∙ sum_by-append quarters (map (λ p. p.1) (run_points samples s g)) (map (λ p. p.1) (run_points samples g e)) in
-        absurd (omega arith)
-  ]
 
   -- no record has room for more wide differences than two a word, where that holds of its kind
   pub none_with_wide : (kind : Kind) → ((run : List (ℤ × ℤ)) → Fits kind bytes run → count_by is_wide (map (λ p. p.1) run) ≤ 2 * words_of bytes) → (e : ℕ) → g ≤ e →

@@ -6,3 +6,4 @@ pub mod Narrow
 pub mod Reach
 pub mod Search
 pub mod SixteenBits
+pub mod Steim1Sizes

@@ -1,6 +1,7 @@
 //! The least packing of a segment, with the separators that show it.
 #![tactic(auto)]
 
+mod steim1;
 mod step;
 #[cfg(test)]
 mod tests;

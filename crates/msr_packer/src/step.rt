@@ -1,9 +1,9 @@
 //! One record more: how far a record reaches that starts at or before a frontier.
 
-ghost use Rattle.std.specs.Prelude.{pos, slice_index_or, ◌-ℤ◌, ◌≡◌, ℕ, ◌+◌, ◌-◌, ◌^◌, ◌<◌, ◌≤◌, ◌⊎◌, ◌∷◌, [], length, List, IsTrue, IsFalse, IfSome, map, count_by, sum_by};
+ghost use Rattle.std.specs.Prelude.{pos, slice_index_or, ◌≡◌, ℕ, ◌+◌, ◌<◌, ◌≤◌, ◌⊎◌, ◌∷◌, [], length, List, IsTrue, IsFalse, IfSome, map, count_by};
 ghost use Rattle.msr_words.specs.declared.kinds.Kind.{Kind};
 ghost use Rattle.msr_words.specs.declared.kinds.Kind.TheVariants.{Int16 as Integers16, Int32 as Integers32, Steim1 as FirstSteim, Steim2 as SecondSteim};
-ghost use Rattle.msr_words.specs.Bounds.{BeginsWithFour, IsEnd, IsInt16, is_wide, quarters};
+ghost use Rattle.msr_words.specs.Bounds.{BeginsWithFour, IsEnd, IsInt16, is_wide};
 ghost use Rattle.msr_words.specs.Lengths.{bytes_of};
 ghost use Rattle.msr_words.specs.Fit.{Fits, FitsAny, IsRun};
 ghost use Rattle.msr_words.specs.Packing.{IsStep};
@@ -12,9 +12,10 @@ ghost use Rattle.msr_words.specs.Segment.{difference_at, run_points};
 ghost use Rattle.msr_words.specs.Window.{IsSize};
 ghost use Rattle.msr_packer.specs.Steps.{AreEnds, AreInt16, AreNarrowThrough, IsStepAmong, NonePast, NotLess};
 
+use crate::steim1::steim1_reach;
 use msr_words::{
-    Int16, Int32, Kind, Length, Steim1, Tracker, Window, difference, fits_bits, is_narrow,
-    quarters_of, steim2_greedy_reach, wide_one,
+    Int16, Int32, Kind, Length, Tracker, Window, difference, fits_bits, is_narrow,
+    steim2_greedy_reach, wide_one,
 };
 
 /// One record more: it starts at `start`, reaches to `end`, and is of that kind.
@@ -53,42 +54,6 @@ pub struct Ends {
 pub struct Found {
     pub step: Step,
     pub ends: Ends,
-}
-
-/// The sample from which the difference of this one is taken: the one before it, or the first itself.
-fn sample_before(samples: &[i32], at: usize) -> i32
-    requires { at ≤ length samples.now }
-    ensures { at < length samples.now → difference_at samples.now at ≡ slice_index_or samples.now at (pos 0) -ℤ result }
-{
-    if at > 0 {
-        return samples[at - 1];
-    }
-    if samples.is_empty() { 0 } else { samples[0] }
-}
-
-/// The difference of a sample from the one before it.
-fn difference_between(before: i32, sample: i32) -> i64
-    ensures { result ≡ sample -ℤ before }
-{
-    sample as i64 - before as i64
-}
-
-/// The greatest end of a run from `start` on that fits.
-fn furthest<C: Tracker + Drop>(samples: &[i32], record_length: Length, start: usize) -> usize
-    requires { start ≤ length samples.now }
-    ensures fits { IsRun (C.fits (bytes_of record_length)) samples.now start result }
-    ensures furthest { (end : ℕ) → IsRun (C.fits (bytes_of record_length)) samples.now start end → end ≤ result }
-{
-    let mut tracker = C::start(record_length);
-    let mut last = sample_before(samples, start);
-    for at in start..samples.len() {
-        let sample = samples[at];
-        if !tracker.push(sample, difference_between(last, sample)) {
-            return at;
-        }
-        last = sample;
-    }
-    samples.len()
 }
 
 /// The greatest end of a run; and, where it is set, all differences of the run and the one behind it are narrow.
@@ -132,20 +97,6 @@ fn steim2_reach(samples: &[i32], record_length: Length, start: usize) -> Reach
         at += size;
     }
     reach_to(samples, at, least)
-}
-
-/// Whether the differences of the samples from `start` to `end` are narrow.
-fn are_narrow(samples: &[i32], start: usize, end: usize) -> bool
-    requires order { start ≤ end }
-    requires within { end ≤ length samples.now }
-    ensures { IsTrue result → AreNarrowThrough samples.now start end }
-{
-    for at in start..samples.len().min(end.saturating_add(1)) {
-        if !is_narrow(difference(samples, at)) {
-            return false;
-        }
-    }
-    true
 }
 
 /// How far a sample is from 0, or from -1 where it is negative, in 32 bits, of which a vector holds most.
@@ -239,23 +190,8 @@ fn int32_step(samples: &[i32], record_length: Length, frontier: usize) -> Step
     }
 }
 
-/// Whether the differences of the samples from `start` to `end - 1` take more than so many quarters of a Steim-1 word.
-fn take_more(samples: &[i32], start: usize, end: usize, most: usize) -> bool
-    requires order { start ≤ end }
-    requires within { end ≤ length samples.now }
-    requires few { end - start ≤ 2 ^ 40 }
-    ensures { IsTrue result → most < sum_by quarters (map (λ p. p.1) (run_points samples.now start end)) }
-{
-    let mut used = 0;
-    for at in start..end {
-        used += usize::from(quarters_of(difference(samples, at)));
-    }
-    used > most
-}
-
 /// Whether no Steim-1 record that starts at or before the frontier reaches behind the end of Steim-2 and close to `end`.
-/// It does not where the differences are narrow, where there are too many, and where they take more quarters of words
-/// than there are.
+/// It does not where the differences are narrow, and where there are too many: each takes a quarter of a word at least.
 fn steim1_is_short(
     samples: &[i32],
     record_length: Length,
@@ -274,16 +210,7 @@ fn steim1_is_short(
     if reach.narrow {
         return true;
     }
-    if end - frontier > 4 * words + 1 {
-        return true;
-    }
-    if are_narrow(samples, frontier, reach.end) {
-        return true;
-    }
-    if end == frontier {
-        return false;
-    }
-    take_more(samples, frontier, end - 1, 4 * words)
+    end - frontier > 4 * words + 1
 }
 
 /// Whether the difference of a sample and those of the next three are of 8 bits.
@@ -320,7 +247,7 @@ fn steim1_step(samples: &[i32], record_length: Length, frontier: usize, end: usi
     if !begins_with_four(samples, frontier - 1) {
         return here;
     }
-    let before = furthest::<Steim1>(samples, record_length, frontier - 1);
+    let before = steim1_reach(samples, record_length, frontier - 1);
     if before > end {
         return Step {
             start: frontier - 1,
@@ -422,7 +349,7 @@ pub fn step_from(samples: &[i32], record_length: Length, frontier: usize) -> Fou
             },
         };
     }
-    let steim1 = furthest::<Steim1>(samples, record_length, frontier);
+    let steim1 = steim1_reach(samples, record_length, frontier);
     let by_steim1 = steim1_step(samples, record_length, frontier, steim1);
     Found {
         step: best.or(by_steim1).or(by_int32),

@@ -87,7 +87,7 @@ reach_most (suc words) ds reach n is within h = elim (cases_lt is.0 n) [
 
 -- ---- the runs of a segment
 
-differences_to : (samples : List ℤ) (g n : ℕ) → g + n ≤ length samples → map (λ p. p.1) (run_points samples g (g + n)) ≡ take n (map (λ p. p.1) (run_points samples g (length samples)))
+pub differences_to : (samples : List ℤ) (g n : ℕ) → g + n ≤ length samples → map (λ p. p.1) (run_points samples g (g + n)) ≡ take n (map (λ p. p.1) (run_points samples g (length samples)))
 differences_to samples g n within =
     let long : length (map (λ (p : ℤ × ℤ). p.1) (run_points samples g (g + n))) ≡ n = length-map (run_points samples g (g + n)) (λ (p : ℤ × ℤ). p.1) ∙ length_run_points samples g (g + n) (omega arith) within ∙ omega arith in
     let whole : map (λ (p : ℤ × ℤ). p.1) (run_points samples g (length samples)) ≡ map (λ p. p.1) (run_points samples g (g + n)) ++ map (λ p. p.1) (run_points samples (g + n) (length samples)) =

@@ -15,6 +15,8 @@ pub mod RecordLengths
 pub mod Runs
 pub mod Steim1Counts
 pub mod Steim1Pushes
+pub mod Steim1Runs
+pub mod Steim1Words
 pub mod Steim2Groups
 pub mod Steim2Pushes
 pub mod WordRoom

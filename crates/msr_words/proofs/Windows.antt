@@ -1,5 +1,5 @@
 -- The differences that a window has, with their sizes.
-use Rattle.std.proofs.Common.{◌≡◌, ◌<◌, ◌≤◌, ◌<ℤ◌, ℕ, zero, suc, ◌+◌, ◌-◌, ◌^◌, ℤ, pos, negsuc, ◌+ℤ◌, ◌-ℤ◌, nat_abs, get_or, slice_set, drop, List, ◌∷◌, length, Option, lit<, sym, ap, ◌∙◌, subst, arith, bit_or, inl, inr, w32, FitsSigned}
+use Rattle.std.proofs.Common.{◌≡◌, ◌<◌, ◌≤◌, ◌<ℤ◌, ℕ, zero, suc, ◌+◌, ◌-◌, ◌^◌, ℤ, pos, negsuc, ◌+ℤ◌, ◌-ℤ◌, nat_abs, get_or, slice_set, drop, List, ◌∷◌, length, Option, None, lit<, sym, ap, ◌∙◌, subst, arith, bit_or, inl, inr, w32, FitsSigned}
 use Rattle.std.specs.Prelude.{set}
 use Rattle.std.proofs.lemmas.Bool.{cases_eq}
 use Rattle.std.proofs.lemmas.Int.{ints}
@@ -7,6 +7,7 @@ use Rattle.std.proofs.Math.Nat.{pow-le-pow_right}
 use Rattle.std.proofs.lemmas.List.{get_or-set_other, get_or-set_same, length-drop}
 use Rattle.msr_steim.specs.Word.{FitsBits}
 use Rattle.msr_words.specs.declared.window.Window.{Window}
+use Rattle.msr_words.specs.FirstGroup.{IsSizeAt}
 use Rattle.msr_words.specs.Groups.{IsLongestGroup}
 use Rattle.msr_words.specs.Segment.{difference_at, differences}
 use Rattle.msr_words.specs.Window.{AreSeen, AreTaken, IsSize, IsTaken, IsWindow}
@@ -135,3 +136,26 @@ kept_there ds sizes kept place k width seen less positive small fits = (seen.eac
     narrower : (z : ℤ) → FitsBits width z → FitsSigned w32 z
     narrower (pos n) f = record { sfits = (let b = most in omega arith) }
     narrower (negsuc n) f = record { sfits = (let b = most in omega arith) }
+
+-- ---- the size at a place
+
+pub size_seen : (ds : List ℤ) (sizes : List ℕ) (kept : List ℤ) (place k i : ℕ) → i ≡ place + k → AreSeen ds sizes kept place → k < 7 → IsSizeAt ds k (get_or sizes i 0)
+size_seen ds sizes kept place k i e seen less width small =
+    let l = seen.long in
+    let is = subst (λ n. IsSize (get_or ds k (pos 0)) (get_or sizes n 0)) (sym e) (seen.each k less).size_is in
+    (λ below. (omega arith, (is width).1 below), λ fits. (is width).0 fits.1)
+
+pub size_there : (samples : List ℤ) (at size : ℕ) → at < length samples → IsSize (difference_at samples at) size → IsSizeAt (drop at (differences None samples)) 0 size
+size_there samples at size less is width small =
+    let l = length-drop at (differences None samples) in
+    let n = length_differences None samples in
+    let one : at + 0 ≡ at = omega arith in
+    let e : get_or (drop at (differences None samples)) 0 (pos 0) ≡ difference_at samples at = there None samples at 0 (omega arith) ∙ ap (difference_at samples) one in
+    (λ below. (omega arith, subst (FitsBits width) (sym e) ((is width).1 below)), λ fits. (is width).0 (subst (FitsBits width) e fits.1))
+
+pub size_past : (samples : List ℤ) (at size : ℕ) → length samples ≤ at → 2147483648 ≤ size → IsSizeAt (drop at (differences None samples)) 0 size
+size_past samples at size past large width small =
+    let l = length-drop at (differences None samples) in
+    let n = length_differences None samples in
+    let most : 2 ^ (width - 1) ≤ 2 ^ 31 = pow-le-pow_right {n = 2} (lit< tt) {i = width - 1} {j = 31} (omega arith) in
+    (λ below. absurd (omega arith), λ fits. let h = fits.0 in absurd (omega arith))

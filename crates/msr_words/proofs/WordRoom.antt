@@ -8,7 +8,7 @@ use Rattle.std.proofs.lemmas.List.Sums.{sum_by-append}
 use Rattle.msr_steim.specs.declared.word.Version.{Version}
 use Rattle.msr_steim.specs.declared.word.Version.TheVariants.{One, Two}
 use Rattle.msr_steim.specs.Word.{AreGroups, FitsBits, IsGroup}
-use Rattle.msr_words.specs.Bounds.{BeginsWithFour, EndLaw, LookBackLaw, QuarterLaw, WideLaw, is_wide, quarters}
+use Rattle.msr_words.specs.Bounds.{BeginsWithFour, EndLaw, LookBackLaw, WideLaw, is_wide}
 use Rattle.msr_words.specs.Division.{CanDivide}
 use Rattle.msr_words.specs.Fit.{Fits}
 use Rattle.msr_words.specs.Groups.{IsOneBelow}
@@ -24,27 +24,7 @@ use Rattle.msr_words.proofs.Choosing.{inner_first}
 use Rattle.msr_words.proofs.Plain.{second}
 use Rattle.msr_words.proofs.Runs.{length_run_points, points_at, prefix_run}
 
--- ---- quarters
-
-pub quarters_any : (d : ℤ) → quarters d ≤ 4
-quarters_any (pos n) = grind (arith, nat_tests)
-quarters_any (negsuc n) = grind (arith, nat_tests)
-
-quarters_two : (d : ℤ) → FitsBits 16 d → quarters d ≤ 2
-quarters_two (pos n) fits = grind (arith, nat_tests)
-quarters_two (negsuc n) fits = grind (arith, nat_tests)
-
-quarters_one : (d : ℤ) → FitsBits 8 d → quarters d ≤ 1
-quarters_one (pos n) fits = grind (arith, nat_tests)
-quarters_one (negsuc n) fits = grind (arith, nat_tests)
-
-quarters_group : (group : List ℤ) → IsGroup One group → sum_by quarters group ≤ 4
-quarters_group [] is = absurd is
-quarters_group (a ∷ []) is = let p = quarters_any a in omega arith
-quarters_group (a ∷ b ∷ []) is = let p = quarters_two a is.0 in let q = quarters_two b is.1.0 in omega arith
-quarters_group (a ∷ b ∷ c ∷ []) is = let p = quarters_one a is.0 in let q = quarters_one b is.1.0 in let r = quarters_one c is.1.1.0 in omega arith
-quarters_group (a ∷ b ∷ c ∷ d ∷ []) is = let p = quarters_one a is.0 in let q = quarters_one b is.1.0 in let r = quarters_one c is.1.1.0 in let s = quarters_one d is.1.1.1.0 in omega arith
-quarters_group (a ∷ b ∷ c ∷ d ∷ e ∷ more) is = let few = one_has_few (a ∷ b ∷ c ∷ d ∷ e ∷ more) is in absurd (omega arith)
+-- ---- sums over groups
 
 -- what each group has at most, as many groups have that many times at most
 sum_of_groups : (version : Version) (f : ℤ → ℕ) (most : ℕ) → ((group : List ℤ) → IsGroup version group → sum_by f group ≤ most) →
@@ -54,13 +34,6 @@ sum_of_groups version f most each (g ∷ gs) are =
     let here = each g (head_group version g gs are) in
     let rest = sum_of_groups version f most each gs (tail_groups version g gs are) in
     rw (sum_by-append f g (flat_map (λ group. group) gs)) (omega arith)
-
-pub quarter_law : QuarterLaw
-quarter_law words ds can =
-    let all = sum_of_groups One quarters 4 quarters_group can.groups can.are_groups in
-    let same : sum_by quarters ds ≤ 4 * length can.groups = subst (λ l. sum_by quarters l ≤ 4 * length can.groups) can.join all in
-    let few = can.few in
-    omega arith
 
 -- ---- wide differences
 
@@ -141,11 +114,6 @@ end_law kind bytes samples a end is c le = (
 
 -- ---- the size of a difference
 
-module _ (size a b : ℕ) (a_is : IsOneBelow size 32768 a) (b_is : IsOneBelow size 128 b) where
-  pub quarters_is : (d : ℤ) → ((width : ℕ) → (FitsBits width d ↔ size < 2 ^ (width - 1))) → 4 - 2 * a - b ≡ quarters d
-  quarters_is (pos n) size_is = let p = size_is 8 in let q = size_is 16 in let am = a_is.most in let ab = a_is.below in let bm = b_is.most in let bb = b_is.below in grind (arith, nat_tests)
-  quarters_is (negsuc n) size_is = let p = size_is 8 in let q = size_is 16 in let am = a_is.most in let ab = a_is.below in let bm = b_is.most in let bb = b_is.below in grind (arith, nat_tests)
-
 module _ (size a : ℕ) (a_is : IsOneBelow size 512 a) where
   pub wide_is : (d : ℤ) → ((width : ℕ) → (FitsBits width d ↔ size < 2 ^ (width - 1))) → 1 - a ≡ cond (is_wide d) 1 0
   wide_is (pos n) size_is = let p = size_is 10 in let am = a_is.most in let ab = a_is.below in grind (arith, nat_tests)
@@ -180,9 +148,6 @@ four_begin samples a b at le less order within four =
     subst (FitsBits 8) (second (run_points samples a b) (at - a) d ∙ ap (λ (p : ℤ × ℤ). p.1) here) (four_each (map (λ p. p.1) (run_points samples a b)) (at - a) four (omega arith))
 
 -- ---- for the runs of a record
-
-pub quarters_of_run : (bytes : ℕ) (run : List (ℤ × ℤ)) → Fits Steim1 bytes run → sum_by quarters (map (λ p. p.1) run) ≤ 4 * words_of bytes
-quarters_of_run bytes run fits = quarter_law (words_of bytes) (map (λ p. p.1) run) fits
 
 pub wide_of_steim2 : (bytes : ℕ) (run : List (ℤ × ℤ)) → Fits Steim2 bytes run → count_by is_wide (map (λ p. p.1) run) ≤ 2 * words_of bytes
 wide_of_steim2 bytes run fits = wide_law Two (words_of bytes) (map (λ p. p.1) run) fits

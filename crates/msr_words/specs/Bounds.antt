@@ -17,14 +17,6 @@ abbrev pub is_of_bits : ℕ → ℤ → Bool
 is_of_bits width (pos n) = nat_lt n (2 ^ (width - 1))
 is_of_bits width (negsuc n) = nat_lt n (2 ^ (width - 1))
 
--- how many quarters of a Steim-1 word a difference takes at least
-abbrev pub quarters : ℤ → ℕ
-quarters d = if is_of_bits 8 d then 1 else if is_of_bits 16 d then 2 else 4
-
--- a Steim-1 word has four quarters
-abbrev pub QuarterLaw : Type 0
-QuarterLaw = (words : ℕ) (ds : List ℤ) → CanDivide One words ds → sum_by quarters ds ≤ 4 * words
-
 -- whether a difference is of more than 10 bits
 abbrev pub is_wide : ℤ → Bool
 is_wide d = not (is_of_bits 10 d)

@@ -13,6 +13,7 @@ pub mod Following
 pub mod Filled
 pub mod Groups
 pub mod Bounds
+pub mod Steim1Reach
 pub mod Trackers
 pub mod Window
 pub mod Lemmas

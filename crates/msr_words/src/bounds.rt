@@ -1,12 +1,7 @@
 //! What the differences of a run tell of the records that hold it.
 
-ghost use Rattle.msr_words.specs.Bounds.{EndLaw, GreedyLaw, LookBackLaw, QuarterLaw, WideLaw};
-
-/// A Steim-1 record holds four quarters a word, of which a difference takes one, two where it is of more than 8 bits,
-/// and four where it is of more than 16.
-pub fn steim1_quarters()
-    ensures { QuarterLaw }
-{}
+ghost use Rattle.msr_words.specs.Bounds.{EndLaw, GreedyLaw, LookBackLaw, WideLaw};
+ghost use Rattle.msr_words.specs.Steim1Reach.{Steim1LastLaw, Steim1StopLaw, Steim1WordLaw};
 
 /// A Steim record, of either version, holds no more than two differences of more than 10 bits a word.
 pub fn two_wide_in_a_word()
@@ -27,4 +22,12 @@ pub fn fits_up_to_its_end()
 /// before the frontier.
 pub fn steim2_greedy_reach()
     ensures { GreedyLaw }
+{}
+
+/// With one word more, a Steim-1 record reaches by the longest group further. Three differences of 8 bits are one with
+/// a spare difference before them.
+pub fn steim1_word_by_word()
+    ensures word { Steim1WordLaw }
+    ensures last { Steim1LastLaw }
+    ensures stop { Steim1StopLaw }
 {}

@@ -6,7 +6,7 @@ ghost use Rattle.msr_steim.specs.Word.{FitsBits};
 ghost use Rattle.msr_words.specs.Counts.{EndsIn};
 ghost use Rattle.msr_words.specs.FirstGroup.{AreFewest};
 ghost use Rattle.msr_words.specs.Groups.{IsCapacity, IsOneBelow};
-ghost use Rattle.msr_words.specs.Bounds.{is_wide, quarters};
+ghost use Rattle.msr_words.specs.Bounds.{is_wide};
 ghost use Rattle.msr_words.specs.Laws.{IsNarrow};
 
 /// Whether a number is one of `width` bits.
@@ -172,14 +172,6 @@ pub fn is_narrow(diff: i64) -> bool
         return false;
     }
     size < 536_870_912
-}
-
-/// How many quarters of a Steim-1 word a difference takes at least.
-pub fn quarters_of(diff: i64) -> u8
-    ensures { result ≡ quarters diff }
-{
-    let size = magnitude(diff);
-    4 - 2 * one_below(size, 32_768) - one_below(size, 128)
 }
 
 /// One where a difference is of more than 10 bits, else none.

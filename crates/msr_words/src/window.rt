@@ -2,6 +2,7 @@
 //! instructions of one difference after another.
 
 ghost use Rattle.std.specs.Prelude.{◌≡◌, ◌<◌, ◌≤◌, ◌+◌, ◌-◌, ◌-ℤ◌, ℕ, ℤ, List, None, IsTrue, drop, length};
+ghost use Rattle.msr_words.specs.FirstGroup.{IsSizeAt};
 ghost use Rattle.msr_words.specs.Groups.{IsLongestGroup};
 ghost use Rattle.msr_words.specs.Segment.{differences};
 ghost use Rattle.msr_words.specs.Window.{AreSeen, IsSize, IsWindow};
@@ -32,6 +33,28 @@ fn size_after(before: i32, sample: i32) -> u32
     } else {
         difference as u32
     }
+}
+
+/// The size of the difference of a sample of the segment; one that is not there has the greatest.
+fn size_at(samples: &[i32], at: usize) -> u32
+    ensures { IsSizeAt (drop at (differences None samples.now)) 0 result }
+{
+    if at >= samples.len() {
+        return u32::MAX;
+    }
+    if at == 0 {
+        return 0;
+    }
+    size_after(samples[at - 1], samples[at])
+}
+
+/// The sizes of four differences that follow one another; one that is not there has the greatest.
+#[derive(Clone, Copy, Debug)]
+pub struct FourSizes {
+    pub first: u32,
+    pub second: u32,
+    pub third: u32,
+    pub fourth: u32,
 }
 
 impl Window {
@@ -142,5 +165,33 @@ impl Window {
         ensures longest { IsLongestGroup (drop at (differences None samples.now)) result }
     {
         self.longest_after(None, samples, at)
+    }
+
+    /// The sizes of the differences of this sample of the segment and of the next three.
+    #[inline(always)]
+    pub fn four_sizes(&mut self, samples: &[i32], at: usize) -> FourSizes
+        requires within { at ≤ length samples.now }
+        requires window { IsWindow samples.now at self.old }
+        ensures window { IsWindow samples.now at self.new }
+        ensures first { IsSizeAt (drop at (differences None samples.now)) 0 result.first }
+        ensures second { IsSizeAt (drop at (differences None samples.now)) 1 result.second }
+        ensures third { IsSizeAt (drop at (differences None samples.now)) 2 result.third }
+        ensures fourth { IsSizeAt (drop at (differences None samples.now)) 3 result.fourth }
+    {
+        if self.reaches(samples, at) {
+            let place = at - self.first;
+            return FourSizes {
+                first: self.sizes[place],
+                second: self.sizes[place + 1],
+                third: self.sizes[place + 2],
+                fourth: self.sizes[place + 3],
+            };
+        }
+        FourSizes {
+            first: size_at(samples, at),
+            second: size_at(samples, at + 1),
+            third: size_at(samples, at + 2),
+            fourth: size_at(samples, at + 3),
+        }
     }
 }

@@ -40,12 +40,12 @@ some_and : {X : Type 0} (o : Option X) (P Q : X → Type 0) → ((x : X) → P x
 some_and None P Q f h = h
 some_and (Some x) P Q f h = f x h
 
-turned_group : (version : Version) (group : List ℤ) → IsGroup version group → IsGroup version (reverse group)
+pub turned_group : (version : Version) (group : List ℤ) → IsGroup version group → IsGroup version (reverse group)
 turned_group version group is =
     subst (λ n. IsSomeAnd (group_width version n) (λ width. AllByRecursion (FitsBits width) (reverse group))) (sym (length-reverse group))
     (some_and (group_width version (length group)) (λ width. AllByRecursion (FitsBits width) group) (λ width. AllByRecursion (FitsBits width) (reverse group)) (λ width h. all_reverse (FitsBits width) group h) is)
 
-turned_inner : (version : Version) (group : List ℤ) → IsInnerGroup version group → IsInnerGroup version (reverse group)
+pub turned_inner : (version : Version) (group : List ℤ) → IsInnerGroup version group → IsInnerGroup version (reverse group)
 turned_inner One group is = (turned_group One group is.0, λ three. is.1 (sym (length-reverse group) ∙ three))
 turned_inner Two group is = turned_group Two group is
 

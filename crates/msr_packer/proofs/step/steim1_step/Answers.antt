@@ -17,14 +17,14 @@ returns-then-not-begins_with_four c =
 
 pub returns-then-before-end : goal.returns-then-before-end
 returns-then-before-end c =
-    steim1_found c.args.record_length.bytes c.args.samples.now c.args.frontier c.args.end c.requires.end 2 c.furthest-before.result (c.args.frontier - 1) (omega arith)
+    steim1_found c.args.record_length.bytes c.args.samples.now c.args.frontier c.args.end c.requires.end 2 c.steim1_reach-before.result (c.args.frontier - 1) (omega arith)
     (best_new (Fits Steim1 c.args.record_length.bytes) c.args.samples.now c.args.frontier 1 c.args.end c.args.frontier
     (from_here c.args.record_length.bytes c.args.samples.now c.args.frontier c.args.end c.requires.end)
-    (c.args.frontier - 1) c.furthest-before.result (omega arith) c.furthest-before.ensures.fits c.furthest-before.ensures.furthest (omega arith))
+    (c.args.frontier - 1) c.steim1_reach-before.result (omega arith) c.steim1_reach-before.ensures.fits c.steim1_reach-before.ensures.furthest (omega arith))
 
 pub returns : goal.returns
 returns c =
     steim1_found c.args.record_length.bytes c.args.samples.now c.args.frontier c.args.end c.requires.end 2 c.args.end c.args.frontier (omega arith)
     (best_kept (Fits Steim1 c.args.record_length.bytes) c.args.samples.now c.args.frontier 1 c.args.end c.args.frontier
     (from_here c.args.record_length.bytes c.args.samples.now c.args.frontier c.args.end c.requires.end)
-    (c.args.frontier - 1) c.furthest-before.result (omega arith) c.furthest-before.ensures.fits c.furthest-before.ensures.furthest (omega arith))
+    (c.args.frontier - 1) c.steim1_reach-before.result (omega arith) c.steim1_reach-before.ensures.fits c.steim1_reach-before.ensures.furthest (omega arith))

@@ -44,6 +44,6 @@ returns c =
     record {
       step = all_kinds c.args.record_length.bytes c.args.samples.now c.args.frontier c.or-3.result four;
       kind = four.reached;
-      ends = ends_with c.args.record_length.bytes c.args.samples.now c.args.frontier c.or-3.result.end c.steim2_reach-reach.result.end c.int16_end-int16.result c.furthest-steim1.result
-          c.steim2_reach-reach.ensures.fits c.steim2_reach-reach.ensures.furthest c.int16_end-int16.ensures.fits c.int16_end-int16.ensures.past c.furthest-steim1.ensures.fits c.furthest-steim1.ensures.furthest;
+      ends = ends_with c.args.record_length.bytes c.args.samples.now c.args.frontier c.or-3.result.end c.steim2_reach-reach.result.end c.int16_end-int16.result c.steim1_reach-steim1.result
+          c.steim2_reach-reach.ensures.fits c.steim2_reach-reach.ensures.furthest c.int16_end-int16.ensures.fits c.int16_end-int16.ensures.past c.steim1_reach-steim1.ensures.fits c.steim1_reach-steim1.ensures.furthest;
     }
