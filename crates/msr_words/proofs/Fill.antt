@@ -17,6 +17,7 @@ use Rattle.msr_steim.proofs.Filling.{codes_more, length-words}
 use Rattle.msr_words.specs.Division.{CanDivide}
 use Rattle.msr_words.specs.Canonical.{IsCanonicalDivision}
 use Rattle.msr_words.specs.Groups.{IsCapacity, IsLongestGroup, IsOneBelow}
+use Rattle.msr_words.specs.NextWord.{IsNext}
 use Rattle.msr_words.proofs.Choosing.{one_chosen}
 use Rattle.msr_words.proofs.Greedy.{IsFull, IsGreedy, full_first, greedy_last, greedy_next, greedy_no, greedy_none, greedy_same, greedy_start}
 use Rattle.msr_words.proofs.Parts.{division_rest}
@@ -76,12 +77,6 @@ some_division words ds can =
 
 -- ---- its first group is the longest
 
-pub record IsNext (version : Version) (gs : List (List ℤ)) (xs : List ℤ) (size : ℕ) : Type 0 where
-  pub group : get_or gs 0 [] ≡ take size xs
-  pub rest : IsCanonicalDivision version (drop 1 gs) (drop size xs)
-  pub none : size ≡ 0 → length gs ≡ 0
-  pub some : 0 < size → length gs ≡ length (drop 1 gs) + 1
-
 full_of : (ys : List ℤ) (size : ℕ) → IsLongestGroup ys size → 0 < size → IsFull (take size ys) (drop size ys)
 full_of ys size longest some = record {
   group_is = group_to (take size ys) (longest.group some);
@@ -128,6 +123,13 @@ next_is gs (x ∷ xs) size chosen longest = elim (cases_lt 0 size) [
         some = λ s. omega arith;
       }
 ]
+
+-- where differences are left, a group is
+pub some_next : (version : Version) (gs : List (List ℤ)) (ds : List ℤ) (size : ℕ) → IsCanonicalDivision version gs ds → IsNext version gs ds size → size ≡ 0 → length ds ≡ 0
+some_next version gs ds size chosen next none =
+    let no : gs ≡ [] = nil_from_length gs (next.none none) in
+    let join : flat_map (λ g. g) [] ≡ ds = subst (λ hs. flat_map (λ g. g) hs ≡ ds) no chosen.join in
+    sym (ap length join)
 
 -- ---- bytes of words
 
@@ -364,19 +366,19 @@ module _ (version : Version) (gs : List (List ℤ)) (ds : List ℤ) (first last 
         }
 
 -- both constants, behind the codes of the first frame
-pub constants_more : (gs : List (List ℤ)) (ds : List ℤ) (first last : ℤ) (frame at used : ℕ) (old area one new : List ℕ) → frame ≡ 0 → IsFilled Two gs ds first last frame 0 at used 0 old area
+pub constants_more : (version : Version) (gs : List (List ℤ)) (ds : List ℤ) (first last : ℤ) (frame at used : ℕ) (old area one new : List ℕ) → frame ≡ 0 → IsFilled version gs ds first last frame 0 at used 0 old area
     → one ≡ take (4 * (16 * frame + 1)) area ++ (big_bytes 4 (cast_unsigned w32 first) ++ drop (4 * (16 * frame + 1) + 4) area)
     → new ≡ take (4 * (16 * frame + 2)) one ++ (big_bytes 4 (cast_unsigned w32 last) ++ drop (4 * (16 * frame + 2) + 4) one)
-    → IsFilled Two gs ds first last frame 2 at used 0 old new
-constants_more gs ds first last frame at used old area one new start is put_first put_last =
+    → IsFilled version gs ds first last frame 2 at used 0 old new
+constants_more version gs ds first last frame at used old area one new start is put_first put_last =
     let place : 16 * frame + 1 ≡ 16 * frame + 0 + 1 = omega arith in
     let next : 16 * frame + 2 ≡ 16 * frame + 1 + 1 = omega arith in
     let w = cast_unsigned w32 first in
     let v = cast_unsigned w32 last in
-    let is_one : IsFilled Two gs ds first last frame 1 at used 0 old one =
-    constant_more Two gs ds first last frame at used old area one 0 0 is (omega arith) w (omega arith) refl (constant_one Two (16 * frame + 0 + 1) first last gs (omega arith))
+    let is_one : IsFilled version gs ds first last frame 1 at used 0 old one =
+    constant_more version gs ds first last frame at used old area one 0 0 is (omega arith) w (omega arith) refl (constant_one version (16 * frame + 0 + 1) first last gs (omega arith))
     (subst (λ n. one ≡ take (4 * n) area ++ (big_bytes 4 (cast_unsigned w32 first) ++ drop (4 * n + 4) area)) place put_first) in
-    constant_more Two gs ds first last frame at used old one new 1 0 is_one (omega arith) v (omega arith) refl (constant_two Two (16 * frame + 1 + 1) first last gs (omega arith))
+    constant_more version gs ds first last frame at used old one new 1 0 is_one (omega arith) v (omega arith) refl (constant_two version (16 * frame + 1 + 1) first last gs (omega arith))
     (subst (λ n. new ≡ take (4 * n) one ++ (big_bytes 4 (cast_unsigned w32 last) ++ drop (4 * n + 4) one)) next put_last)
 
 pub framed_all : (version : Version) (gs : List (List ℤ)) (ds : List ℤ) (first last : ℤ) (last_frame frame at used : ℕ) (old area : List ℕ) → last_frame ≡ frame → IsFramed version gs ds first last last_frame at used old area → length old ≡ 64 * frame → length gs + 2 ≤ 15 * frame

@@ -6,6 +6,7 @@ use Rattle.std.proofs.lemmas.List.{append-nil, take_more, length-take-le}
 use Rattle.std.proofs.lemmas.Nat.{and_mask, mod-mul-add, pow_pos, pow-add}
 use Rattle.std.proofs.Common.{mod-lt}
 use Rattle.std.proofs.Math.Nat.{pow-le-pow_right, mul-le-mul_right, mul-lt-mul_of_pos_right}
+use Rattle.msr_steim.specs.declared.word.Version.{Version}
 use Rattle.msr_steim.specs.declared.word.Version.TheVariants.{One, Two}
 use Rattle.msr_steim.specs.Word.{FitsBits, IsGroup, padding_of, group_top, group_width, group_word, joined_fields, twos_complement}
 use Rattle.msr_steim.proofs.Fields.{field_bound, joined_fields_lt, joined_fields_push, ones_shr, power_is_half, push_field}
@@ -40,14 +41,6 @@ field_is z width bits positive small fits here e =
 pub field_small : (width bits : ℕ) → width ≤ 32 → bit_and bits (18446744073709551615 / 2 ^ (64 - width)) < 2 ^ width
 field_small width bits small =
     subst (λ n. n < 2 ^ width) (sym (ap (bit_and bits) (mask_64 width small) ∙ and_mask bits width)) (mod-lt bits (pow_pos width))
-
-pub fields_few : (width i fields field : ℕ) → fields < 2 ^ (i * width) → (i + 1) * width ≤ 32 → field < 2 ^ width → bit_or ((fields * 2 ^ width) % 2 ^ 64) field < 2 ^ ((i + 1) * width)
-fields_few width i fields field few room one =
-    let e : i * width + width ≡ (i + 1) * width = omega arith in
-    let product : 2 ^ ((i + 1) * width) ≡ 2 ^ (i * width) * 2 ^ width = ap (λ n. 2 ^ n) (sym e) ∙ pow-add 2 (i * width) width in
-    let more : suc fields * 2 ^ width ≤ 2 ^ (i * width) * 2 ^ width = mul-le-mul_right (2 ^ width) (omega arith) in
-    let joined = push_field width i fields field few room one in
-    omega arith
 
 -- ---- fields side by side
 
@@ -92,6 +85,15 @@ module _ (width size : ℕ) (xs : List ℤ) (positive : 0 < width) (small : size
       let most : 2 ^ (size * width) ≤ 2 ^ 32 = pow-le-pow_right {n = 2} (lit< tt) {i = size * width} {j = 32} small in
       (whole, few, omega arith)
 
+-- all differences of a group fit its width
+pub group_bits : (version : Version) (ys : List ℤ) (size width : ℕ) → length ys ≡ size → group_width version size ≡ Some width → IsGroup version ys → AllByRecursion (FitsBits width) ys
+group_bits version ys size width long width_is is = subst (λ o. IsSomeAnd o (λ w. AllByRecursion (FitsBits w) ys)) (ap (group_width version) long ∙ width_is) is
+
+-- fields of these differences are below the power
+group_few : (ys : List ℤ) (size width fields : ℕ) → length ys ≡ size → 0 < width → AllByRecursion (FitsBits width) ys → fields ≡ joined_fields width ys → fields < 2 ^ (size * width)
+group_few ys size width fields long positive all same =
+    subst (λ n. n < 2 ^ (size * width)) (sym same) (subst (λ n. joined_fields width ys < 2 ^ (n * width)) long (joined_fields_lt width ys positive all))
+
 pub word_is : (ys : List ℤ) (size width top fields : ℕ) → length ys ≡ size → group_width Two size ≡ Some width → top ≡ group_top Two size → fields ≡ joined_fields width ys → top * 2 ^ 30 + fields ≡ group_word Two ys
 word_is ys size width top fields long width_is top_is fields_is =
     let w : unwrap_or (group_width Two (length ys)) 0 ≡ width = ap (λ n. unwrap_or (group_width Two n) 0) long ∙ ap (λ (o : Option ℕ). unwrap_or o 0) width_is in
@@ -99,11 +101,15 @@ word_is ys size width top fields long width_is top_is fields_is =
     let j : joined_fields (unwrap_or (group_width Two (length ys)) 0) (ys ++ []) ≡ fields = ap (λ n. joined_fields n (ys ++ [])) w ∙ ap (joined_fields width) (append-nil ys) ∙ sym fields_is in
     sym (ap (λ n. n * 2 ^ 30 + joined_fields (unwrap_or (group_width Two (length ys)) 0) (ys ++ [])) t ∙ ap (λ n. top * 2 ^ 30 + n) j)
 
--- ---- the words of Steim-1
+pub added_word_is : (ys : List ℤ) (size width top fields : ℕ) → length ys ≡ size → 0 < width → group_width Two size ≡ Some width → IsGroup Two ys → top ≡ group_top Two size → fields ≡ joined_fields width ys → top * 2 ^ 30 + 2 ^ (size * width) ≤ 2 ^ 32
+    → ((top * 2 ^ 30) % 2 ^ 32 + fields) % 2 ^ 32 ≡ group_word Two ys
+added_word_is ys size width top fields long positive width_is is top_is same space =
+    let few = group_few ys size width fields long positive (group_bits Two ys size width long width_is is) same in
+    let word = word_is ys size width top fields long width_is top_is same in
+    let none : ((top * 2 ^ 30) % 2 ^ 32 + fields) % 2 ^ 32 ≡ top * 2 ^ 30 + fields = omega arith in
+    none ∙ word
 
--- all differences of a group fit its width
-pub group_bits : (ys : List ℤ) (size width : ℕ) → length ys ≡ size → group_width One size ≡ Some width → IsGroup One ys → AllByRecursion (FitsBits width) ys
-group_bits ys size width long width_is is = subst (λ o. IsSomeAnd o (λ w. AllByRecursion (FitsBits w) ys)) (ap (group_width One) long ∙ width_is) is
+-- ---- the words of Steim-1
 
 padded : (padding : ℕ) (ys : List ℤ) (width : ℕ) → padding ≤ 1 → joined_fields width ys * 2 ^ (padding * width) ≡ joined_fields width (ys ++ replicate padding (pos 0))
 padded zero ys width few =
@@ -124,8 +130,9 @@ padding_few n = either (eqb n 3)
     either false = lit≤ tt
 
 pub shifted_word_is : (ys : List ℤ) (size width left fields : ℕ) → length ys ≡ size → group_width One size ≡ Some width → left ≡ padding_of One size * width → fields ≡ joined_fields width ys
-    → fields < 2 ^ (size * width) → size * width + left ≤ 32 → ((fields * 2 ^ left) % 2 ^ 64 ≡ group_word One ys) × (group_word One ys < 2 ^ 32)
-shifted_word_is ys size width left fields long width_is left_is fields_is few within =
+    → 0 < width → IsGroup One ys → size * width + left ≤ 32 → (fields * 2 ^ left) % 2 ^ 32 ≡ group_word One ys
+shifted_word_is ys size width left fields long width_is left_is fields_is positive is within =
+    let few = group_few ys size width fields long positive (group_bits One ys size width long width_is is) fields_is in
     let w : unwrap_or (group_width One (length ys)) 0 ≡ width = ap (λ n. unwrap_or (group_width One n) 0) long ∙ ap (λ (o : Option ℕ). unwrap_or o 0) width_is in
     let p : padding_of One (length ys) ≡ padding_of One size = ap (padding_of One) long in
     let whole : fields * 2 ^ left ≡ joined_fields (unwrap_or (group_width One (length ys)) 0) (ys ++ replicate (padding_of One (length ys)) (pos 0)) =
@@ -136,5 +143,5 @@ shifted_word_is ys size width left fields long width_is left_is fields_is few wi
     let product : 2 ^ (size * width) * 2 ^ left ≡ 2 ^ (size * width + left) = sym (pow-add 2 (size * width) left) in
     let most : 2 ^ (size * width + left) ≤ 2 ^ 32 = pow-le-pow_right {n = 2} (lit< tt) {i = size * width + left} {j = 32} within in
     let same : fields * 2 ^ left ≡ group_word One ys = whole ∙ top in
-    let none : (fields * 2 ^ left) % 2 ^ 64 ≡ fields * 2 ^ left = omega arith in
-    (none ∙ same, omega arith)
+    let none : (fields * 2 ^ left) % 2 ^ 32 ≡ fields * 2 ^ left = omega arith in
+    none ∙ same

@@ -13,7 +13,7 @@ use Rattle.msr_words.specs.FirstGroup.{AreSizes, IsBest, IsCanonicalFirst, IsFir
 use Rattle.msr_words.specs.Lemmas.LeastCounts.{a_group_has_few}
 use Rattle.msr_words.specs.Lemmas.SteimLaws.{head_group, none_divides, one_has_few, size_law, tail_groups}
 use Rattle.msr_words.proofs.Choosing.{at_place_is, divides_can, group_fits, no_groups, starts_with, tail_chosen, with_first}
-use Rattle.msr_words.proofs.Fill.{IsNext}
+use Rattle.msr_words.specs.NextWord.{IsNext}
 use Rattle.msr_words.proofs.Plain.{difference_of, length_differences}
 
 -- ---- the best size

@@ -8,6 +8,7 @@ pub mod FirstGroups
 pub mod Greedy
 pub mod GreedyReach
 pub mod GroupSizes
+pub mod Offsets
 pub mod Parts
 pub mod Plain
 pub mod Pushes

@@ -11,6 +11,7 @@ pub mod AreCounts
 pub mod FirstGroup
 pub mod Following
 pub mod Filled
+pub mod NextWord
 pub mod Groups
 pub mod Bounds
 pub mod Steim1Reach

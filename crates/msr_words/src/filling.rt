@@ -3,18 +3,19 @@
 ghost use Rattle.std.specs.Prelude.{◌≡◌, ◌<◌, ◌≤◌, ◌+◌, ◌-◌, ◌*◌, ◌/◌, ◌%◌, ◌^◌, ◌++◌, ℕ, ℤ, List, Option, Some, length, drop, take, pos, slice_index_or};
 ghost use Rattle.std.specs.Int.{cast_unsigned, w32};
 ghost use Rattle.std.specs.List.{AllByRecursion};
-ghost use Rattle.byteorder.specs.Endian.{big_bytes};
 ghost use Rattle.msr_steim.specs.declared.word.Version.TheVariants.{Two};
 ghost use Rattle.msr_steim.specs.Word.{FitsBits, group_code, group_top, group_width, group_word, joined_fields, twos_complement};
 ghost use Rattle.msr_steim.specs.Frames.{frame_bytes};
 ghost use Rattle.msr_words.specs.Canonical.{IsCanonicalDivision};
 ghost use Rattle.msr_words.specs.Groups.{IsLongestGroup};
+ghost use Rattle.msr_words.specs.NextWord.{IsNextWord};
 ghost use Rattle.msr_words.specs.Segment.{differences};
 ghost use Rattle.msr_words.specs.Window.{AreSeen, IsWindow};
 
+use crate::frames::fill_frames;
 use crate::kinds::{difference_after, longest_group};
 use crate::window::Window;
-use byteorder::{BigEndian, ByteOrder};
+use msr_steim::Version;
 
 /// A word, with its code, and how many differences it holds.
 #[derive(Clone, Copy, Debug)]
@@ -22,6 +23,8 @@ pub(crate) struct NextWord {
     pub size: usize,
     pub code: u32,
     pub word: u32,
+    /// 1 where no difference is left, else 0.
+    pub empty: usize,
 }
 
 /// How a group of so many differences is written.
@@ -91,22 +94,25 @@ fn form_of(size: usize) -> Form
     Form { code, top, width }
 }
 
-/// The fields of so many differences from a place of the window on, side by side. Inlined where size and width are
-/// literals, no loop is left.
+/// The fields of so many differences from a place of the window on, side by side: their sum, each moved to its place,
+/// in which a negative one borrows from those before it. Half of each field's range added to all takes the loans back,
+/// and is taken off without a carry. Inlined where size and width are literals, no loop is left.
 #[inline(always)]
-fn fields_seen(window: &Window, place: usize, size: usize, width: u32) -> u32
+pub(crate) fn fields_seen(window: &Window, place: usize, size: usize, width: u32) -> u32
     requires positive { 0 < width }
     requires within { size * width ≤ 32 }
     requires room { place + size ≤ 64 }
     requires most { size ≤ 7 }
     ensures same { (ds : List ℤ) → AreSeen ds window.now.sizes window.now.kept place → AllByRecursion (FitsBits width) (take size ds) → result ≡ joined_fields width (take size ds) }
-    ensures few { result < 2 ^ (size * width) }
 {
     let mut fields: u64 = 0;
+    let mut halves: u64 = 0;
     for next in 0..size {
-        fields = (fields << width) | field_of(i64::from(window.kept[place + next]), width);
+        let difference = i64::from(window.kept[place + next]);
+        fields = (fields << width).wrapping_add(difference.cast_unsigned());
+        halves = (halves << width) | (1 << (width - 1));
     }
-    fields as u32
+    ((fields.wrapping_add(halves) ^ halves) & u64::from(u32::MAX)) as u32
 }
 
 /// The word of this longest group, of this form, from a place of the window on.
@@ -123,6 +129,7 @@ fn formed(window: &Window, place: usize, size: usize, form: Form) -> NextWord
     requires top { form.top ≡ group_top Two size }
     requires space { form.top * 2 ^ 30 + 2 ^ (size * form.width) ≤ 2 ^ 32 }
     ensures size { result.size ≡ size }
+    ensures some { result.empty ≡ 0 }
     ensures code { result.code ≡ group_code Two result.size }
     ensures small { result.code < 4 }
     ensures word { (ds : List ℤ) → AreSeen ds window.now.sizes window.now.kept place → IsLongestGroup ds result.size → result.word ≡ group_word Two (take result.size ds) }
@@ -131,7 +138,8 @@ fn formed(window: &Window, place: usize, size: usize, form: Form) -> NextWord
     NextWord {
         size,
         code: form.code,
-        word: (form.top << 30) + fields,
+        word: (form.top << 30).wrapping_add(fields),
+        empty: 0,
     }
 }
 
@@ -140,6 +148,7 @@ fn formed(window: &Window, place: usize, size: usize, form: Form) -> NextWord
 fn word_seen(window: &Window, place: usize) -> NextWord
     requires { place + 7 ≤ 64 }
     ensures longest { (ds : List ℤ) → AreSeen ds window.now.sizes window.now.kept place → IsLongestGroup ds result.size }
+    ensures some { result.empty ≡ 0 }
     ensures code { result.code ≡ group_code Two result.size }
     ensures small { result.code < 4 }
     ensures word { (ds : List ℤ) → AreSeen ds window.now.sizes window.now.kept place → IsLongestGroup ds result.size → result.word ≡ group_word Two (take result.size ds) }
@@ -156,6 +165,7 @@ fn word_seen(window: &Window, place: usize) -> NextWord
             size: 0,
             code: 0,
             word: 0,
+            empty: 0,
         },
     }
 }
@@ -164,6 +174,8 @@ fn word_seen(window: &Window, place: usize) -> NextWord
 fn word_outside(before: Option<i32>, run: &[i32], at: usize) -> NextWord
     requires { at ≤ length run.now }
     ensures longest { IsLongestGroup (drop at (differences before run.now)) result.size }
+    ensures some { at < length run.now → result.empty ≡ 0 }
+    ensures none { at ≡ length run.now → result.empty ≡ 1 }
     ensures code { result.code ≡ group_code Two result.size }
     ensures small { result.code < 4 }
     ensures word { result.word ≡ group_word Two (take result.size (drop at (differences before run.now))) }
@@ -174,6 +186,7 @@ fn word_outside(before: Option<i32>, run: &[i32], at: usize) -> NextWord
             size: 0,
             code: 0,
             word: 0,
+            empty: usize::from(at == run.len()),
         };
     }
     let form = form_of(size);
@@ -182,48 +195,27 @@ fn word_outside(before: Option<i32>, run: &[i32], at: usize) -> NextWord
         size,
         code: form.code,
         word: (form.top << 30) + fields,
+        empty: 0,
     }
 }
 
 /// The word of the longest group from that difference on.
 #[inline(always)]
-fn next_word(before: Option<i32>, run: &[i32], window: &mut Window, at: usize) -> NextWord
+pub(crate) fn steim2_word(
+    before: Option<i32>,
+    run: &[i32],
+    window: &mut Window,
+    at: usize,
+) -> NextWord
     requires within { at ≤ length run.now }
     requires window { IsWindow run.now at window.old }
     ensures window { IsWindow run.now at window.new }
-    ensures longest { IsLongestGroup (drop at (differences before run.now)) result.size }
-    ensures code { result.code ≡ group_code Two result.size }
-    ensures small { result.code < 4 }
-    ensures word { result.word ≡ group_word Two (take result.size (drop at (differences before run.now))) }
+    ensures next { IsNextWord Two (drop at (differences before run.now)) result }
 {
     if window.reaches(run, at) {
         return word_seen(window, at - window.first);
     }
     word_outside(before, run, at)
-}
-
-/// Writes a word, big-endian, at its number.
-pub(crate) fn put_word(area: &mut [u8], number: usize, word: u32)
-    requires { 4 * number + 4 ≤ length area.old }
-    ensures { area.new ≡ take (4 * number) area.old ++ (big_bytes 4 word ++ drop (4 * number + 4) area.old) }
-{
-    BigEndian::write_u32(&mut area[4 * number..], word);
-}
-
-/// Writes the constants behind the codes of the first frame, and gives how many words of this frame they take.
-fn put_constants(area: &mut [u8], frame: usize, first: u32, last: u32) -> usize
-    requires { 64 * frame + 64 ≤ length area.old }
-    ensures most { result ≤ 2 }
-    ensures first { frame ≡ 0 → let one = take (4 * (16 * frame + 1)) area.old ++ (big_bytes 4 first ++ drop (4 * (16 * frame + 1) + 4) area.old) in
-        (result ≡ 2) × (area.new ≡ take (4 * (16 * frame + 2)) one ++ (big_bytes 4 last ++ drop (4 * (16 * frame + 2) + 4) one)) }
-    ensures others { 0 < frame → (result ≡ 0) × (area.new ≡ area.old) }
-{
-    if frame > 0 {
-        return 0;
-    }
-    put_word(area, 16 * frame + 1, first);
-    put_word(area, 16 * frame + 2, last);
-    2
 }
 
 /// Fills the area, of whole frames, with the words of the run's differences, big-endian: each group in turn is the
@@ -235,24 +227,5 @@ pub fn fill_steim2(before: Option<i32>, run: &[i32], area: &mut [u8]) -> usize
     ensures filled { (groups : List (List ℤ)) → IsCanonicalDivision Two groups (differences before run.now) → length groups + 2 ≤ 15 * (length area.old / 64)
         → (area.new ≡ frame_bytes Two (slice_index_or run.now 0 (pos 0)) (slice_index_or run.now (length run.now - 1) (pos 0)) groups (length area.old / 64)) × (result ≡ length groups) }
 {
-    let first = run[0].cast_unsigned();
-    let last = run[run.len() - 1].cast_unsigned();
-    let mut window = Window::new();
-    let mut at = 0;
-    let mut used = 0;
-    for frame in 0..area.len() / 64 {
-        let mut codes: u32 = 0;
-        put_word(area, 16 * frame, 0);
-        for slot in put_constants(area, frame, first, last)..15 {
-            let next = next_word(before, run, &mut window, at);
-            put_word(area, 16 * frame + slot + 1, next.word);
-            codes = codes * 4 + next.code;
-            at += next.size;
-            if next.size > 0 {
-                used += 1;
-            }
-        }
-        put_word(area, 16 * frame, codes);
-    }
-    used
+    fill_frames(Version::Two, before, run, &[], area)
 }

@@ -8,6 +8,7 @@ mod counts;
 mod division;
 mod filling;
 mod first_group;
+mod frames;
 mod kinds;
 mod lengths;
 mod steim1_filling;

@@ -7,11 +7,16 @@ ghost use Rattle.msr_steim.specs.Word.{FitsBits, IsGroup, group_code, group_widt
 ghost use Rattle.msr_words.specs.Division.{CanDivide};
 ghost use Rattle.msr_words.specs.Filled.{IsFilledArea};
 ghost use Rattle.msr_words.specs.FirstGroup.{AreSizes, IsCanonicalFirst};
+ghost use Rattle.msr_words.specs.NextWord.{IsNextWord};
 ghost use Rattle.msr_words.specs.Segment.{difference_at, differences};
+ghost use Rattle.msr_words.specs.Window.{AreSeen, IsWindow};
 
-use crate::filling::{NextWord, field_of, fields_from, put_word};
+use crate::filling::{NextWord, fields_from, fields_seen};
 use crate::first_group::Following;
+use crate::frames::fill_frames;
 use crate::kinds::difference_after;
+use crate::window::Window;
+use msr_steim::Version;
 use std::alloc::{AllocError, Global};
 
 /// The difference of a sample that is not the first.
@@ -68,28 +73,12 @@ fn form_of(size: usize) -> Form
     Form { code, width, left }
 }
 
-/// The fields of so many differences of the run side by side, where none is that of its first sample.
-fn fields_inside(run: &[i32], at: usize, size: usize, width: u32) -> u32
-    requires some { 0 < at }
-    requires positive { 0 < width }
-    requires within { size * width ≤ 32 }
-    requires room { at + size ≤ length run.now }
-    requires fit { AllByRecursion (FitsBits width) (take size (drop at (differences None run.now))) }
-    ensures same { result ≡ joined_fields width (take size (drop at (differences None run.now))) }
-    ensures few { result < 2 ^ (size * width) }
-{
-    let mut fields: u64 = 0;
-    for next in at..at + size {
-        fields = (fields << width) | field_of(difference_inside(run, next), width);
-    }
-    fields as u32
-}
-
-/// The word of this group, of this form, where no difference is that of the first sample.
-fn formed(run: &[i32], at: usize, size: usize, form: Form) -> NextWord
-    requires some { 0 < at }
-    requires room { at + size ≤ length run.now }
-    requires group { IsGroup One (take size (drop at (differences None run.now))) }
+/// The word of this group, of this form, from a place of the window on.
+#[inline(always)]
+fn formed(window: &Window, place: usize, size: usize, form: Form) -> NextWord
+    requires room { place + 7 ≤ 64 }
+    requires full { 1 ≤ size }
+    requires most { size ≤ 4 }
     requires width { group_width One size ≡ Some form.width }
     requires positive { 0 < form.width }
     requires code { form.code ≡ group_code One size }
@@ -97,80 +86,89 @@ fn formed(run: &[i32], at: usize, size: usize, form: Form) -> NextWord
     requires left { form.left ≡ padding_of One size * form.width }
     requires within { size * form.width + form.left ≤ 32 }
     ensures size { result.size ≡ size }
+    ensures some { result.empty ≡ 0 }
     ensures code { result.code ≡ group_code One size }
     ensures small { result.code < 4 }
-    ensures word { result.word ≡ group_word One (take size (drop at (differences None run.now))) }
+    ensures word { (ds : List ℤ) → AreSeen ds window.now.sizes window.now.kept place → IsGroup One (take size ds) → result.word ≡ group_word One (take size ds) }
 {
-    let fields = fields_inside(run, at, size, form.width);
+    let fields = fields_seen(window, place, size, form.width);
     NextWord {
         size,
         code: form.code,
-        word: (u64::from(fields) << form.left) as u32,
+        word: fields << form.left,
+        empty: 0,
     }
 }
 
-/// The word of this group, where no difference is that of the first sample.
-fn word_inside(run: &[i32], at: usize, size: usize) -> NextWord
-    requires some { 0 < at }
+/// The word of this group from a place of the window on.
+#[inline(always)]
+fn word_seen(window: &Window, place: usize, size: usize) -> NextWord
+    requires room { place + 7 ≤ 64 }
     requires full { 1 ≤ size }
     requires most { size ≤ 4 }
-    requires room { at + size ≤ length run.now }
-    requires group { IsGroup One (take size (drop at (differences None run.now))) }
     ensures size { result.size ≡ size }
+    ensures some { result.empty ≡ 0 }
     ensures code { result.code ≡ group_code One size }
     ensures small { result.code < 4 }
-    ensures word { result.word ≡ group_word One (take size (drop at (differences None run.now))) }
+    ensures word { (ds : List ℤ) → AreSeen ds window.now.sizes window.now.kept place → IsGroup One (take size ds) → result.word ≡ group_word One (take size ds) }
 {
     match size {
-        1 => formed(run, at, 1, form_of(1)),
-        2 => formed(run, at, 2, form_of(2)),
-        3 => formed(run, at, 3, form_of(3)),
-        _ => formed(run, at, 4, form_of(4)),
+        1 => formed(window, place, 1, form_of(1)),
+        2 => formed(window, place, 2, form_of(2)),
+        3 => formed(window, place, 3, form_of(3)),
+        _ => formed(window, place, 4, form_of(4)),
     }
 }
 
-/// The word of this group.
-fn word_of(before: Option<i32>, run: &[i32], at: usize, size: usize) -> NextWord
+/// The word of this group, of differences taken one after another.
+fn word_outside(before: Option<i32>, run: &[i32], at: usize, size: usize) -> NextWord
     requires full { 1 ≤ size }
     requires most { size ≤ 4 }
     requires room { at + size ≤ length run.now }
     requires group { IsGroup One (take size (drop at (differences before run.now))) }
     ensures size { result.size ≡ size }
+    ensures some { result.empty ≡ 0 }
     ensures code { result.code ≡ group_code One size }
     ensures small { result.code < 4 }
     ensures word { result.word ≡ group_word One (take size (drop at (differences before run.now))) }
 {
-    if 0 < at {
-        return word_inside(run, at, size);
-    }
     let form = form_of(size);
     let fields = fields_from(before, run, at, size, form.width);
     NextWord {
         size,
         code: form.code,
-        word: (u64::from(fields) << form.left) as u32,
+        word: fields << form.left,
+        empty: 0,
     }
 }
 
 /// The word of the group that begins with that difference, or 0 where none is left.
-fn next_word(before: Option<i32>, run: &[i32], at: usize, sizes: &[u8]) -> NextWord
+#[inline(always)]
+pub(crate) fn steim1_word(
+    before: Option<i32>,
+    run: &[i32],
+    sizes: &[u8],
+    window: &mut Window,
+    at: usize,
+) -> NextWord
     requires within { at ≤ length run.now }
+    requires window { IsWindow run.now at window.old }
     requires sizes { AreSizes (differences before run.now) 0 sizes.now }
-    ensures within { at + result.size ≤ length run.now }
-    ensures first { at < length run.now → IsCanonicalFirst (drop at (differences before run.now)) result.size }
-    ensures none { at ≡ length run.now → result.size ≡ 0 }
-    ensures code { result.code ≡ group_code One result.size }
-    ensures small { result.code < 4 }
-    ensures word { result.word ≡ group_word One (take result.size (drop at (differences before run.now))) }
+    ensures window { IsWindow run.now at window.new }
+    ensures next { IsNextWord One (drop at (differences before run.now)) result }
 {
+    if window.reaches(run, at) {
+        return word_seen(window, at - window.first, usize::from(sizes[at]));
+    }
     if at == run.len() {
         return NextWord {
             size: 0,
             code: 0,
             word: 0,
+            empty: 1,
         };
     }
-    word_of(before, run, at, usize::from(sizes[at]))
+    word_outside(before, run, at, usize::from(sizes[at]))
 }
 
 /// Fills the area, of whole frames, with the words of the run's differences, big-endian: the groups of the division
@@ -187,28 +185,5 @@ pub fn fill_steim1(
     ensures { IfOk result (IsFilledArea One before run.now (length area.old / 64) area.new) }
 {
     let sizes = sizes_of(alloc, before, run)?;
-    let first = run[0].cast_unsigned();
-    let last = run[run.len() - 1].cast_unsigned();
-    let mut at = 0;
-    let mut used = 0;
-    for frame in 0..area.len() / 64 {
-        let mut codes: u32 = 0;
-        put_word(area, 16 * frame, 0);
-        for slot in 0..15 {
-            let number = 16 * frame + slot + 1;
-            if number < 3 {
-                put_word(area, number, if number == 1 { first } else { last });
-                continue;
-            }
-            let next = next_word(before, run, at, &sizes);
-            put_word(area, number, next.word);
-            codes = codes * 4 + next.code;
-            at += next.size;
-            if next.size > 0 {
-                used += 1;
-            }
-        }
-        put_word(area, 16 * frame, codes);
-    }
-    Ok(used)
+    Ok(fill_frames(Version::One, before, run, &sizes, area))
 }

@@ -1,30 +1,19 @@
 -- The differences of the group fit its width, and its fields are moved up.
-use Rattle.std.proofs.Common.{rules, arith, ◌≤◌, ◌*◌, ◌%◌, ◌^◌, ◌∙◌, ap, drop, take, None}
-use Rattle.std.proofs.lemmas.List.{length-drop, length-take-le}
-use Rattle.msr_words.specs.Segment.{differences}
+use Rattle.std.proofs.Common.{arith, ◌≤◌, ◌*◌, take}
+use Rattle.std.proofs.lemmas.List.{length-take-le}
+use Rattle.std.proofs.Math.Nat.{mul-le-mul_right}
+use Rattle.msr_steim.specs.declared.word.Version.TheVariants.{One}
 use Rattle.msr_words.proofs.FillFields.{group_bits, shifted_word_is}
-use Rattle.msr_words.proofs.Plain.{length_differences}
 use Rattle.msr_words.proofs.steim1_filling.formed.Goals as goal
 
-pub fields_inside-fields-requires-clause-fit : goal.fields_inside-fields-requires-clause-fit
-fields_inside-fields-requires-clause-fit c =
-    let xs = drop c.args.at (differences None c.args.run.now) in
-    let l = length-drop c.args.at (differences None c.args.run.now) in
-    let m = length_differences None c.args.run.now in
-    let room = c.requires.room in
-    group_bits (take c.args.size xs) c.args.size c.args.form.width (length-take-le c.args.size xs (omega arith)) c.requires.width c.requires.group
-
-pub overflow_cast-result : goal.overflow_cast-result
-overflow_cast-result c =
-    let few : c.args.form.left ≤ 32 = omega (arith, c.requires.within) in
-    search (rules, few)
+pub overflow_shl-result : goal.overflow_shl-result
+overflow_shl-result c =
+    let some : 1 * c.args.form.width ≤ c.args.size * c.args.form.width = mul-le-mul_right c.args.form.width c.requires.full in
+    omega (arith, c.requires.within, c.requires.positive)
 
 pub returns-clause-word : goal.returns-clause-word
-returns-clause-word c =
-    let xs = drop c.args.at (differences None c.args.run.now) in
-    let l = length-drop c.args.at (differences None c.args.run.now) in
-    let m = length_differences None c.args.run.now in
-    let room = c.requires.room in
-    let same = shifted_word_is (take c.args.size xs) c.args.size c.args.form.width c.args.form.left c.fields_inside-fields.result (length-take-le c.args.size xs (omega arith)) c.requires.width c.requires.left
-    c.fields_inside-fields.ensures.same c.fields_inside-fields.ensures.few c.requires.within in
-    ap (λ n. n * 2 ^ c.args.form.left % 18446744073709551616) c.from.ensures ∙ same.0
+returns-clause-word c ds seen is =
+    let ys = take c.args.size ds in
+    let long = length-take-le c.args.size ds (omega (arith, c.requires.most, seen.long)) in
+    let same = c.fields_seen-fields.ensures.same ds seen (group_bits One ys c.args.size c.args.form.width long c.requires.width is) in
+    shifted_word_is ys c.args.size c.args.form.width c.args.form.left c.fields_seen-fields.result long c.requires.width c.requires.left same c.requires.positive is c.requires.within

@@ -1,7 +1,7 @@
 use Rattle.std.proofs.Common.{◌≡◌, ◌+◌, ◌-◌, ◌*◌, ◌++◌, [], length, take, drop, ap, ◌∙◌, arith}
 use Rattle.std.proofs.lemmas.List.{append-nil, drop_all, drop-drop, length-drop, take_all}
 use Rattle.byteorder.specs.Endian.{big_bytes}
-use Rattle.msr_words.proofs.filling.put_word.Goals as goal
+use Rattle.msr_words.proofs.frames.put_word.Goals as goal
 
 pub returns : goal.returns
 returns c =
