@@ -1,8 +1,10 @@
 pub mod Better
 pub mod Canonical
 pub mod Ends
+pub mod Exist
 pub mod Least
 pub mod Narrow
 pub mod Reach
 pub mod Search
 pub mod SixteenBits
+pub mod Windows

@@ -1,6 +1,7 @@
 //! The least packing of a segment, with the separators that show it.
 #![tactic(auto)]
 
+mod existence;
 mod step;
 #[cfg(test)]
 mod tests;
@@ -13,6 +14,7 @@ ghost use Rattle.msr_words.specs.Fit.{Fits, IsRun, IsFirstKind};
 ghost use Rattle.msr_packer.specs.Steps.{AreEnds};
 ghost use Rattle.msr_words.specs.Packing.{IsPacking, IsSeparating, IsLeast, IsCanonical};
 
+pub use existence::{packing_exists, step_of_window};
 pub use msr_words::Run;
 use msr_words::{Kind, Length, first_kind};
 use std::alloc::{AllocError, Global};
