@@ -7,4 +7,5 @@ pub mod Narrow
 pub mod Reach
 pub mod Search
 pub mod SixteenBits
+pub mod Streaming
 pub mod Windows

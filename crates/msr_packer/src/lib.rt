@@ -2,7 +2,9 @@
 #![tactic(auto)]
 
 mod existence;
+mod live;
 mod step;
+mod stream;
 #[cfg(test)]
 mod tests;
 
@@ -19,6 +21,7 @@ pub use msr_words::Run;
 use msr_words::{Kind, Length, first_kind};
 use std::alloc::{AllocError, Global};
 use step::{Found, next_step};
+pub use stream::{Last, Piece, StreamPacker, pieces_begin_all, stream_leaves_few};
 
 /// Runs that join to a segment, and samples that show that no packing has fewer.
 #[derive(Debug, Drop, PartialEq, Eq)]

@@ -56,7 +56,7 @@ pub struct Found {
 }
 
 /// The sample from which the difference of this one is taken: the one before it, or the first itself.
-fn sample_before(samples: &[i32], at: usize) -> i32
+pub fn sample_before(samples: &[i32], at: usize) -> i32
     requires { at ≤ length samples.now }
     ensures { at < length samples.now → difference_at samples.now at ≡ slice_index_or samples.now at (pos 0) -ℤ result }
 {
@@ -67,7 +67,7 @@ fn sample_before(samples: &[i32], at: usize) -> i32
 }
 
 /// The difference of a sample from the one before it.
-fn difference_between(before: i32, sample: i32) -> i64
+pub fn difference_between(before: i32, sample: i32) -> i64
     ensures { result ≡ sample -ℤ before }
 {
     sample as i64 - before as i64
