@@ -1,4 +1,4 @@
-use Rattle.std.proofs.Common.{rules, ◌≡◌, ◌+◌, ◌<◌, ◌≤◌, ◌^◌, arith, length}
+use Rattle.std.proofs.Common.{rules, ◌<◌, ◌^◌, arith, length}
 use Rattle.msr_packer.proofs.Streaming.{more_allowed, one_pushed}
 use Rattle.msr_packer.proofs.tests.stream_of.Goals as goal
 
