@@ -11,6 +11,7 @@ use Rattle.msr_words.specs.Laws.{BackStepLaw, FitsShort}
 use Rattle.msr_words.specs.Lemmas.KindLaws.{short_any, back_step_any, prefix_kind}
 use Rattle.msr_words.proofs.Runs.{prefix_run, back_step_run, length_run_points}
 use Rattle.msr_words.specs.Packing.{Joins, IsPacking, IsLeast, NoneHolds, IsSeparating, IsStep, CanonicalTo, IsCanonical}
+use Rattle.msr_packer.specs.SoFar.{IsSoFar}
 use Rattle.msr_words.proofs.Certificate.{joins_more, least_by_separators}
 
 module _ (bytes : ℕ) (samples : List ℤ) where
@@ -22,7 +23,7 @@ module _ (bytes : ℕ) (samples : List ℤ) where
 
   -- whatever fits from g on, the frontier passes
   module _ (short : FitsShort (FitsAny bytes)) where
-    forth : (g h a : ℕ) → g < length samples → IsStep (FitsAny bytes) samples g h a → min (g + 4) (length samples) ≤ h
+    pub forth : (g h a : ℕ) → g < length samples → IsStep (FitsAny bytes) samples g h a → min (g + 4) (length samples) ≤ h
     forth g h a in' step =
         step.furthest g (min (g + 4) (length samples)) (omega arith) (
           omega arith,
@@ -120,14 +121,6 @@ module _ (bytes : ℕ) (samples : List ℤ) where
 
   pub least : FitsShort (FitsAny bytes) → (runs : List Run) (separators : List ℕ) → IsCanonical bytes samples runs separators → IsLeast bytes samples runs
   least short runs separators chosen = least_by_separators bytes samples runs separators (separating short runs separators chosen) (as_many runs separators chosen)
-
--- runs and separators up to the frontier g, from which the step to h starts at a
-pub record IsSoFar (bytes : ℕ) (samples : List ℤ) (runs : List Run) (separators : List ℕ) (g h a : ℕ) (kind : Kind) : Type 0 where
-  pub chosen : CanonicalTo bytes samples 0 runs separators g
-  pub joined : Joins 0 runs a
-  pub within : g < length samples
-  pub step : IsStep (FitsAny bytes) samples g h a
-  pub reached : IsRun (Fits kind bytes) samples a h
 
 chosen_more : (bytes : ℕ) (samples : List ℤ) (runs : List Run) (separators : List ℕ) (from g h : ℕ) (run : Run) →
     CanonicalTo bytes samples from runs separators g → g < length samples → IsStep (FitsAny bytes) samples g h run.start →

@@ -1,9 +1,12 @@
 pub mod Better
 pub mod Canonical
 pub mod Ends
+pub mod Exist
 pub mod Least
 pub mod Narrow
 pub mod Reach
 pub mod Search
 pub mod SixteenBits
 pub mod Steim1Sizes
+pub mod Streaming
+pub mod Windows

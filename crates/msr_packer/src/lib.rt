@@ -1,8 +1,11 @@
 //! The least packing of a segment, with the separators that show it.
 #![tactic(auto)]
 
+mod existence;
+mod live;
 mod steim1;
 mod step;
+mod stream;
 #[cfg(test)]
 mod tests;
 
@@ -14,10 +17,12 @@ ghost use Rattle.msr_words.specs.Fit.{Fits, IsRun, IsFirstKind};
 ghost use Rattle.msr_packer.specs.Steps.{AreEnds};
 ghost use Rattle.msr_words.specs.Packing.{IsPacking, IsSeparating, IsLeast, IsCanonical};
 
+pub use existence::{packing_exists, step_of_window};
 pub use msr_words::Run;
 use msr_words::{Kind, Length, first_kind};
 use std::alloc::{AllocError, Global};
 use step::{Found, next_step};
+pub use stream::{Last, Piece, StreamPacker, pieces_begin_all, stream_leaves_few};
 
 /// Runs that join to a segment, and samples that show that no packing has fewer.
 #[derive(Debug, Drop, PartialEq, Eq)]

@@ -1,6 +1,6 @@
 //! Segments with their packings, worked out by hand, or from the definitions by exhaustive search.
 
-use crate::{Run, pack};
+use crate::{Packing, Piece, Run, StreamPacker, pack};
 use msr_words::{Kind, Length};
 use std::alloc::{AllocError, Global};
 use std::test::Fail;
@@ -437,5 +437,75 @@ fn the_ramp_of_a_day(rt: HostRuntime) -> Result<(), Fail> {
             kind: Kind::Steim2
         }
     );
+    Ok(())
+}
+
+/// What a packer of a stream gives, and the samples that it shows with each piece and at the end.
+#[derive(Drop)]
+struct Streamed {
+    packing: Packing,
+    samples: Vec<i32>,
+}
+
+/// The samples pushed one after another.
+fn stream_of(
+    alloc: Global,
+    samples: &[i32],
+    record_length: Length,
+) -> Result<Streamed, AllocError> {
+    let mut packer = StreamPacker::new(alloc, record_length);
+    let mut runs = Vec::new(alloc);
+    let mut separators = Vec::new(alloc);
+    let mut shown = Vec::new(alloc);
+    for at in 0..samples.len() {
+        if let Some(Piece { run, separator }) = packer.push(samples[at])? {
+            runs.push(run)?;
+            separators.push(separator)?;
+        }
+        shown.extend_from_slice(packer.run_samples())?;
+    }
+    let last = packer.end();
+    for piece in last.pieces.as_slice() {
+        runs.push(piece.run)?;
+        separators.push(piece.separator)?;
+    }
+    shown.extend_from_slice(last.samples.as_slice())?;
+    Ok(Streamed {
+        packing: Packing { runs, separators },
+        samples: shown,
+    })
+}
+
+#[test]
+fn the_rows_as_a_stream(rt: HostRuntime) -> Result<(), Fail> {
+    for row in ROWS {
+        let record_length = Length::new(row.record_length).ok_or("a length")?;
+        let samples = row.made.samples(rt.alloc())?;
+        let given = stream_of(rt.alloc(), samples.as_slice(), record_length)?;
+        let packing = pack(rt.alloc(), samples.as_slice(), record_length)?;
+        assert_eq!(rt; given.packing, packing, "{row:?}");
+        assert_eq!(rt; given.samples, samples, "{row:?}");
+    }
+    Ok(())
+}
+
+#[test]
+fn zeros_one_after_another(rt: HostRuntime) -> Result<(), Fail> {
+    let record_length = Length::new(256).ok_or("a length")?;
+    let zeros = vec![in rt.alloc(); 0; 603]?;
+    let given = stream_of(rt.alloc(), zeros.as_slice(), record_length)?;
+    let runs = [(0, 301), (301, 602), (602, 603)].map(|(start, end)| Run {
+        start,
+        end,
+        kind: Kind::Steim2,
+    });
+    assert_eq!(rt; given.packing.runs.as_slice(), runs.as_slice());
+    assert_eq!(rt;
+        given.packing.separators.as_slice(),
+        [0, 301, 602].as_slice()
+    );
+    assert_eq!(rt; given.samples, zeros);
+    let none = stream_of(rt.alloc(), &[], record_length)?;
+    assert!(rt; none.packing.runs.is_empty() && none.samples.is_empty());
     Ok(())
 }

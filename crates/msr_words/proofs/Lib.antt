@@ -1,6 +1,8 @@
 pub mod Certificate
 pub mod Choosing
+pub mod Decided
 pub mod Dominance
+pub mod Exist
 pub mod Fill
 pub mod FillFields
 pub mod FillSizes

@@ -89,11 +89,11 @@ points_after_take before samples zero = refl
 points_after_take before [] (suc n) = refl
 points_after_take before (x ∷ xs) (suc n) = ap (λ r. (x, x -ℤ before) ∷ r) (points_after_take x xs n)
 
-points_drop : (samples : List ℤ) (a : ℕ) → drop (suc a) (points None samples) ≡ points_after (get_or samples a (pos 0)) (drop (suc a) samples)
+pub points_drop : (samples : List ℤ) (a : ℕ) → drop (suc a) (points None samples) ≡ points_after (get_or samples a (pos 0)) (drop (suc a) samples)
 points_drop [] a = refl
 points_drop (x ∷ xs) a = points_after_drop x xs a
 
-points_take : (samples : List ℤ) (b : ℕ) → take b (points None samples) ≡ points None (take b samples)
+pub points_take : (samples : List ℤ) (b : ℕ) → take b (points None samples) ≡ points None (take b samples)
 points_take samples zero = refl
 points_take [] (suc b) = refl
 points_take (x ∷ xs) (suc b) = ap (λ r. (x, pos 0) ∷ r) (points_after_take x xs b)

@@ -6,6 +6,7 @@ pub mod Fit
 pub mod Laws
 pub mod Packing
 pub mod Canonical
+pub mod Existence
 pub mod Counts
 pub mod AreCounts
 pub mod FirstGroup

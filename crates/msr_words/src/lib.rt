@@ -6,6 +6,7 @@ mod bounds;
 mod codecs;
 mod counts;
 mod division;
+mod existence;
 mod filling;
 mod first_group;
 mod frames;
@@ -24,6 +25,7 @@ pub use bounds::{
 pub use codecs::{Codec, Int16, Int32, Steim1, Steim2, Tracker};
 pub use counts::{fits_bits, is_narrow, magnitude, wide_one};
 pub use division::{groups, one_division};
+pub use existence::{division_exists, fitting_is_decided};
 pub use filling::fill_steim2;
 pub use kinds::{Kind, Run, difference, first_kind, run_fits, steim2_dominates};
 pub use lengths::Length;

@@ -1,6 +1,6 @@
 use Rattle.std.proofs.Common.{◌-◌, length}
 use Rattle.msr_packer.specs.Steps.{AreEnds}
-use Rattle.msr_packer.proofs.Least.{IsSoFar}
+use Rattle.msr_packer.specs.SoFar.{IsSoFar}
 use Rattle.msr_packer.proofs.pack.Given as goal
 
 abbrev pub invariant-loop-found : goal.invariant-loop-found

@@ -1,0 +1,6 @@
+-- Step by step from the first frontier.
+use Rattle.msr_packer.proofs.Exist.{has_packing}
+use Rattle.msr_packer.proofs.existence.packing_exists.Goals as goal
+
+pub returns : goal.returns
+returns c = λ bytes samples enough. let p = has_packing bytes samples enough in (p.others, p.places, p.canonical)

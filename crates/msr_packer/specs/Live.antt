@@ -1,0 +1,49 @@
+-- What is known of a step that is not decided yet.
+use Rattle.std.specs.Prelude.{ℕ, ◌+◌, ◌<◌, ◌≤◌, ℤ, List, length, map}
+use Rattle.msr_words.specs.declared.kinds.Kind.{Kind}
+use Rattle.msr_words.specs.declared.kinds.Kind.TheVariants as kinds
+use Rattle.msr_words.specs.Fit.{Fits, FitsAny, IsRun}
+use Rattle.msr_words.specs.Packing.{IsStep}
+use Rattle.msr_words.specs.RecordLength.{words_of}
+use Rattle.msr_words.specs.Segment.{run_points}
+use Rattle.msr_words.specs.Trackers.{FollowsInt16, FollowsInt32, FollowsSteim1, FollowsSteim2}
+use Rattle.msr_packer.specs.Steps.{AreEnds}
+use Rattle.msr_packer.specs.declared.live.KindTracker.{KindTracker}
+use Rattle.msr_packer.specs.declared.live.KindTracker.TheVariants.{Int16, Int32, Steim1, Steim2}
+use Rattle.msr_packer.specs.declared.live.Live.{Live}
+use Rattle.msr_packer.specs.declared.step.Found.{Found}
+
+-- the kind that a tracker follows
+abbrev pub kind_of_tracker : KindTracker → Kind
+kind_of_tracker (Steim2 t) = kinds.Steim2
+kind_of_tracker (Steim1 t) = kinds.Steim1
+kind_of_tracker (Int16 t) = kinds.Int16
+kind_of_tracker (Int32 t) = kinds.Int32
+
+-- the run was pushed to the tracker
+abbrev pub Follows : ℕ → List (ℤ × ℤ) → KindTracker → Type 0
+Follows bytes run (Steim2 t) = FollowsSteim2 (words_of bytes) (map (λ p. p.1) run) t.left t.count t.most t.fits
+Follows bytes run (Steim1 t) = FollowsSteim1 (words_of bytes) (map (λ p. p.1) run) t.words t.counts t.fits
+Follows bytes run (Int16 t) = FollowsInt16 bytes run t.left t.fits
+Follows bytes run (Int32 t) = FollowsInt32 bytes run t.left t.fits
+
+-- the samples `start` to n-1 were pushed to the tracker, and fit
+pub record IsTracked (bytes : ℕ) (samples : List ℤ) (start n : ℕ) (tracker : KindTracker) : Type 0 where
+  pub follows : Follows bytes (run_points samples start n) tracker
+  pub fits : Fits (kind_of_tracker tracker) bytes (run_points samples start n)
+
+-- a run that starts at the frontier g, or at the sample before it, goes on to the sample n-1 at least
+pub record IsLive (bytes : ℕ) (samples : List ℤ) (g n : ℕ) (live : Live) : Type 0 where
+  pub before : live.start ≤ g
+  pub near : g ≤ live.start + 1
+  pub past : g ≤ n
+  pub tracked : IsTracked bytes samples live.start n live.tracker
+
+-- the step from the frontier g ends before the last sample, so that no further sample changes it; it is the first n of
+-- the samples at least that it takes
+pub record IsDecided (bytes : ℕ) (samples : List ℤ) (g n : ℕ) (found : Found) : Type 0 where
+  pub step : IsStep (FitsAny bytes) samples g found.step.end found.step.start
+  pub kind : IsRun (Fits found.step.kind bytes) samples found.step.start found.step.end
+  pub ends : AreEnds bytes samples g found.step.end found.ends
+  pub before_last : found.step.end < length samples
+  pub past : n ≤ found.step.end

@@ -1,0 +1,234 @@
+-- It is decided which runs fit a record of a kind, and differences that can be divided have a canonical division.
+use Rattle.std.proofs.Common.{◌≡◌, ◌≢◌, ◌^◌, ◌*◌, ◌<◌, ◌≤◌, ◌⊎◌, ◌++◌, ℕ, zero, suc, ◌+◌, ◌-◌, ℤ, pos, negsuc, Bool, true, false, Option, Some, None, List, [], ◌∷◌, length, take, drop, map, refl, sym, ap, ◌∙◌, subst, arith, inl, inr, eqb}
+use Rattle.std.specs.Prelude.{All, IsSomeAnd}
+use Rattle.std.specs.List.{AllByRecursion}
+use Rattle.std.proofs.lemmas.Bool.{cases_lt}
+use Rattle.std.proofs.lemmas.List.{length-take-le, take-append-drop}
+use Rattle.msr_steim.specs.declared.word.Version.{Version}
+use Rattle.msr_steim.specs.declared.word.Version.TheVariants.{One, Two}
+use Rattle.msr_steim.specs.Area.{differences}
+use Rattle.msr_steim.specs.Word.{AreGroups, FitsBits, IsGroup, IsGroupAt, group_width}
+use Rattle.msr_words.specs.declared.kinds.Kind.{Kind}
+use Rattle.msr_words.specs.declared.kinds.Kind.TheVariants.{Int16, Int32, Steim1, Steim2}
+use Rattle.msr_words.specs.Division.{CanDivide}
+use Rattle.msr_words.specs.Canonical.{DividesFrom, IsCanonicalDivision}
+use Rattle.msr_words.specs.Existence.{Decided}
+use Rattle.msr_words.specs.RecordLength.{words_of}
+use Rattle.msr_words.specs.Fit.{Fits, FitsAny, IsFirstKind, rank}
+use Rattle.msr_words.specs.Lemmas.LeastCounts.{a_group_has_few}
+use Rattle.msr_words.specs.Lemmas.SteimLaws.{head_group, none_divides}
+use Rattle.msr_words.proofs.Choosing.{divides_can, starts_with, with_first}
+use Rattle.msr_words.proofs.Decided.{Last, all_decided, both_decided, each_decided, last_of, less_decided, most_decided, other_decided}
+
+-- ---- groups
+
+bits_decided : (w : ℕ) (z : ℤ) → Decided (FitsBits w z)
+bits_decided w (pos n) = less_decided n (2 ^ (w - 1))
+bits_decided w (negsuc n) = less_decided n (2 ^ (w - 1))
+
+width_decided : (o : Option ℕ) (zs : List ℤ) → Decided (IsSomeAnd o (λ w. AllByRecursion (FitsBits w) zs))
+width_decided None zs = inr (λ h. h)
+width_decided (Some w) zs = each_decided (FitsBits w) (bits_decided w) zs
+
+group_decided : (version : Version) (zs : List ℤ) → Decided (IsGroup version zs)
+group_decided version zs = width_decided (group_width version (length zs)) zs
+
+place_decided : (version : Version) (last : Bool) (zs : List ℤ) → Decided (IsGroupAt version last zs)
+place_decided version true zs = group_decided version zs
+place_decided One false zs = both_decided (IsGroup One zs) (length zs ≢ 3) (group_decided One zs) (other_decided (length zs) 3)
+place_decided Two false zs = group_decided Two zs
+
+-- ---- divisions
+
+module _ (version : Version) where
+  can_more : (m n : ℕ) (ds : List ℤ) → m ≤ n → CanDivide version m ds → CanDivide version n ds
+  can_more m n ds le c = record { groups = c.groups; are_groups = c.are_groups; join = c.join; few = omega (arith, c.few) }
+
+  from_more : (m n size : ℕ) (ds : List ℤ) → m ≤ n → DividesFrom version m size ds → DividesFrom version n size ds
+  from_more m n size ds le d = record { within = d.within; some = omega (arith, d.some); group = d.group; can = can_more (m - 1) (n - 1) (drop size ds) (omega arith) d.can }
+
+  -- a division has a first group
+  first_size : (n : ℕ) (ds : List ℤ) → 0 < length ds → CanDivide version n ds → (size : ℕ) × (size ≤ 7) × DividesFrom version n size ds
+  first_size n ds some can = go can.groups can.are_groups can.join can.few
+    where
+      go : (gs : List (List ℤ)) → AreGroups version gs → differences gs ≡ ds → length gs ≤ n → (size : ℕ) × (size ≤ 7) × DividesFrom version n size ds
+      go [] are join few = let e : 0 ≡ length ds = ap length join in absurd (omega arith)
+      go (g ∷ gs) are join few = (
+        length g,
+        (a_group_has_few version true g (head_group version g gs are)).1,
+        from_more (suc (length gs)) n (length g) ds few (starts_with version g gs ds are join),
+      )
+
+  from_decided : (n size : ℕ) (ds : List ℤ) → Decided (CanDivide version n (drop size ds)) → Decided (DividesFrom version (suc n) size ds)
+  from_decided n size ds rest =
+      let one : suc n - 1 ≡ n = omega arith in
+      elim (most_decided size (length ds)) [
+        | inr never ↦ inr (λ d. never d.within)
+        | inl within ↦ elim (place_decided version (eqb size (length ds)) (take size ds)) [
+          | inr never ↦ inr (λ d. never d.group)
+          | inl group ↦ elim rest [
+            | inr never ↦ inr (λ d. never (subst (λ k. CanDivide version k (drop size ds)) one d.can))
+            | inl can ↦ inl (record { within = within; some = omega arith; group = group; can = subst (λ k. CanDivide version k (drop size ds)) (sym one) can })
+          ]
+        ]
+      ]
+
+  pub divide_decided : (n : ℕ) (ds : List ℤ) → Decided (CanDivide version n ds)
+  divide_decided n [] = inl (none_divides version n)
+  divide_decided zero (x ∷ xs) = inr (λ can. let first = first_size 0 (x ∷ xs) (omega arith) can in let some = first.2.some in omega arith)
+  divide_decided (suc n) (x ∷ xs) = elim (last_of (λ size. DividesFrom version (suc n) size (x ∷ xs)) (λ size. from_decided n size (x ∷ xs) (divide_decided n (drop size (x ∷ xs)))) 7) [
+    | inl l ↦ inl (divides_can version (suc n) l.place (x ∷ xs) l.holds)
+    | inr nowhere ↦ inr (λ can. let first = first_size (suc n) (x ∷ xs) (omega arith) can in nowhere first.0 first.1 first.2)
+  ]
+
+  -- so many groups, and no division has fewer
+  record IsFewest (n : ℕ) (ds : List ℤ) : Type 0 where
+    can : CanDivide version n ds
+    fewest : (m : ℕ) → CanDivide version m ds → n ≤ m
+
+  fewest_of : (n : ℕ) (ds : List ℤ) → CanDivide version n ds → (m : ℕ) × IsFewest m ds
+  fewest_of zero ds can = (0, record { can = can; fewest = λ m other. omega arith })
+  fewest_of (suc n) ds can = elim (divide_decided n ds) [
+    | inl fewer ↦ fewest_of n ds fewer
+    | inr never ↦ (suc n, record {
+      can = can;
+      fewest = λ m other. elim (cases_lt n m) [
+        | inl more ↦ omega arith
+        | inr few ↦ absurd (never (can_more m n ds few other))
+      ];
+    })
+  ]
+
+  -- ---- the canonical division
+
+  pub record HasDivision (ds : List ℤ) : Type 0 where
+    pub groups : List (List ℤ)
+    pub canonical : IsCanonicalDivision version groups ds
+
+  -- the longest first group with which no more groups are needed, and the groups behind it
+  module _ (n : ℕ) (ds : List ℤ) (is : IsFewest (suc n) ds) (l : Last (λ size. DividesFrom version (suc n) size ds) 7) where
+    one : suc n - 1 ≡ n
+    one = omega arith
+
+    behind : CanDivide version n (drop l.place ds)
+    behind = subst (λ k. CanDivide version k (drop l.place ds)) one l.holds.can
+
+    fewest_behind : IsFewest n (drop l.place ds)
+    fewest_behind = record {
+      can = behind;
+      fewest = λ m other.
+          let same : suc m - 1 ≡ m = omega arith in
+          let all = is.fewest (suc m) (divides_can version (suc m) l.place ds (record { within = l.holds.within; some = omega arith; group = l.holds.group; can = subst (λ k. CanDivide version k (drop l.place ds)) (sym same) other })) in
+          omega arith;
+    }
+
+    one_more : HasDivision (drop l.place ds) → HasDivision ds
+    one_more rest =
+        let joined : differences (take l.place ds ∷ rest.groups) ≡ ds = ap (λ x. take l.place ds ++ x) rest.canonical.join ∙ take-append-drop l.place ds in
+        let few : length rest.groups ≤ n = let f = rest.canonical.fewest behind.groups behind.are_groups behind.join in let b = behind.few in omega arith in
+        let size : length (take l.place ds) ≡ l.place = length-take-le l.place ds l.holds.within in
+        record {
+          groups = take l.place ds ∷ rest.groups;
+          canonical = record {
+            are_groups = with_first version l.place ds rest.groups l.holds.within l.holds.group rest.canonical.are_groups rest.canonical.join;
+            join = joined;
+            fewest = λ others are join. let f = is.fewest (length others) (record { groups = others; are_groups = are; join = join; few = omega arith }) in omega arith;
+            longest = (
+              λ other others are join short.
+                  let d = from_more (suc (length others)) (suc n) (length other) ds (omega arith) (starts_with version other others ds are (join ∙ joined)) in
+                  let small = (a_group_has_few version true other (head_group version other others are)).1 in
+                  let last = l.last (length other) small d in
+                  omega arith,
+              rest.canonical.longest,
+            );
+          };
+        }
+
+  divided : (n : ℕ) (ds : List ℤ) → IsFewest n ds → HasDivision ds
+  divided n [] is = record { groups = []; canonical = record { are_groups = tt; join = refl; fewest = λ others are join. omega arith; longest = tt } }
+  divided zero (x ∷ xs) is = let first = first_size 0 (x ∷ xs) (omega arith) is.can in let some = first.2.some in absurd (omega arith)
+  divided (suc n) (x ∷ xs) is = elim (last_of (λ size. DividesFrom version (suc n) size (x ∷ xs)) (λ size. from_decided n size (x ∷ xs) (divide_decided n (drop size (x ∷ xs)))) 7) [
+    | inl l ↦ one_more n (x ∷ xs) is l (divided n (drop l.place (x ∷ xs)) (fewest_behind n (x ∷ xs) is l))
+    | inr nowhere ↦ let first = first_size (suc n) (x ∷ xs) (omega arith) is.can in absurd (nowhere first.0 first.1 first.2)
+  ]
+
+  pub has_division : (words : ℕ) (ds : List ℤ) → CanDivide version words ds → HasDivision ds
+  has_division words ds can = let f = fewest_of words ds can in divided f.0 ds f.1
+
+-- ---- the kinds
+
+pub fits_decided : (kind : Kind) (bytes : ℕ) (run : List (ℤ × ℤ)) → Decided (Fits kind bytes run)
+fits_decided Int16 bytes run = both_decided (All (λ p. FitsBits 16 p.0) run) (2 * length run + 64 ≤ bytes) (all_decided (λ p. FitsBits 16 p.0) (λ p. bits_decided 16 p.0) run) (most_decided (2 * length run + 64) bytes)
+fits_decided Int32 bytes run = most_decided (4 * length run + 64) bytes
+fits_decided Steim1 bytes run = divide_decided One (words_of bytes) (map (λ p. p.1) run)
+fits_decided Steim2 bytes run = divide_decided Two (words_of bytes) (map (λ p. p.1) run)
+
+-- the kind that is tried first
+pub record HasFirstKind (bytes : ℕ) (run : List (ℤ × ℤ)) : Type 0 where
+  pub kind : Kind
+  pub first : IsFirstKind bytes run kind
+
+module _ (bytes : ℕ) (run : List (ℤ × ℤ)) where
+  steim2_first : Fits Steim2 bytes run → HasFirstKind bytes run
+  steim2_first fits = record { kind = Steim2; first = (fits, λ other lower h. omega arith) }
+
+  steim1_first : (Fits Steim2 bytes run → ⊥) → Fits Steim1 bytes run → HasFirstKind bytes run
+  steim1_first no2 fits = record { kind = Steim1; first = (fits, none) }
+    where
+      none : (other : Kind) → rank other < 1 → Fits other bytes run → ⊥
+      none Int16 lower h = omega arith
+      none Int32 lower h = omega arith
+      none Steim1 lower h = omega arith
+      none Steim2 lower h = no2 h
+
+  int16_first : (Fits Steim2 bytes run → ⊥) → (Fits Steim1 bytes run → ⊥) → Fits Int16 bytes run → HasFirstKind bytes run
+  int16_first no2 no1 fits = record { kind = Int16; first = (fits, none) }
+    where
+      none : (other : Kind) → rank other < 2 → Fits other bytes run → ⊥
+      none Int16 lower h = omega arith
+      none Int32 lower h = omega arith
+      none Steim1 lower h = no1 h
+      none Steim2 lower h = no2 h
+
+  int32_first : (Fits Steim2 bytes run → ⊥) → (Fits Steim1 bytes run → ⊥) → (Fits Int16 bytes run → ⊥) → Fits Int32 bytes run → HasFirstKind bytes run
+  int32_first no2 no1 no16 fits = record { kind = Int32; first = (fits, none) }
+    where
+      none : (other : Kind) → rank other < 3 → Fits other bytes run → ⊥
+      none Int16 lower h = no16 h
+      none Int32 lower h = omega arith
+      none Steim1 lower h = no1 h
+      none Steim2 lower h = no2 h
+
+  no_kind : (Fits Steim2 bytes run → ⊥) → (Fits Steim1 bytes run → ⊥) → (Fits Int16 bytes run → ⊥) → (Fits Int32 bytes run → ⊥) → (kind : Kind) → Fits kind bytes run → ⊥
+  no_kind no2 no1 no16 no32 Int16 h = no16 h
+  no_kind no2 no1 no16 no32 Int32 h = no32 h
+  no_kind no2 no1 no16 no32 Steim1 h = no1 h
+  no_kind no2 no1 no16 no32 Steim2 h = no2 h
+
+  -- whether some kind fits, and then which is tried first
+  first_of_kinds : HasFirstKind bytes run ⊎ (FitsAny bytes run → ⊥)
+  first_of_kinds = elim (fits_decided Steim2 bytes run) [
+    | inl f ↦ inl (steim2_first f)
+    | inr no2 ↦ elim (fits_decided Steim1 bytes run) [
+      | inl f ↦ inl (steim1_first no2 f)
+      | inr no1 ↦ elim (fits_decided Int16 bytes run) [
+        | inl f ↦ inl (int16_first no2 no1 f)
+        | inr no16 ↦ elim (fits_decided Int32 bytes run) [
+          | inl f ↦ inl (int32_first no2 no1 no16 f)
+          | inr no32 ↦ inr (λ any. no_kind no2 no1 no16 no32 any.0 any.1)
+        ]
+      ]
+    ]
+  ]
+
+  pub any_decided : Decided (FitsAny bytes run)
+  any_decided = elim first_of_kinds [
+    | inl f ↦ inl (f.kind, f.first.0)
+    | inr never ↦ inr never
+  ]
+
+  pub has_first_kind : FitsAny bytes run → HasFirstKind bytes run
+  has_first_kind any = elim first_of_kinds [
+    | inl f ↦ f
+    | inr never ↦ absurd (never any)
+  ]

@@ -1,0 +1,14 @@
+//! What there is whatever the samples: laws, so that an output can be spoken of before it is written.
+
+ghost use Rattle.msr_words.specs.Existence.{DivisionExists, FirstKindExists, FittingIsDecided};
+
+/// Differences that can be divided have a canonical division.
+pub fn division_exists()
+    ensures { DivisionExists }
+{}
+
+/// It is decided whether a run fits a record, and one that does has a kind that is tried first.
+pub fn fitting_is_decided()
+    ensures any { FittingIsDecided }
+    ensures first { FirstKindExists }
+{}
