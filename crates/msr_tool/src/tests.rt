@@ -6,5 +6,4 @@ mod fixtures;
 mod joining;
 mod packing;
 mod refusals;
-mod tasks;
 mod texts;

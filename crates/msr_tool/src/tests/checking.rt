@@ -1,4 +1,4 @@
-//! Packed records that are checked with reports typed by hand: each answer.
+//! Packed records that are checked with reports typed by hand: each answer but those of sources that fail.
 use crate::tests::fixtures::{PLAIN, joined, plain, steim};
 use crate::tests::texts::{NO_SEGMENTS, ONE_SEGMENT};
 use crate::{TestSource, ToolFault, Verdict, check_packed};
@@ -7,8 +7,8 @@ use std::alloc::{AllocError, Global};
 use std::process::Abort;
 use std::test::Fail;
 
-// 302 samples of 0 in two records, as `ONE_SEGMENT` tells of them.
-fn two_records(rt: &impl Abort, alloc: Global) -> Result<Vec<u8>, AllocError> {
+/// 302 samples of 0 in two records, as `ONE_SEGMENT` tells of them.
+pub fn two_records(rt: &impl Abort, alloc: Global) -> Result<Vec<u8>, AllocError> {
     let second = plain(
         rt,
         &[
@@ -173,41 +173,6 @@ fn packed_records_that_are_refused(rt: HostRuntime) -> Result<(), Fail> {
         };
         assert_eq!(rt; format!(in alloc; "{fault}")?.as_str(), want);
         assert!(rt; matches!(fault, ToolFault::Input(_)), "{want}");
-    }
-    Ok(())
-}
-
-#[test]
-fn sources_that_fail(rt: HostRuntime) -> Result<(), Fail> {
-    let alloc = rt.alloc();
-    let packed = two_records(&rt, alloc)?;
-    let text = ONE_SEGMENT.as_bytes();
-    let failing = |fails_at: u64| Behavior {
-        most: 64,
-        interruptions: 1,
-        fails_at: Some(fails_at),
-    };
-    // The read behind the last byte, which finds the end, is one more.
-    for fails_at in 0..packed.len() as u64 / 64 + 1 {
-        let found = checked_through(alloc, &packed, text, failing(fails_at), PLAIN);
-        assert_eq!(rt; found, Err(ToolFault::Read), "at {fails_at}");
-    }
-    for fails_at in 0..text.len() as u64 / 64 + 1 {
-        let found = checked_through(alloc, &packed, text, PLAIN, failing(fails_at));
-        assert_eq!(rt; found, Err(ToolFault::Read), "at {fails_at}");
-    }
-    let patient = |interruptions: u32| Behavior {
-        most: 1,
-        interruptions,
-        fails_at: None,
-    };
-    for (reading, of_report, answer) in [
-        (63, 63, Ok(Verdict::Least)),
-        (64, 63, Err(ToolFault::Read)),
-        (63, 64, Err(ToolFault::Read)),
-    ] {
-        let found = checked_through(alloc, &packed, text, patient(reading), patient(of_report));
-        assert_eq!(rt; found, answer, "{reading}, {of_report}");
     }
     Ok(())
 }

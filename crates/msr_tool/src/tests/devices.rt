@@ -1,97 +1,254 @@
-//! Devices that move few bytes at a time, are interrupted, and fail at each of their calls in turn.
+//! Each call of the engine over devices that move few bytes at a time, are interrupted, and fail at each of their
+//! calls in turn. A repack with a report writes its text by `Report::write_text`, a check reads its own by `read_report`.
+ghost use Rattle.std.specs.Prelude.{◌≡◌, [], Some};
+ghost use Rattle.msr_devices.specs.Device.{unused};
+
+use crate::tests::checking::two_records;
 use crate::tests::fixtures::{
-    Edits, Outcome, PLAIN, choice, edited, repacked, repacked_through, steim,
+    Edits, PLAIN, choice, edited, input_of, repacked, repacked_through, steim,
 };
-use crate::{FromRead, FromWrite, Options, TestSink, TestSource, ToolFault, repack};
+use crate::tests::texts::{LIST, LISTED, NO_SEGMENTS, ONE_SEGMENT};
+use crate::{
+    FromRead, FromWrite, Sink, TestSink, TestSource, ToolFault, check_and_tell, check_packed,
+    list_segments, repack, repack_and_report,
+};
 use msr_devices::Behavior;
+use msr_time::Rate;
 use std::alloc::Global;
+use std::process::Abort;
 use std::test::Fail;
 
-fn in_pieces(most: usize, interruptions: u32, fails_at: Option<u64>) -> Behavior {
-    Behavior {
-        most,
-        interruptions,
-        fails_at,
+#[derive(Clone, Copy, Debug)]
+enum Call {
+    Repack,
+    List,
+    Check,
+    RepackAndReport,
+    CheckAndTell,
+}
+
+// A call, what its sources have, and what its sinks are to hold: nothing where it has no such device.
+#[derive(Clone, Copy)]
+struct Worked<'a> {
+    call: Call,
+    records: &'a [u8],
+    report: &'a str,
+    written: &'a [u8],
+    told: &'a str,
+}
+
+// The device of a call that is no plain one.
+#[derive(Clone, Copy, Debug, PartialEq, Eq)]
+enum Place {
+    Records,
+    Report,
+    Written,
+    Told,
+}
+
+impl Place {
+    fn is_source(self) -> bool {
+        matches!(self, Place::Records | Place::Report)
+    }
+
+    // What the call answers where it fails.
+    fn fault(self) -> ToolFault {
+        if self.is_source() {
+            ToolFault::Read
+        } else {
+            ToolFault::Write
+        }
+    }
+}
+
+// How that device behaves. A sink that fails accepts nothing, or answers an error.
+#[derive(Clone, Copy, Debug)]
+struct Odd {
+    place: Place,
+    behavior: Behavior,
+    accepts_nothing: bool,
+}
+
+impl Odd {
+    fn behavior_at(self, place: Place) -> Behavior {
+        if self.place == place {
+            self.behavior
+        } else {
+            PLAIN
+        }
+    }
+
+    fn sink_at(self, alloc: Global, place: Place) -> TestSink
+        ensures { ⟦<TestSink as Sink>⟧.device result ≡ unused (Some []) }
+    {
+        let behavior = self.behavior_at(place);
+        if self.accepts_nothing {
+            TestSink::accepting_nothing(Vec::new(alloc), behavior)
+        } else {
+            TestSink::new(Vec::new(alloc), behavior)
+        }
+    }
+}
+
+impl Worked<'_> {
+    // How many bytes go through the device at that place.
+    fn size_at(self, place: Place) -> u64 {
+        let size = match place {
+            Place::Records => self.records.len(),
+            Place::Report => self.report.len(),
+            Place::Written => self.written.len(),
+            Place::Told => self.told.len(),
+        };
+        size as u64
+    }
+}
+
+// What a call answered, and the sinks that it wrote to.
+#[derive(Drop)]
+struct Left {
+    fault: Option<ToolFault>,
+    written: TestSink,
+    told: TestSink,
+}
+
+fn ended(rt: &impl Abort, alloc: Global, worked: Worked<'_>, odd: Odd) -> Left {
+    let options = choice(rt, 256, 1000);
+    let mut records = TestSource::new(worked.records, odd.behavior_at(Place::Records));
+    let mut report = TestSource::new(worked.report.as_bytes(), odd.behavior_at(Place::Report));
+    let mut written = odd.sink_at(alloc, Place::Written);
+    let mut told = odd.sink_at(alloc, Place::Told);
+    let fault = match worked.call {
+        Call::Repack => repack(alloc, &mut records, &mut written, options).err(),
+        Call::List => list_segments(alloc, &mut records, &mut written, options).err(),
+        Call::Check => check_packed(alloc, &mut records, &mut report).err(),
+        Call::RepackAndReport => {
+            repack_and_report(alloc, &mut records, &mut written, &mut told, options).err()
+        }
+        Call::CheckAndTell => check_and_tell(alloc, &mut records, &mut report, &mut told).err(),
+    };
+    Left {
+        fault,
+        written,
+        told,
+    }
+}
+
+// The call ends well, and wrote all; or it answers the fault of the device, each sink holds a front of what it is to
+// hold, and the text is not begun unless the fault is its own.
+fn ends(rt: &impl Abort, alloc: Global, worked: Worked<'_>, odd: Odd, well: bool) -> Left {
+    let call = worked.call;
+    let found = ended(rt, alloc, worked, odd);
+    let (written, told) = (found.written.bytes(), found.told.bytes());
+    if well {
+        assert_eq!(rt; found.fault, None, "{call:?}, {odd:?}");
+        assert_eq!(rt; written, worked.written, "{call:?}, {odd:?}");
+        assert_eq!(rt; told, worked.told.as_bytes(), "{call:?}, {odd:?}");
+    } else {
+        assert_eq!(rt; found.fault, Some(odd.place.fault()), "{call:?}, {odd:?}");
+        assert!(rt; worked.written.starts_with(written), "{call:?}, {odd:?}");
+        assert!(rt;
+            worked.told.as_bytes().starts_with(told),
+            "{call:?}, {odd:?}"
+        );
+        assert!(rt;
+            told.is_empty() || odd.place == Place::Told,
+            "{call:?}, {odd:?}"
+        );
+    }
+    found
+}
+
+const PLACES: [Place; 4] = [Place::Records, Place::Report, Place::Written, Place::Told];
+
+// Fails at each of its calls in turn, in each of which it moves an eighth of its bytes; a source finds its end in one
+// call more.
+fn fails_in_turn(rt: &impl Abort, alloc: Global, worked: Worked<'_>, place: Place) {
+    let most = worked.size_at(place).div_ceil(8).max(1);
+    let calls = worked.size_at(place).div_ceil(most);
+    let (calls, ways): (u64, &[bool]) = if place.is_source() {
+        (calls.saturating_add(1), &[false])
+    } else {
+        (calls, &[false, true])
+    };
+    for fails_at in 0..calls {
+        for accepts_nothing in ways {
+            let behavior = Behavior {
+                most: most as usize,
+                interruptions: 1,
+                fails_at: Some(fails_at),
+            };
+            let odd = Odd {
+                place,
+                behavior,
+                accepts_nothing: *accepts_nothing,
+            };
+            let found = ends(rt, alloc, worked, odd, false);
+            let before = most.saturating_mul(fails_at);
+            let held = match place {
+                Place::Written => found.written.bytes().len() as u64,
+                Place::Told => found.told.bytes().len() as u64,
+                _ => before,
+            };
+            assert_eq!(rt; held, before, "{odd:?}");
+        }
+    }
+}
+
+// Moves a byte in a call, after no, 63 and 64 interruptions: the last are a failure, before anything is moved.
+fn moves_single_bytes(rt: &impl Abort, alloc: Global, worked: Worked<'_>, place: Place) {
+    for (interruptions, well) in [(0u32, true), (63, true), (64, false)] {
+        let behavior = Behavior {
+            most: 1,
+            interruptions,
+            fails_at: None,
+        };
+        let odd = Odd {
+            place,
+            behavior,
+            accepts_nothing: false,
+        };
+        let found = ends(rt, alloc, worked, odd, well);
+        if !well {
+            assert!(rt;
+                found.written.bytes().is_empty() || place == Place::Told,
+                "{odd:?}"
+            );
+            assert!(rt; found.told.bytes().is_empty(), "{odd:?}");
+        }
     }
 }
 
 #[test]
-fn a_byte_at_a_time(rt: HostRuntime) -> Result<(), Fail> {
+fn each_call_in_turn(rt: HostRuntime) -> Result<(), Fail> {
     let alloc = rt.alloc();
-    let options = choice(&rt, 256, 1000);
-    let input = steim(&rt, &[]);
-    for (reading, writing, answer) in [
-        (in_pieces(1, 0, None), in_pieces(1, 0, None), None),
-        (in_pieces(1, 63, None), in_pieces(1, 63, None), None),
-        (
-            in_pieces(1, 64, None),
-            in_pieces(1, 63, None),
-            Some(ToolFault::Read),
-        ),
-        (
-            in_pieces(1, 63, None),
-            in_pieces(1, 64, None),
-            Some(ToolFault::Write),
-        ),
-    ] {
-        let Outcome {
-            answer: found,
-            sink,
-        } = repacked_through(alloc, &input, options, reading, writing);
-        assert_eq!(rt; found.err(), answer, "{reading:?}, {writing:?}");
-        let want = if answer.is_none() { 256 } else { 0 };
-        assert_eq!(rt; sink.bytes().len(), want, "{reading:?}, {writing:?}");
-        assert!(rt; input.starts_with(sink.bytes()), "{reading:?}, {writing:?}");
-    }
-    Ok(())
-}
-
-#[test]
-fn each_read_fails_in_turn(rt: HostRuntime) -> Result<(), Fail> {
-    let alloc = rt.alloc();
-    let options = choice(&rt, 256, 1000);
-    let input = steim(&rt, &[]);
-    // 37 reads give the 256 bytes, and the one behind them finds the end.
-    for fails_at in 0u64..38 {
-        let reading = in_pieces(7, 1, Some(fails_at));
-        let found = repacked_through(alloc, &input, options, reading, PLAIN);
-        assert!(rt; input.starts_with(found.sink.bytes()), "at {fails_at}");
-        assert_eq!(rt; found.answer.err(), Some(ToolFault::Read), "at {fails_at}");
-    }
-    Ok(())
-}
-
-// The answer to a sink that accepts 0 bytes at that call, and how many bytes it holds, which are the first of `usual`.
-fn accepting_nothing(
-    alloc: Global,
-    input: &[u8],
-    options: Options,
-    writing: Behavior,
-    usual: &[u8],
-) -> Option<(Option<ToolFault>, usize)> {
-    let mut source = TestSource::new(input, PLAIN);
-    let mut sink = TestSink::accepting_nothing(Vec::new(alloc), writing);
-    let answer = repack(alloc, &mut source, &mut sink, options);
-    let bytes = sink.bytes();
-    usual
-        .starts_with(bytes)
-        .then_some((answer.err(), bytes.len()))
-}
-
-#[test]
-fn each_write_fails_in_turn(rt: HostRuntime) -> Result<(), Fail> {
-    let alloc = rt.alloc();
-    let options = choice(&rt, 256, 1000);
-    let input = steim(&rt, &[]);
-    for fails_at in 0u64..37 {
-        let writing = in_pieces(7, 1, Some(fails_at));
-        let found = repacked_through(alloc, &input, options, PLAIN, writing);
-        assert_eq!(rt; found.sink.bytes().len() as u64, 7 * fails_at);
-        assert!(rt; input.starts_with(found.sink.bytes()), "at {fails_at}");
-        assert_eq!(rt; found.answer.err(), Some(ToolFault::Write), "at {fails_at}");
-        let nothing = accepting_nothing(alloc, &input, options, writing, &input);
-        let want = Some((Some(ToolFault::Write), found.sink.bytes().len()));
-        assert_eq!(rt; nothing, want, "at {fails_at}");
+    let input = input_of(&rt, alloc, Rate::new(20, 1).ok_or("no rate")?, &[0; 302])?;
+    let packed = two_records(&rt, alloc)?;
+    let listed = edited(&rt, alloc, &LISTED)?;
+    let (input, packed, listed) = (input.as_slice(), packed.as_slice(), listed.as_slice());
+    let none: &[u8] = &[];
+    // The call, the records and the report that it reads, the bytes and the text that it writes.
+    let rows: [(Call, &[u8], &str, &[u8], &str); 6] = [
+        (Call::Repack, input, "", packed, ""),
+        (Call::List, listed, "", LIST.as_bytes(), ""),
+        (Call::Check, packed, ONE_SEGMENT, none, ""),
+        (Call::RepackAndReport, input, "", packed, ONE_SEGMENT),
+        (Call::CheckAndTell, packed, ONE_SEGMENT, none, "least\n"),
+        (Call::CheckAndTell, packed, NO_SEGMENTS, none, "not shown\n"),
+    ];
+    for (call, records, report, written, told) in rows {
+        let worked = Worked {
+            call,
+            records,
+            report,
+            written,
+            told,
+        };
+        for place in PLACES {
+            if 0 < worked.size_at(place) {
+                fails_in_turn(&rt, alloc, worked, place);
+                moves_single_bytes(&rt, alloc, worked, place);
+            }
+        }
     }
     Ok(())
 }

@@ -5,13 +5,10 @@ use crate::{
     one_repacking, read_report, readable_is_listed, readable_is_repacked, repacked_is_least,
     repacked_is_shown,
 };
-use msr_devices::Behavior;
 use msr_header::HeaderFault;
 use msr_record::FaultKind;
 use msr_time::Rate;
 use msr_words::Length;
-use std::alloc::Global;
-use std::process::Abort;
 use std::test::Fail;
 
 pub const NO_SEGMENTS: &str = "\
@@ -58,64 +55,53 @@ fn reports(rt: HostRuntime) -> Result<(), Fail> {
     Ok(())
 }
 
-const LIST: &str = "\
+/// The list of three records, of which the first two join.
+pub const LIST: &str = "\
 segment XX.TEST_.00.BHZ D rate 20 1 flags 00 00 00 correction 0 timing 0 start 2020,001,00:00:00.000000 samples 200
 segment XX.TEST_.00.BHZ D rate 20 1 flags 00 00 00 correction 0 timing 0 start 2020,001,00:00:10.001400 samples 100
 read 3 empty 0 mismatched 0
 ";
 
-// 100 samples at 0, 5.0007 and 10.0014 seconds.
-const LISTED: [Edits<'static>; 3] = [
+/// 100 samples at 0, 5.0007 and 10.0014 seconds.
+pub const LISTED: [Edits<'static>; 3] = [
     &[(30, &[0x00, 0x64])],
     &[(26, &[0x05, 0x00, 0x00, 0x07, 0x00, 0x64])],
     &[(26, &[0x0a, 0x00, 0x00, 0x0e, 0x00, 0x64])],
 ];
 
-// Lists the input by devices that behave so. What was written is a front of the list; how many bytes of it are there?
-fn listed(
-    rt: &impl Abort,
-    alloc: Global,
-    input: &[u8],
-    reading: Behavior,
-    writing: Behavior,
-) -> (Result<Counts, ToolFault>, usize) {
-    let mut source = TestSource::new(input, reading);
-    let mut sink = TestSink::new(Vec::new(alloc), writing);
-    let answer = list_segments(alloc, &mut source, &mut sink, choice(rt, 256, 1000));
-    assert!(rt; LIST.as_bytes().starts_with(sink.bytes()));
-    (answer, sink.bytes().len())
-}
-
 #[test]
 fn lists(rt: HostRuntime) -> Result<(), Fail> {
     let alloc = rt.alloc();
     let mut input = edited(&rt, alloc, &LISTED)?;
-    let (answer, written) = listed(&rt, alloc, &input, PLAIN, PLAIN);
+    let options = choice(&rt, 256, 1000);
+    let mut sink = TestSink::new(Vec::new(alloc), PLAIN);
+    let answer = list_segments(
+        alloc,
+        &mut TestSource::new(&input, PLAIN),
+        &mut sink,
+        options,
+    );
     let counts = Counts {
         read: 3,
         empty: 0,
         mismatched: 0,
     };
-    assert_eq!(rt; (answer, written), (Ok(counts), LIST.len()));
-    for fails_at in 0u64..13 {
-        let failing = |most: usize| Behavior {
-            most,
-            interruptions: 1,
-            fails_at: Some(fails_at),
-        };
-        let (answer, _) = listed(&rt, alloc, &input, failing(64), PLAIN);
-        assert_eq!(rt; answer, Err(ToolFault::Read), "at {fails_at}");
-        let (answer, written) = listed(&rt, alloc, &input, PLAIN, failing(20));
-        assert_eq!(rt; answer, Err(ToolFault::Write), "at {fails_at}");
-        assert_eq!(rt; written as u64, 20 * fails_at);
-    }
+    assert_eq!(rt; answer, Ok(counts));
+    assert_eq!(rt; sink.bytes(), LIST.as_bytes());
     input.extend_from_slice(&[0; 47])?;
-    let (answer, _) = listed(&rt, alloc, &input, PLAIN, PLAIN);
+    let mut sink = TestSink::new(Vec::new(alloc), PLAIN);
+    let answer = list_segments(
+        alloc,
+        &mut TestSource::new(&input, PLAIN),
+        &mut sink,
+        options,
+    );
     let fault = Fault {
         offset: 768,
         kind: FaultKind::Header(HeaderFault::Truncated),
     };
     assert_eq!(rt; answer, Err(ToolFault::Input(fault)));
+    assert!(rt; LIST.as_bytes().starts_with(sink.bytes()));
     Ok(())
 }
 
