@@ -1,9 +1,8 @@
 -- What stands in a read buffer's memory after it was moved to the front and read behind.
 use Rattle.std.proofs.Common.{◌≡◌, ℕ, ◌+◌, ◌-◌, ◌^◌, ◌<◌, ◌≤◌, Bool, List, ◌++◌, ◌∙◌, length, take, drop, arith, sym, ap, length-take, length-drop}
 use Rattle.std.proofs.lemmas.List.{take-append-le, take-append-drop, drop-append-le, drop-drop, drop-take}
-use Rattle.std.proofs.lemmas.List.Edits.{take-paste}
 use Rattle.std.proofs.Math.Seq.{take-append_seam}
-use Rattle.std.specs.List.{copy_within, slice_range}
+use Rattle.std.specs.List.{slice_range}
 use Rattle.msr_devices.specs.Device.{Device, GivesOnto}
 use Rattle.msr_devices.specs.ReadBuffer.{Window, Fills}
 
@@ -21,12 +20,6 @@ grown-same s e m grown ordered within keeps =
     ∙ ap (λ (l : List ℕ). take (e - s) l) (drop-append-le s m (drop (length m) grown) start)
     ∙ take-append-le (e - s) (drop s m) (drop (length m) grown) fits
 
--- a window that was moved to the front
-pub moved-front : (s e : ℕ) (m grown : List ℕ) → s ≤ e → e ≤ length m → length m ≤ length grown → take (length m) grown ≡ m → take (e - s) (copy_within grown s e 0) ≡ slice_range m s e
-moved-front s e m grown ordered within longer keeps =
-    ap (λ (k : ℕ). take k (copy_within grown s e 0)) (let h : e - s ≡ 0 + (e - s) = omega arith in h)
-    ∙ take-paste grown 0 (drop s grown) (e - s) (omega arith) (omega (arith, length-drop s grown)) ∙ grown-same s e m grown ordered within keeps
-
 -- what stands there after a read behind it
 pub filled-bytes : (f n : ℕ) (room back : List ℕ) → length room ≡ n → slice_range (take n (room ++ drop (length room) back)) 0 f ≡ take f room
 filled-bytes f n room back size =
@@ -37,10 +30,10 @@ filled-size f n room back size within = ap length (filled-bytes f n room back si
 
 pub fills : (a b : Device) (before : Window) (ended : Bool) (s e f n : ℕ) (m grown first room back : List ℕ) →
     before.bytes ≡ slice_range m s e → before.room ≡ length m → s ≤ e → e ≤ length m → length m ≤ length grown → take (length m) grown ≡ m →
-    first ≡ copy_within grown s e 0 → length room ≡ n → length grown ≡ n → f ≤ length room → GivesOnto a b (take (e - s) first) (take f room) → (e - s < f → b.moved < 2 ^ 64) →
+    take (e - s) first ≡ slice_range grown s e → length room ≡ n → length grown ≡ n → f ≤ length room → GivesOnto a b (take (e - s) first) (take f room) → (e - s < f → b.moved < 2 ^ 64) →
     Fills a b before (record { bytes = slice_range (take n (room ++ drop (length room) back)) 0 f; ended = ended; room = length (take n (room ++ drop (length room) back)) })
-fills a b before ended s e f n m grown first room back bytes_is room_is ordered within longer keeps first_is size grown_size f_within onto short =
-    let front : take (e - s) first ≡ before.bytes = ap (λ (l : List ℕ). take (e - s) l) first_is ∙ moved-front s e m grown ordered within longer keeps ∙ sym bytes_is in
+fills a b before ended s e f n m grown first room back bytes_is room_is ordered within longer keeps moved size grown_size f_within onto short =
+    let front : take (e - s) first ≡ before.bytes = moved ∙ grown-same s e m grown ordered within keeps ∙ sym bytes_is in
     let before_size : length before.bytes ≡ e - s = ap length bytes_is ∙ (let h : length (take (e - s) (drop s m)) ≡ e - s = omega (arith, length-take (e - s) (drop s m), length-drop s m) in h) in
     let after_size = filled-size f n room back size f_within in
     record {

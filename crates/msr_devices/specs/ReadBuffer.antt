@@ -1,5 +1,5 @@
 -- What stands in a read buffer, and what filling it does.
-use Rattle.std.specs.Prelude.{◌≡◌, ℕ, ◌+◌, ◌^◌, ◌<◌, ◌≤◌, Bool, true, false, List, [], length}
+use Rattle.std.specs.Prelude.{◌≡◌, ℕ, ◌*◌, ◌^◌, ◌<◌, ◌≤◌, Bool, true, false, nat_le, if◌then◌else◌, max, List, [], length}
 use Rattle.msr_devices.specs.Device.{Device, HasLeft, GivesOnto, HasFailed, IsCalm, IsSteady}
 use Rattle.msr_devices.specs.declared.read_buffer.FillFault.{FillFault}
 use Rattle.msr_devices.specs.declared.read_buffer.FillFault.TheVariants.{Read, Memory}
@@ -10,6 +10,11 @@ pub record Window : Type 0 where
   pub bytes : List ℕ
   pub ended : Bool
   pub room : ℕ
+
+-- for how many bytes there is memory once so many are wanted: it grows only where they do not fit, then to 64 KiB
+-- at least and to twice as much
+abbrev pub room_for : ℕ → ℕ → ℕ
+room_for want room = if nat_le want room then room else max want (max (2 * room) 65_536)
 
 -- Some bytes came from the source and stand behind those that were there. Memory is never given back.
 pub record Fills (old new : Device) (before after : Window) : Type 0 where
@@ -26,8 +31,8 @@ pub record IsFilled (want : ℕ) (old new : Device) (before after : Window) : Ty
   pub calm : after.ended ≡ false → IsCalm old new
   pub steady : IsSteady old new
 
--- The source failed: what came before it did stands there. Or the memory was refused that the bytes wanted and
--- a piece behind them take: then nothing was read.
+-- The source failed: what came before it did stands there, and is less than was wanted. Or the memory was refused that the bytes wanted take:
+-- then nothing was read.
 abbrev pub StopsFilling : ℕ → Device → Device → Window → Window → FillFault → Type 0
-StopsFilling want old new before after Read = HasFailed old new × Fills old new before after × (before.ended ≡ false) × (after.ended ≡ false)
-StopsFilling want old new before after Memory = (new ≡ old) × (after ≡ before) × (before.room < want + 65536)
+StopsFilling want old new before after Read = HasFailed old new × Fills old new before after × (before.ended ≡ false) × (after.ended ≡ false) × (length after.bytes < want)
+StopsFilling want old new before after Memory = (new ≡ old) × (after ≡ before) × (before.room < want)

@@ -55,6 +55,7 @@ pub(crate) fn read_until<R: Source>(
     ensures calm { IfOk result (λ ended. ended ≡ false → IsCalm (R.device source.old) (R.device source.new)) }
     ensures steady { OnOk result (IsSteady (R.device source.old) (R.device source.new)) }
     ensures failed { OnErr result (HasFailed (R.device source.old) (R.device source.new)) }
+    ensures fewer { OnErr result (filled.new < want) }
     ensures few { CountsFew (R.device source.old) (R.device source.new) }
 {
     while *filled < want {

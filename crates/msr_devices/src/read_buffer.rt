@@ -1,7 +1,7 @@
 // Bytes that are read ahead of their use.
-ghost use Rattle.std.specs.Prelude.{◌≡◌, ◌⊎◌, ◌≤◌, ◌+◌, ◌-◌, [], length, take, drop, true, false, IsOk, OnOk, OnErr, MatchResult};
+ghost use Rattle.std.specs.Prelude.{◌≡◌, ◌⊎◌, ◌≤◌, ◌+◌, ◌-◌, [], length, take, drop, slice_range, true, false, IsOk, OnOk, OnErr, MatchResult};
 ghost use Rattle.msr_devices.specs.Device.{CanCountCall, CountsFew};
-ghost use Rattle.msr_devices.specs.ReadBuffer.{IsFilled, StopsFilling};
+ghost use Rattle.msr_devices.specs.ReadBuffer.{IsFilled, StopsFilling, room_for};
 ghost use Rattle.msr_devices.specs.declared.read_buffer.FillFault.TheVariants.{Read, Memory};
 
 use crate::device::Source;
@@ -48,7 +48,7 @@ impl From<AllocError> for FillFault {
     }
 }
 
-// How many bytes a read may bring at least.
+// For how many bytes memory is taken at first.
 const PIECE: usize = 65_536;
 
 /// Bytes that were read from a source and are not yet consumed. All calls take the same source.
@@ -98,19 +98,21 @@ impl ReadBuffer {
         self.ended
     }
 
-    /// Reads until at least `want` bytes stand there or no more are left, in pieces for which there is room
-    /// for 64 KiB at least. At an `Err` the bytes that came stand there, and a further call goes on.
+    /// Reads until at least `want` bytes stand there or no more are left, and makes no further read then. Each
+    /// read may bring as many as there is room for, and this grows only where those wanted do not fit. At an
+    /// `Err` the bytes that came stand there, and a further call goes on.
     pub fn fill<R: Source>(&mut self, source: &mut R, want: usize) -> Result<(), FillFault>
         requires { CanCountCall (R.device source.old) }
         ensures filled { MatchResult result (λ _. IsFilled want (R.device source.old) (R.device source.new) self.old self.new) (StopsFilling want (R.device source.old) (R.device source.new) self.old self.new) }
         ensures ready { (want ≤ length self.old.bytes) ⊎ (self.old.ended ≡ true) → IsOk result × (R.device source.new ≡ R.device source.old) × (self.new ≡ self.old) }
+        ensures room { self.new.room ≤ room_for want self.old.room }
         ensures few { CountsFew (R.device source.old) (R.device source.new) }
     {
         if self.ended || want <= self.end - self.start {
             return Ok(());
         }
-        grow(&mut self.memory, want.saturating_add(PIECE))?;
-        self.memory.copy_within(self.start..self.end, 0);
+        grow(&mut self.memory, want)?;
+        move_to_front(&mut self.memory, self.start, self.end);
         self.end -= self.start;
         self.start = 0;
         self.ended = read_until(source, self.memory.as_mut_slice(), &mut self.end, want)?;
@@ -126,16 +128,32 @@ impl ReadBuffer {
     }
 }
 
-// Makes the memory at least so long.
-fn grow(memory: &mut Vec<u8>, len: usize) -> Result<(), AllocError>
+// Makes the memory long enough for so many bytes, where it is not: at least twice as long, so that few bytes are
+// moved.
+fn grow(memory: &mut Vec<u8>, want: usize) -> Result<(), AllocError>
     ensures keeps { take (length memory.old.items) memory.new.items ≡ memory.old.items }
-    ensures longer { OnOk result (len ≤ length memory.new.items) }
+    ensures longer { OnOk result (want ≤ length memory.new.items) }
     ensures least { length memory.old.items ≤ length memory.new.items }
+    ensures most { length memory.new.items ≤ room_for want (length memory.old.items) }
     ensures err { OnErr result (memory.new.items ≡ memory.old.items) }
-    ensures small { len ≤ length memory.old.items → IsOk result }
+    ensures small { want ≤ length memory.old.items → IsOk result }
 {
-    if memory.len() < len {
+    if memory.len() < want {
+        let len = want.max(memory.len().saturating_mul(2)).max(PIECE);
         memory.resize(len, 0)?;
     }
     Ok(())
+}
+
+// Moves the bytes between these places to the front. Those of a record that comes in many small reads are moved
+// once, and not at each read.
+fn move_to_front(memory: &mut Vec<u8>, start: usize, end: usize)
+    requires ordered { start ≤ end }
+    requires within { end ≤ length memory.old.items }
+    ensures front { take (end - start) memory.new.items ≡ slice_range memory.old.items start end }
+    ensures size { length memory.new.items ≡ length memory.old.items }
+{
+    if start > 0 {
+        memory.copy_within(start..end, 0);
+    }
 }

@@ -1,5 +1,5 @@
 -- What a reader has read, step by step, and why it stops.
-use Rattle.std.proofs.Common.{◌≡◌, ◌≢◌, ℕ, ◌+◌, ◌^◌, ◌<◌, ◌≤◌, ◌-◌, suc, ◌⊎◌, inl, inr, Bool, true, false, List, [], ◌∷◌, ◌++◌, length, drop, refl, sym, ap, subst, ◌∙◌, arith, append_assoc, length-append, length-drop, Option, Some, None, All, get_or, IfSome, IsSome}
+use Rattle.std.proofs.Common.{◌≡◌, ◌≢◌, ℕ, ◌+◌, ◌^◌, ◌<◌, ◌-◌, suc, ◌⊎◌, inl, inr, Bool, true, false, List, [], ◌∷◌, ◌++◌, length, drop, refl, sym, ap, subst, ◌∙◌, arith, append_assoc, length-append, length-drop, Option, Some, None, All, get_or, IfSome, IsSome, Result, Ok, Err, IfErr, MatchResult}
 use Rattle.std.specs.Option.{option_to_list}
 use Rattle.std.proofs.lemmas.List.{append-nil, get_or_append_left, drop-append-le}
 use Rattle.std.proofs.lemmas.List.Elements.{All-append}
@@ -9,7 +9,7 @@ use Rattle.msr_record.specs.declared.row.Row.{Row}
 use Rattle.msr_record.specs.declared.fault.FaultKind.{FaultKind}
 use Rattle.msr_record.proofs.Shown.{record_fits, shown_record}
 use Rattle.msr_record.proofs.WritableRows.{row_is_writable}
-use Rattle.msr_devices.specs.Device.{Device, HasLeft, GivesOnto, IsCalm, IsSteady}
+use Rattle.msr_devices.specs.Device.{Device, HasLeft, GivesOnto, IsCalm}
 use Rattle.msr_devices.specs.ReadBuffer.{Window, IsFilled}
 use Rattle.msr_devices.proofs.Chaining.{calm-same, calm-calm, calm-failed, steady-steady, left-of}
 use Rattle.msr_segments.specs.Spans.{Overruns}
@@ -21,10 +21,12 @@ use Rattle.msr_segments.proofs.Histories.{joined_none}
 use Rattle.msr_segments.proofs.StepLaws.{pushes_grow, overruns_out}
 use Rattle.msr_report.specs.declared.report.Counts.{Counts}
 use Rattle.msr_input.specs.Input.{BeginsWith, NoneOverruns, rows_of_records, counts_of}
-use Rattle.msr_input.specs.Reading.{Reading, IsWritable, HasRead, HasReadAll, StopsAfter, StopsAtFault, StopsReading, AllReadIsReadable}
-use Rattle.msr_input.specs.Steps.{StopsBefore, StopsDecoding, JoinsRecord, OverrunsWith, StopsJoining}
+use Rattle.msr_input.specs.Reading.{Reading, IsWritable, HasRead, HasReadAll, HoldsRecord, TakesMemoryFor, StopsAfter, StopsAtFault, StopsReading, AllReadIsReadable}
+use Rattle.msr_input.specs.declared.fault.Fault.{Fault}
+use Rattle.msr_input.specs.Steps.{CameBefore, StopsDecoding, JoinsRecord, OverrunsWith, StopsJoining}
 use Rattle.msr_input.specs.declared.fault.ReadFault.{ReadFault}
 use Rattle.msr_input.specs.declared.fault.ReadFault.TheVariants as fault
+use Rattle.msr_input.proofs.Seen.{open-or-ended}
 use Rattle.msr_input.proofs.Records.{begins-snoc, bytes-snoc, rows-snoc, records-few}
 
 -- a reader with this window
@@ -53,10 +55,6 @@ read-none start room tolerance = record {
   calm = λ h. calm-same start;
   steady = (calm-same start).steady;
 }
-
-open-or-ended : (b : Bool) → (b ≡ true) ⊎ (b ≡ false)
-open-or-ended true = inl refl
-open-or-ended false = inr refl
 
 calm-before : (s a : Device) (old new : Bool) → (old ≡ false → IsCalm s a) → (old ≡ true → new ≡ true) → new ≡ false → (old ≡ true) ⊎ (old ≡ false) → IsCalm s a
 calm-before s a old new calm stays still (inl ended) = let e = stays ended in absurd cc
@@ -101,61 +99,72 @@ stops-after s a reading records given has =
       begun = record { others = option_to_list reading.joining.current; are_segments = has.joined.segments };
     }
 
--- no more bytes came
-pub fill-stops : (s a b : Device) (w w' : Window) (joining : Joining) (counts : Counts) (offset : ℕ) (records : List Record) (given : List Segment) (why : ReadFault) → HasRead s a (at_window w joining counts offset) records given → StopsBefore a b w w' why → StopsReading joining.tolerance s b given why
-fill-stops s a b w w' joining counts offset records given (fault.Input f) has stop = absurd stop
-fill-stops s a b w w' joining counts offset records given fault.Read has stop =
-    (stops-after s a (at_window w joining counts offset) records given has, calm-failed s a b (has.calm stop.1) stop.0)
-fill-stops s a b w w' joining counts offset records given fault.Memory has stop =
-    (stops-after s a (at_window w joining counts offset) records given has, subst (λ (device : Device). IsSteady s device) (sym stop.0) has.steady)
-
--- unless the source failed, the reader stands where it stood
-pub fill-keeps : (s a b : Device) (w w' : Window) (joining : Joining) (counts : Counts) (offset : ℕ) (records : List Record) (given : List Segment) (why : ReadFault) → HasRead s a (at_window w joining counts offset) records given → StopsBefore a b w w' why → why ≢ fault.Read → HasRead s b (at_window w' joining counts offset) records given
-fill-keeps s a b w w' joining counts offset records given (fault.Input f) has stop other = absurd stop
-fill-keeps s a b w w' joining counts offset records given fault.Read has stop other = absurd (other refl)
-fill-keeps s a b w w' joining counts offset records given fault.Memory has stop other =
-    let window = subst (λ (window : Window). HasRead s a (at_window window joining counts offset) records given) (sym stop.1) has in
-    subst (λ (device : Device). HasRead s device (at_window w' joining counts offset) records given) (sym stop.0) window
-
 -- what is refused with all that is left behind it
 record RefusedWithRest (a : Device) (bytes : List ℕ) (kind : FaultKind) : Type 0 where
   rest : List ℕ
   left : HasLeft a rest
   refused : IsRefused (bytes ++ rest) kind
 
-refused-with-rest : (s a : Device) (reading : Reading) (records : List Record) (given : List Segment) (kind : FaultKind) → HasRead s a reading records given → (reading.ended ≡ false → 1_048_576 ≤ length reading.waiting) → IsRefused reading.waiting kind → ((rest : List ℕ) → 1_048_576 ≤ length reading.waiting → IsRefused (reading.waiting ++ rest) kind) → (reading.ended ≡ true) ⊎ (reading.ended ≡ false) → RefusedWithRest a reading.waiting kind
-refused-with-rest s a reading records given kind has enough refused more (inl ended) = record {
+refused-with-rest : (s a : Device) (reading : Reading) (records : List Record) (given : List Segment) (kind : FaultKind) → HasRead s a reading records given → IsRefused reading.waiting kind → (reading.ended ≡ false → (rest : List ℕ) → IsRefused (reading.waiting ++ rest) kind) → (reading.ended ≡ true) ⊎ (reading.ended ≡ false) → RefusedWithRest a reading.waiting kind
+refused-with-rest s a reading records given kind has refused more (inl ended) = record {
   rest = [];
   left = has.end ended;
   refused = subst (λ (bytes : List ℕ). IsRefused bytes kind) (sym (append-nil reading.waiting)) refused;
 }
-refused-with-rest s a reading records given kind has enough refused more (inr unended) = record {
+refused-with-rest s a reading records given kind has refused more (inr unended) = record {
   rest = (left-of a).0;
   left = (left-of a).1;
-  refused = more (left-of a).0 (enough unended);
+  refused = more unended (left-of a).0;
 }
 
--- the next record is refused by itself, or there is no memory for it
-pub decode-stops : (s a : Device) (reading : Reading) (records : List Record) (given : List Segment) (why : ReadFault) → HasRead s a reading records given → (reading.ended ≡ false → 1_048_576 ≤ length reading.waiting) → 0 < length reading.waiting → StopsDecoding reading.waiting reading.offset why → StopsReading reading.joining.tolerance s a given why
-decode-stops s a reading records given (fault.Input f) has enough some stop =
-    let refused = refused-with-rest s a reading records given f.kind has enough stop.1 stop.2 (open-or-ended reading.ended) in
-    let came = has.came refused.rest refused.left in
-    let at_fault : StopsAtFault reading.joining.tolerance s given f = record {
+-- the next record is refused by itself
+decode-stops : (s a : Device) (window : Window) (joining : Joining) (counts : Counts) (offset : ℕ) (records : List Record) (given : List Segment) (f : Fault) → HasRead s a (at_window window joining counts offset) records given → StopsDecoding window offset (fault.Input f) → StopsAtFault joining.tolerance s given f
+decode-stops s a window joining counts offset records given f has stop =
+    let reading = at_window window joining counts offset in
+    let refused = refused-with-rest s a reading records given f.kind has stop.2 stop.3 (open-or-ended window.ended) in
+    let came = has.came refused.rest refused.left in record {
       input = came.0;
       records = records;
       left = came.1;
       first = record {
-        rest = reading.waiting ++ refused.rest;
+        rest = window.bytes ++ refused.rest;
         are_read = record { begins = came.2; in_range = has.in_range };
-        some_left = omega (arith, some, length-append reading.waiting refused.rest);
+        some_left = omega (arith, stop.1, length-append window.bytes refused.rest);
         refused = inl refused.refused;
         offset_is = stop.0 ∙ has.offset;
       };
-      begun = record { others = option_to_list reading.joining.current; are_segments = has.joined.segments };
-    } in
-    (at_fault, has.steady)
-decode-stops s a reading records given fault.Read has enough some stop = absurd stop
-decode-stops s a reading records given fault.Memory has enough some stop = (stops-after s a reading records given has, has.steady)
+      begun = record { others = option_to_list joining.current; are_segments = has.joined.segments };
+    }
+
+-- after the next record was given, or none
+pub read-next : (s a b : Device) (w w' : Window) (joining : Joining) (counts : Counts) (offset : ℕ) (records : List Record) (given : List Segment) (result : Result (Option Record) ReadFault) → HasRead s a (at_window w joining counts offset) records given → MatchResult result (λ _. IsFilled 0 a b w w') (CameBefore a b w w') → IfErr result (StopsDecoding w' offset)
+    → MatchResult result (λ _. HasRead s b (at_window w' joining counts offset) records given) (StopsReading joining.tolerance s b given)
+read-next s a b w w' joining counts offset records given (Ok next) has came stops = read-filled s a b w w' joining counts offset 0 records given has came
+read-next s a b w w' joining counts offset records given (Err (fault.Input f)) has came stops =
+    let filled = read-filled s a b w w' joining counts offset 0 records given has came in
+    (decode-stops s b w' joining counts offset records given f filled stops, filled.steady)
+read-next s a b w w' joining counts offset records given (Err fault.Read) has came stops =
+    (stops-after s a (at_window w joining counts offset) records given has, calm-failed s a b (has.calm came.1) came.0)
+read-next s a b w w' joining counts offset records given (Err fault.Memory) has came stops =
+    let filled = read-filled s a b w w' joining counts offset 0 records given has came in
+    (stops-after s b (at_window w' joining counts offset) records given filled, filled.steady)
+
+-- unless the source failed, the reader stands before the same record
+pub read-keeps : (s a b : Device) (w w' : Window) (joining : Joining) (counts : Counts) (offset : ℕ) (records : List Record) (given : List Segment) (result : Result (Option Record) ReadFault) → HasRead s a (at_window w joining counts offset) records given → MatchResult result (λ _. IsFilled 0 a b w w') (CameBefore a b w w')
+    → IfErr result (λ why. why ≢ fault.Read → HasRead s b (at_window w' joining counts offset) records given)
+read-keeps s a b w w' joining counts offset records given (Ok next) has came = tt
+read-keeps s a b w w' joining counts offset records given (Err (fault.Input f)) has came = λ other. read-filled s a b w w' joining counts offset 0 records given has came
+read-keeps s a b w w' joining counts offset records given (Err fault.Read) has came = λ other. absurd (other refl)
+read-keeps s a b w w' joining counts offset records given (Err fault.Memory) has came = λ other. read-filled s a b w w' joining counts offset 0 records given has came
+
+-- why it stopped
+pub at-memory : (window : Window) (offset : ℕ) (result : Result (Option Record) ReadFault) → IfErr result (StopsDecoding window offset) → result ≡ Err fault.Memory → TakesMemoryFor window.bytes window.room
+at-memory window offset (Ok next) stops e = absurd cc
+at-memory window offset (Err why) stops e = let same : why ≡ fault.Memory = cc in subst (λ (w : ReadFault). StopsDecoding window offset w) same stops
+
+pub at-failure : (window : Window) (offset : ℕ) (result : Result (Option Record) ReadFault) → IfErr result (StopsDecoding window offset) → result ≡ Err fault.Read → HoldsRecord window.bytes → ⊥
+at-failure window offset (Ok next) stops e = absurd cc
+at-failure window offset (Err why) stops e = let same : why ≡ fault.Read = cc in subst (λ (w : ReadFault). StopsDecoding window offset w) same stops
 
 in-option : (P : Row → Type 0) (option : Option Row) (row : Row) → option ≡ Some row → IfSome option P → P row
 in-option P option row e h = let Q : Option Row → Type 0 = λ o. IfSome o P in subst Q e h
@@ -352,3 +361,7 @@ row-takes bytes (Some row) some is = record { header = is.header; kind = row.kin
 pub join-memory : (bytes : List ℕ) (old : Joining) (found : Record) (offset : ℕ) (why : ReadFault) → IsRecordOf bytes found → StopsJoining old found.row offset why → why ≡ fault.Memory → TakesMemory bytes
 join-memory bytes old found offset why is stop e =
     row-takes bytes found.row (subst (λ (w : ReadFault). StopsJoining old found.row offset w) e stop) is.row
+
+-- nothing is read for it
+pub join-failure : (old : Joining) (found : Record) (offset : ℕ) (why : ReadFault) → StopsJoining old found.row offset why → why ≡ fault.Read → ⊥
+join-failure old found offset why stop e = subst (λ (w : ReadFault). StopsJoining old found.row offset w) e stop

@@ -2,3 +2,4 @@ pub mod Records
 pub mod Seen
 pub mod OneReading
 pub mod Histories
+pub mod Ahead

@@ -1,6 +1,9 @@
--- Bytes behind those of the longest record do not change a refusal, whatever numbers they are.
-use Rattle.std.proofs.Common.{◌≡◌, ◌≢◌, ℕ, zero, suc, ◌+◌, ◌^◌, ◌<◌, ◌≤◌, ◌⊎◌, inl, inr, List, ◌++◌, length, ap, subst, ◌∙◌, sym, refl, arith}
+-- Which refusals no more bytes could change, whatever numbers they are: those of the header from the longest record's
+-- bytes on, and those of a record that is there.
+use Rattle.std.proofs.Common.{◌≡◌, ◌≢◌, ℕ, zero, suc, ◌+◌, ◌^◌, ◌<◌, ◌≤◌, ◌⊎◌, inl, inr, Bool, true, false, List, ◌++◌, length, ap, subst, ◌∙◌, sym, refl, arith}
 use Rattle.std.proofs.Math.Nat.{pow-le-pow_right}
+use Rattle.std.proofs.lemmas.Bool.{ltb-false}
+use Rattle.std.proofs.lemmas.Nat.{pow_pos}
 use Rattle.std.proofs.lemmas.List.{take-append-le}
 use Rattle.byteorder.specs.Numbers.{big_from-lt, little_from-lt}
 use Rattle.msr_header.specs.Layout.{number_at, order_of}
@@ -12,8 +15,11 @@ use Rattle.msr_header.proofs.FoundLemmas.{header_sound}
 use Rattle.msr_header.proofs.ShownLemmas.{AreBytes, AllWithin, Covers, SameFirst, header_alike}
 use Rattle.msr_record.specs.Records.{IsRefused, TakesMemory}
 use Rattle.msr_record.specs.declared.fault.FaultKind.{FaultKind}
-use Rattle.msr_record.specs.declared.fault.FaultKind.TheVariants.{Memory}
-use Rattle.msr_input.specs.Steps.{fault_at, StopsDecoding}
+use Rattle.msr_record.specs.declared.fault.FaultKind.TheVariants.{Header, NoRate, OtherEncoding, BadDataOffset, DataShort, BadCode, TimeRange, Memory}
+use Rattle.msr_header.specs.declared.fault.HeaderFault.{HeaderFault}
+use Rattle.msr_devices.specs.ReadBuffer.{Window}
+use Rattle.msr_input.specs.Reading.{HoldsRecord}
+use Rattle.msr_input.specs.Steps.{fault_at, may_change, StopsDecoding}
 use Rattle.msr_record.proofs.FirstBytes.{SameRecord, own_same, refused_same}
 
 number_short : (order : Order) (at : ℕ) (bytes : List ℕ) → AreBytes bytes → number_at order 2 at bytes < 2 ^ 16
@@ -55,8 +61,52 @@ still_refused bytes rest kind are long refused =
     } in
     refused_same bytes (bytes ++ rest) kind same refused
 
--- so a record that is refused stops reading, and so does want of memory
-pub decoding-stops : (bytes : List ℕ) (offset : ℕ) (kind : FaultKind) → AreBytes bytes → (kind ≢ Memory → IsRefused bytes kind) → (kind ≡ Memory → TakesMemory bytes) → StopsDecoding bytes offset (fault_at offset kind)
-decoding-stops bytes offset Memory are refused takes = takes refl
-decoding-stops bytes offset kind are refused takes =
-    (refl, refused (λ e. cc), λ rest long. still_refused bytes rest kind are long (refused (λ e. cc)))
+-- a refusal of what stands behind the header, whose record is there
+behind : (bytes : List ℕ) (kind : FaultKind) → ((reason : HeaderFault) → kind ≢ Header reason) → IsRefused bytes kind → HoldsRecord bytes
+behind bytes (Header reason) other refused = absurd (other reason refl)
+behind bytes NoRate other refused = (refused.header, refused.has_samples.read)
+behind bytes (OtherEncoding code) other refused = (refused.header, refused.has_samples.read)
+behind bytes BadDataOffset other refused = (refused.header, refused.has_samples.read)
+behind bytes DataShort other refused = (refused.header, refused.has_area.has_samples.read)
+behind bytes (BadCode word) other refused = (refused.header, refused.has_area.has_samples.read)
+behind bytes TimeRange other refused = (refused.is_row.header, refused.is_row.has_area.has_samples.read)
+behind bytes Memory other refused = absurd refused
+
+-- a record that is there has some bytes, and they decide
+pub held-some : (bytes : List ℕ) → HoldsRecord bytes → 0 < length bytes
+held-some bytes holds =
+    let within = (header_sound bytes holds.0 holds.1).within in
+    let some = pow_pos holds.0.exponent in
+    omega (arith, within, some)
+
+held-refused : (bytes rest : List ℕ) (kind : FaultKind) → HoldsRecord bytes → IsRefused bytes kind → IsRefused (bytes ++ rest) kind
+held-refused bytes rest kind holds refused =
+    let within = (header_sound bytes holds.0 holds.1).within in
+    refused_same bytes (bytes ++ rest) kind (own_same bytes (bytes ++ rest) holds.0 holds.1 (take-append-le (2 ^ holds.0.exponent) bytes rest within)) refused
+
+pub open-or-ended : (b : Bool) → (b ≡ true) ⊎ (b ≡ false)
+open-or-ended true = inl refl
+open-or-ended false = inr refl
+
+header-some : (bytes : List ℕ) (reason : HeaderFault) (ended : Bool) → (ended ≡ true → 0 < length bytes) → (ended ≡ false → may_change (Header reason) (length bytes) ≡ false) → (ended ≡ true) ⊎ (ended ≡ false) → 0 < length bytes
+header-some bytes reason ended some decided (inl e) = some e
+header-some bytes reason ended some decided (inr e) = omega (arith, ltb-false (length bytes) 1_048_576 (decided e))
+
+-- so a record that is refused stops reading once no bytes could change it, and so does want of memory
+pub decoding-stops : (window : Window) (offset : ℕ) (kind : FaultKind) → AreBytes window.bytes → (kind ≢ Memory → IsRefused window.bytes kind) → (kind ≡ Memory → TakesMemory window.bytes) → (window.ended ≡ true → 0 < length window.bytes) → (window.ended ≡ false → may_change kind (length window.bytes) ≡ false) → StopsDecoding window offset (fault_at offset kind)
+decoding-stops window offset Memory are refused takes some decided = inr (takes refl)
+decoding-stops window offset (Header reason) are refused takes some decided = (
+  refl,
+  header-some window.bytes reason window.ended some decided (open-or-ended window.ended),
+  refused (λ e. cc),
+  λ unended rest. still_refused window.bytes rest (Header reason) are (ltb-false (length window.bytes) 1_048_576 (decided unended)) (refused (λ e. cc)),
+)
+decoding-stops window offset kind are refused takes some decided =
+    let is = refused (λ e. cc) in
+    let holds = behind window.bytes kind (λ reason e. cc) is in
+    (refl, held-some window.bytes holds, is, λ unended rest. held-refused window.bytes rest kind holds is)
+
+-- a refusal that may change is one of a header, so there is no whole record
+pub none-held : (bytes : List ℕ) (kind : FaultKind) (size : ℕ) → may_change kind size ≡ true → (kind ≢ Memory → IsRefused bytes kind) → HoldsRecord bytes → ⊥
+none-held bytes (Header reason) size e refused holds = let is = refused (λ e. cc) in absurd cc
+none-held bytes kind size e refused holds = absurd cc

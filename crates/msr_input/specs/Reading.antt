@@ -1,7 +1,8 @@
 -- What a reader of segments shows, and what reading does.
-use Rattle.std.specs.Prelude.{◌≡◌, ◌⊎◌, ℕ, ◌+◌, ◌-◌, ◌<◌, ◌≤◌, ◌^◌, Bool, true, false, List, [], ◌++◌, length, All, IsTrue}
+use Rattle.std.specs.Prelude.{◌≡◌, ◌⊎◌, ℕ, ◌+◌, ◌-◌, ◌*◌, ◌<◌, ◌≤◌, ◌^◌, max, Bool, true, false, List, [], ◌++◌, length, All, IsTrue, Ok}
 use Rattle.std.specs.Option.{option_to_list}
-use Rattle.msr_header.specs.Reading.{is_quality}
+use Rattle.msr_header.specs.Reading.{header_of, is_quality}
+use Rattle.msr_header.specs.declared.header.Header.{Header}
 use Rattle.msr_record.specs.Correction.{is_pending}
 use Rattle.msr_record.specs.Records.{TakesMemory}
 use Rattle.msr_record.specs.declared.row.Record.{Record}
@@ -29,13 +30,21 @@ pub record Reading : Type 0 where
 abbrev pub left_to_read : Device → Reading → ℕ
 left_to_read source reading = (2 ^ 64 - source.moved) + length reading.waiting
 
--- for how many bytes a reader takes memory: those of two records of the longest kind, and a piece of 64 KiB behind
-abbrev pub room_ahead : ℕ
-room_ahead = 2_162_688
+-- The bytes begin with a whole record, by its header: what it is read as, be it refused or not, is decided.
+abbrev pub HoldsRecord : List ℕ → Type 0
+HoldsRecord bytes = (header : Header) × (header_of bytes ≡ Ok header)
 
--- Memory is taken: once for the bytes that are read ahead, and for the samples of the next record.
+-- for how many bytes there is room at most once a record of so many was awaited: for 64 KiB, or for twice as many
+-- as the record has, or as many as before
+abbrev pub room_with : ℕ → ℕ → ℕ
+room_with size before = max (max before 65_536) (2 * size)
+
+-- Memory is taken: for more bytes, where these fill the room that there is, or for the samples of the record.
+abbrev pub TakesMemoryFor : List ℕ → ℕ → Type 0
+TakesMemoryFor bytes room = (room ≤ length bytes) ⊎ TakesMemory bytes
+
 abbrev pub TakesMemoryNext : Reading → Type 0
-TakesMemoryNext reading = (reading.room < room_ahead) ⊎ TakesMemory reading.waiting
+TakesMemoryNext reading = TakesMemoryFor reading.waiting reading.room
 
 -- the segment can be written: its quality is D, R, Q or M, its correction in normal form, its samples are of
 -- the supported years, and it has some

@@ -1,19 +1,19 @@
 -- What the steps of reading do: bytes are read ahead, a record is decoded, and its row is joined.
-use Rattle.std.specs.Prelude.{◌≡◌, ℕ, ◌<◌, ◌≤◌, List, ◌++◌, length, Option, None, Some, IsSome, false}
+use Rattle.std.specs.Prelude.{◌≡◌, ℕ, ◌<◌, ◌≤◌, Bool, false, nat_lt, List, ◌++◌, length, Option, None, Some, IsSome}
 use Rattle.msr_time.specs.Instant.{IsInstant}
-use Rattle.msr_record.specs.Records.{IsRefused, TakesMemory}
+use Rattle.msr_record.specs.Records.{IsRefused}
 use Rattle.msr_record.specs.declared.row.Row.{Row}
 use Rattle.msr_record.specs.declared.fault.FaultKind.{FaultKind}
 use Rattle.msr_record.specs.declared.fault.FaultKind.TheVariants as refusal
 use Rattle.msr_devices.specs.Device.{Device, HasFailed}
-use Rattle.msr_devices.specs.ReadBuffer.{Window}
+use Rattle.msr_devices.specs.ReadBuffer.{Window, IsFilled}
 use Rattle.msr_devices.specs.declared.read_buffer.FillFault.{FillFault}
 use Rattle.msr_devices.specs.declared.read_buffer.FillFault.TheVariants as filling
 use Rattle.msr_segments.specs.Spans.{Overruns}
 use Rattle.msr_segments.specs.Segments.{row_span}
 use Rattle.msr_segments.specs.Joining.{Joining, following_of, IsPush}
 use Rattle.msr_segments.specs.declared.joiner.Segment.{Segment}
-use Rattle.msr_input.specs.Reading.{room_ahead}
+use Rattle.msr_input.specs.Reading.{HoldsRecord, TakesMemoryFor}
 use Rattle.msr_input.specs.declared.fault.ReadFault.{ReadFault}
 use Rattle.msr_input.specs.declared.fault.ReadFault.TheVariants as fault
 
@@ -27,20 +27,27 @@ abbrev pub fault_at : ℕ → FaultKind → ReadFault
 fault_at offset refusal.Memory = fault.Memory
 fault_at offset kind = fault.Input (record { offset = offset; kind = kind })
 
--- why a source gave no more bytes: it failed, and had not ended, or nothing was read for want of memory for the
--- bytes read ahead
-abbrev pub StopsBefore : Device → Device → Window → Window → ReadFault → Type 0
-StopsBefore old new before after (fault.Input f) = ⊥
-StopsBefore old new before after fault.Read = HasFailed old new × (before.ended ≡ false)
-StopsBefore old new before after fault.Memory = (new ≡ old) × (after ≡ before) × (before.room < room_ahead)
+-- whether a refusal of so many bytes might not be one of more: a header may be cut, or its chain, or the record.
+-- What stands behind the header is decided by the record's own bytes, which are there.
+abbrev pub may_change : FaultKind → ℕ → Bool
+may_change (refusal.Header reason) size = nat_lt size 1_048_576
+may_change kind size = false
 
--- why no record was decoded: the one at that offset is refused, also with more behind as many bytes as the longest
--- record has; or there was no memory
-abbrev pub StopsDecoding : List ℕ → ℕ → ReadFault → Type 0
-StopsDecoding bytes offset (fault.Input f) =
-    (f.offset ≡ offset) × IsRefused bytes f.kind × ((rest : List ℕ) → 1_048_576 ≤ length bytes → IsRefused (bytes ++ rest) f.kind)
-StopsDecoding bytes offset fault.Read = ⊥
-StopsDecoding bytes offset fault.Memory = TakesMemory bytes
+-- which bytes came before reading stopped: as many as there were, or some before the source failed, which had not
+-- ended
+abbrev pub CameBefore : Device → Device → Window → Window → ReadFault → Type 0
+CameBefore old new before after (fault.Input f) = IsFilled 0 old new before after
+CameBefore old new before after fault.Read = HasFailed old new × (before.ended ≡ false)
+CameBefore old new before after fault.Memory = IsFilled 0 old new before after
+
+-- Why no record was given from the bytes that came: the one at that offset is refused, whatever more comes behind
+-- them; they hold no whole record, and the source failed; or there was no memory.
+abbrev pub StopsDecoding : Window → ℕ → ReadFault → Type 0
+StopsDecoding window offset (fault.Input f) =
+    (f.offset ≡ offset) × (0 < length window.bytes) × IsRefused window.bytes f.kind
+    × (window.ended ≡ false → (rest : List ℕ) → IsRefused (window.bytes ++ rest) f.kind)
+StopsDecoding window offset fault.Read = HoldsRecord window.bytes → ⊥
+StopsDecoding window offset fault.Memory = TakesMemoryFor window.bytes window.room
 
 -- a joiner takes such rows
 pub record CanJoin (row : Row) : Type 0 where

@@ -1,6 +1,6 @@
 // Reading records, and joining their rows.
 use crate::fault::ReadFault;
-use crate::step::{counted, decode_at, fill_ahead, join};
+use crate::step::{counted, join, read_record};
 use msr_devices::{ReadBuffer, Source};
 use msr_record::Record;
 use msr_report::Counts;
@@ -34,7 +34,7 @@ impl SegmentReader {
     ghost use Rattle.msr_record.specs.Records.{IsRecordOf, TakesMemory};
     ghost use Rattle.msr_record.specs.declared.row.Record.{Record as Found};
     ghost use Rattle.msr_segments.specs.declared.joiner.Segment.{Segment as Joined};
-    ghost use Rattle.msr_input.specs.Reading.{HasRead, HasReadAll, StopsReading, TakesMemoryNext, left_to_read};
+    ghost use Rattle.msr_input.specs.Reading.{HasRead, HasReadAll, HoldsRecord, StopsReading, TakesMemoryNext, left_to_read, room_with};
     ghost use Rattle.msr_input.specs.Steps.{CanJoin, JoinsRecord};
 
     /// A reader before the first record, for that tolerance in microseconds. It takes no memory yet.
@@ -57,7 +57,9 @@ impl SegmentReader {
     }
 
     /// The next record, which [`take`](Self::take) then takes; `None` where the input has ended. A further call
-    /// gives the same record again.
+    /// gives the same record again. A record is given as soon as its own bytes have come, before a further read; so
+    /// is a refusal of what stands behind its header. One of the header waits for the input's end or for as many
+    /// bytes as the longest record has, since more could change it.
     pub fn next_record<R: Source>(&mut self, source: &mut R) -> Result<Option<Record>, ReadFault>
         requires { CanCountCall (R.device source.old) }
         ensures read { (start : Device) (records : List Found) (given : List Joined) → HasRead start (R.device source.old) self.old records given
@@ -68,6 +70,12 @@ impl SegmentReader {
         ensures kept { (start : Device) (records : List Found) (given : List Joined) → HasRead start (R.device source.old) self.old records given
             → IfErr result (λ fault. fault ≢ ReadFault.Read → HasRead start (R.device source.new) self.new records given) }
         ensures memory { IsErrOf result ReadFault.Memory → TakesMemoryNext self.new }
+
+        // A read fails only where no whole record had come: so none is made once one has.
+        ensures awaited { IsErrOf result ReadFault.Read → HoldsRecord self.new.waiting → ⊥ }
+
+        // Room is taken for 64 KiB, and for more only where a record needs it.
+        ensures room { IfOk result (λ next. IfSome next (λ found. self.new.room ≤ room_with found.length self.old.room)) }
         ensures joining { self.new.joining ≡ self.old.joining }
         ensures steady { OnOk result (IsSteady (R.device source.old) (R.device source.new)) }
         ensures few { CountsFew (R.device source.old) (R.device source.new) }
@@ -75,13 +83,7 @@ impl SegmentReader {
         // What is left to read does not grow.
         ensures left { OnOk result (left_to_read (R.device source.new) self.new ≤ left_to_read (R.device source.old) self.old) }
     {
-        fill_ahead(&mut self.buffer, source)?;
-        let bytes = self.buffer.bytes();
-        if bytes.is_empty() {
-            return Ok(None);
-        }
-        let found = decode_at(self.alloc, bytes, self.offset)?;
-        Ok(Some(found))
+        read_record(self.alloc, &mut self.buffer, source, self.offset)
     }
 
     /// Takes the record that [`next_record`](Self::next_record) gave, and gives the segment that it ended. For
@@ -94,6 +96,7 @@ impl SegmentReader {
         ensures step { IfOk result (λ ended. JoinsRecord self.old.joining found.row ended self.new.joining) }
         ensures tolerance { self.new.joining.tolerance ≡ self.old.joining.tolerance }
         ensures memory { IsErrOf result ReadFault.Memory → TakesMemory self.old.waiting }
+        ensures unread { IsErrOf result ReadFault.Read → ⊥ }
         ensures unchanged { OnErr result (self.new ≡ self.old) }
         ensures fewer { OnOk result (length self.new.waiting < length self.old.waiting) }
     {
@@ -121,6 +124,9 @@ impl SegmentReader {
 
         // Want of memory comes only where memory is taken.
         ensures memory { IsErrOf result ReadFault.Memory → TakesMemoryNext self.new }
+
+        // Of a record whose bytes have come none are awaited.
+        ensures awaited { IsErrOf result ReadFault.Read → HoldsRecord self.new.waiting → ⊥ }
         ensures tolerance { self.new.joining.tolerance ≡ self.old.joining.tolerance }
         ensures less { IfOk result (λ next. IfSome next (λ _. left_to_read (R.device source.new) self.new < left_to_read (R.device source.old) self.old)) }
         ensures few { CountsFew (R.device source.old) (R.device source.new) }

@@ -1,11 +1,12 @@
 // The steps of reading: bytes ahead, a record, its row, its counts.
-ghost use Rattle.std.specs.Prelude.{◌≡◌, ◌+◌, ◌<◌, ◌≤◌, ◌-◌, ◌^◌, ℕ, List, [], ◌∷◌, ◌++◌, length, IfOk, IfErr, IfSome, OnErr, MatchResult, if◌then◌else◌};
+ghost use Rattle.std.specs.Prelude.{◌≡◌, ◌+◌, ◌<◌, ◌≤◌, ◌-◌, ◌^◌, ℕ, true, List, [], ◌∷◌, ◌++◌, length, IfOk, IfErr, IfSome, OnErr, MatchResult, MatchOption, if◌then◌else◌};
 ghost use Rattle.msr_record.specs.Records.{IsRecordOf};
 ghost use Rattle.msr_record.specs.declared.row.Record.{Record as Found};
 ghost use Rattle.msr_devices.specs.Device.{CanCountCall, CountsFew};
 ghost use Rattle.msr_devices.specs.ReadBuffer.{IsFilled};
 ghost use Rattle.msr_input.specs.Input.{counts_of};
-ghost use Rattle.msr_input.specs.Steps.{CanJoin, JoinsRecord, StopsBefore, StopsDecoding, StopsJoining};
+ghost use Rattle.msr_input.specs.Reading.{room_with};
+ghost use Rattle.msr_input.specs.Steps.{CanJoin, CameBefore, JoinsRecord, StopsDecoding, StopsJoining, may_change};
 
 use crate::fault::{Fault, ReadFault, fault_at};
 use msr_devices::{ReadBuffer, Source};
@@ -17,33 +18,50 @@ use std::alloc::Global;
 // As many bytes as the longest record has.
 const LONGEST: usize = 1_048_576;
 
-// So many bytes are read ahead: each time the rest is moved to the front, at least as many were used.
-const AHEAD: usize = 2_097_152;
-
-// Reads until the bytes of the longest record stand in the buffer, or no more are left.
-pub(crate) fn fill_ahead<R: Source>(
-    buffer: &mut ReadBuffer,
-    source: &mut R,
-) -> Result<(), ReadFault>
-    requires { CanCountCall (R.device source.old) }
-    ensures filled { MatchResult result (λ _. IsFilled 1_048_576 (R.device source.old) (R.device source.new) buffer.old buffer.new) (StopsBefore (R.device source.old) (R.device source.new) buffer.old buffer.new) }
-    ensures few { CountsFew (R.device source.old) (R.device source.new) }
+// Whether more bytes behind these might change why they are refused.
+fn may_change(kind: FaultKind, len: usize) -> bool
+    ensures { result ≡ may_change kind len }
 {
-    if buffer.bytes().len() < LONGEST {
-        buffer.fill(source, AHEAD)?;
+    match kind {
+        FaultKind::Header(_) => len < LONGEST,
+        _ => false,
     }
-    Ok(())
 }
 
-// The record that the bytes begin with, which is the one at the offset.
-pub(crate) fn decode_at(alloc: Global, bytes: &[u8], offset: u64) -> Result<Record, ReadFault>
-    ensures found { IfOk result (IsRecordOf bytes.now) }
-    ensures can_join { IfOk result (λ found. IfSome found.row CanJoin) }
-    ensures refused { IfErr result (StopsDecoding bytes.now offset) }
+// The record that the bytes left begin with, which is the one at the offset; `None` where there are none. It is
+// given as soon as its own bytes are there; a refusal waits while more bytes might change it.
+pub(crate) fn read_record<R: Source>(
+    alloc: Global,
+    buffer: &mut ReadBuffer,
+    source: &mut R,
+    offset: u64,
+) -> Result<Option<Record>, ReadFault>
+    requires { CanCountCall (R.device source.old) }
+    ensures came { MatchResult result
+        (λ _. IsFilled 0 (R.device source.old) (R.device source.new) buffer.old buffer.new)
+        (CameBefore (R.device source.old) (R.device source.new) buffer.old buffer.new) }
+    ensures next { IfOk result (λ next. MatchOption next
+        ((buffer.new.bytes ≡ []) × (buffer.new.ended ≡ true))
+        (λ found. IsRecordOf buffer.new.bytes found × IfSome found.row CanJoin)) }
+    ensures refused { IfErr result (StopsDecoding buffer.new offset) }
+    ensures room { IfOk result (λ next. IfSome next (λ found.
+        buffer.new.room ≤ room_with found.length buffer.old.room)) }
+    ensures few { CountsFew (R.device source.old) (R.device source.new) }
 {
-    match decode_record(alloc, bytes) {
-        Ok(found) => Ok(found),
-        Err(kind) => Err(fault_at(offset, kind)),
+    'bytes: loop {
+        let bytes = buffer.bytes();
+        if bytes.is_empty() && buffer.has_ended() {
+            return Ok(None);
+        }
+        let kind = match decode_record(alloc, bytes) {
+            Ok(found) => return Ok(Some(found)),
+            Err(kind) => kind,
+        };
+        if buffer.has_ended() || !may_change(kind, bytes.len()) {
+            return Err(fault_at(offset, kind));
+        }
+        let want = bytes.len() + 1;
+        buffer.fill(source, want)?;
     }
 }
 

@@ -228,6 +228,69 @@ fn failures(rt: HostRuntime) {
     );
 }
 
+// How long the first record is that a source gives, which moves so many bytes in a call and fails at that one.
+fn first_of(
+    alloc: Global,
+    bytes: &[u8],
+    most: usize,
+    fails_at: u64,
+) -> Result<Option<u32>, ReadFault> {
+    let behavior = Behavior {
+        most,
+        interruptions: 0,
+        fails_at: Some(fails_at),
+    };
+    let mut source = TestSource::new(bytes, behavior);
+    match SegmentReader::new(alloc, 10_000).next_record(&mut source)? {
+        Some(found) => Ok(Some(found.length)),
+        None => Ok(None),
+    }
+}
+
+// A record is given before a read is made behind its bytes.
+#[test]
+fn records_are_given_once_they_are_there(rt: HostRuntime) -> Result<(), Fail> {
+    let bytes = two(&record(&rt, &[]), &record(&rt, NEXT));
+    let mut long = Vec::new(rt.alloc());
+    long.extend_from_slice(&record(&rt, &[(54, &[0x11])]))?;
+    long.resize(140_000, 0)?;
+    let rows: [(&[u8], usize, u64, u32); 5] = [
+        (&bytes, 256, 1, 256),
+        (&bytes, 1, 256, 256),
+        (&bytes, 100, 3, 256),
+        (&bytes, 512, 1, 256),
+        (long.as_slice(), 40_000, 4, 131_072),
+    ];
+    for (bytes, most, fails_at, want) in rows {
+        let first = first_of(rt.alloc(), bytes, most, fails_at);
+        assert_eq!(rt; first, Ok(Some(want)), "{most} bytes a read");
+    }
+    Ok(())
+}
+
+// A refusal is given once no more bytes could change it, and not before.
+#[test]
+fn refusals_wait_where_bytes_could_change_them(rt: HostRuntime) -> Result<(), Fail> {
+    let bytes = record(&rt, &[]);
+    let coded = record(&rt, &[(52, &[0x04])]);
+    let misplaced = record(&rt, &[(6, &[0x58])]);
+    let rows: [(&[u8], usize, u64, &str); 6] = [
+        (&bytes, 1, 47, "read fault"),
+        (&bytes, 50, 1, "read fault"),
+        (&bytes, 1, 255, "read fault"),
+        (&bytes[..255], 255, 2, "offset 0: 10 RecordCut"),
+        (&coded, 256, 1, "offset 0: 15 OtherEncoding 4"),
+        (&misplaced, 256, 1, "read fault"),
+    ];
+    for (bytes, most, fails_at, want) in rows {
+        match first_of(rt.alloc(), bytes, most, fails_at) {
+            Ok(_) => panic!(rt; "a record"),
+            Err(fault) => assert_eq!(rt; format!(in rt.alloc(); "{fault}")?.as_str(), want),
+        }
+    }
+    Ok(())
+}
+
 #[test]
 fn faults_stand_at_their_records(rt: HostRuntime) -> Result<(), Fail> {
     let joined = joining(&rt);

@@ -2,7 +2,7 @@ use Rattle.std.proofs.Common.{[]}
 use Rattle.std.proofs.lemmas.Result.{err_from_is_err_and}
 use Rattle.msr_devices.proofs.Chaining.{calm-calm}
 use Rattle.msr_tool.proofs.Stops.{ok-tells, write-tells_sink}
-use Rattle.msr_walk.proofs.Told.{WalksInPart, refusals-told, stops-entries, stops-summary, walk-ends, walk-stops}
+use Rattle.msr_walk.proofs.Told.{refusals-told, stops-entries, stops-summary, walk-ends, walk-stops}
 use Rattle.msr_walk.proofs.folders.walk.Goals as goal
 
 pub returns-in_err-walk_folder-clause-answer : goal.returns-in_err-walk_folder-clause-answer

@@ -64,3 +64,8 @@ returns-in_err-segment-clause-kept g c =
     rw (p.1, p.2, c.in_err-segment.ensures.unchanged) (λ start records given has other.
     let now = c.records.invariant.read start records given has in
     (now.0, c.in_ok-found.ensures.read start now.0 given now.1))
+
+pub returns-in_err-segment-clause-awaited : goal.returns-in_err-segment-clause-awaited
+returns-in_err-segment-clause-awaited g c =
+    let p = err_from_is_err_and c.from_residual-in_err-segment.result c.from_residual-in_err-segment.ensures.1 in
+    rw (p.1, p.2) (λ e. absurd (c.in_err-segment.ensures.unread e))

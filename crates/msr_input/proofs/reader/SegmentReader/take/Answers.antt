@@ -4,8 +4,8 @@ use Rattle.msr_record.specs.Records.{IsRecordOf}
 use Rattle.msr_record.proofs.Shown.{record_fits}
 use Rattle.msr_input.specs.Reading.{Reading}
 use Rattle.msr_input.specs.Input.{counts_of}
-use Rattle.msr_input.specs.declared.fault.ReadFault.TheVariants.{Memory}
-use Rattle.msr_input.proofs.Histories.{at_window, read-taken, join-stops, join-memory, in-bounds}
+use Rattle.msr_input.specs.declared.fault.ReadFault.TheVariants.{Memory, Read}
+use Rattle.msr_input.proofs.Histories.{at_window, read-taken, join-stops, join-memory, join-failure, in-bounds}
 use Rattle.msr_input.proofs.reader.SegmentReader.take.Goals as goal
 
 pub returns-in_err-ended-clause-read : goal.returns-in_err-ended-clause-read
@@ -20,6 +20,12 @@ returns-in_err-ended-clause-memory c =
     let p = err_from_is_err_and c.from_residual.result c.from_residual.ensures.1 in
     let why = c.in_err-ended.field-0.0 in
     rw (p.1, p.2) (λ e. let memory : why ≡ Memory = cc in join-memory c.args.self.now.waiting c.self.inside.joiner c.args.found c.self.inside.offset why c.requires.is_record c.in_err-ended.ensures.refused memory)
+
+pub returns-in_err-ended-clause-unread : goal.returns-in_err-ended-clause-unread
+returns-in_err-ended-clause-unread c =
+    let p = err_from_is_err_and c.from_residual.result c.from_residual.ensures.1 in
+    let why = c.in_err-ended.field-0.0 in
+    rw (p.1, p.2) (λ e. let failure : why ≡ Read = cc in join-failure c.self.inside.joiner c.args.found c.self.inside.offset why c.in_err-ended.ensures.refused failure)
 
 pub consume-requires : goal.consume-requires
 consume-requires c =

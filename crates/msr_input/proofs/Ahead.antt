@@ -1,0 +1,88 @@
+-- Bytes that are read ahead, one read after another.
+use Rattle.std.proofs.Common.{inl, inr, take, length-take, ◌≡◌, ℕ, ◌+◌, ◌<◌, ◌≤◌, false, List, [], length, refl, sym, ap, ◌∙◌, arith, length-append}
+use Rattle.std.proofs.lemmas.List.{append-nil, take-append-le, take_all}
+use Rattle.std.proofs.lemmas.List.{take-take}
+use Rattle.std.proofs.lemmas.Bool.{cases_lt, le-leb, lt-leb}
+use Rattle.msr_record.specs.Records.{IsRecordOf}
+use Rattle.msr_record.specs.declared.row.Record.{Record}
+use Rattle.msr_record.proofs.FirstBytes.{own_record}
+use Rattle.msr_input.specs.Reading.{HoldsRecord, room_with}
+use Rattle.msr_input.proofs.Seen.{held-some}
+use Rattle.msr_devices.specs.Device.{Device, GivesOnto}
+use Rattle.msr_devices.specs.ReadBuffer.{Window, IsFilled, room_for}
+use Rattle.msr_devices.proofs.Chaining.{calm-same, calm-calm, steady-steady, onto-more}
+
+-- before the first read
+pub filled-none : (a : Device) (w : Window) → IsFilled 0 a a w w
+filled-none a w = record {
+  fills = record {
+    onto = record { more = []; came = record { front = λ rest left. left }; whole = sym (append-nil w.bytes); moved = omega arith };
+    short = λ more. absurd (omega arith);
+    keeps = omega arith;
+  };
+  enough = λ unended. omega arith;
+  stays = λ ended. ended;
+  end = λ end ended. end ended;
+  calm = λ unended. calm-same a;
+  steady = (calm-same a).steady;
+}
+
+-- and after one more
+pub filled-more : (a b c : Device) (w w' w'' : Window) (m n : ℕ) → IsFilled m a b w w' → w'.ended ≡ false → IsFilled n b c w' w'' → IsFilled 0 a c w w''
+filled-more a b c w w' w'' m n first unended second =
+    let one = first.fills.onto in
+    let two = second.fills.onto in
+    let onto : GivesOnto a c w.bytes w''.bytes = onto-more a b c w.bytes w'.bytes w''.bytes two.more (length two.more) one two.came refl two.moved two.whole in
+    let size : length w''.bytes ≡ length w'.bytes + length two.more = ap length two.whole ∙ length-append w'.bytes two.more in
+    record {
+      fills = record {
+        onto = onto;
+        short = λ more. grind (arith, first.fills.short, second.fills.short, two.moved, size, more);
+        keeps = omega (arith, first.fills.keeps, second.fills.keeps);
+      };
+      enough = λ unended. omega arith;
+      stays = λ ended. let still = first.stays ended in absurd cc;
+      end = λ end ended. second.end (first.end end) ended;
+      calm = λ still. calm-calm a b c (first.calm unended) (second.calm still);
+      steady = steady-steady a b c first.steady second.steady;
+    }
+
+-- there is no more room than a record would need that is longer than some first bytes
+pub record HasRoom (before : ℕ) (w : Window) : Type 0 where
+  pub size : ℕ
+  pub within : size ≤ length w.bytes
+  pub none : HoldsRecord (take size w.bytes) → ⊥
+  pub most : w.room ≤ room_with size before
+
+pub room-none : (w : Window) → HasRoom w.room w
+room-none w = record {
+  size = 0;
+  within = omega arith;
+  none = λ holds. let some : 0 < length (take 0 w.bytes) = held-some (take 0 w.bytes) holds in omega (arith, some, length-take 0 w.bytes);
+  most = omega arith;
+}
+
+-- where no record stood in the bytes they were too few for it
+pub room-more : (before : ℕ) (a b : Device) (w w' : Window) → HasRoom before w → (HoldsRecord w.bytes → ⊥) → IsFilled (length w.bytes + 1) a b w w' → w'.room ≤ room_for (length w.bytes + 1) w.room → HasRoom before w'
+room-more before a b w w' has none filled most =
+    let onto = filled.fills.onto in
+    let first : take (length w.bytes) w'.bytes ≡ w.bytes = ap (λ (l : List ℕ). take (length w.bytes) l) onto.whole ∙ take-append-le (length w.bytes) w.bytes onto.more (omega arith) ∙ take_all (length w.bytes) w.bytes (omega arith) in
+    record {
+      size = length w.bytes;
+      within = omega (arith, ap length onto.whole, length-append w.bytes onto.more);
+      none = rw first none;
+      most = elim (cases_lt w.room (length w.bytes + 1)) [
+        | inl grows ↦ let grown = rw (lt-leb (length w.bytes + 1) w.room grows) at most in omega (arith, grown, grows)
+        | inr fits ↦ let same = rw (le-leb (length w.bytes + 1) w.room fits) at most in omega (arith, same, has.most, has.within)
+      ];
+    }
+
+-- so one that stands there is longer
+pub room-found : (before : ℕ) (w : Window) (found : Record) → HasRoom before w → IsRecordOf w.bytes found → w.room ≤ room_with found.length before
+room-found before w found has is =
+    elim (cases_lt has.size found.length) [
+      | inl longer ↦ omega (arith, has.most, longer)
+      | inr within ↦
+          let own = own_record w.bytes (take has.size w.bytes) found is (take-take found.length has.size w.bytes within) in
+          absurd (has.none (own.header, own.read))
+    ]

@@ -1,0 +1,53 @@
+use Rattle.std.proofs.Common.{◌≡◌, ◌+◌, ◌<◌, ◌∙◌, rules, arith, ap, sym, Bool, true, false, ℕ, List, [], ◌∷◌, length, Result, Err}
+use Rattle.std.specs.Prelude.{◌==◌}
+use Rattle.msr_header.proofs.ShownLemmas.{AreBytes}
+use Rattle.msr_record.specs.declared.row.Record.{Record}
+use Rattle.msr_record.specs.declared.fault.FaultKind.{FaultKind}
+use Rattle.msr_record.specs.declared.fault.FaultKind.TheVariants.{Memory}
+use Rattle.msr_input.specs.Steps.{may_change}
+use Rattle.msr_input.proofs.Ahead.{filled-none, filled-more, room-none, room-more, room-found}
+use Rattle.msr_input.proofs.Seen.{decoding-stops, none-held}
+use Rattle.msr_input.proofs.step.read_record.Goals.{else-is_empty-via-then-is_empty+else-has_ended, else-is_empty-via-else-is_empty, then-has_ended-2-via-then-has_ended-2, then-has_ended-2-via-else-has_ended-2+then-not-may_change}
+use Rattle.msr_input.proofs.step.read_record.Goals as goal
+
+not-empty : (bytes : List ℕ) (empty : Bool) → empty ≡ (length bytes == 0) → empty ≡ false → 0 < length bytes
+not-empty [] empty is none = absurd cc
+not-empty (x ∷ xs) empty is none = omega arith
+
+pub returns-then-has_ended-2-clause-refused : goal.returns-then-has_ended-2-clause-refused
+returns-then-has_ended-2-clause-refused g c =
+    let window = c.bytes.buffer in
+    let are_now : AreBytes c.bytes-bytes.result.now = search rules in
+    let are : AreBytes window.bytes = rw c.bytes-bytes.ensures at are_now in
+    let wraps : c.in-Err.kind ≡ Memory → ◌≡◌ {A = Result Record FaultKind} (Err c.in-Err.kind) (Err Memory) = λ e. ap (λ (kind : FaultKind). Err kind) e in
+    let refused = rw c.bytes-bytes.ensures at c.in-Err.ensures.refused in
+    let memory = rw c.bytes-bytes.ensures at c.in-Err.ensures.memory in
+    let some : window.ended ≡ true → 0 < length window.bytes = λ ended. elim c.else-is_empty.branch [
+      | else-is_empty-via-then-is_empty+else-has_ended w ↦ absurd cc
+      | else-is_empty-via-else-is_empty w ↦ not-empty window.bytes c.is_empty.result (rw c.bytes-bytes.ensures at c.is_empty.ensures) w.if-is_empty.false
+    ] in
+    let decided : window.ended ≡ false → may_change c.in-Err.kind (length window.bytes) ≡ false = λ unended. elim c.then-has_ended-2.branch [
+      | then-has_ended-2-via-then-has_ended-2 w ↦ absurd cc
+      | then-has_ended-2-via-else-has_ended-2+then-not-may_change w ↦ rw c.bytes-bytes.ensures at (sym w.may_change.ensures ∙ w.if-not-may_change.true)
+    ] in
+    rw c.fault_at.ensures (decoding-stops window c.args.offset c.in-Err.kind are refused (λ e. memory (wraps e)) some decided)
+
+pub bytes-init : goal.bytes-init
+bytes-init g c = record {
+  filled = filled-none (g.R.Source.device c.args.source.now) c.args.buffer.now;
+  room = room-none c.args.buffer.now;
+}
+
+pub returns-in-Ok-clause-room : goal.returns-in-Ok-clause-room
+returns-in-Ok-clause-room g c = room-found c.args.buffer.now.room c.bytes.buffer c.in-Ok.found c.bytes.invariant.room (rw c.bytes-bytes.ensures at c.in-Ok.ensures.found)
+
+pub bytes-preserved : goal.bytes-preserved
+bytes-preserved g c =
+    let unended : c.bytes.buffer.ended ≡ false = cc in
+    let more = c.in_ok-fill.ensures.filled in
+    let at_hand = rw c.bytes-bytes.ensures at more in
+    let none = none-held c.bytes.buffer.bytes c.in-Err.kind (length c.bytes-bytes.result.now) (sym c.may_change.ensures ∙ c.if-not-may_change.false) (rw c.bytes-bytes.ensures at c.in-Err.ensures.refused) in
+    record {
+      filled = filled-more (g.R.Source.device c.args.source.now) (g.R.Source.device c.bytes.source) (g.R.Source.device c.fill.new.source) c.args.buffer.now c.bytes.buffer c.fill.new.self 0 (length c.bytes-bytes.result.now + 1) c.bytes.invariant.filled unended more;
+      room = room-more c.args.buffer.now.room (g.R.Source.device c.bytes.source) (g.R.Source.device c.fill.new.source) c.bytes.buffer c.fill.new.self c.bytes.invariant.room none at_hand (rw c.bytes-bytes.ensures at c.fill.ensures.room);
+    }
