@@ -1,7 +1,9 @@
 //! Segments with their packings, worked out by hand, or from the definitions by exhaustive search.
 
 use crate::{Packing, Piece, Run, StreamPacker, pack};
-use msr_words::{Kind, Length};
+use Made::{Extremes, Noise, Signs, Swings, Turns, Zeros};
+use msr_words::Kind::{self, Int16, Int32, Steim1, Steim2};
+use msr_words::Length;
 use std::alloc::{AllocError, Global};
 use std::test::Fail;
 
@@ -11,21 +13,14 @@ enum Made {
     Zeros(usize),
     /// -20000 at even places and 20000 at odd ones.
     Signs(usize),
-    /// 1000000 at even places and 1020000 at odd ones, but the same at the places from 84 to 88.
-    Swings {
-        count: usize,
-        calm: i32,
-    },
+    /// So many: 1000000 at even places and 1020000 at odd ones, but this one at the places from 84 to 88.
+    Swings(usize, i32),
     /// The two samples that lie furthest apart.
     Extremes,
-    /// Noise by a seed, `calm` and `loud` counts high in turn, each for `stretch` samples.
-    Noise {
-        count: usize,
-        seed: u64,
-        calm: u32,
-        loud: u32,
-        stretch: usize,
-    },
+    /// So many, by a seed, of noise of that height.
+    Noise(usize, u64, u32),
+    /// So many, by a seed, of noise of two heights in turn, each for so many samples.
+    Turns(usize, u64, u32, u32, usize),
 }
 
 /// The next number of a row that looks like chance.
@@ -36,7 +31,7 @@ fn next_of(number: u64) -> u64 {
 }
 
 /// A sample of noise of that height, half of it below 0.
-fn noise(number: u64, height: u32) -> i32 {
+fn of_height(number: u64, height: u32) -> i32 {
     let above = ((number >> 33) % u64::from(height.max(1))) as i32;
     above.wrapping_sub((height / 2).cast_signed())
 }
@@ -44,15 +39,15 @@ fn noise(number: u64, height: u32) -> i32 {
 impl Made {
     fn count(self) -> usize {
         match self {
-            Made::Zeros(count) | Made::Signs(count) => count,
-            Made::Swings { count, .. } | Made::Noise { count, .. } => count,
-            Made::Extremes => 2,
+            Zeros(count) | Signs(count) | Swings(count, _) => count,
+            Noise(count, _, _) | Turns(count, _, _, _, _) => count,
+            Extremes => 2,
         }
     }
 
     fn seed(self) -> u64 {
         match self {
-            Made::Noise { seed, .. } => seed,
+            Noise(_, seed, _) | Turns(_, seed, _, _, _) => seed,
             _ => 0,
         }
     }
@@ -61,9 +56,9 @@ impl Made {
     fn sample(self, place: usize, number: u64) -> i32 {
         let even = place % 2 == 0;
         match self {
-            Made::Zeros(_) => 0,
-            Made::Signs(_) => { if even { -20_000 } else { 20_000 } }
-            Made::Swings { calm, .. } => {
+            Zeros(_) => 0,
+            Signs(_) => { if even { -20_000 } else { 20_000 } }
+            Swings(_, calm) => {
                 if 84 <= place && place <= 88 {
                     calm
                 } else if even {
@@ -72,15 +67,11 @@ impl Made {
                     1_020_000
                 }
             }
-            Made::Extremes => { if even { -2_147_483_648 } else { 2_147_483_647 } }
-            Made::Noise {
-                calm,
-                loud,
-                stretch,
-                ..
-            } => {
+            Extremes => { if even { -2_147_483_648 } else { 2_147_483_647 } }
+            Noise(_, _, height) => of_height(number, height),
+            Turns(_, _, calm, loud, stretch) => {
                 let loud_now = place / stretch.max(1) % 2 == 1;
-                noise(number, if loud_now { loud } else { calm })
+                of_height(number, if loud_now { loud } else { calm })
             }
         }
     }
@@ -96,305 +87,129 @@ impl Made {
     }
 }
 
-/// A segment with its packing: each run with its first sample, the one behind its last, and its kind.
-#[derive(Clone, Copy, Debug)]
-struct Row {
-    record_length: u32,
-    made: Made,
-    runs: &'static [(u64, u64, Kind)],
-    separators: &'static [u64],
-}
+/// The length of records, the samples, the ends of the runs with their kinds, and the separators.
+type Row = (u32, Made, &'static [(u64, Kind)], &'static [u64]);
 
 /// Those of noise were found by a search over all cuts, starts and divisions into groups.
 const ROWS: [Row; 20] = [
     // 43 words of seven differences
-    Row {
-        record_length: 256,
-        made: Made::Zeros(301),
-        runs: &[(0, 301, Kind::Steim2)],
-        separators: &[0],
-    },
-    Row {
-        record_length: 256,
-        made: Made::Zeros(302),
-        runs: &[(0, 301, Kind::Steim2), (301, 302, Kind::Steim2)],
-        separators: &[0, 301],
-    },
+    (256, Zeros(301), &[(301, Steim2)], &[0]),
+    (256, Zeros(302), &[(301, Steim2), (302, Steim2)], &[0, 301]),
     // 7663 words in 511 frames
-    Row {
-        record_length: 32768,
-        made: Made::Zeros(53641),
-        runs: &[(0, 53641, Kind::Steim2)],
-        separators: &[0],
-    },
+    (32768, Zeros(53641), &[(53641, Steim2)], &[0]),
     // 96 places of 16 bits
-    Row {
-        record_length: 256,
-        made: Made::Signs(97),
-        runs: &[(0, 96, Kind::Int16), (96, 97, Kind::Steim2)],
-        separators: &[0, 96],
-    },
+    (256, Signs(97), &[(96, Int16), (97, Steim2)], &[0, 96]),
     // where each record starts at the frontier, three are needed
-    Row {
-        record_length: 256,
-        made: Made::Swings {
-            count: 173,
-            calm: 1_000_000,
-        },
-        runs: &[(0, 85, Kind::Steim1), (85, 173, Kind::Steim1)],
-        separators: &[0, 86],
-    },
+    (
+        256,
+        Swings(173, 1_000_000),
+        &[(85, Steim1), (173, Steim1)],
+        &[0, 86],
+    ),
     // a group of three ends the record
-    Row {
-        record_length: 256,
-        made: Made::Swings {
-            count: 87,
-            calm: 1_020_000,
-        },
-        runs: &[(0, 87, Kind::Steim1)],
-        separators: &[0],
-    },
+    (256, Swings(87, 1_020_000), &[(87, Steim1)], &[0]),
     // a difference of more than 32 bits
-    Row {
-        record_length: 256,
-        made: Made::Extremes,
-        runs: &[(0, 2, Kind::Int32)],
-        separators: &[0],
-    }, // noise of 10 counts
-    Row {
-        record_length: 256,
-        made: Made::Noise {
-            count: 400,
-            seed: 1,
-            calm: 10,
-            loud: 10,
-            stretch: 1,
-        },
-        runs: &[(0, 290, Kind::Steim2), (290, 400, Kind::Steim2)],
-        separators: &[0, 290],
-    },
-    // noise of 60 counts
-    Row {
-        record_length: 256,
-        made: Made::Noise {
-            count: 400,
-            seed: 2,
-            calm: 60,
-            loud: 60,
-            stretch: 1,
-        },
-        runs: &[
-            (0, 188, Kind::Steim2),
-            (188, 375, Kind::Steim2),
-            (375, 400, Kind::Steim2),
-        ],
-        separators: &[0, 188, 375],
-    },
-    // noise of 1000 counts
-    Row {
-        record_length: 256,
-        made: Made::Noise {
-            count: 300,
-            seed: 3,
-            calm: 1_000,
-            loud: 1_000,
-            stretch: 1,
-        },
-        runs: &[
-            (0, 102, Kind::Steim2),
-            (102, 203, Kind::Steim2),
-            (203, 300, Kind::Steim2),
-        ],
-        separators: &[0, 102, 203],
-    },
-    // noise of 20000 counts
-    Row {
-        record_length: 256,
-        made: Made::Noise {
-            count: 300,
-            seed: 4,
-            calm: 20_000,
-            loud: 20_000,
-            stretch: 1,
-        },
-        runs: &[
-            (0, 96, Kind::Int16),
-            (96, 192, Kind::Int16),
-            (192, 288, Kind::Int16),
-            (288, 300, Kind::Steim2),
-        ],
-        separators: &[0, 96, 192, 288],
-    },
-    // noise of 250 counts
-    Row {
-        record_length: 256,
-        made: Made::Noise {
-            count: 300,
-            seed: 5,
-            calm: 250,
-            loud: 250,
-            stretch: 1,
-        },
-        runs: &[
-            (0, 140, Kind::Steim2),
-            (140, 285, Kind::Steim2),
-            (285, 300, Kind::Steim2),
-        ],
-        separators: &[0, 140, 285],
-    },
-    // noise of 5000 counts
-    Row {
-        record_length: 256,
-        made: Made::Noise {
-            count: 260,
-            seed: 6,
-            calm: 5_000,
-            loud: 5_000,
-            stretch: 1,
-        },
-        runs: &[
-            (0, 96, Kind::Int16),
-            (96, 192, Kind::Int16),
-            (192, 260, Kind::Steim2),
-        ],
-        separators: &[0, 96, 192],
-    },
-    // noise of 10 and of 20000 counts in turn
-    Row {
-        record_length: 256,
-        made: Made::Noise {
-            count: 300,
-            seed: 7,
-            calm: 10,
-            loud: 20_000,
-            stretch: 12,
-        },
-        runs: &[
-            (0, 118, Kind::Steim2),
-            (118, 232, Kind::Steim2),
-            (232, 300, Kind::Steim2),
-        ],
-        separators: &[0, 118, 232],
-    },
-    // noise of 40 and of 40000 counts in turn, where Steim-1 reaches furthest
-    Row {
-        record_length: 256,
-        made: Made::Noise {
-            count: 260,
-            seed: 9,
-            calm: 40,
-            loud: 40_000,
-            stretch: 6,
-        },
-        runs: &[
-            (0, 101, Kind::Steim1),
-            (101, 202, Kind::Steim1),
-            (202, 260, Kind::Steim2),
-        ],
-        separators: &[0, 101, 202],
-    },
-    // noise of 250 and of 33000 counts in turn: Steim-1, then 16-bit integers
-    Row {
-        record_length: 256,
-        made: Made::Noise {
-            count: 200,
-            seed: 10,
-            calm: 250,
-            loud: 33_000,
-            stretch: 5,
-        },
-        runs: &[
-            (0, 99, Kind::Steim1),
-            (99, 195, Kind::Int16),
-            (195, 200, Kind::Steim2),
-        ],
-        separators: &[0, 99, 195],
-    },
-    // noise where Steim-1 reaches furthest from before the frontier
-    Row {
-        record_length: 256,
-        made: Made::Noise {
-            count: 200,
-            seed: 12,
-            calm: 60,
-            loud: 70_000,
-            stretch: 40,
-        },
-        runs: &[
-            (0, 88, Kind::Steim1),
-            (88, 177, Kind::Steim1),
-            (177, 200, Kind::Steim2),
-        ],
-        separators: &[0, 89, 177],
-    },
-    // noise where Steim-1 from before the frontier reaches as far as Steim-2 from it
-    Row {
-        record_length: 256,
-        made: Made::Noise {
-            count: 260,
-            seed: 13,
-            calm: 120,
-            loud: 2_000_000,
-            stretch: 16,
-        },
-        runs: &[
-            (0, 69, Kind::Steim2),
-            (69, 137, Kind::Steim2),
-            (137, 205, Kind::Steim2),
-            (205, 260, Kind::Steim2),
-        ],
-        separators: &[0, 69, 137, 205],
-    },
-    // noise of three kinds
-    Row {
-        record_length: 256,
-        made: Made::Noise {
-            count: 200,
-            seed: 42,
-            calm: 1_000,
-            loud: 70_000,
-            stretch: 90,
-        },
-        runs: &[
-            (0, 96, Kind::Int16),
-            (96, 159, Kind::Steim1),
-            (159, 200, Kind::Steim2),
-        ],
-        separators: &[0, 96, 159],
-    },
-    // noise with differences of more than 32 bits
-    Row {
-        record_length: 256,
-        made: Made::Noise {
-            count: 200,
-            seed: 39,
-            calm: 1_000,
-            loud: 2_147_483_648,
-            stretch: 80,
-        },
-        runs: &[
-            (0, 83, Kind::Steim1),
-            (83, 131, Kind::Int32),
-            (131, 187, Kind::Steim1),
-            (187, 200, Kind::Steim2),
-        ],
-        separators: &[0, 83, 131, 187],
-    },
+    (256, Extremes, &[(2, Int32)], &[0]),
+    (
+        256,
+        Noise(400, 1, 10),
+        &[(290, Steim2), (400, Steim2)],
+        &[0, 290],
+    ),
+    (
+        256,
+        Noise(400, 2, 60),
+        &[(188, Steim2), (375, Steim2), (400, Steim2)],
+        &[0, 188, 375],
+    ),
+    (
+        256,
+        Noise(300, 3, 1_000),
+        &[(102, Steim2), (203, Steim2), (300, Steim2)],
+        &[0, 102, 203],
+    ),
+    (
+        256,
+        Noise(300, 4, 20_000),
+        &[(96, Int16), (192, Int16), (288, Int16), (300, Steim2)],
+        &[0, 96, 192, 288],
+    ),
+    (
+        256,
+        Noise(300, 5, 250),
+        &[(140, Steim2), (285, Steim2), (300, Steim2)],
+        &[0, 140, 285],
+    ),
+    (
+        256,
+        Noise(260, 6, 5_000),
+        &[(96, Int16), (192, Int16), (260, Steim2)],
+        &[0, 96, 192],
+    ),
+    (
+        256,
+        Turns(300, 7, 10, 20_000, 12),
+        &[(118, Steim2), (232, Steim2), (300, Steim2)],
+        &[0, 118, 232],
+    ),
+    // Steim-1 reaches furthest
+    (
+        256,
+        Turns(260, 9, 40, 40_000, 6),
+        &[(101, Steim1), (202, Steim1), (260, Steim2)],
+        &[0, 101, 202],
+    ),
+    // Steim-1, then 16-bit integers
+    (
+        256,
+        Turns(200, 10, 250, 33_000, 5),
+        &[(99, Steim1), (195, Int16), (200, Steim2)],
+        &[0, 99, 195],
+    ),
+    // Steim-1 reaches furthest from before the frontier
+    (
+        256,
+        Turns(200, 12, 60, 70_000, 40),
+        &[(88, Steim1), (177, Steim1), (200, Steim2)],
+        &[0, 89, 177],
+    ),
+    // Steim-1 from before the frontier reaches as far as Steim-2 from it
+    (
+        256,
+        Turns(260, 13, 120, 2_000_000, 16),
+        &[(69, Steim2), (137, Steim2), (205, Steim2), (260, Steim2)],
+        &[0, 69, 137, 205],
+    ),
+    // three kinds
+    (
+        256,
+        Turns(200, 42, 1_000, 70_000, 90),
+        &[(96, Int16), (159, Steim1), (200, Steim2)],
+        &[0, 96, 159],
+    ),
+    // differences of more than 32 bits
+    (
+        256,
+        Turns(200, 39, 1_000, 2_147_483_648, 80),
+        &[(83, Steim1), (131, Int32), (187, Steim1), (200, Steim2)],
+        &[0, 83, 131, 187],
+    ),
 ];
 
 #[test]
 fn the_rows(rt: HostRuntime) -> Result<(), Fail> {
-    for row in ROWS {
-        let record_length = Length::new(row.record_length).ok_or("a length")?;
-        let samples = row.made.samples(rt.alloc())?;
+    for (bytes, made, runs, separators) in ROWS {
+        let record_length = Length::new(bytes).ok_or("a length")?;
+        let samples = made.samples(rt.alloc())?;
         let packing = pack(rt.alloc(), samples.as_slice(), record_length)?;
-        assert_eq!(rt; packing.runs.len(), row.runs.len(), "{row:?}");
-        for (run, (start, end, kind)) in packing.runs.iter().zip(row.runs) {
-            assert_eq!(rt; run.start, *start, "{row:?}");
-            assert_eq!(rt; run.end, *end, "{row:?}");
-            assert_eq!(rt; run.kind, *kind, "{row:?}");
+        assert_eq!(rt; packing.runs.len(), runs.len(), "{made:?}");
+        let mut start = 0;
+        for (run, (end, kind)) in packing.runs.iter().zip(runs) {
+            let (end, kind) = (*end, *kind);
+            assert_eq!(rt; *run, Run { start, end, kind }, "{made:?}");
+            start = end;
         }
-        assert_eq!(rt; packing.separators.as_slice(), row.separators, "{row:?}");
+        assert_eq!(rt; packing.separators.as_slice(), separators, "{made:?}");
     }
     Ok(())
 }
@@ -478,13 +293,13 @@ fn stream_of(
 
 #[test]
 fn the_rows_as_a_stream(rt: HostRuntime) -> Result<(), Fail> {
-    for row in ROWS {
-        let record_length = Length::new(row.record_length).ok_or("a length")?;
-        let samples = row.made.samples(rt.alloc())?;
+    for (bytes, made, _, _) in ROWS {
+        let record_length = Length::new(bytes).ok_or("a length")?;
+        let samples = made.samples(rt.alloc())?;
         let given = stream_of(rt.alloc(), samples.as_slice(), record_length)?;
         let packing = pack(rt.alloc(), samples.as_slice(), record_length)?;
-        assert_eq!(rt; given.packing, packing, "{row:?}");
-        assert_eq!(rt; given.samples, samples, "{row:?}");
+        assert_eq!(rt; given.packing, packing, "{bytes} {made:?}");
+        assert_eq!(rt; given.samples, samples, "{bytes} {made:?}");
     }
     Ok(())
 }
@@ -497,7 +312,7 @@ fn zeros_one_after_another(rt: HostRuntime) -> Result<(), Fail> {
     let runs = [(0, 301), (301, 602), (602, 603)].map(|(start, end)| Run {
         start,
         end,
-        kind: Kind::Steim2,
+        kind: Steim2,
     });
     assert_eq!(rt; given.packing.runs.as_slice(), runs.as_slice());
     assert_eq!(rt;

@@ -1,6 +1,5 @@
 -- A walk of Steim-1 words over a segment.
-use Rattle.std.proofs.Common.{◌≡◌, ℕ, zero, suc, ◌+◌, ◌-◌, ◌<◌, ◌≤◌, ℤ, pos, Bool, true, false, IsTrue, List, [], length, map, take, drop, None, arith, refl, sym, ap, ◌∙◌, subst, inl, inr, bit_or}
-use Rattle.std.proofs.lemmas.Bool.{cases_lt}
+use Rattle.std.proofs.Common.{◌≡◌, ℕ, ◌+◌, ◌-◌, ◌≤◌, ℤ, false, List, length, map, take, drop, None, arith, sym, ap, ◌∙◌, subst}
 use Rattle.std.proofs.lemmas.List.{drop-drop, length-drop}
 use Rattle.msr_steim.specs.declared.word.Version.TheVariants.{One}
 use Rattle.msr_words.specs.declared.kinds.Kind.TheVariants.{Steim1}
@@ -9,7 +8,7 @@ use Rattle.msr_words.specs.Division.{CanDivide}
 use Rattle.msr_words.specs.Fit.{Fits, IsRun}
 use Rattle.msr_words.specs.RecordLength.{words_of}
 use Rattle.msr_words.specs.Segment.{differences, run_points}
-use Rattle.msr_words.specs.Steim1Reach.{IsNextWord, IsSteim1End, IsSteim1Reach}
+use Rattle.msr_words.specs.Steim1Reach.{IsSteim1End, IsSteim1Reach}
 use Rattle.msr_words.proofs.GreedyReach.{differences_from, differences_to}
 use Rattle.msr_words.proofs.Plain.{length_differences}
 use Rattle.msr_words.proofs.Steim1Words.{nothing_reached}

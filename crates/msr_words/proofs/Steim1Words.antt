@@ -1,5 +1,5 @@
 -- How far Steim-1 words reach: one word more, the last word, and where none is filled.
-use Rattle.std.specs.Prelude.{◌≡◌, ◌<◌, ◌≤◌, ◌+◌, ◌-◌, ◌⊎◌, ◌↔◌, ℕ, zero, suc, ℤ, pos, Bool, true, false, IsTrue, List, [], ◌∷◌, ◌++◌, length, take, drop, reverse, get_or}
+use Rattle.std.specs.Prelude.{◌≡◌, ◌<◌, ◌≤◌, ◌+◌, ◌-◌, ◌↔◌, ℕ, zero, suc, ℤ, pos, Bool, true, false, IsTrue, List, [], ◌∷◌, ◌++◌, length, take, drop, reverse, get_or}
 use Rattle.std.specs.List.{AllByRecursion}
 use Rattle.std.proofs.Common.{arith, lit≤, refl, sym, ap, ◌∙◌, subst, inl, inr, length-append, length-drop}
 use Rattle.std.proofs.Math.Seq.{take-add, take-append_seam, drop-append_seam}
@@ -7,7 +7,7 @@ use Rattle.std.proofs.lemmas.Bool.{cases_lt}
 use Rattle.std.proofs.lemmas.List.{drop_at, get_or-drop, get_or-take, length-reverse, length-take, reverse-append, reverse-reverse, take_at}
 use Rattle.msr_steim.specs.declared.word.Version.TheVariants.{One}
 use Rattle.msr_steim.specs.Word.{FitsBits, IsGroup, IsGroupAt, IsInnerGroup}
-use Rattle.msr_words.specs.Counts.{AtMost, EndsIn, Parts}
+use Rattle.msr_words.specs.Counts.{EndsIn, Parts}
 use Rattle.msr_words.specs.Division.{CanDivide}
 use Rattle.msr_words.specs.Steim1Reach.{BeginsWithThree, IsNextWord, IsOfBitsAt, IsSteim1End, IsSteim1Reach, StandIn, Steim1LastLaw, Steim1StopLaw, Steim1WordLaw}
 use Rattle.msr_words.specs.Lemmas.Ends.{ends_is_division, turned_group, turned_inner}
@@ -323,9 +323,12 @@ module _ (words : ℕ) (ds : List ℤ) (m : ℕ) (spare : Bool) (is : IsSteim1Re
         let l = e.shares.most in
         fourth (left 3 (m + 3) 8 refl (e.shares.all_8 (omega arith) (m + 3) (omega arith) (omega arith)))) within;
     spare_is = (
-      λ _. (omega arith, there 2 (m + 3 - 1) 8 (omega arith) three.2,
-      one_more words ds m 2 (m + 3 - 1) (omega arith)
-      (group_two (drop m ds) (wider_at (drop m ds) 0 8 16 (lit≤ tt) three.0) (wider_at (drop m ds) 1 8 16 (lit≤ tt) three.1)) is.stand),
+      λ _. (
+        omega arith,
+        there 2 (m + 3 - 1) 8 (omega arith) three.2,
+        one_more words ds m 2 (m + 3 - 1) (omega arith)
+            (group_two (drop m ds) (wider_at (drop m ds) 0 8 16 (lit≤ tt) three.0) (wider_at (drop m ds) 1 8 16 (lit≤ tt) three.1)) is.stand,
+      ),
       λ _. on,
     );
   }

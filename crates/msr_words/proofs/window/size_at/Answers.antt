@@ -1,6 +1,5 @@
-use Rattle.std.proofs.Common.{rules, arith, lit≤, ◌-◌, ◌-ℤ◌, ◌≡◌, pos, slice_index_or, sym, subst, w32, SFits}
+use Rattle.std.proofs.Common.{rules, arith, lit≤, ◌-◌, pos, slice_index_or, sym, subst, w32, SFits}
 use Rattle.std.proofs.lemmas.Int.{to_z-of_z}
-use Rattle.msr_words.specs.Segment.{difference_at}
 use Rattle.msr_words.specs.Window.{IsSize}
 use Rattle.msr_words.proofs.Pushes.{difference_at_later}
 use Rattle.msr_words.proofs.Windows.{size_past, size_there}
