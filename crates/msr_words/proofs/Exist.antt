@@ -90,13 +90,16 @@ module _ (version : Version) where
   fewest_of zero ds can = (0, record { can = can; fewest = λ m other. omega arith })
   fewest_of (suc n) ds can = elim (divide_decided n ds) [
     | inl fewer ↦ fewest_of n ds fewer
-    | inr never ↦ (suc n, record {
-      can = can;
-      fewest = λ m other. elim (cases_lt n m) [
-        | inl more ↦ omega arith
-        | inr few ↦ absurd (never (can_more m n ds few other))
-      ];
-    })
+    | inr never ↦ (
+      suc n,
+      record {
+        can = can;
+        fewest = λ m other. elim (cases_lt n m) [
+          | inl more ↦ omega arith
+          | inr few ↦ absurd (never (can_more m n ds few other))
+        ];
+      },
+    )
   ]
 
   -- ---- the canonical division
