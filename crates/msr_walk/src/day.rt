@@ -1,7 +1,7 @@
 //! One day file: from its file to the files of its records and its report.
 ghost use Rattle.msr_walk.specs.Day.{IsRepackedDay};
 
-use crate::files::{NewFile, are_one_file, settle};
+use crate::files::{NewFile, may_be_one_file, settle};
 use crate::folders::Archive;
 use crate::outcome::{Refusal, Repacked};
 use crate::paths::join;
@@ -53,7 +53,7 @@ impl Day {
         Ok(repacked)
     }
 
-    /// Repacks the day. Where it is refused, no records and no report of it are left, unless they are the input by
+    /// Repacks the day. Where it is refused, no records and no report of it are left, unless they may be the input by
     /// another name: then nothing is touched.
     pub fn repack<R: Files>(
         &self,
@@ -64,8 +64,8 @@ impl Day {
         ensures { IsRepackedDay options result }
     {
         let input = self.input.as_str();
-        if are_one_file(rt, input, self.records.path())
-            || are_one_file(rt, input, self.report.path())
+        if may_be_one_file(rt, input, self.records.path())
+            || may_be_one_file(rt, input, self.report.path())
         {
             return Err(Refusal::CannotOpen);
         }

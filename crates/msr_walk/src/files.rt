@@ -31,15 +31,19 @@ pub fn settle<F: OpenFile>(file: &F) -> Result<(), ToolFault>
     }
 }
 
-/// Whether both names are those of one regular file, by whatever paths or links.
-pub fn are_one_file<R: Files>(rt: &R, a: &str, b: &str) -> bool {
-    let Ok(first) = fs::metadata(rt, a) else {
-        return false;
+/// Whether both names may be those of one regular file, by whatever paths or links: they are, or the system does not
+/// tell. Where nothing stands under one of them they are not.
+pub fn may_be_one_file<R: Files>(rt: &R, a: &str, b: &str) -> bool {
+    let first = match fs::metadata(rt, a) {
+        Ok(metadata) => metadata,
+        Err(error) => return error.kind() != ErrorKind::NotFound,
     };
-    let Ok(second) = fs::metadata(rt, b) else {
-        return false;
-    };
-    first.is_file() && first.dev() == second.dev() && first.ino() == second.ino()
+    match fs::metadata(rt, b) {
+        Ok(second) => {
+            first.is_file() && first.dev() == second.dev() && first.ino() == second.ino()
+        }
+        Err(error) => error.kind() != ErrorKind::NotFound,
+    }
 }
 
 /// A file to be made in a folder that may be missing. It is written beside its name, and gets the name once it is
