@@ -189,14 +189,15 @@ def files_wrong_with(tree, walked, told, kinds):
         parts = [files.pop(f"{name}.part", None) for name in (records, report)]
         killed = [made.pop(f"{name}.part", None) for name in (records, report)]
         line = next((it for it in told if is_within(path, path_of(it))), "")
-        stays = KILLED in kinds or "removing" in kinds or not line
+        untouched = (has, parts) == (old, killed)
+        stays = KILLED in kinds or "removing" in kinds or not line or "looking" in kinds and untouched
         if any(it not in (None, o, n) for it, o, n in zip(has, old, new)):
             return f"{path}: neither whole nor as it was"
         if has[0] is not None and has[0] == new[0] and has[1] != new[1]:
             return f"{path}: records without their report"
         if line.startswith("done ") and (has != new or None in has):
             return f"{path}: done, and not as in the undisturbed run"
-        if line.startswith("refused ") and path_of(line) != path and (has, parts) != (old, killed):
+        if line.startswith("refused ") and path_of(line) != path and not untouched:
             return f"{path}: in a folder without a list, and touched"
         if line.startswith("refused ") and path_of(line) == path and has != [None, None] and not stays:
             return f"{path}: refused, and not removed"
