@@ -1,7 +1,10 @@
 //! The names in a folder.
-ghost use Rattle.std.specs.Prelude.{IfOk};
+ghost use Rattle.std.specs.Prelude.{◌≡◌, ◌≢◌, IfOk};
+ghost use Rattle.std.specs.IoError.{error_kind};
+ghost use Rattle.std.specs.declared.io.ErrorKind.TheVariants.{OutOfMemory};
 ghost use Rattle.std.specs.List.Sorted.{IsSorted};
 ghost use Rattle.std.specs.String.{string_cmp};
+ghost use Rattle.msr_walk.specs.declared.listing.ListFault.TheVariants.{Listing, Memory};
 
 use std::alloc::{AllocError, AllocFailed, Global};
 use std::io::ErrorKind;
@@ -17,18 +20,24 @@ pub enum ListFault {
 }
 
 impl From<AllocError> for ListFault {
+    ghost from_gives = { λ _ e. e ≡ Memory };
+
     fn from(_: AllocError) -> ListFault {
         ListFault::Memory
     }
 }
 
 impl<T: Drop> From<AllocFailed<T>> for ListFault {
+    ghost from_gives = { λ _ e. e ≡ Memory };
+
     fn from(_: AllocFailed<T>) -> ListFault {
         ListFault::Memory
     }
 }
 
 impl From<io::Error> for ListFault {
+    ghost from_gives = { λ error e. (error_kind error ≡ OutOfMemory → e ≡ Memory) × (error_kind error ≢ OutOfMemory → e ≡ Listing) };
+
     fn from(error: io::Error) -> ListFault {
         match error.kind() {
             ErrorKind::OutOfMemory => ListFault::Memory,
