@@ -10,7 +10,7 @@ use Rattle.msr_words.specs.declared.kinds.Kind.{Kind}
 use Rattle.msr_record.specs.declared.row.Row.{Row}
 use Rattle.msr_record.specs.declared.row.Record.{Record}
 use Rattle.msr_record.specs.declared.fault.FaultKind.{FaultKind}
-use Rattle.msr_record.specs.declared.fault.FaultKind.TheVariants.{Header as HeaderRefused, NoRate, OtherEncoding, BadDataOffset, DataShort, BadCode, TimeRange, Memory}
+use Rattle.msr_record.specs.declared.fault.FaultKind.TheVariants.{Header as HeaderRefused, NoRate, OtherEncoding, BadDataOffset, DataShort, BadCode, TimeRange, ReverseMismatch, Memory}
 use Rattle.msr_header.proofs.FoundLemmas.{header_sound}
 use Rattle.msr_header.proofs.ShownLemmas.{header_decided}
 use Rattle.msr_record.proofs.HeaderFacts.{one_header}
@@ -83,6 +83,7 @@ refused_same xs ys BadDataOffset s p = fields_same xs ys BadDataOffset s p
 refused_same xs ys DataShort s p = fault_same xs ys DataShort s p
 refused_same xs ys (BadCode word) s p = fault_same xs ys (BadCode word) s p
 refused_same xs ys TimeRange s p = record { the_row = p.the_row; is_row = row_same xs ys p.the_row s p.is_row; out = p.out }
+refused_same xs ys ReverseMismatch s p = p
 refused_same xs ys Memory s p = p
 
 -- the other way

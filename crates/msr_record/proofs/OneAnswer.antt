@@ -1,5 +1,6 @@
 -- Bytes begin with a record of one row, or are refused with one fault, and never both.
-use Rattle.std.proofs.Common.{◌≡◌, ℕ, ◌*◌, ◌^◌, ◌<◌, Bool, true, false, ℤ, pos, List, length, refl, sym, ap, ◌∙◌, arith, Option, Some, None, Ok, Err}
+use Rattle.std.proofs.Common.{◌≡◌, ◌≢◌, ℕ, ◌*◌, ◌^◌, ◌<◌, Bool, true, false, ℤ, pos, List, length, refl, sym, ap, ◌∙◌, arith, Option, Some, None, Ok, Err}
+use Rattle.std.specs.Prelude.{◌↔◌, IsTrue, IfNone, IfSome}
 use Rattle.std.proofs.lemmas.List.{ext_get_or}
 use Rattle.msr_header.specs.Reading.{header_of}
 use Rattle.msr_header.specs.declared.header.Header.{Header}
@@ -15,14 +16,15 @@ use Rattle.msr_steim.proofs.OneOutcome.{carries_one, not_short, not_undefined, o
 use Rattle.msr_record.specs.Kinds.{kind_of_code}
 use Rattle.msr_record.specs.Correction.{key_of, start_of}
 use Rattle.msr_record.specs.Area.{Carries, AreaHasFault, IntegersHaveFault, FramesHaveFault}
-use Rattle.msr_record.specs.Records.{data_area, HasSamples, HasArea, IsRowOf, RowIsInTime, FieldsAreRefused, AreaIsRefused, IsOutOfTime, IsRefused, IsRecordOf}
+use Rattle.msr_record.specs.Records.{data_area, HasSamples, HasArea, IsRowOf, RowIsInTime, FieldsAreRefused, AreaIsRefused, IsOutOfTime, IsRefused, IsRecordOf, AgreesAtEnd}
+use Rattle.msr_record.specs.Reverse.{HasReverse, IsRefusedBeforeTime}
 use Rattle.msr_words.specs.declared.kinds.Kind.{Kind}
 use Rattle.msr_words.specs.declared.kinds.Kind.TheVariants.{Int16, Int32, Steim1, Steim2}
 use Rattle.msr_record.specs.declared.row.Key.{Key}
 use Rattle.msr_record.specs.declared.row.Row.{Row}
 use Rattle.msr_record.specs.declared.row.Record.{Record}
 use Rattle.msr_record.specs.declared.fault.FaultKind.{FaultKind}
-use Rattle.msr_record.specs.declared.fault.FaultKind.TheVariants.{Header as HeaderRefused, NoRate, OtherEncoding, BadDataOffset, DataShort, BadCode, TimeRange, Memory}
+use Rattle.msr_record.specs.declared.fault.FaultKind.TheVariants.{Header as HeaderRefused, NoRate, OtherEncoding, BadDataOffset, DataShort, BadCode, TimeRange, ReverseMismatch, Memory}
 use Rattle.msr_record.proofs.HeaderFacts.{one_header, not_both}
 
 integers_one : (width : Width) (order : Order) (area : List ℕ) (xs ys : List ℤ) → CarriesPlain width order area xs → CarriesPlain width order area ys → length xs ≡ length ys → xs ≡ ys
@@ -127,6 +129,7 @@ stage bytes BadDataOffset h = by_fields h
 stage bytes DataShort h = by_area h
 stage bytes (BadCode word) h = by_area h
 stage bytes TimeRange h = by_time refl h
+stage bytes ReverseMismatch h = absurd h
 stage bytes Memory h = absurd h
 
 none_not_some : {X : Type 0} (o : Option X) (x : X) → o ≡ None → o ≡ Some x → ⊥
@@ -189,14 +192,18 @@ empty_not bytes h fault read none (by_fields q) = no_samples bytes h q.header re
 empty_not bytes h fault read none (by_area q) = no_samples bytes h q.header read none q.has_area.has_samples
 empty_not bytes h fault read none (by_time e q) = no_samples bytes h q.is_row.header read none q.is_row.has_area.has_samples
 
--- nor is a record with a row whose time is in range
+-- a record with a row is refused for its time alone
+only_time : (bytes : List ℕ) (row : Row) (fault : FaultKind) → IsRowOf bytes row → Stage bytes fault → (fault ≡ TimeRange) × IsOutOfTime bytes
+only_time bytes row fault p (by_header r e k) = absurd (not_both bytes p.header r p.has_area.has_samples.read k)
+only_time bytes row fault p (by_fields q) = absurd (fields_not bytes p.header row.kind fault p.has_area q)
+only_time bytes row fault p (by_area q) = absurd (row_not bytes row fault p q)
+only_time bytes row fault p (by_time e q) = (e, q)
+
+-- and not where that is in range
 row_passes : (bytes : List ℕ) (row : Row) (fault : FaultKind) → IsRowOf bytes row → RowIsInTime row → Stage bytes fault → ⊥
-row_passes bytes row fault p t (by_header r e k) = not_both bytes p.header r p.has_area.has_samples.read k
-row_passes bytes row fault p t (by_fields q) = fields_not bytes p.header row.kind fault p.has_area q
-row_passes bytes row fault p t (by_area q) = row_not bytes row fault p q
-row_passes bytes row fault p t (by_time e q) =
-    let same = one_row bytes row q.the_row p q.is_row in
-    q.out (rw same at t)
+row_passes bytes row fault p t s =
+    let late = (only_time bytes row fault p s).1 in
+    late.out (rw (one_row bytes row late.the_row p late.is_row) at t)
 
 passes : (bytes : List ℕ) (length : ℕ) (row : Option Row) (agrees : Bool) (fault : FaultKind) → IsRecordOf bytes (record { length = length; row = row; reverse_agrees = agrees }) → Stage bytes fault → ⊥
 passes bytes length None agrees fault p s = empty_not bytes p.header fault p.read p.empty s
@@ -229,3 +236,32 @@ pub one_record : (bytes : List ℕ) (found other : Record) → IsRecordOf bytes 
 one_record bytes found other p q =
     let parts = one_record_by bytes found.length other.length found.row other.row found.reverse_agrees other.reverse_agrees p q in
     records_equal _ _ _ _ _ _ (lengths_one bytes p.header q.header found.length other.length p.read q.read p.length_is q.length_is) parts.0 parts.1
+
+-- what the bytes say of the reverse constant, by the row that they begin with
+reverse_one_by : (bytes : List ℕ) (g h : Header) (o u : Option Row) (a b : Bool) → header_of bytes ≡ Ok g → header_of bytes ≡ Ok h
+    → IfNone o ((g.samples ≡ 0) × IsTrue a) → IfSome o (IsRowOf bytes) → IfSome o (λ row. IsTrue a ↔ AgreesAtEnd bytes row)
+    → IfNone u ((h.samples ≡ 0) × IsTrue b) → IfSome u (IsRowOf bytes) → IfSome u (λ row. IsTrue b ↔ AgreesAtEnd bytes row)
+    → a ≡ b
+reverse_one_by bytes g h None None a b p q none r s empty u v = none.1 ∙ sym empty.1
+reverse_one_by bytes g h None (Some row) a b p q none r s empty u v = absurd (no_samples bytes g u.header p none.0 u.has_area.has_samples)
+reverse_one_by bytes g h (Some row) None a b p q none r s empty u v = absurd (no_samples bytes h r.header q empty.0 r.has_area.has_samples)
+reverse_one_by bytes g h (Some row) (Some other) a b p q none r s empty u v =
+    let same = one_row bytes row other r u in
+    bool_one a b (λ t. v.1 (rw same at (s.0 t))) (λ t. s.1 (rw (← same) at (v.0 t)))
+
+pub reverse_one : (bytes : List ℕ) (agrees other : Bool) → HasReverse bytes agrees → HasReverse bytes other → agrees ≡ other
+reverse_one bytes agrees other p q = reverse_one_by bytes p.header q.header p.row q.row agrees other p.read q.read p.empty p.is_row p.agrees_at_end q.empty q.is_row q.agrees_at_end
+
+both_if_none : {X : Type 0} (A B : Type 0) (o : Option X) → IfNone o A → IfNone o B → IfNone o (A × B)
+both_if_none A B None a b = (a, b)
+both_if_none A B (Some x) a b = tt
+
+pub reverse_of_record : (bytes : List ℕ) (found : Record) → IsRecordOf bytes found → HasReverse bytes found.reverse_agrees
+reverse_of_record bytes found p = record { header = p.header; read = p.read; row = found.row; empty = both_if_none _ _ found.row p.empty p.no_reverse; is_row = p.row; agrees_at_end = p.agrees }
+
+reverse_passes : (bytes : List ℕ) (h : Header) (o : Option Row) (fault : FaultKind) (agrees : Bool) → header_of bytes ≡ Ok h → IfNone o ((h.samples ≡ 0) × IsTrue agrees) → IfSome o (IsRowOf bytes) → fault ≢ TimeRange → Stage bytes fault → ⊥
+reverse_passes bytes h None fault agrees read empty row other s = empty_not bytes h fault read empty.0 s
+reverse_passes bytes h (Some the_row) fault agrees read empty row other s = other (only_time bytes the_row fault row s).0
+
+pub reverse_not_refused : (bytes : List ℕ) (agrees : Bool) → HasReverse bytes agrees → IsRefusedBeforeTime bytes → ⊥
+reverse_not_refused bytes agrees p q = reverse_passes bytes p.header p.row q.fault agrees p.read p.empty p.is_row q.before (stage bytes q.fault q.refused)

@@ -1,5 +1,5 @@
 -- How the answers of the parts make a row or a refusal.
-use Rattle.std.proofs.Common.{◌≡◌, ℕ, ◌≤◌, ◌^◌, Bool, true, false, ℤ, List, [], ◌∷◌, length, refl, sym, ap, ◌∙◌, arith, Some, None, Ok}
+use Rattle.std.proofs.Common.{◌≡◌, ◌≢◌, ℕ, ◌≤◌, ◌^◌, Bool, true, false, ℤ, List, [], ◌∷◌, length, refl, sym, ap, ◌∙◌, arith, Some, None, Ok}
 use Rattle.std.specs.Prelude.{◌&&◌, nat_le, slice_range, is_some, IsTrue, ◌↔◌}
 use Rattle.std.proofs.lemmas.Bool.{both_ways, leb-true}
 use Rattle.std.proofs.Math.Pow.{pow_mono}
@@ -15,7 +15,7 @@ use Rattle.msr_record.specs.declared.row.Key.{Key}
 use Rattle.msr_record.specs.declared.row.Row.{Row}
 use Rattle.msr_record.proofs.HeaderFacts.{one_header}
 use Rattle.msr_record.specs.declared.fault.FaultKind.{FaultKind}
-use Rattle.msr_record.specs.declared.fault.FaultKind.TheVariants.{NoRate, OtherEncoding, BadDataOffset}
+use Rattle.msr_record.specs.declared.fault.FaultKind.TheVariants.{NoRate, OtherEncoding, BadDataOffset, TimeRange}
 
 pub has_area_from : (bytes : List ℕ) (h : Header) (kind : Kind) → header_of bytes ≡ Ok h → (h.samples ≡ 0 → ⊥) → first_fault (field_faults h) ≡ None → kind_of_code h.encoding ≡ Some kind → HasArea bytes h kind
 has_area_from bytes h kind read some fields code = record { has_samples = record { read = read; some = omega (arith, some) }; fields = fields; kind_is = code }
@@ -53,6 +53,9 @@ field_fault true true true code fault e = cc
 is_field_fault : (h : Header) (fault : FaultKind) → first_fault (field_faults h) ≡ Some fault → IsFieldFault fault
 unfolding field_faults
 is_field_fault h fault e = field_fault (has_rate h) (is_some (kind_of_code h.encoding)) (has_area h) h.encoding fault e
+
+pub not_of_time : (h : Header) (fault : FaultKind) → first_fault (field_faults h) ≡ Some fault → fault ≢ TimeRange
+not_of_time h fault e same = rw same at (is_field_fault h fault e)
 
 pub fields_refused : (bytes : List ℕ) (h : Header) (fault : FaultKind) → HasSamples bytes h → first_fault (field_faults h) ≡ Some fault → IsRefused bytes fault
 fields_refused bytes h NoRate s e = record { header = h; has_samples = s; first = e }

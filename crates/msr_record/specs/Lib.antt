@@ -4,6 +4,7 @@ pub mod Area
 pub mod NumbersLeft
 pub mod Opening
 pub mod Records
+pub mod Reverse
 pub mod ViewFields
 pub mod Views
 pub mod Written

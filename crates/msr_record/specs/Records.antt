@@ -12,7 +12,7 @@ use Rattle.msr_words.specs.declared.kinds.Kind.{Kind}
 use Rattle.msr_record.specs.declared.row.Row.{Row}
 use Rattle.msr_record.specs.declared.row.Record.{Record}
 use Rattle.msr_record.specs.declared.fault.FaultKind.{FaultKind}
-use Rattle.msr_record.specs.declared.fault.FaultKind.TheVariants.{Header as HeaderRefused, NoRate, OtherEncoding, BadDataOffset, DataShort, BadCode, TimeRange, Memory}
+use Rattle.msr_record.specs.declared.fault.FaultKind.TheVariants.{Header as HeaderRefused, NoRate, OtherEncoding, BadDataOffset, DataShort, BadCode, TimeRange, ReverseMismatch, Memory}
 
 -- neither part of the sample rate is 0
 abbrev pub has_rate : Header → Bool
@@ -106,7 +106,8 @@ pub record IsOutOfTime (bytes : List ℕ) : Type 0 where
 
 -- The record that the bytes begin with is refused so, by itself. Each needs that those before it do not
 -- apply: first the header's, then those of the fields that samples need, then those of the data area, then
--- the time's. Want of memory is no fault of the bytes.
+-- the time's. A reverse constant that does not agree refuses no record by itself, and want of memory is no fault of
+-- the bytes.
 abbrev pub IsRefused : List ℕ → FaultKind → Type 0
 IsRefused bytes (HeaderRefused fault) = header_of bytes ≡ Err fault
 IsRefused bytes NoRate = FieldsAreRefused bytes NoRate
@@ -115,6 +116,7 @@ IsRefused bytes BadDataOffset = FieldsAreRefused bytes BadDataOffset
 IsRefused bytes DataShort = AreaIsRefused bytes DataShort
 IsRefused bytes (BadCode word) = AreaIsRefused bytes (BadCode word)
 IsRefused bytes TimeRange = IsOutOfTime bytes
+IsRefused bytes ReverseMismatch = ⊥
 IsRefused bytes Memory = ⊥
 
 -- the last sample is the reverse constant of the record that the bytes begin with, where it has one

@@ -2,7 +2,8 @@ use msr_header::HeaderFault;
 use thiserror::Error;
 
 /// Why a record is refused: the first of these that applies. Those of the header come first, then
-/// `NoRate`, `OtherEncoding`, `BadDataOffset`, then `DataShort` or `BadCode`, then `TimeRange`.
+/// `NoRate`, `OtherEncoding`, `BadDataOffset`, then `DataShort` or `BadCode`, then `ReverseMismatch` where the reader is
+/// strict, then `TimeRange`.
 #[derive(Clone, Copy, Debug, PartialEq, Eq, Error)]
 pub enum FaultKind {
     /// The header has this fault.
@@ -26,6 +27,9 @@ pub enum FaultKind {
     /// The first or the last sample is not of the years 1900 to 2100.
     #[error("17 TimeRange")]
     TimeRange,
+    /// The last sample is not the reverse constant. Only a strict reader refuses that, never `decode_record`.
+    #[error("18 ReverseMismatch")]
+    ReverseMismatch,
     /// There is no memory for the samples.
     #[error("out of memory")]
     Memory,

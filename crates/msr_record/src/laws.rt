@@ -1,10 +1,11 @@
 //! What holds of rows, records and refusals of any bytes.
-ghost use Rattle.std.specs.Prelude.{◌≡◌, ◌≤◌, ◌^◌, ℕ, ℤ, List, Option, Ok, IsTrue, false, length, take};
+ghost use Rattle.std.specs.Prelude.{◌≡◌, ◌≤◌, ◌^◌, ℕ, ℤ, Bool, List, Option, Ok, IsTrue, false, length, take};
 ghost use Rattle.msr_time.specs.Instant.{IsInstant};
 ghost use Rattle.msr_header.specs.declared.header.Header.{Header};
 ghost use Rattle.msr_header.specs.Reading.{header_of, is_quality};
 ghost use Rattle.msr_record.specs.Correction.{is_pending};
 ghost use Rattle.msr_record.specs.Records.{IsRowOf, IsRecordOf, IsRefused, RowIsInTime};
+ghost use Rattle.msr_record.specs.Reverse.{HasReverse, IsRefusedBeforeTime};
 ghost use Rattle.msr_record.specs.Written.{IsWritten};
 ghost use Rattle.msr_words.specs.declared.kinds.Kind.{Kind};
 ghost use Rattle.msr_record.specs.declared.row.Key.{Key};
@@ -18,6 +19,14 @@ pub fn one_answer()
     ensures whole { (bytes : List ℕ) (found other : Record) → IsRecordOf bytes found → IsRecordOf bytes other → found ≡ other }
     ensures fault { (bytes : List ℕ) (fault other : FaultKind) → IsRefused bytes fault → IsRefused bytes other → fault ≡ other }
     ensures not_both { (bytes : List ℕ) (found : Record) (fault : FaultKind) → IsRecordOf bytes found → IsRefused bytes fault → ⊥ }
+{}
+
+/// Bytes say one thing of the reverse constant of the record that they begin with, be it in time or not: what the record
+/// says, where it is read. They say nothing where another fault than that of its time refuses it.
+pub fn one_reverse()
+    ensures one { (bytes : List ℕ) (agrees other : Bool) → HasReverse bytes agrees → HasReverse bytes other → agrees ≡ other }
+    ensures whole { (bytes : List ℕ) (found : Record) → IsRecordOf bytes found → HasReverse bytes found.reverse_agrees }
+    ensures not_both { (bytes : List ℕ) (agrees : Bool) → HasReverse bytes agrees → IsRefusedBeforeTime bytes → ⊥ }
 {}
 
 /// A record's own bytes decide: where as many bytes as it has are the same, all that is read of it is

@@ -5,6 +5,7 @@ mod area;
 mod fault;
 mod laws;
 mod reading;
+mod reverse;
 mod row;
 mod samples;
 #[cfg(test)]
@@ -14,9 +15,10 @@ mod writing;
 mod written_area;
 
 pub use fault::FaultKind;
-pub use laws::{one_answer, one_written, own_bytes_decide, rows_are_writable};
+pub use laws::{one_answer, one_reverse, one_written, own_bytes_decide, rows_are_writable};
 pub use msr_words::{Kind, Length};
 pub use reading::decode_record;
+pub use reverse::reverse_in;
 pub use row::{Key, Record, Row};
 pub use samples::Samples;
 pub use view::{RecordView, view_record};

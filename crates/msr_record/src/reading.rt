@@ -162,6 +162,7 @@ pub(crate) struct Opened {
 pub(crate) fn open_record(rest: &[u8]) -> Result<Opened, FaultKind>
     ensures opened { IfOk result (IsOpened rest.now) }
     ensures refused { IfErr result (IsRefused rest.now) }
+    ensures before_time { IfErr result (λ fault. fault ≢ FaultKind.TimeRange) }
     ensures first_bytes { header_of (take 1_048_576 rest.now) ≡ header_of rest.now }
 {
     let header = read_header(rest)?;

@@ -1,5 +1,8 @@
 //! Records from outside, which say that the definitions are the standard's, and the faults' texts.
-use crate::{FaultKind, Key, Kind, Length, Record, Row, decode_record, encode_record, view_record};
+use crate::{
+    FaultKind, Key, Kind, Length, Record, Row, decode_record, encode_record, reverse_in,
+    view_record,
+};
 use msr_time::{Rate, is_instant};
 use std::alloc::Global;
 use std::process::Abort;
@@ -102,6 +105,7 @@ fn text(rt: &impl Abort, alloc: Global, bytes: &[u8], want: &str) -> Result<(), 
     };
     assert_eq!(rt; format!(in alloc; "{fault}")?.as_str(), want);
     assert!(rt; view_record(bytes).err() == Some(fault));
+    assert_eq!(rt; reverse_in(bytes).is_some(), fault == FaultKind::TimeRange);
     Ok(())
 }
 
@@ -241,6 +245,7 @@ fn reverse_constants_and_empty_records(rt: HostRuntime) {
             panic!(rt; "refused")
         };
         assert_eq!(rt; (found.reverse_agrees, found.row.is_some()), (agrees, some));
+        assert_eq!(rt; reverse_in(&bytes), Some(agrees));
         assert_eq!(rt; found.length, 256);
         let Ok(view) = view_record(&bytes) else {
             panic!(rt; "refused")

@@ -2,7 +2,7 @@
 use Rattle.std.proofs.Common.{◌≤◌, ◌^◌, sym, ◌∙◌, arith}
 use Rattle.std.proofs.lemmas.Result.{err_from_is_err_and}
 use Rattle.msr_header.proofs.FoundLemmas.{header_sound}
-use Rattle.msr_record.proofs.RowLemmas.{begins_within, fields_refused, has_area_from, pow_most}
+use Rattle.msr_record.proofs.RowLemmas.{begins_within, fields_refused, has_area_from, not_of_time, pow_most}
 use Rattle.msr_record.proofs.reading.open_record.Goals.{then-header-eq0, else-header-eq0+in_ok-read_fields}
 use Rattle.msr_record.proofs.reading.open_record.Goals as goal
 
@@ -17,6 +17,11 @@ returns-in_err-read_fields-clause-refused c =
     let read = sym c.read_header.ensures.header ∙ c.in_ok-header.was in
     let p = err_from_is_err_and c.from_residual-in_err-read_fields.result c.from_residual-in_err-read_fields.ensures.1 in
     rw (p.1, p.2) (fields_refused c.args.rest.now c.in_ok-header.header _ (record { read = read; some = omega (arith, c.if-header-eq0.false) }) c.in_err-read_fields.ensures.fields)
+
+pub returns-in_err-read_fields-clause-before_time : goal.returns-in_err-read_fields-clause-before_time
+returns-in_err-read_fields-clause-before_time c =
+    let p = err_from_is_err_and c.from_residual-in_err-read_fields.result c.from_residual-in_err-read_fields.ensures.1 in
+    rw (p.1, p.2) (not_of_time c.in_ok-header.header _ c.in_err-read_fields.ensures.fields)
 
 pub returns-clause-opened : goal.returns-clause-opened
 returns-clause-opened c =
