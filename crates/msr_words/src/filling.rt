@@ -170,7 +170,9 @@ fn word_seen(window: &Window, place: usize) -> NextWord
     }
 }
 
-/// The word of the longest group from that difference on, of differences taken one after another.
+/// The word of the longest group from that difference on, of differences taken one after another. It is kept out of the
+/// loop over words, which is faster without it.
+#[inline(never)]
 fn word_outside(before: Option<i32>, run: &[i32], at: usize) -> NextWord
     requires { at ≤ length run.now }
     ensures longest { IsLongestGroup (drop at (differences before run.now)) result.size }
