@@ -24,13 +24,13 @@ same_at : (ds : List ℤ) (at other width : ℕ) → at ≡ other → IsOfBitsAt
 same_at ds at other width e is = subst (λ n. IsOfBitsAt ds n width) e is
 
 -- a difference of those from m on
-from_rest : (ds : List ℤ) (m at width : ℕ) → IsOfBitsAt (drop m ds) at width → IsOfBitsAt ds (m + at) width
+pub from_rest : (ds : List ℤ) (m at width : ℕ) → IsOfBitsAt (drop m ds) at width → IsOfBitsAt ds (m + at) width
 from_rest ds m at width is =
     let l = length-drop m ds in
     let less = is.0 in
     (omega arith, subst (FitsBits width) (get_or-drop m ds at (pos 0)) is.1)
 
-to_rest : (ds : List ℤ) (m at width : ℕ) → IsOfBitsAt ds (m + at) width → IsOfBitsAt (drop m ds) at width
+pub to_rest : (ds : List ℤ) (m at width : ℕ) → IsOfBitsAt ds (m + at) width → IsOfBitsAt (drop m ds) at width
 to_rest ds m at width is =
     let l = length-drop m ds in
     let less = is.0 in
@@ -39,7 +39,7 @@ to_rest ds m at width is =
 -- ---- groups by the bits of their differences
 
 -- so many differences from p on share a word
-record Shares (ds : List ℤ) (p size : ℕ) : Type 0 where
+pub record Shares (ds : List ℤ) (p size : ℕ) : Type 0 where
   pub some : 1 ≤ size
   pub most : size ≤ 4
   pub all_32 : (i : ℕ) → p ≤ i → i < p + size → IsOfBitsAt ds i 32
@@ -79,7 +79,7 @@ module _ (ds : List ℤ) (p size : ℕ) (within : p + size ≤ length ds) where
       get_or-take size (drop p ds) (i - p) (pos 0) (omega arith) ∙ get_or-drop p ds (i - p) (pos 0) ∙ ap (λ n. get_or ds n (pos 0)) e in
       (omega arith, subst (FitsBits width) here (each_at width (take size (drop p ds)) (i - p) all (omega arith)))
 
-  shares_of : IsGroup One (take size (drop p ds)) → Shares ds p size
+  pub shares_of : IsGroup One (take size (drop p ds)) → Shares ds p size
   shares_of is =
       let bits = bits_of (take size (drop p ds)) is in
       let l = long in
@@ -93,22 +93,22 @@ module _ (ds : List ℤ) (p size : ℕ) (within : p + size ≤ length ds) where
         all_8 = λ h i. at_of 8 i (bits.all_8 (omega arith));
       }
 
-group_one : (xs : List ℤ) → IsOfBitsAt xs 0 32 → IsInnerGroup One (take 1 xs)
+pub group_one : (xs : List ℤ) → IsOfBitsAt xs 0 32 → IsInnerGroup One (take 1 xs)
 group_one [] a = let l = a.0 in absurd (omega arith)
 group_one (x ∷ xs) a = ((a.1, tt), λ e. absurd (omega arith))
 
-group_two : (xs : List ℤ) → IsOfBitsAt xs 0 16 → IsOfBitsAt xs 1 16 → IsInnerGroup One (take 2 xs)
+pub group_two : (xs : List ℤ) → IsOfBitsAt xs 0 16 → IsOfBitsAt xs 1 16 → IsInnerGroup One (take 2 xs)
 group_two [] a b = let l = a.0 in absurd (omega arith)
 group_two (x ∷ []) a b = let l = b.0 in absurd (omega arith)
 group_two (x ∷ y ∷ xs) a b = ((a.1, (b.1, tt)), λ e. absurd (omega arith))
 
-group_three : (xs : List ℤ) → BeginsWithThree xs → IsGroup One (take 3 xs)
+pub group_three : (xs : List ℤ) → BeginsWithThree xs → IsGroup One (take 3 xs)
 group_three [] a = let l = a.0.0 in absurd (omega arith)
 group_three (x ∷ []) a = let l = a.1.0 in absurd (omega arith)
 group_three (x ∷ y ∷ []) a = let l = a.2.0 in absurd (omega arith)
 group_three (x ∷ y ∷ z ∷ xs) a = (a.0.1, (a.1.1, (a.2.1, tt)))
 
-group_four : (xs : List ℤ) → BeginsWithThree xs → IsOfBitsAt xs 3 8 → IsInnerGroup One (take 4 xs)
+pub group_four : (xs : List ℤ) → BeginsWithThree xs → IsOfBitsAt xs 3 8 → IsInnerGroup One (take 4 xs)
 group_four [] a b = let l = a.0.0 in absurd (omega arith)
 group_four (x ∷ []) a b = let l = a.1.0 in absurd (omega arith)
 group_four (x ∷ y ∷ []) a b = let l = a.2.0 in absurd (omega arith)
