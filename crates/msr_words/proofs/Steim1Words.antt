@@ -9,7 +9,7 @@ use Rattle.msr_steim.specs.declared.word.Version.TheVariants.{One}
 use Rattle.msr_steim.specs.Word.{FitsBits, IsGroup, IsGroupAt, IsInnerGroup}
 use Rattle.msr_words.specs.Counts.{EndsIn, Parts}
 use Rattle.msr_words.specs.Division.{CanDivide}
-use Rattle.msr_words.specs.Steim1Reach.{BeginsWithThree, IsNextWord, IsOfBitsAt, IsSteim1End, IsSteim1Reach, StandIn, Steim1LastLaw, Steim1StopLaw, Steim1WordLaw}
+use Rattle.msr_words.specs.Steim1Reach.{BeginsWithThree, IsOfBitsAt, IsSteim1End, IsSteim1Reach, IsSteim1Word, StandIn, Steim1LastLaw, Steim1StopLaw, Steim1WordLaw}
 use Rattle.msr_words.specs.Lemmas.Ends.{ends_is_division, turned_group, turned_inner}
 use Rattle.msr_words.specs.Lemmas.KindLaws.{last_of}
 use Rattle.msr_words.specs.Lemmas.LeastCounts.{a_group_has_few}
@@ -383,7 +383,7 @@ module _ (words : ℕ) (ds : List ℤ) (m : ℕ) (spare : Bool) (is : IsSteim1Re
     );
   }
 
-  pub next_word : (size : ℕ) (after : Bool) → IsNextWord (drop m ds) spare size after → 0 < size → IsSteim1Reach (suc words) ds (m + size) after
+  pub next_word : (size : ℕ) (after : Bool) → IsSteim1Word (drop m ds) spare size after → 0 < size → IsSteim1Reach (suc words) ds (m + size) after
   next_word size after next some = elim next.which [
     | inl four ↦ rw four.0 (four_more after four.1 four.2 four.3)
     | inr a ↦ elim a [
@@ -489,7 +489,7 @@ module _ (words : ℕ) (ds : List ℤ) (m : ℕ) (spare : Bool) (is : IsSteim1Re
             (left 1 (m + 1) 16 refl (e.shares.all_16 (omega arith) (m + 1) (omega arith) (omega arith)))) within;
       }
 
-  pub last_of_all : (size : ℕ) (after : Bool) → IsNextWord (drop m ds) true size after → IsSteim1End (suc words) ds (m + size)
+  pub last_of_all : (size : ℕ) (after : Bool) → IsSteim1Word (drop m ds) true size after → IsSteim1End (suc words) ds (m + size)
   last_of_all size after next = elim next.which [
     | inl four ↦ rw four.0 (last_four four.1 four.2)
     | inr a ↦ elim a [
@@ -506,7 +506,7 @@ module _ (words : ℕ) (ds : List ℤ) (m : ℕ) (spare : Bool) (is : IsSteim1Re
     ]
   ]
 
-  pub stopped_here : (more : ℕ) (after : Bool) → IsNextWord (drop m ds) spare 0 after → words ≤ more → IsSteim1End more ds m
+  pub stopped_here : (more : ℕ) (after : Bool) → IsSteim1Word (drop m ds) spare 0 after → words ≤ more → IsSteim1End more ds m
   stopped_here more after next le = elim next.which [
     | inl four ↦ absurd (omega (arith, four.0))
     | inr a ↦ elim a [
