@@ -5,7 +5,7 @@ ghost use Rattle.msr_words.specs.declared.kinds.Kind.TheVariants.{Steim1 as Firs
 ghost use Rattle.msr_words.specs.Bounds.{IsEnd};
 ghost use Rattle.msr_words.specs.FirstGroup.{IsSizeAt};
 ghost use Rattle.msr_words.specs.Lengths.{bytes_of};
-ghost use Rattle.msr_words.specs.Steim1Reach.{IsNextWord};
+ghost use Rattle.msr_words.specs.Steim1Reach.{IsSteim1Word};
 
 use msr_words::{FourSizes, Length, Window, steim1_word_by_word};
 
@@ -21,7 +21,7 @@ struct NextWord {
 /// word.
 #[inline(always)]
 fn next_word(sizes: FourSizes, spare: bool) -> NextWord
-    ensures next { (ds : List ℤ) → IsSizeAt ds 0 sizes.first → IsSizeAt ds 1 sizes.second → IsSizeAt ds 2 sizes.third → IsSizeAt ds 3 sizes.fourth → IsNextWord ds spare result.size result.spare }
+    ensures next { (ds : List ℤ) → IsSizeAt ds 0 sizes.first → IsSizeAt ds 1 sizes.second → IsSizeAt ds 2 sizes.third → IsSizeAt ds 3 sizes.fourth → IsSteim1Word ds spare result.size result.spare }
     ensures most { result.size ≤ 4 }
 {
     let pair = sizes.first | sizes.second;

@@ -41,14 +41,14 @@ place_decided Two false zs = group_decided Two zs
 -- ---- divisions
 
 module _ (version : Version) where
-  can_more : (m n : ℕ) (ds : List ℤ) → m ≤ n → CanDivide version m ds → CanDivide version n ds
+  pub can_more : (m n : ℕ) (ds : List ℤ) → m ≤ n → CanDivide version m ds → CanDivide version n ds
   can_more m n ds le c = record { groups = c.groups; are_groups = c.are_groups; join = c.join; few = omega (arith, c.few) }
 
   from_more : (m n size : ℕ) (ds : List ℤ) → m ≤ n → DividesFrom version m size ds → DividesFrom version n size ds
   from_more m n size ds le d = record { within = d.within; some = omega (arith, d.some); group = d.group; can = can_more (m - 1) (n - 1) (drop size ds) (omega arith) d.can }
 
   -- a division has a first group
-  first_size : (n : ℕ) (ds : List ℤ) → 0 < length ds → CanDivide version n ds → (size : ℕ) × (size ≤ 7) × DividesFrom version n size ds
+  pub first_size : (n : ℕ) (ds : List ℤ) → 0 < length ds → CanDivide version n ds → (size : ℕ) × (size ≤ 7) × DividesFrom version n size ds
   first_size n ds some can = go can.groups can.are_groups can.join can.few
     where
       go : (gs : List (List ℤ)) → AreGroups version gs → differences gs ≡ ds → length gs ≤ n → (size : ℕ) × (size ≤ 7) × DividesFrom version n size ds

@@ -18,12 +18,12 @@ use Rattle.msr_words.proofs.Plain.{difference_of, length_differences}
 
 -- ---- the best size
 
-inside : (b : Bool) (g : List ℤ) → IsGroup One g → (length g ≡ 3 → ⊥) → IsGroupAt One b g
+pub inside : (b : Bool) (g : List ℤ) → IsGroup One g → (length g ≡ 3 → ⊥) → IsGroupAt One b g
 inside true g is three = is
 inside false g is three = (is, three)
 
 -- three differences are a group at the end alone
-at_end : (b : Bool) (g : List ℤ) → IsGroupAt One b g → length g ≡ 3 → b ≡ true
+pub at_end : (b : Bool) (g : List ℤ) → IsGroupAt One b g → length g ≡ 3 → b ≡ true
 at_end true g is three = refl
 at_end false g is three = absurd (is.1 three)
 
@@ -225,14 +225,8 @@ module _ (ds : List ℤ) (sizes : List ℕ) (are : AreSizes ds 0 sizes) where
         )
   ]
 
-  pub some_canonical : (gs : List (List ℤ)) × IsCanonicalDivision One gs ds
-  some_canonical = build (length ds) 0 (omega arith) (omega arith)
-
   pub first_at : (at size : ℕ) → size ≡ get_or sizes at 0 → at < length ds → IsCanonicalFirst (drop at ds) size
   first_at at size size_is less = subst (IsCanonicalFirst (drop at ds)) (sym size_is) (are.each at (omega arith) less)
-
-  pub none_before : AreGroupsBefore ds 0 []
-  none_before = record { low = omega arith; extend = λ gs chosen. chosen }
 
   pub one_before : (at size : ℕ) (group : List ℤ) (groups : List (List ℤ)) → size ≡ get_or sizes at 0 → at < length ds → group ≡ take size (drop at ds) → AreGroupsBefore ds at groups → AreGroupsBefore ds (at + size) (groups ++ group ∷ [])
   one_before at size group groups size_is less group_is before =

@@ -16,7 +16,9 @@ pub mod Plain
 pub mod Pushes
 pub mod RecordLengths
 pub mod Runs
+pub mod Steim1Ahead
 pub mod Steim1Counts
+pub mod Steim1Next
 pub mod Steim1Pushes
 pub mod Steim1Runs
 pub mod Steim1Words

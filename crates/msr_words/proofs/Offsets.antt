@@ -1,5 +1,5 @@
 -- Fields as one sum of signed numbers: with half of each field's range added they are side by side without a loan.
-use Rattle.std.proofs.Common.{◌≡◌, ◌<◌, ◌≤◌, ℕ, zero, suc, ◌+◌, ◌-◌, ◌*◌, ◌/◌, ◌%◌, ◌^◌, ℤ, pos, negsuc, List, [], ◌∷◌, ◌++◌, sym, ap, ◌∙◌, subst, arith, w64, SFits, of_z, bit_or, bit_and, take, refl, inl, inr, lit<}
+use Rattle.std.proofs.Common.{◌≡◌, ◌<◌, ◌≤◌, ℕ, suc, ◌+◌, ◌-◌, ◌*◌, ◌/◌, ◌%◌, ◌^◌, ℤ, pos, negsuc, List, [], ◌∷◌, ◌++◌, sym, ap, ◌∙◌, subst, arith, w64, SFits, of_z, bit_or, bit_and, take, refl, inl, inr, lit<}
 use Rattle.std.specs.Int.{bit_at}
 use Rattle.std.specs.Int.Bits.{bit_xor, xor_zero_r, xor_self}
 use Rattle.std.proofs.lemmas.Bool.{cases_lt}

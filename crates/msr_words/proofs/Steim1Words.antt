@@ -9,7 +9,7 @@ use Rattle.msr_steim.specs.declared.word.Version.TheVariants.{One}
 use Rattle.msr_steim.specs.Word.{FitsBits, IsGroup, IsGroupAt, IsInnerGroup}
 use Rattle.msr_words.specs.Counts.{EndsIn, Parts}
 use Rattle.msr_words.specs.Division.{CanDivide}
-use Rattle.msr_words.specs.Steim1Reach.{BeginsWithThree, IsNextWord, IsOfBitsAt, IsSteim1End, IsSteim1Reach, StandIn, Steim1LastLaw, Steim1StopLaw, Steim1WordLaw}
+use Rattle.msr_words.specs.Steim1Reach.{BeginsWithThree, IsOfBitsAt, IsSteim1End, IsSteim1Reach, IsSteim1Word, StandIn, Steim1LastLaw, Steim1StopLaw, Steim1WordLaw}
 use Rattle.msr_words.specs.Lemmas.Ends.{ends_is_division, turned_group, turned_inner}
 use Rattle.msr_words.specs.Lemmas.KindLaws.{last_of}
 use Rattle.msr_words.specs.Lemmas.LeastCounts.{a_group_has_few}
@@ -24,13 +24,13 @@ same_at : (ds : List ℤ) (at other width : ℕ) → at ≡ other → IsOfBitsAt
 same_at ds at other width e is = subst (λ n. IsOfBitsAt ds n width) e is
 
 -- a difference of those from m on
-from_rest : (ds : List ℤ) (m at width : ℕ) → IsOfBitsAt (drop m ds) at width → IsOfBitsAt ds (m + at) width
+pub from_rest : (ds : List ℤ) (m at width : ℕ) → IsOfBitsAt (drop m ds) at width → IsOfBitsAt ds (m + at) width
 from_rest ds m at width is =
     let l = length-drop m ds in
     let less = is.0 in
     (omega arith, subst (FitsBits width) (get_or-drop m ds at (pos 0)) is.1)
 
-to_rest : (ds : List ℤ) (m at width : ℕ) → IsOfBitsAt ds (m + at) width → IsOfBitsAt (drop m ds) at width
+pub to_rest : (ds : List ℤ) (m at width : ℕ) → IsOfBitsAt ds (m + at) width → IsOfBitsAt (drop m ds) at width
 to_rest ds m at width is =
     let l = length-drop m ds in
     let less = is.0 in
@@ -39,7 +39,7 @@ to_rest ds m at width is =
 -- ---- groups by the bits of their differences
 
 -- so many differences from p on share a word
-record Shares (ds : List ℤ) (p size : ℕ) : Type 0 where
+pub record Shares (ds : List ℤ) (p size : ℕ) : Type 0 where
   pub some : 1 ≤ size
   pub most : size ≤ 4
   pub all_32 : (i : ℕ) → p ≤ i → i < p + size → IsOfBitsAt ds i 32
@@ -79,7 +79,7 @@ module _ (ds : List ℤ) (p size : ℕ) (within : p + size ≤ length ds) where
       get_or-take size (drop p ds) (i - p) (pos 0) (omega arith) ∙ get_or-drop p ds (i - p) (pos 0) ∙ ap (λ n. get_or ds n (pos 0)) e in
       (omega arith, subst (FitsBits width) here (each_at width (take size (drop p ds)) (i - p) all (omega arith)))
 
-  shares_of : IsGroup One (take size (drop p ds)) → Shares ds p size
+  pub shares_of : IsGroup One (take size (drop p ds)) → Shares ds p size
   shares_of is =
       let bits = bits_of (take size (drop p ds)) is in
       let l = long in
@@ -93,22 +93,22 @@ module _ (ds : List ℤ) (p size : ℕ) (within : p + size ≤ length ds) where
         all_8 = λ h i. at_of 8 i (bits.all_8 (omega arith));
       }
 
-group_one : (xs : List ℤ) → IsOfBitsAt xs 0 32 → IsInnerGroup One (take 1 xs)
+pub group_one : (xs : List ℤ) → IsOfBitsAt xs 0 32 → IsInnerGroup One (take 1 xs)
 group_one [] a = let l = a.0 in absurd (omega arith)
 group_one (x ∷ xs) a = ((a.1, tt), λ e. absurd (omega arith))
 
-group_two : (xs : List ℤ) → IsOfBitsAt xs 0 16 → IsOfBitsAt xs 1 16 → IsInnerGroup One (take 2 xs)
+pub group_two : (xs : List ℤ) → IsOfBitsAt xs 0 16 → IsOfBitsAt xs 1 16 → IsInnerGroup One (take 2 xs)
 group_two [] a b = let l = a.0 in absurd (omega arith)
 group_two (x ∷ []) a b = let l = b.0 in absurd (omega arith)
 group_two (x ∷ y ∷ xs) a b = ((a.1, (b.1, tt)), λ e. absurd (omega arith))
 
-group_three : (xs : List ℤ) → BeginsWithThree xs → IsGroup One (take 3 xs)
+pub group_three : (xs : List ℤ) → BeginsWithThree xs → IsGroup One (take 3 xs)
 group_three [] a = let l = a.0.0 in absurd (omega arith)
 group_three (x ∷ []) a = let l = a.1.0 in absurd (omega arith)
 group_three (x ∷ y ∷ []) a = let l = a.2.0 in absurd (omega arith)
 group_three (x ∷ y ∷ z ∷ xs) a = (a.0.1, (a.1.1, (a.2.1, tt)))
 
-group_four : (xs : List ℤ) → BeginsWithThree xs → IsOfBitsAt xs 3 8 → IsInnerGroup One (take 4 xs)
+pub group_four : (xs : List ℤ) → BeginsWithThree xs → IsOfBitsAt xs 3 8 → IsInnerGroup One (take 4 xs)
 group_four [] a b = let l = a.0.0 in absurd (omega arith)
 group_four (x ∷ []) a b = let l = a.1.0 in absurd (omega arith)
 group_four (x ∷ y ∷ []) a b = let l = a.2.0 in absurd (omega arith)
@@ -383,7 +383,7 @@ module _ (words : ℕ) (ds : List ℤ) (m : ℕ) (spare : Bool) (is : IsSteim1Re
     );
   }
 
-  pub next_word : (size : ℕ) (after : Bool) → IsNextWord (drop m ds) spare size after → 0 < size → IsSteim1Reach (suc words) ds (m + size) after
+  pub next_word : (size : ℕ) (after : Bool) → IsSteim1Word (drop m ds) spare size after → 0 < size → IsSteim1Reach (suc words) ds (m + size) after
   next_word size after next some = elim next.which [
     | inl four ↦ rw four.0 (four_more after four.1 four.2 four.3)
     | inr a ↦ elim a [
@@ -489,7 +489,7 @@ module _ (words : ℕ) (ds : List ℤ) (m : ℕ) (spare : Bool) (is : IsSteim1Re
             (left 1 (m + 1) 16 refl (e.shares.all_16 (omega arith) (m + 1) (omega arith) (omega arith)))) within;
       }
 
-  pub last_of_all : (size : ℕ) (after : Bool) → IsNextWord (drop m ds) true size after → IsSteim1End (suc words) ds (m + size)
+  pub last_of_all : (size : ℕ) (after : Bool) → IsSteim1Word (drop m ds) true size after → IsSteim1End (suc words) ds (m + size)
   last_of_all size after next = elim next.which [
     | inl four ↦ rw four.0 (last_four four.1 four.2)
     | inr a ↦ elim a [
@@ -506,7 +506,7 @@ module _ (words : ℕ) (ds : List ℤ) (m : ℕ) (spare : Bool) (is : IsSteim1Re
     ]
   ]
 
-  pub stopped_here : (more : ℕ) (after : Bool) → IsNextWord (drop m ds) spare 0 after → words ≤ more → IsSteim1End more ds m
+  pub stopped_here : (more : ℕ) (after : Bool) → IsSteim1Word (drop m ds) spare 0 after → words ≤ more → IsSteim1End more ds m
   stopped_here more after next le = elim next.which [
     | inl four ↦ absurd (omega (arith, four.0))
     | inr a ↦ elim a [

@@ -124,7 +124,7 @@ wide_one_at_most d = grind (arith, nat_tests)
 
 -- ---- the first four differences
 
-four_each : (ds : List ℤ) (k : ℕ) → BeginsWithFour ds → k < 4 → FitsBits 8 (get_or ds k (pos 0))
+pub four_each : (ds : List ℤ) (k : ℕ) → BeginsWithFour ds → k < 4 → FitsBits 8 (get_or ds k (pos 0))
 four_each [] k four less = let e = four.enough in absurd (omega arith)
 four_each (a ∷ []) k four less = let e = four.enough in absurd (omega arith)
 four_each (a ∷ b ∷ []) k four less = let e = four.enough in absurd (omega arith)

@@ -15,6 +15,7 @@ pub mod Filled
 pub mod NextWord
 pub mod Groups
 pub mod Bounds
+pub mod Sizing
 pub mod Steim1Reach
 pub mod Trackers
 pub mod Window

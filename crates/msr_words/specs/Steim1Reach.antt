@@ -27,7 +27,7 @@ BeginsWithThree ds = IsOfBitsAt ds 0 8 × IsOfBitsAt ds 1 8 × IsOfBitsAt ds 2 8
 
 -- The next word reaches so many of the differences that are left: four of 8 bits; three, with a spare one before them;
 -- two of 16 bits; one of 32 bits; or none. `after` says whether the last of them is spare in turn.
-pub record IsNextWord (ds : List ℤ) (spare : Bool) (size : ℕ) (after : Bool) : Type 0 where
+pub record IsSteim1Word (ds : List ℤ) (spare : Bool) (size : ℕ) (after : Bool) : Type 0 where
   pub which :
       ((size ≡ 4) × BeginsWithThree ds × IsOfBitsAt ds 3 8 × (after ≡ spare))
       ⊎ (((size ≡ 3) × BeginsWithThree ds × (IsOfBitsAt ds 3 8 → ⊥) × IsTrue spare × IsTrue after)
@@ -38,7 +38,7 @@ pub record IsNextWord (ds : List ℤ) (spare : Bool) (size : ℕ) (after : Bool)
 -- one word more
 abbrev pub Steim1WordLaw : Type 0
 Steim1WordLaw = (words : ℕ) (ds : List ℤ) (reach size : ℕ) (spare after : Bool) → IsSteim1Reach words ds reach spare
-    → IsNextWord (drop reach ds) spare size after → 0 < size → IsSteim1Reach (suc words) ds (reach + size) after
+    → IsSteim1Word (drop reach ds) spare size after → 0 < size → IsSteim1Reach (suc words) ds (reach + size) after
 
 -- so many words hold the first `reach` differences, of which the last word may hold three, and no more
 pub record IsSteim1End (words : ℕ) (ds : List ℤ) (reach : ℕ) : Type 0 where
@@ -49,9 +49,9 @@ pub record IsSteim1End (words : ℕ) (ds : List ℤ) (reach : ℕ) : Type 0 wher
 -- the last word: it may hold three with no spare one before them
 abbrev pub Steim1LastLaw : Type 0
 Steim1LastLaw = (words : ℕ) (ds : List ℤ) (reach size : ℕ) (spare after : Bool) → IsSteim1Reach words ds reach spare
-    → IsNextWord (drop reach ds) true size after → IsSteim1End (suc words) ds (reach + size)
+    → IsSteim1Word (drop reach ds) true size after → IsSteim1End (suc words) ds (reach + size)
 
 -- where the next word reaches no further, more words do not either
 abbrev pub Steim1StopLaw : Type 0
 Steim1StopLaw = (words more : ℕ) (ds : List ℤ) (reach : ℕ) (spare after : Bool) → IsSteim1Reach words ds reach spare
-    → IsNextWord (drop reach ds) spare 0 after → words ≤ more → IsSteim1End more ds reach
+    → IsSteim1Word (drop reach ds) spare 0 after → words ≤ more → IsSteim1End more ds reach

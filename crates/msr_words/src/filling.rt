@@ -12,10 +12,9 @@ ghost use Rattle.msr_words.specs.NextWord.{IsNextWord};
 ghost use Rattle.msr_words.specs.Segment.{differences};
 ghost use Rattle.msr_words.specs.Window.{AreSeen, IsWindow};
 
-use crate::frames::fill_frames;
+use crate::frames::{Sizing, fill_frames};
 use crate::kinds::{difference_after, longest_group};
 use crate::window::Window;
-use msr_steim::Version;
 
 /// A word, with its code, and how many differences it holds.
 #[derive(Clone, Copy, Debug)]
@@ -171,6 +170,8 @@ fn word_seen(window: &Window, place: usize) -> NextWord
 }
 
 /// The word of the longest group from that difference on, of differences taken one after another.
+/// It is kept out of the loop over words, which is faster without it.
+#[inline(never)]
 fn word_outside(before: Option<i32>, run: &[i32], at: usize) -> NextWord
     requires { at ≤ length run.now }
     ensures longest { IsLongestGroup (drop at (differences before run.now)) result.size }
@@ -227,5 +228,5 @@ pub fn fill_steim2(before: Option<i32>, run: &[i32], area: &mut [u8]) -> usize
     ensures filled { (groups : List (List ℤ)) → IsCanonicalDivision Two groups (differences before run.now) → length groups + 2 ≤ 15 * (length area.old / 64)
         → (area.new ≡ frame_bytes Two (slice_index_or run.now 0 (pos 0)) (slice_index_or run.now (length run.now - 1) (pos 0)) groups (length area.old / 64)) × (result ≡ length groups) }
 {
-    fill_frames(Version::Two, before, run, &[], area)
+    fill_frames(Sizing::Longest, before, run, &[], area).unwrap()
 }

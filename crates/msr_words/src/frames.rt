@@ -1,20 +1,32 @@
 //! The words of a run, written frame by frame.
 
-ghost use Rattle.std.specs.Prelude.{◌≡◌, ◌<◌, ◌≤◌, ◌+◌, ◌-◌, ◌*◌, ◌/◌, ◌%◌, ◌++◌, ℤ, List, length, drop, take, pos, slice_index_or};
+ghost use Rattle.std.specs.Prelude.{◌≡◌, ◌<◌, ◌≤◌, ◌+◌, ◌-◌, ◌*◌, ◌/◌, ◌%◌, ◌++◌, ℤ, List, IfSome, IsNone, length, drop, take, pos, slice_index_or};
+ghost use Rattle.std.specs.List.{AllByRecursion};
 ghost use Rattle.byteorder.specs.Endian.{big_bytes};
-ghost use Rattle.msr_steim.specs.declared.word.Version.TheVariants.{One};
 ghost use Rattle.msr_steim.specs.Frames.{frame_bytes};
+ghost use Rattle.msr_steim.specs.Word.{FitsBits};
 ghost use Rattle.msr_words.specs.Canonical.{IsCanonicalDivision};
 ghost use Rattle.msr_words.specs.FirstGroup.{AreSizes};
 ghost use Rattle.msr_words.specs.NextWord.{IsNextWord};
 ghost use Rattle.msr_words.specs.Segment.{differences};
+ghost use Rattle.msr_words.specs.Sizing.{IsUntold, version_of};
 ghost use Rattle.msr_words.specs.Window.{IsWindow};
 
 use crate::filling::{NextWord, steim2_word};
-use crate::steim1_filling::steim1_word;
+use crate::steim1_filling::{steim1_word, steim1_word_ahead};
 use crate::window::Window;
 use byteorder::{BigEndian, ByteOrder};
-use msr_steim::Version;
+
+/// How the size of the next group is found.
+#[derive(Clone, Copy, Debug)]
+pub(crate) enum Sizing {
+    /// A group of Steim-2 is the longest.
+    Longest,
+    /// Of Steim-1, by the next differences, where they tell it.
+    Ahead,
+    /// Of Steim-1, it is given.
+    Given,
+}
 
 /// Writes a word, big-endian, at its number.
 pub(crate) fn put_word(area: &mut [u8], number: usize, word: u32)
@@ -40,44 +52,50 @@ fn put_constants(area: &mut [u8], frame: usize, first: u32, last: u32) -> usize
     2
 }
 
-/// The word of the group that begins with that difference. For Steim-1 the sizes of the groups are given.
+/// The word of the group that begins with that difference, where its size is told.
 #[inline(always)]
 fn next_word(
-    version: Version,
+    sizing: Sizing,
     before: Option<i32>,
     run: &[i32],
     sizes: &[u8],
     window: &mut Window,
     at: usize,
-) -> NextWord
+) -> Option<NextWord>
     requires within { at ≤ length run.now }
     requires window { IsWindow run.now at window.old }
-    requires sizes { version ≡ One → AreSizes (differences before run.now) 0 sizes.now }
+    requires sizes { sizing ≡ Sizing.Given → AreSizes (differences before run.now) 0 sizes.now }
+    requires fits { sizing ≡ Sizing.Ahead → AllByRecursion (FitsBits 32) (differences before run.now) }
     ensures window { IsWindow run.now at window.new }
-    ensures next { IsNextWord version (drop at (differences before run.now)) result }
+    ensures next { IfSome result (IsNextWord (version_of sizing) (drop at (differences before run.now))) }
+    ensures untold { IsNone result → IsUntold sizing (differences before run.now) }
 {
-    match version {
-        Version::One => steim1_word(before, run, sizes, window, at),
-        Version::Two => steim2_word(before, run, window, at),
+    match sizing {
+        Sizing::Longest => Some(steim2_word(before, run, window, at)),
+        Sizing::Ahead => steim1_word_ahead(before, run, window, at),
+        Sizing::Given => Some(steim1_word(before, run, sizes, window, at)),
     }
 }
 
-/// Fills the area, of whole frames, with the words of the run's differences, big-endian: the groups of the division
-/// that is written, and as constants the first and the last sample. Gives the number of groups. Inlined where the
-/// version is a literal, it is not tested for each word.
+/// Fills the area, of whole frames, with the words of the run's differences, big-endian: the groups
+/// of the division that is written, and as constants the first and the last sample. Gives the number
+/// of groups, or none where the next differences do not tell the size of each. Inlined where the
+/// sizing is a literal, it is not tested for each word.
 #[inline(always)]
 pub(crate) fn fill_frames(
-    version: Version,
+    sizing: Sizing,
     before: Option<i32>,
     run: &[i32],
     sizes: &[u8],
     area: &mut [u8],
-) -> usize
+) -> Option<usize>
     requires some { 1 ≤ length run.now }
     requires frames { length area.old % 64 ≡ 0 }
-    requires sizes { version ≡ One → AreSizes (differences before run.now) 0 sizes.now }
-    ensures filled { (groups : List (List ℤ)) → IsCanonicalDivision version groups (differences before run.now) → length groups + 2 ≤ 15 * (length area.old / 64)
-        → (area.new ≡ frame_bytes version (slice_index_or run.now 0 (pos 0)) (slice_index_or run.now (length run.now - 1) (pos 0)) groups (length area.old / 64)) × (result ≡ length groups) }
+    requires sizes { sizing ≡ Sizing.Given → AreSizes (differences before run.now) 0 sizes.now }
+    requires fits { sizing ≡ Sizing.Ahead → AllByRecursion (FitsBits 32) (differences before run.now) }
+    ensures filled { IfSome result (λ used. (groups : List (List ℤ)) → IsCanonicalDivision (version_of sizing) groups (differences before run.now) → length groups + 2 ≤ 15 * (length area.old / 64)
+        → (area.new ≡ frame_bytes (version_of sizing) (slice_index_or run.now 0 (pos 0)) (slice_index_or run.now (length run.now - 1) (pos 0)) groups (length area.old / 64)) × (used ≡ length groups)) }
+    ensures untold { IsNone result → IsUntold sizing (differences before run.now) }
 {
     let first = run[0].cast_unsigned();
     let last = run[run.len() - 1].cast_unsigned();
@@ -91,7 +109,9 @@ pub(crate) fn fill_frames(
         // All words of the frame, but for those that will be found empty.
         used += 15 - from;
         for slot in from..15 {
-            let next = next_word(version, before, run, sizes, &mut window, at);
+            let Some(next) = next_word(sizing, before, run, sizes, &mut window, at) else {
+                return None;
+            };
             put_word(area, 16 * frame + slot + 1, next.word);
             codes = codes * 4 + next.code;
             at += next.size;
@@ -99,5 +119,5 @@ pub(crate) fn fill_frames(
         }
         put_word(area, 16 * frame, codes);
     }
-    used
+    Some(used)
 }

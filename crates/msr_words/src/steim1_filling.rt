@@ -1,22 +1,23 @@
 //! The Steim-1 words of a run, written in place.
 
-ghost use Rattle.std.specs.Prelude.{◌≡◌, ◌<◌, ◌≤◌, ◌+◌, ◌-◌, ◌*◌, ◌/◌, ◌%◌, ◌^◌, ℕ, ℤ, List, IfOk, None, Some, length, drop, take};
+ghost use Rattle.std.specs.Prelude.{◌≡◌, ◌<◌, ◌≤◌, ◌+◌, ◌-◌, ◌*◌, ◌/◌, ◌%◌, ◌^◌, ℕ, ℤ, List, IfOk, IfSome, IsNone, None, Some, length, drop, take};
 ghost use Rattle.std.specs.List.{AllByRecursion};
 ghost use Rattle.msr_steim.specs.declared.word.Version.TheVariants.{One};
 ghost use Rattle.msr_steim.specs.Word.{FitsBits, IsGroup, group_code, group_width, group_word, joined_fields, padding_of};
+ghost use Rattle.msr_words.specs.Bounds.{BeginsWithFour};
 ghost use Rattle.msr_words.specs.Division.{CanDivide};
 ghost use Rattle.msr_words.specs.Filled.{IsFilledArea};
-ghost use Rattle.msr_words.specs.FirstGroup.{AreSizes, IsCanonicalFirst};
+ghost use Rattle.msr_words.specs.FirstGroup.{AreSizes, IsCanonicalFirst, IsSizeAt};
 ghost use Rattle.msr_words.specs.NextWord.{IsNextWord};
 ghost use Rattle.msr_words.specs.Segment.{difference_at, differences};
 ghost use Rattle.msr_words.specs.Window.{AreSeen, IsWindow};
 
+use crate::counts::magnitude;
 use crate::filling::{NextWord, fields_from, fields_seen};
 use crate::first_group::Following;
-use crate::frames::fill_frames;
+use crate::frames::{Sizing, fill_frames};
 use crate::kinds::difference_after;
 use crate::window::Window;
-use msr_steim::Version;
 use std::alloc::{AllocError, Global};
 
 /// The difference of a sample that is not the first.
@@ -171,9 +172,101 @@ pub(crate) fn steim1_word(
     word_outside(before, run, at, usize::from(sizes[at]))
 }
 
-/// Fills the area, of whole frames, with the words of the run's differences, big-endian: the groups of the division
-/// that is written, and as constants the first and the last sample. Gives the number of groups.
-pub fn fill_steim1(
+/// The size of the difference so many places ahead of one, or the greatest where none is left there.
+fn size_ahead(before: Option<i32>, run: &[i32], at: usize, ahead: usize) -> u64
+    requires few { ahead ≤ 4 }
+    requires within { at < length run.now }
+    ensures { IsSizeAt (drop at (differences before run.now)) ahead result }
+{
+    let place = at + ahead;
+    if place >= run.len() {
+        return u64::MAX;
+    }
+    magnitude(difference_after(before, run, place))
+}
+
+/// What `Window::first_steim1_group` tells, of differences taken one after another; three can be
+/// left alone here.
+fn first_group_outside(before: Option<i32>, run: &[i32], at: usize) -> Option<usize>
+    requires within { at < length run.now }
+    requires fits { AllByRecursion (FitsBits 32) (differences before run.now) }
+    ensures first { IfSome result (IsCanonicalFirst (drop at (differences before run.now))) }
+    ensures none { IsNone result → BeginsWithFour (drop 1 (drop at (differences before run.now))) }
+{
+    let one = size_ahead(before, run, at, 0);
+    let two = size_ahead(before, run, at, 1);
+    if one | two >= 32_768 {
+        return Some(1);
+    }
+    if two >= 128 {
+        return Some(2);
+    }
+    let three = size_ahead(before, run, at, 2);
+    if run.len() - at == 3 {
+        return if one | three < 128 { Some(3) } else { Some(2) };
+    }
+    let four = two | three | size_ahead(before, run, at, 3);
+    if four >= 128 {
+        return Some(2);
+    }
+    if one < 128 {
+        return Some(4);
+    }
+    if size_ahead(before, run, at, 4) < 128 {
+        None
+    } else {
+        Some(2)
+    }
+}
+
+/// The word of the group that begins with that difference, where the next ones tell its size, of
+/// differences taken one after another. It is kept out of the loop over words.
+#[inline(never)]
+fn word_outside_ahead(before: Option<i32>, run: &[i32], at: usize) -> Option<NextWord>
+    requires within { at < length run.now }
+    requires fits { AllByRecursion (FitsBits 32) (differences before run.now) }
+    ensures next { IfSome result (IsNextWord One (drop at (differences before run.now))) }
+    ensures none { IsNone result → BeginsWithFour (drop 1 (drop at (differences before run.now))) }
+{
+    let size = first_group_outside(before, run, at)?;
+    Some(word_outside(before, run, at, size))
+}
+
+/// The word of the group that begins with that difference, or 0 where none is left; none where the
+/// next differences do not tell its size.
+#[inline(always)]
+pub(crate) fn steim1_word_ahead(
+    before: Option<i32>,
+    run: &[i32],
+    window: &mut Window,
+    at: usize,
+) -> Option<NextWord>
+    requires within { at ≤ length run.now }
+    requires window { IsWindow run.now at window.old }
+    requires fits { AllByRecursion (FitsBits 32) (differences before run.now) }
+    ensures window { IsWindow run.now at window.new }
+    ensures next { IfSome result (IsNextWord One (drop at (differences before run.now))) }
+    ensures none { IsNone result → BeginsWithFour (drop 1 (drop at (differences before run.now))) }
+{
+    if window.reaches(run, at) {
+        let place = at - window.first;
+        let size = window.first_steim1_group(place)?;
+        return Some(word_seen(window, place, size));
+    }
+    if at == run.len() {
+        return Some(NextWord {
+            size: 0,
+            code: 0,
+            word: 0,
+            empty: 1,
+        });
+    }
+    word_outside_ahead(before, run, at)
+}
+
+/// Fills the area as `fill_steim1` does, by the sizes of all groups, found from the run's end on.
+#[inline(never)]
+fn fill_by_sizes(
     alloc: Global,
     before: Option<i32>,
     run: &[i32],
@@ -185,5 +278,25 @@ pub fn fill_steim1(
     ensures { IfOk result (IsFilledArea One before run.now (length area.old / 64) area.new) }
 {
     let sizes = sizes_of(alloc, before, run)?;
-    Ok(fill_frames(Version::One, before, run, &sizes, area))
+    Ok(fill_frames(Sizing::Given, before, run, &sizes, area).unwrap())
+}
+
+/// Fills the area, of whole frames, with the words of the run's differences, big-endian: the groups
+/// of the division that is written, and as constants the first and the last sample. Gives the number
+/// of groups. Memory is taken only where the next differences do not tell the size of each group.
+pub fn fill_steim1(
+    alloc: Global,
+    before: Option<i32>,
+    run: &[i32],
+    area: &mut [u8],
+) -> Result<usize, AllocError>
+    requires some { 1 ≤ length run.now }
+    requires frames { length area.old % 64 ≡ 0 }
+    requires fits { CanDivide One (15 * (length area.old / 64) - 2) (differences before run.now) }
+    ensures { IfOk result (IsFilledArea One before run.now (length area.old / 64) area.new) }
+{
+    if let Some(used) = fill_frames(Sizing::Ahead, before, run, &[], area) {
+        return Ok(used);
+    }
+    fill_by_sizes(alloc, before, run, area)
 }

@@ -4,7 +4,7 @@ ghost use Rattle.std.specs.Prelude.{◌≤◌, length};
 
 use crate::{
     AnyKind, Codec, Int16, Int32, Kind, Length, Run, Steim1, Steim2, Tracker, Window, difference,
-    fill_steim2, first_kind, groups, one_division, run_fits,
+    fill_steim1, fill_steim2, first_kind, groups, one_division, run_fits,
 };
 use msr_steim::Version;
 use std::alloc::{AllocError, Global};
@@ -361,6 +361,54 @@ fn an_area_of_steim2(rt: HostRuntime) -> Result<(), Fail> {
     for _ in 0..116 {
         expected.push(0)?;
     }
+    assert!(rt; area.as_slice() == expected.as_slice());
+    Ok(())
+}
+
+/// The area of a record of 256 bytes with the Steim-1 words of a run.
+fn steim1_area(alloc: Global, before: Option<i32>, run: &[i32]) -> Result<[u8; 192], Fail> {
+    let length = shortest()?;
+    let mut area = [255; 192];
+    if length.bytes() == 256 && !run.is_empty() && Kind::Steim1.fits(before, run, length) {
+        fill_steim1(alloc, before, run, &mut area).map_err(|_| "memory")?;
+        return Ok(area);
+    }
+    Err("no room")?
+}
+
+/// The words of the first frame, the others being 0.
+fn first_frame(alloc: Global, words: &[u32]) -> Result<Vec<u8>, AllocError> {
+    let mut bytes = Vec::new(alloc);
+    for word in words {
+        bytes.extend_from_slice(&word.to_be_bytes())?;
+    }
+    bytes.resize(192, 0)?;
+    Ok(bytes)
+}
+
+/// Groups of one, four, two and one difference; and one before four, where two would leave three for
+/// two words.
+#[test]
+fn areas_of_steim1(rt: HostRuntime) -> Result<(), Fail> {
+    let told = [
+        70_000, 70_001, 70_003, 70_006, 70_010, 70_310, 70_010, 70_015,
+    ];
+    let words = [
+        0x036C_0000,
+        70_000,
+        70_015,
+        70_000,
+        0x0102_0304,
+        0x012C_FED4,
+        5,
+    ];
+    let expected = first_frame(rt.alloc(), &words)?;
+    let area = steim1_area(rt.alloc(), Some(0), &told)?;
+    assert!(rt; area.as_slice() == expected.as_slice());
+    let untold = [200, 200, 200, 200, 200, 70_200];
+    let words = [0x0370_0000, 200, 70_200, 200, 0, 70_000];
+    let expected = first_frame(rt.alloc(), &words)?;
+    let area = steim1_area(rt.alloc(), Some(0), &untold)?;
     assert!(rt; area.as_slice() == expected.as_slice());
     Ok(())
 }

@@ -1,8 +1,11 @@
 //! Differences with their sizes, taken a stretch at a time: a loop over places that are there takes a fraction of the
 //! instructions of one difference after another.
 
-ghost use Rattle.std.specs.Prelude.{◌≡◌, ◌<◌, ◌≤◌, ◌+◌, ◌-◌, ◌-ℤ◌, ℕ, ℤ, List, None, IsTrue, drop, length};
-ghost use Rattle.msr_words.specs.FirstGroup.{IsSizeAt};
+ghost use Rattle.std.specs.Prelude.{◌≡◌, ◌<◌, ◌≤◌, ◌+◌, ◌-◌, ◌-ℤ◌, ℕ, ℤ, List, None, IfSome, IsNone, IsTrue, drop, length};
+ghost use Rattle.std.specs.List.{AllByRecursion};
+ghost use Rattle.msr_steim.specs.Word.{FitsBits};
+ghost use Rattle.msr_words.specs.Bounds.{BeginsWithFour};
+ghost use Rattle.msr_words.specs.FirstGroup.{IsCanonicalFirst, IsSizeAt};
 ghost use Rattle.msr_words.specs.Groups.{IsLongestGroup};
 ghost use Rattle.msr_words.specs.Segment.{differences};
 ghost use Rattle.msr_words.specs.Window.{AreSeen, IsSize, IsWindow};
@@ -140,6 +143,37 @@ impl Window {
         }
         let seven = six | self.sizes[place + 6];
         if seven >= 8 { 6 } else { 7 }
+    }
+
+    /// How many differences, from a place on, the first Steim-1 group has in the division that is
+    /// written. It is not told where four of 8 bits come behind a larger one that has room for the
+    /// first of them beside it: whether it takes that one depends on all that follow.
+    #[inline(always)]
+    pub(crate) fn first_steim1_group(&self, place: usize) -> Option<usize>
+        requires { place + 7 ≤ 64 }
+        ensures first { (ds : List ℤ) → AreSeen ds self.now.sizes self.now.kept place → AllByRecursion (FitsBits 32) ds → IfSome result (IsCanonicalFirst ds) }
+        ensures none { (ds : List ℤ) → AreSeen ds self.now.sizes self.now.kept place → IsNone result → BeginsWithFour (drop 1 ds) }
+    {
+        let one = self.sizes[place];
+        let two = self.sizes[place + 1];
+        if one | two >= 32_768 {
+            return Some(1);
+        }
+        if two >= 128 {
+            return Some(2);
+        }
+        let four = two | self.sizes[place + 2] | self.sizes[place + 3];
+        if four >= 128 {
+            return Some(2);
+        }
+        if one < 128 {
+            return Some(4);
+        }
+        if self.sizes[place + 4] < 128 {
+            None
+        } else {
+            Some(2)
+        }
     }
 
     /// How many differences of the run, from this one on, stand together in a Steim-2 word, as many as can.

@@ -1,13 +1,13 @@
 -- One more field.
-use Rattle.std.proofs.Common.{rules, arith, ◌≡◌, ◌<◌, ◌≤◌, ◌+◌, ◌*◌, ◌/◌, ◌%◌, ◌^◌, ◌++◌, ◌∷◌, [], ◌∙◌, ap, get_or, pos, sym, subst, take, length, lit<, lit≤, of_z, w32, w64, SFits, bit_and}
+use Rattle.std.proofs.Common.{rules, arith, ◌≡◌, ◌<◌, ◌≤◌, ◌+◌, ◌*◌, ◌%◌, ◌++◌, ◌∷◌, [], ◌∙◌, ap, get_or, pos, sym, subst, take, length, of_z, w32, w64, SFits, bit_and}
 use Rattle.std.specs.Int.Bits.{bit_xor}
 use Rattle.std.proofs.lemmas.Int.{to_z-of_z}
 use Rattle.std.proofs.lemmas.List.{take_more}
-use Rattle.std.proofs.lemmas.Nat.{and_mask, pow_pos}
-use Rattle.std.proofs.Math.Nat.{mul-le-mul_right, pow-le-pow_right}
-use Rattle.msr_steim.specs.Word.{FitsBits, joined_fields}
+use Rattle.std.proofs.lemmas.Nat.{pow_pos}
+use Rattle.std.proofs.Math.Nat.{mul-le-mul_right}
+use Rattle.msr_steim.specs.Word.{FitsBits}
 use Rattle.msr_words.proofs.FillFields.{fits_there}
-use Rattle.msr_words.proofs.Offsets.{IsOffset, halves_few, low_word, offset_more, offset_none, offset_word}
+use Rattle.msr_words.proofs.Offsets.{halves_few, low_word, offset_more, offset_none, offset_word}
 use Rattle.msr_words.proofs.Windows.{kept_there}
 use Rattle.msr_words.proofs.filling.fields_seen.Goals as goal
 

@@ -3,6 +3,7 @@
 use Rattle.std.proofs.Common.{◌<◌, ◌≤◌, ◌+◌, ◌-◌, ◌*◌, ◌^◌, ℤ, List, length, pos, slice_index_or}
 use Rattle.msr_words.specs.Canonical.{IsCanonicalDivision}
 use Rattle.msr_words.specs.Segment.{differences}
+use Rattle.msr_words.specs.Sizing.{version_of}
 use Rattle.msr_words.specs.Window.{IsWindow}
 use Rattle.msr_words.proofs.Fill.{IsFilled, IsFramed}
 use Rattle.msr_words.proofs.frames.fill_frames.Given as goal
@@ -12,8 +13,8 @@ invariant-loop-frame l = record {
   within : l.at ≤ length l.run;
   window : IsWindow l.run l.at l.window;
   few : l.used ≤ 15 * l.frame;
-  framed : (gs : List (List ℤ)) → IsCanonicalDivision l.version gs (differences l.before l.run)
-      → IsFramed l.version gs (differences l.before l.run) (slice_index_or l.run 0 (pos 0)) (slice_index_or l.run (length l.run - 1) (pos 0)) l.frame l.at l.used l.fn.area l.area;
+  framed : (gs : List (List ℤ)) → IsCanonicalDivision (version_of l.sizing) gs (differences l.before l.run)
+      → IsFramed (version_of l.sizing) gs (differences l.before l.run) (slice_index_or l.run 0 (pos 0)) (slice_index_or l.run (length l.run - 1) (pos 0)) l.frame l.at l.used l.fn.area l.area;
 }
 
 abbrev pub invariant-loop-slot : goal.invariant-loop-slot
@@ -24,6 +25,6 @@ invariant-loop-slot l = record {
   enough : 15 ≤ l.used + l.slot;
   small : l.codes < 4 ^ (l.slot + 1);
   high : 2 ≤ 16 * l.frame + l.slot;
-  filled : (gs : List (List ℤ)) → IsCanonicalDivision l.version gs (differences l.before l.run)
-      → IsFilled l.version gs (differences l.before l.run) (slice_index_or l.run 0 (pos 0)) (slice_index_or l.run (length l.run - 1) (pos 0)) l.frame l.slot l.at (l.used + l.slot - 15) l.codes l.fn.area l.area;
+  filled : (gs : List (List ℤ)) → IsCanonicalDivision (version_of l.sizing) gs (differences l.before l.run)
+      → IsFilled (version_of l.sizing) gs (differences l.before l.run) (slice_index_or l.run 0 (pos 0)) (slice_index_or l.run (length l.run - 1) (pos 0)) l.frame l.slot l.at (l.used + l.slot - 15) l.codes l.fn.area l.area;
 }

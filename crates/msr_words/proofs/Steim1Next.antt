@@ -1,0 +1,91 @@
+-- The next Steim-1 word, where the size of its group is known.
+use Rattle.std.proofs.Common.{◌≡◌, ◌<◌, ◌≤◌, ◌+◌, ◌-◌, ◌*◌, ℕ, ℤ, pos, List, Option, drop, take, length, get_or, refl, sym, subst, arith}
+use Rattle.std.proofs.lemmas.List.{length-drop}
+use Rattle.msr_steim.specs.declared.word.Version.TheVariants.{One}
+use Rattle.msr_steim.specs.Word.{IsGroup, group_code, group_word}
+use Rattle.msr_steim.specs.Frames.{frame_bytes}
+use Rattle.msr_words.specs.declared.filling.NextWord.{NextWord}
+use Rattle.msr_words.specs.Canonical.{IsCanonicalDivision}
+use Rattle.msr_words.specs.Division.{CanDivide}
+use Rattle.msr_words.specs.Filled.{IsFilledArea}
+use Rattle.msr_words.specs.FirstGroup.{IsCanonicalFirst}
+use Rattle.msr_words.specs.NextWord.{IsNextWord}
+use Rattle.msr_words.specs.Segment.{differences}
+use Rattle.msr_words.specs.Lemmas.SteimLaws.{size_law}
+use Rattle.msr_words.proofs.Exist.{has_division}
+use Rattle.msr_words.proofs.FirstGroups.{first_few, first_is_group, first_some, next_first, next_none}
+use Rattle.msr_words.proofs.Plain.{length_differences}
+
+-- what is known of the size of the group that begins with a difference
+pub record IsSizeThere (before : Option ℤ) (run : List ℤ) (at size : ℕ) : Type 0 where
+  pub first : IsCanonicalFirst (drop at (differences before run)) size
+  pub some : 1 ≤ size
+  pub most : size ≤ 4
+  pub room : at + size ≤ length run
+  pub within : size ≤ length (drop at (differences before run))
+  pub group : IsGroup One (take size (drop at (differences before run)))
+
+pub size_there : (before : Option ℤ) (run : List ℤ) (at size : ℕ) → at < length run → IsCanonicalFirst (drop at (differences before run)) size → IsSizeThere before run at size
+size_there before run at size less first =
+    let m = length_differences before run in
+    let ds = drop at (differences before run) in
+    let l = length-drop at (differences before run) in
+    record {
+      first = first;
+      some = first_some ds size first.0 first.1;
+      most = first_few ds size first.0 first.1;
+      room = omega (arith, first.1.within);
+      within = first.1.within;
+      group = first_is_group ds size first.0 first.1;
+    }
+
+-- the word of that group
+pub word_there : (before : Option ℤ) (run : List ℤ) (at size : ℕ) (next : NextWord) → at < length run → IsSizeThere before run at size → next.size ≡ size → next.empty ≡ 0
+    → next.code ≡ group_code One size → next.code < 4 → next.word ≡ group_word One (take size (drop at (differences before run))) → IsNextWord One (drop at (differences before run)) next
+word_there before run at size next less is size_is empty code_is small word_is =
+    let ds = drop at (differences before run) in
+    let m = length_differences before run in
+    let l = length-drop at (differences before run) in
+    let first : IsCanonicalFirst (drop at (differences before run)) next.size = subst (IsCanonicalFirst (drop at (differences before run))) (sym size_is) is.first in
+    record {
+      within = omega (arith, is.within);
+      follows = λ gs chosen. next_first ds next.size first.0 first.1 gs chosen;
+      code_is = rw size_is code_is;
+      small = small;
+      word_is = rw size_is word_is;
+      full = λ some. empty;
+      empty_is = λ none. absurd (omega arith);
+    }
+
+-- where no difference is left
+pub word_none : (before : Option ℤ) (run : List ℤ) (at : ℕ) → at ≡ length run → IsNextWord One (drop at (differences before run)) (record { size = 0; code = 0; word = 0; empty = 1 })
+word_none before run at end =
+    let ds = drop at (differences before run) in
+    let m = length_differences before run in
+    let l = length-drop at (differences before run) in
+    let none : length (drop at (differences before run)) ≡ 0 = omega arith in
+    record {
+      within = omega arith;
+      follows = λ gs chosen. next_none gs ds 0 none refl chosen;
+      code_is = refl;
+      small = omega arith;
+      word_is = refl;
+      full = λ some. absurd (omega arith);
+      empty_is = λ none'. refl;
+    }
+
+-- the area, where it is filled with the groups of the division that is written
+pub area_filled : (before : Option ℤ) (run : List ℤ) (frames : ℕ) (area : List ℕ) (number : ℕ) → 1 ≤ length run → CanDivide One (15 * frames - 2) (differences before run)
+    → ((groups : List (List ℤ)) → IsCanonicalDivision One groups (differences before run) → length groups + 2 ≤ 15 * frames
+    → (area ≡ frame_bytes One (get_or run 0 (pos 0)) (get_or run (length run - 1) (pos 0)) groups frames) × (number ≡ length groups))
+    → IsFilledArea One before run frames area number
+area_filled before run frames area number some can filled =
+    let found = has_division One (15 * frames - 2) (differences before run) can in
+    let gs = found.groups in
+    let few = found.canonical.fewest can.groups can.are_groups can.join in
+    let few' = can.few in
+    let long = length_differences before run in
+    let enough = size_law One (length found.groups) (differences before run) (record { groups = gs; are_groups = found.canonical.are_groups; join = found.canonical.join; few = omega arith }) in
+    let room : length found.groups + 2 ≤ 15 * frames = omega arith in
+    let is = filled gs found.canonical room in
+    record { groups = gs; canonical = found.canonical; bytes_are = is.0; number_is = is.1 }
