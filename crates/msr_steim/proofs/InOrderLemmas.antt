@@ -30,7 +30,7 @@ no_fields word width =
     let zero_left : word % 1 ≡ 0 = omega arith in
     record { count = refl; fit = tt; bits = ap (λ n. word % n) one ∙ zero_left }
 
-numbers_are_fields : (word width count : ℕ) → (0 < count → 0 < width) → AreFields word (numbers_in word width count) (record { count = count; width = width })
+pub numbers_are_fields : (word width count : ℕ) → (0 < count → 0 < width) → AreFields word (numbers_in word width count) (record { count = count; width = width })
 unfolding numbers_in
 numbers_are_fields word width zero positive = no_fields word width
 numbers_are_fields word width (suc count) positive = are_fields word width (suc count) (positive (omega arith))

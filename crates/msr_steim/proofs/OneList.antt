@@ -13,7 +13,7 @@ use Rattle.std.proofs.Math.Nat.{pow-zero, pow-suc}
 use Rattle.msr_steim.proofs.Fields.{power_is_half, joined_fields_lt, pow_pow}
 
 -- a field has some bits, where there is one
-unfoldable HasBits : Division → Type 0
+unfoldable pub HasBits : Division → Type 0
 HasBits d = 0 < d.count → 0 < d.width
 
 has_bits_one : (a b c d : Bool) → IfSome {T = Division} (cond a (Some (record { count = 0; width = 0 })) (cond b (Some (record { count = 4; width = 8 })) (cond c (Some (record { count = 2; width = 16 })) (cond d (Some (record { count = 1; width = 32 })) None)))) HasBits
@@ -38,9 +38,13 @@ has_bits_two false false false true p q r false false true = λ h. lit< tt
 has_bits_two false false false true p q r false false false = tt
 has_bits_two false false false false p q r s t u = tt
 
-has_bits : (version : Version) (code top : ℕ) → IfSome (division_of version code top) HasBits
+pub has_bits : (version : Version) (code top : ℕ) → IfSome (division_of version code top) HasBits
 has_bits One code top = has_bits_one (code == 0) (code == 1) (code == 2) (code == 3)
 has_bits Two code top = has_bits_two (code == 0) (code == 1) (code == 2) (code == 3) (top == 1) (top == 2) (top == 3) (top == 0) (top == 1) (top == 2)
+
+pub bits_of_fields : (version : Version) (code top : ℕ) (d : Division) → division_of version code top ≡ Some d → 0 < d.count → 0 < d.width
+unfolding HasBits
+bits_of_fields version code top d division = subst (λ o. IfSome o HasBits) division (has_bits version code top)
 
 -- digits after a number
 pub number_after : (b n : ℕ) (ds : List ℕ) → number_from_digits_after b n ds ≡ n * b ^ length ds + number_from_digits_after b 0 ds

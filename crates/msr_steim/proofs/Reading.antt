@@ -48,7 +48,7 @@ samples_of_append first (e ∷ es) gs some =
     let n : length (e ∷ es) - 1 ≡ length es = omega arith in
     ap (λ s. first ∷ s) (sums_after_append first es gs) ∙ ap (λ k. first ∷ (sums_after first es ++ sums_after (get_or (first ∷ sums_after first es) k (pos 0)) gs)) (sym n)
 
-no_samples : (first : ℤ) (before : List ℤ) → length before ≡ 0 → before ≡ []
+pub no_samples : (first : ℤ) (before : List ℤ) → length before ≡ 0 → before ≡ []
 no_samples first [] e = refl
 no_samples first (d ∷ ds) e = absurd (omega (arith, e))
 
@@ -86,11 +86,7 @@ pub record IsStart (version : Version) (code word : ℕ) (forward : ℤ) (at sta
   pub kept : 0 < at.place → start ≡ at
   pub first : at.place ≡ 0 → (group : List ℤ) → Holds version code word group → samples_of forward group ≡ sums_after start.last group
 
-pub start_so : (version : Version) (code word : ℕ) (x y : ℤ) (at start : Place) → x ≡ y → start.place ≡ at.place → (0 < at.place → start ≡ at)
-    → (at.place ≡ 0 → (group : List ℤ) → Holds version code word group → samples_of x group ≡ sums_after start.last group) → IsStart version code word y at start
-start_so version code word x y at start same place kept first = subst (λ z. IsStart version code word z at start) same (record { place = place; kept = kept; first = first })
-
-held_so : (version : Version) (order : Order) (area : List ℕ) (number code word : ℕ) (group : List ℤ) → code ≡ code_of order area number → word ≡ arranged_word version order code area number → Holds version code word group → WordHolds version order area number group
+pub held_so : (version : Version) (order : Order) (area : List ℕ) (number code word : ℕ) (group : List ℤ) → code ≡ code_of order area number → word ≡ arranged_word version order code area number → Holds version code word group → WordHolds version order area number group
 held_so version order area number code word group e f holds =
     let P : ℕ → Type 0 = λ k. Holds version k (arranged_word version order k area number) group in
     subst P e (subst (λ w. Holds version code w group) f holds)

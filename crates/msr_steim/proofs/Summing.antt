@@ -1,14 +1,16 @@
 -- The sums that are written for one word.
-use Rattle.std.proofs.Common.{◌≡◌, ◌<◌, ◌≤◌, ℕ, zero, suc, ◌+◌, ◌-◌, ◌*◌, ◌/◌, ◌%◌, ◌^◌, ℤ, pos, negsuc, ◌+ℤ◌, List, [], ◌∷◌, ◌++◌, length, take, get_or, refl, sym, ap, ◌∙◌, subst, arith, w32, SFits, Some, length-append, lit<}
-use Rattle.std.specs.Prelude.{IsSomeAnd, slice_index_or}
+use Rattle.std.proofs.Common.{◌≡◌, ◌<◌, ◌≤◌, ℕ, zero, suc, ◌+◌, ◌-◌, ◌*◌, ◌/◌, ◌%◌, ◌^◌, ℤ, pos, negsuc, ◌+ℤ◌, List, [], ◌∷◌, ◌++◌, length, take, get_or, refl, sym, ap, ◌∙◌, subst, arith, w32, SFits, Some, length-append, lit<, inl, inr, min, ⊎_elim}
+use Rattle.std.specs.Prelude.{IfSome, IsSomeAnd, Option, None, slice_index_or}
 use Rattle.std.specs.Int.{int_wrap}
 use Rattle.std.proofs.Math.Seq.{get_or-append_seam, take-append-add}
 use Rattle.std.proofs.Math.Nat.{pow-zero, mod-lt}
+use Rattle.std.proofs.lemmas.Bool.{cases_lt}
 use Rattle.std.proofs.lemmas.List.{take_more, take_all, length-take, append-nil}
 use Rattle.msr_steim.specs.declared.sums.Place.{Place}
 use Rattle.msr_steim.specs.declared.word.Version.{Version}
+use Rattle.msr_steim.specs.declared.word.Version.TheVariants.{Two}
 use Rattle.msr_steim.specs.Area.{sums_after}
-use Rattle.msr_steim.specs.Sums.{IsWritten}
+use Rattle.msr_steim.specs.Sums.{IsGroupWritten, IsInnerWritten, IsWritten}
 use Rattle.msr_steim.specs.Word.{AreFields, FitsBits, Holds, division_of, numbers_in}
 use Rattle.msr_steim.proofs.Decoding.{length-sums_after, sums_after_push}
 use Rattle.msr_steim.proofs.Fields.{half_bound}
@@ -55,6 +57,15 @@ some_written out new ds last place m same within =
     let total : length (take place out) + m ≡ length out = omega (arith, size, within) in
     ap (λ s. take place out ++ s) (same ∙ sym (take-sums_after m last ds)) ∙ sym (take-append-add (take place out) (sums_after last ds) m) ∙ ap (λ n. take n (take place out ++ sums_after last ds)) total
 
+-- as many as there are, or as there are places for
+pub far_written : (out new ds : List ℤ) (last : ℤ) (place m : ℕ) → new ≡ sums_after last (take m ds) → place + m ≡ min (length out) (place + length ds)
+    → take place out ++ new ≡ take (length out) (take place out ++ sums_after last ds)
+far_written out new ds last place m same far =
+    ⊎_elim
+    (λ (fewer : length out < place + length ds). some_written out new ds last place m same (omega (arith, far, fewer)))
+    (λ (enough : place + length ds ≤ length out). all_written out new ds last place m same (omega (arith, far, enough)) enough)
+    (cases_lt (length out) (place + length ds))
+
 -- the division of a word, by its code and its top two bits
 pub divided : (version other : Version) (code top c t : ℕ) → version ≡ other → code ≡ c → top ≡ t → division_of version code top ≡ division_of other c t
 divided version other code top c t e f g = ap (λ v. division_of v code top) e ∙ ap (λ n. division_of other n top) f ∙ ap (division_of other c) g
@@ -71,6 +82,22 @@ group_written version code word at old new next count width division positive wi
   within = within;
   samples = samples;
   last = λ before some. last;
+}
+
+-- the same for a word of Steim-2, by its code and its top two bits as one number
+pub divided_by : (version : Version) (code word key : ℕ) → version ≡ Two → word < 4294967296 → 4 * code + word / 1073741824 ≡ key
+    → division_of version code (word / 1073741824) ≡ division_of Two (key / 4) (key % 4)
+divided_by version code word key e small key_is = divided version Two code (word / 1073741824) (key / 4) (key % 4) e (omega arith) (omega arith)
+
+-- and a place is left after it, where it was written whole
+pub inner_group_written : (version : Version) (code word : ℕ) (at : Place) (old new : List ℤ) (count width : ℕ) (result : Option Place)
+    → division_of version code (word / 2 ^ 30) ≡ Some (record { count = count; width = width }) → 0 < count → 0 < width
+    → IfSome result (IsGroupWritten word count width at old new) → IfSome result (IsInnerWritten version code word at old new)
+inner_group_written version code word at old new count width None division some positive written = tt
+inner_group_written version code word at old new count width (Some next) division some positive written = record {
+  written = group_written version code word at old new next count width division positive (omega (arith, written.room)) written.samples written.last;
+  room = written.room;
+  on = inr (omega (arith, written.place));
 }
 
 -- a word with no fields holds nothing
@@ -97,3 +124,7 @@ none_written version code word at out division room = record {
   samples = sym (ap (take (length out)) (append-nil (take at.place out)) ∙ take_all (length out) (take at.place out) (omega (arith, length-take at.place out, room)));
   last = λ before some. before some;
 }
+
+pub inner_none_written : (version : Version) (code word : ℕ) (at : Place) (out : List ℤ) → division_of version code (word / 2 ^ 30) ≡ Some (record { count = 0; width = 0 }) → at.place < length out
+    → IsInnerWritten version code word at out out at
+inner_none_written version code word at out division room = record { written = none_written version code word at out division room; room = room; on = inl refl }

@@ -4,7 +4,7 @@ use Rattle.msr_header.specs.declared.header.Order.{Order}
 use Rattle.msr_steim.specs.declared.borrowed.Fields.{Fields}
 use Rattle.msr_steim.specs.declared.word.Division.{Division}
 use Rattle.msr_steim.specs.declared.word.Version.{Version}
-use Rattle.msr_steim.specs.Area.{FirstWordsHold, arranged_word, code_of, differences, word_count}
+use Rattle.msr_steim.specs.Area.{FirstWordsHold, arranged_word, code_of, constant, differences, samples_of, sums_after, word_count}
 use Rattle.msr_steim.specs.Word.{division_of, numbers_in}
 
 -- the numbers in the fields of a word that is divided so; an undefined word has none
@@ -48,3 +48,7 @@ pub record HoldsEnough (version : Version) (order : Order) (area : List ℕ) (co
 abbrev pub last_after : ℤ → List ℤ → ℤ
 last_after before [] = before
 last_after before (x ∷ xs) = last_after x xs
+
+-- the first difference is added to this, so that the first sample is the forward constant
+pub record BeginsAfter (version : Version) (order : Order) (area : List ℕ) (before : ℤ) : Type 0 where
+  pub sums : samples_of (constant order area 1) (differences_from version order area 0) ≡ sums_after before (differences_from version order area 0)

@@ -1,9 +1,9 @@
 -- The samples that one word gives.
-use Rattle.std.specs.Prelude.{◌≡◌, ◌<◌, ◌≤◌, ℕ, ◌-◌, ℤ, pos, List, ◌++◌, length, take, slice_index_or}
+use Rattle.std.specs.Prelude.{◌≡◌, ◌<◌, ◌≤◌, ◌⊎◌, ℕ, ◌+◌, ◌-◌, ℤ, pos, List, ◌++◌, length, take, slice_index_or}
 use Rattle.msr_steim.specs.declared.sums.Place.{Place}
 use Rattle.msr_steim.specs.declared.word.Version.{Version}
 use Rattle.msr_steim.specs.Area.{sums_after}
-use Rattle.msr_steim.specs.Word.{Holds}
+use Rattle.msr_steim.specs.Word.{Holds, numbers_in}
 
 -- The word holds a group, and its sums were written behind the samples before `at`, as far as there are
 -- places: from the old list to the new one, whose samples then stand before `next`.
@@ -14,3 +14,20 @@ pub record IsWritten (version : Version) (code word : ℕ) (at : Place) (old new
   pub samples : take next.place new ≡ take (length old) (take at.place old ++ sums_after at.last group)
   pub last : (0 < at.place → at.last ≡ slice_index_or old (at.place - 1) (pos 0))
       → 0 < next.place → next.last ≡ slice_index_or new (next.place - 1) (pos 0)
+
+-- the sums of the fields of a word were written so, and a place is left after them
+pub record IsGroupWritten (word count width : ℕ) (at : Place) (old new : List ℤ) (next : Place) : Type 0 where
+  pub place : next.place ≡ at.place + count
+  pub room : next.place < length old
+  pub samples : take next.place new ≡ take (length old) (take at.place old ++ sums_after at.last (numbers_in word width count))
+  pub last : next.last ≡ slice_index_or new (next.place - 1) (pos 0)
+
+-- the samples of a word were written, and a place is left after them; where there are none, nothing has changed
+pub record IsInnerWritten (version : Version) (code word : ℕ) (at : Place) (old new : List ℤ) (next : Place) : Type 0 where
+  pub written : IsWritten version code word at old new next
+  pub room : next.place < length old
+  pub on : (next ≡ at) ⊎ (at.place < next.place)
+
+-- the samples of a word take all places up to the end, or the word holds none
+pub record ReachesEnd (version : Version) (code word place end : ℕ) : Type 0 where
+  pub reaches : (group : List ℤ) → Holds version code word group → end ≤ place + length group

@@ -3,11 +3,11 @@
 ghost use Rattle.std.specs.Prelude.{◌≡◌, ◌<◌, ◌≤◌, ◌↔◌, ℕ, ℤ, List, ◌+◌, ◌-◌, ◌*◌, ◌/◌, ◌%◌, ◌^◌, IfOk, IsErrOf, IsTrue, OnOk, Some, length, slice_get};
 ghost use Rattle.msr_header.specs.declared.header.Order.{Order};
 ghost use Rattle.msr_steim.specs.declared.word.Version.{Version};
-ghost use Rattle.msr_steim.specs.Area.{CarriesSteim, EndsBefore, IsUndefinedBefore, ReverseAgrees, arranged_word, constant, samples_of, sums_after, whole_word};
-ghost use Rattle.msr_steim.specs.Word.{Holds};
+ghost use Rattle.msr_steim.specs.Area.{CarriesSteim, EndsBefore, IsUndefinedBefore, ReverseAgrees, arranged_word, constant, whole_word};
 
-use crate::sums::{Place, write_word_sums};
-use crate::word::{BadCode, Version, read_word};
+use crate::borrowed::before_first;
+use crate::sums::{Place, write_inner_word, write_last_word};
+use crate::word::Version;
 use byteorder::{BigEndian, ByteOrder, LittleEndian};
 use msr_header::Order;
 use msr_plain::Samples;
@@ -99,42 +99,6 @@ pub(crate) fn arranged_word_at(
     }
 }
 
-/// What the differences of the first group are added to, so that the first sample is the constant.
-#[cold]
-#[inline(never)]
-fn before_first(version: Version, code: u8, word: u32, first: i32) -> i32
-    requires { code < 4 }
-    ensures { (group : List ℤ) → Holds version code word group
-        → samples_of first group ≡ sums_after result group }
-{
-    match read_word(version, code, word) {
-        Ok(group) => match group.as_slice() {
-            [] => first,
-            [difference, ..] => first.wrapping_sub(*difference),
-        },
-        Err(BadCode) => first,
-    }
-}
-
-/// Where the samples of a word go, and what its differences are added to.
-#[inline(always)]
-fn start_of(version: Version, code: u8, word: u32, first: i32, at: Place) -> Place
-    requires { code < 4 }
-    ensures place { result.place ≡ at.place }
-    ensures kept { 0 < at.place → result ≡ at }
-    ensures first { at.place ≡ 0 → (group : List ℤ) → Holds version code word group
-        → samples_of first group ≡ sums_after result.last group }
-{
-    if at.place == 0 {
-        Place {
-            place: at.place,
-            last: before_first(version, code, word, first),
-        }
-    } else {
-        at
-    }
-}
-
 /// A constant of the first frame.
 pub(crate) fn constant_at(order: Order, area: &[u8], number: usize) -> i32
     requires { 4 * number + 4 ≤ length area.now }
@@ -173,21 +137,23 @@ fn decode_words(
     if frames == 0 {
         return Err(SteimFault::DataShort);
     }
-    let first = constant_at(order, area, 1);
-    let mut at = Place { place: 0, last: 0 };
+    let last = before_first(version, order, area);
+    let mut at = Place { place: 0, last };
     for frame in 0..frames {
-        let codes = whole_word_at(order, area, 16 * frame);
-        for slot in first_slot(frame)..16 {
+        let from = first_slot(frame);
+        // The code of the next word stands in the highest bits.
+        let mut codes = whole_word_at(order, area, 16 * frame) << (2 * from);
+        for slot in from..16 {
             let number = 16 * frame + slot;
-            let code = code_in(codes, slot);
+            let code = (codes >> 30) as u8;
             let word = arranged_word_at(version, order, code, area, number);
-            let start = start_of(version, code, word, first, at);
-            let Some(next) = write_word_sums(version, code, word, start, out) else {
-                return Err(SteimFault::BadCode(number as u32));
+            let Some(next) = write_inner_word(version, code, word, at, out) else {
+                return match write_last_word(version, code, word, at, out) {
+                    Some(_) => Ok(is_last(out, constant_at(order, area, 2))),
+                    None => Err(SteimFault::BadCode(number as u32)),
+                };
             };
-            if next.place == out.len() {
-                return Ok(is_last(out, constant_at(order, area, 2)));
-            }
+            codes <<= 2;
             at = next;
         }
     }

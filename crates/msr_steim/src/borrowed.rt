@@ -3,7 +3,7 @@
 ghost use Rattle.std.specs.Prelude.{◌≡◌, ◌<◌, ◌≤◌, ◌↔◌, ◌++◌, ◌*◌, ℕ, ℤ, List, ⊤, IfOk, IfSome, IsErrOf, IsNone, IsSome, IsTrue, OnOk, [], length};
 ghost use Rattle.std.specs.Iterator.{YieldsFirst, item_count};
 ghost use Rattle.msr_steim.specs.Area.{CarriesSteim, EndsBefore, IsUndefined, IsUndefinedBefore, ReverseAgrees, code_of, word_count};
-ghost use Rattle.msr_steim.specs.InOrder.{HasFields, HoldsEnough, differences_from};
+ghost use Rattle.msr_steim.specs.InOrder.{BeginsAfter, HasFields, HoldsEnough, differences_from};
 ghost use Rattle.msr_steim.specs.Left.{GivesFirst};
 ghost use Rattle.msr_steim.specs.Word.{numbers_in};
 
@@ -123,6 +123,21 @@ fn next_fields(version: Version, order: Order, area: &[u8], from: usize) -> Opti
         }
     }
     None
+}
+
+/// What the first difference of an area is added to, so that the first sample is the forward constant.
+pub(crate) fn before_first(version: Version, order: Order, area: &[u8]) -> i32
+    requires some { 64 ≤ length area.now }
+    requires small { length area.now ≤ 1048576 }
+    ensures { BeginsAfter version order area.now result }
+{
+    let first = constant_at(order, area, 1);
+    match next_fields(version, order, area, 0) {
+        Some((fields, _)) => {
+            first.wrapping_sub(difference_at(fields.word, fields.count - 1, fields.width))
+        }
+        None => first,
+    }
 }
 
 impl<'a> Differences<'a> {

@@ -45,6 +45,7 @@ window_on samples at at' window le is = record {
   before = (let b = is.before in omega arith);
   within = is.within;
   most = is.most;
+  until = is.until;
   later = is.later;
   taken = is.taken;
 }

@@ -28,5 +28,6 @@ pub record IsWindow (samples : List ℤ) (at : ℕ) (window : Window) : Type 0 w
   pub before : window.first ≤ at
   pub within : window.end ≤ length samples
   pub most : window.end ≤ window.first + 64
+  pub until : window.until ≤ window.end - 6
   pub later : window.first < window.end → 0 < window.first
   pub taken : AreTaken samples window.first (window.end - window.first) window.sizes window.kept

@@ -20,6 +20,8 @@ const PLACES: usize = 64;
 pub struct Window {
     pub(crate) first: usize,
     pub(crate) end: usize,
+    /// Before this sample the window has the difference of each and those of the next six.
+    pub(crate) until: usize,
     /// How far each is from 0, or from -1 where it is negative.
     pub(crate) sizes: [u32; 64],
     /// Each itself, where it is of 32 bits.
@@ -68,6 +70,7 @@ impl Window {
         Window {
             first: 0,
             end: 0,
+            until: 0,
             sizes: [0; PLACES],
             kept: [0; PLACES],
         }
@@ -90,6 +93,7 @@ impl Window {
         }
         self.first = first;
         self.end = first + PLACES;
+        self.until = self.end - 6;
     }
 
     /// Whether the window has the differences of a sample and of the next six. It moves on where it has not, and
@@ -102,7 +106,7 @@ impl Window {
         ensures some { IsTrue result → 0 < at }
         ensures seven { IsTrue result → at + 7 ≤ self.new.end }
     {
-        if at + 7 <= self.end {
+        if at < self.until {
             return true;
         }
         if at == 0 || samples.len() <= PLACES || samples.len() - at < 7 {
