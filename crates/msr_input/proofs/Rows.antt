@@ -92,9 +92,13 @@ in-range-followed following records answers found none followed in_time within =
     let more = in-range-more at.joining records at.given found none-at at.joined in_time (λ row e over. within row e (subst (λ (f : Following). Overruns f (row_span row)) (sym at.stands) over)) in
     subst (λ (t : ℕ). NoneOverruns t (records ++ found ∷ [])) (sym same) more
 
-step-tolerance : (old new : Following) (row : Span) (answer : Step) → IsStep old row answer new → new.tolerance ≡ old.tolerance
+pub step-tolerance : (old new : Following) (row : Span) (answer : Step) → IsStep old row answer new → new.tolerance ≡ old.tolerance
 step-tolerance old new row Begins k = ap (λ (f : Following). f.tolerance) k.after
 step-tolerance old new row Joins k = ap (λ (f : Following). f.tolerance) k.after
+
+pub follows-tolerance : (old new : Following) (row : Option Row) (next : Option NextRow) → FollowsRecord old row next new → new.tolerance ≡ old.tolerance
+follows-tolerance old new None next follows = ap (λ (f : Following). f.tolerance) follows.1
+follows-tolerance old new (Some row) next follows = step-tolerance old new (row_span row) follows.answer follows.step
 
 -- a follower stays where it is where there is no row
 pub stays : (old new : Following) (row : Option Row) (next : Option NextRow) → FollowsRecord old row next new → next ≡ None → new ≡ old

@@ -80,6 +80,8 @@ impl RowReader {
         ensures row { IfOk result (λ next. IfSome next (λ given. CanJoin given.row × IsWritable (row_segment given.row))) }
         ensures in_bounds { IfOk result (λ next. IfSome next (λ _. IsInBounds self.new.following.current)) }
 
+        ensures tolerance { self.new.following.tolerance ≡ self.old.following.tolerance }
+
         // Want of memory comes only where memory is taken.
         ensures memory { IsErrOf result ReadFault.Memory → TakesMemoryFor self.new.position.waiting self.new.position.room }
 
