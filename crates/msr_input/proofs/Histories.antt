@@ -1,17 +1,16 @@
--- What a reader has read, step by step, and why it stops.
-use Rattle.std.proofs.Common.{◌≡◌, ◌≢◌, ℕ, ◌+◌, ◌^◌, ◌<◌, ◌-◌, suc, ◌⊎◌, inl, inr, Bool, true, false, List, [], ◌∷◌, ◌++◌, length, drop, refl, sym, ap, subst, ◌∙◌, arith, append_assoc, length-append, length-drop, Option, Some, None, All, get_or, IfSome, IsSome, Result, Ok, Err, IfErr, MatchResult}
+-- What a reader of segments has read, step by step, and why it stops.
+use Rattle.std.proofs.Common.{◌≡◌, ◌≢◌, ℕ, suc, inl, inr, true, List, [], ◌∷◌, ◌++◌, refl, sym, ap, subst, ◌∙◌, arith, length-append, Option, Some, None, All, get_or, IfSome, IsSome, Result, Ok, Err, IfErr, MatchResult}
 use Rattle.std.specs.Option.{option_to_list}
-use Rattle.std.proofs.lemmas.List.{append-nil, get_or_append_left, drop-append-le}
+use Rattle.std.proofs.lemmas.List.{append-nil, get_or_append_left}
 use Rattle.std.proofs.lemmas.List.Elements.{All-append}
-use Rattle.msr_record.specs.Records.{IsRecordOf, IsRowOf, IsRefused, RowIsInTime, TakesMemory}
+use Rattle.msr_record.specs.Records.{IsRecordOf, IsRowOf, RowIsInTime, TakesMemory}
 use Rattle.msr_record.specs.declared.row.Record.{Record}
 use Rattle.msr_record.specs.declared.row.Row.{Row}
-use Rattle.msr_record.specs.declared.fault.FaultKind.{FaultKind}
+use Rattle.msr_record.specs.declared.fault.FaultKind.TheVariants.{TimeRange}
 use Rattle.msr_record.proofs.Shown.{record_fits, shown_record}
 use Rattle.msr_record.proofs.WritableRows.{row_is_writable}
-use Rattle.msr_devices.specs.Device.{Device, HasLeft, GivesOnto, IsCalm}
-use Rattle.msr_devices.specs.ReadBuffer.{Window, IsFilled}
-use Rattle.msr_devices.proofs.Chaining.{calm-same, calm-calm, calm-failed, steady-steady, left-of}
+use Rattle.msr_devices.specs.Device.{Device}
+use Rattle.msr_devices.proofs.Chaining.{left-of}
 use Rattle.msr_segments.specs.Spans.{Overruns}
 use Rattle.msr_segments.specs.Segments.{row_span, row_segment, with_row, LastEndsOutOfRange}
 use Rattle.msr_segments.specs.Joining.{Joining, HasJoined, IsPush, following_of}
@@ -19,194 +18,145 @@ use Rattle.msr_segments.specs.declared.joiner.Segment.{Segment}
 use Rattle.msr_segments.proofs.Divisions.{no_empty, cases_last}
 use Rattle.msr_segments.proofs.Histories.{joined_none}
 use Rattle.msr_segments.proofs.StepLaws.{pushes_grow, overruns_out}
-use Rattle.msr_report.specs.declared.report.Counts.{Counts}
-use Rattle.msr_input.specs.Input.{BeginsWith, NoneOverruns, rows_of_records, counts_of}
-use Rattle.msr_input.specs.Reading.{Reading, IsWritable, HasRead, HasReadAll, HoldsRecord, TakesMemoryFor, StopsAfter, StopsAtFault, StopsReading, AllReadIsReadable}
+use Rattle.msr_input.specs.Input.{BeginsWith, NoneOverruns, HaveBegun, rows_of_records}
+use Rattle.msr_input.specs.Records.{Position, HaveCome, HasGiven, IsRefusedAfter, StopsRecords}
+use Rattle.msr_input.specs.Reading.{Reading, IsWritable, HasRead, HasReadAll, GaveReadable, StopsAfter, StopsAtFault, StopsReading, AllReadIsReadable, position_of}
 use Rattle.msr_input.specs.declared.fault.Fault.{Fault}
-use Rattle.msr_input.specs.Steps.{CameBefore, StopsDecoding, JoinsRecord, OverrunsWith, StopsJoining}
+use Rattle.msr_input.specs.Steps.{JoinsRecord, OverrunsWith, StopsJoining}
 use Rattle.msr_input.specs.declared.fault.ReadFault.{ReadFault}
 use Rattle.msr_input.specs.declared.fault.ReadFault.TheVariants as fault
-use Rattle.msr_input.proofs.Seen.{open-or-ended}
-use Rattle.msr_input.proofs.Records.{begins-snoc, bytes-snoc, rows-snoc, records-few}
+use Rattle.msr_input.proofs.Coming.{come-given}
+use Rattle.msr_input.proofs.Records.{rows-snoc}
 
--- a reader with this window
-abbrev pub at_window : Window → Joining → Counts → ℕ → Reading
-at_window window joining counts offset = record {
-  waiting = window.bytes;
-  ended = window.ended;
-  room = window.room;
+-- no record is refused where there is none
+pub none-overrun : (tolerance : ℕ) → NoneOverruns tolerance []
+none-overrun tolerance before after found row e has_row out = no_empty before after found e
+
+-- a reader of segments at this place
+abbrev pub at_place : Position → Joining → Reading
+at_place position joining = record {
+  waiting = position.waiting;
+  ended = position.ended;
+  room = position.room;
   joining = joining;
-  counts = counts;
-  offset = offset;
+  counts = position.counts;
+  offset = position.offset;
 }
 
 -- before the first record
-pub read-none : (start : Device) (room tolerance : ℕ) → HasRead start start (at_window (record { bytes = []; ended = false; room = room }) (record { tolerance = tolerance; current = None }) (counts_of []) 0) [] []
-read-none start room tolerance = record {
-  came = λ rest h. (rest, h, refl);
-  in_range = λ before after found row e has_row out. no_empty before after found e;
+pub read-none : (start : Device) (position : Position) (tolerance : ℕ) → HaveCome start start position [] → HasRead start start (at_place position (record { tolerance = tolerance; current = None })) [] []
+read-none start position tolerance come = record {
+  came = come;
+  in_range = none-overrun tolerance;
   joined = joined_none tolerance;
   writable = λ k d h. absurd (omega arith);
-  counts = refl;
-  offset = refl;
-  moved = omega arith;
-  short = λ h. absurd (omega arith);
-  end = λ h. absurd cc;
-  calm = λ h. calm-same start;
-  steady = (calm-same start).steady;
 }
 
-calm-before : (s a : Device) (old new : Bool) → (old ≡ false → IsCalm s a) → (old ≡ true → new ≡ true) → new ≡ false → (old ≡ true) ⊎ (old ≡ false) → IsCalm s a
-calm-before s a old new calm stays still (inl ended) = let e = stays ended in absurd cc
-calm-before s a old new calm stays still (inr unended) = calm unended
-
-came-more : (a b : Device) (start : Device) (records : List Record) (old new rest : List ℕ) → GivesOnto a b old new → ((rest : List ℕ) → HasLeft a rest → (input : List ℕ) × HasLeft start input × BeginsWith records input (old ++ rest)) → HasLeft b rest → (input : List ℕ) × HasLeft start input × BeginsWith records input (new ++ rest)
-came-more a b start records old new rest onto came left =
-    let before = came (onto.more ++ rest) (onto.came.front rest left) in
-    let same : old ++ (onto.more ++ rest) ≡ new ++ rest = sym (append_assoc old onto.more rest) ∙ ap (λ (l : List ℕ). l ++ rest) (sym onto.whole) in
-    (before.0, before.1, subst (λ (bytes : List ℕ). BeginsWith records before.0 bytes) same before.2)
-
--- after bytes were read ahead
-pub read-filled : (s a b : Device) (w w' : Window) (joining : Joining) (counts : Counts) (offset want : ℕ) (records : List Record) (given : List Segment) → HasRead s a (at_window w joining counts offset) records given → IsFilled want a b w w' → HasRead s b (at_window w' joining counts offset) records given
-read-filled s a b w w' joining counts offset want records given has filled =
-    let onto : GivesOnto a b w.bytes w'.bytes = filled.fills.onto in
-    let size : length w'.bytes ≡ length w.bytes + length onto.more = omega (arith, ap length onto.whole, length-append w.bytes onto.more) in
-    record {
-      came = λ rest left. came-more a b s records w.bytes w'.bytes rest onto has.came left;
-      in_range = has.in_range;
-      joined = has.joined;
-      writable = has.writable;
-      counts = has.counts;
-      offset = has.offset;
-      moved = omega (arith, has.moved, onto.moved, size);
-      short = λ h. grind (arith, has.short, filled.fills.short, onto.moved, size);
-      end = λ h. filled.end has.end h;
-      calm = λ h. calm-calm s a b (calm-before s a w.ended w'.ended has.calm filled.stays h (open-or-ended w.ended)) (filled.calm h);
-      steady = steady-steady s a b has.steady filled.steady;
-    }
+-- the segments that a reader gave, and the one that it has, are those of the rows so far
+pub joined-begun : (joining : Joining) (records : List Record) (given : List Segment) → HasJoined joining (rows_of_records records) given → HaveBegun joining.tolerance records given
+joined-begun joining records given joined = record { others = option_to_list joining.current; are_segments = joined.segments }
 
 -- the records so far are read
-pub stops-after : (s a : Device) (reading : Reading) (records : List Record) (given : List Segment) → HasRead s a reading records given → StopsAfter reading.joining.tolerance s given
-stops-after s a reading records given has =
-    let left = left-of a in
-    let came = has.came left.0 left.1 in
-    record {
-      input = came.0;
-      records = records;
-      rest = reading.waiting ++ left.0;
-      left = came.1;
-      are_read = record { begins = came.2; in_range = has.in_range };
-      begun = record { others = option_to_list reading.joining.current; are_segments = has.joined.segments };
-    }
-
--- what is refused with all that is left behind it
-record RefusedWithRest (a : Device) (bytes : List ℕ) (kind : FaultKind) : Type 0 where
-  rest : List ℕ
-  left : HasLeft a rest
-  refused : IsRefused (bytes ++ rest) kind
-
-refused-with-rest : (s a : Device) (reading : Reading) (records : List Record) (given : List Segment) (kind : FaultKind) → HasRead s a reading records given → IsRefused reading.waiting kind → (reading.ended ≡ false → (rest : List ℕ) → IsRefused (reading.waiting ++ rest) kind) → (reading.ended ≡ true) ⊎ (reading.ended ≡ false) → RefusedWithRest a reading.waiting kind
-refused-with-rest s a reading records given kind has refused more (inl ended) = record {
-  rest = [];
-  left = has.end ended;
-  refused = subst (λ (bytes : List ℕ). IsRefused bytes kind) (sym (append-nil reading.waiting)) refused;
-}
-refused-with-rest s a reading records given kind has refused more (inr unended) = record {
-  rest = (left-of a).0;
-  left = (left-of a).1;
-  refused = more unended (left-of a).0;
+pub stops-after : (tolerance : ℕ) (s : Device) (records : List Record) (given : List Segment) → HasGiven s records → NoneOverruns tolerance records → HaveBegun tolerance records given → StopsAfter tolerance s given
+stops-after tolerance s records given has none begun = record {
+  input = has.input;
+  records = records;
+  rest = has.rest;
+  left = has.left;
+  are_read = record { begins = has.begins; in_range = none };
+  begun = begun;
 }
 
 -- the next record is refused by itself
-decode-stops : (s a : Device) (window : Window) (joining : Joining) (counts : Counts) (offset : ℕ) (records : List Record) (given : List Segment) (f : Fault) → HasRead s a (at_window window joining counts offset) records given → StopsDecoding window offset (fault.Input f) → StopsAtFault joining.tolerance s given f
-decode-stops s a window joining counts offset records given f has stop =
-    let reading = at_window window joining counts offset in
-    let refused = refused-with-rest s a reading records given f.kind has stop.2 stop.3 (open-or-ended window.ended) in
-    let came = has.came refused.rest refused.left in record {
-      input = came.0;
-      records = records;
-      left = came.1;
-      first = record {
-        rest = window.bytes ++ refused.rest;
-        are_read = record { begins = came.2; in_range = has.in_range };
-        some_left = omega (arith, stop.1, length-append window.bytes refused.rest);
-        refused = inl refused.refused;
-        offset_is = stop.0 ∙ has.offset;
-      };
-      begun = record { others = option_to_list joining.current; are_segments = has.joined.segments };
-    }
+refused-stops : (tolerance : ℕ) (s : Device) (records : List Record) (given : List Segment) (f : Fault) → IsRefusedAfter s records f → NoneOverruns tolerance records → HaveBegun tolerance records given → StopsAtFault tolerance s given f
+refused-stops tolerance s records given f refused none begun = record {
+  input = refused.given.input;
+  records = records;
+  left = refused.given.left;
+  first = record {
+    rest = refused.given.rest;
+    are_read = record { begins = refused.given.begins; in_range = none };
+    some_left = refused.some_left;
+    refused = inl refused.refused;
+    offset_is = refused.offset_is;
+  };
+  begun = begun;
+}
+
+-- no further record was given
+pub stops-reading : (tolerance : ℕ) (s a : Device) (records : List Record) (given : List Segment) (why : ReadFault) → StopsRecords s a records why → NoneOverruns tolerance records → HaveBegun tolerance records given → StopsReading tolerance s a given why
+stops-reading tolerance s a records given (fault.Input f) stop none begun = (refused-stops tolerance s records given f stop.0 none begun, stop.1)
+stops-reading tolerance s a records given fault.Read stop none begun = (stops-after tolerance s records given stop.0 none begun, stop.1)
+stops-reading tolerance s a records given fault.Memory stop none begun = (stops-after tolerance s records given stop.0 none begun, stop.1)
 
 -- after the next record was given, or none
-pub read-next : (s a b : Device) (w w' : Window) (joining : Joining) (counts : Counts) (offset : ℕ) (records : List Record) (given : List Segment) (result : Result (Option Record) ReadFault) → HasRead s a (at_window w joining counts offset) records given → MatchResult result (λ _. IsFilled 0 a b w w') (CameBefore a b w w') → IfErr result (StopsDecoding w' offset)
-    → MatchResult result (λ _. HasRead s b (at_window w' joining counts offset) records given) (StopsReading joining.tolerance s b given)
-read-next s a b w w' joining counts offset records given (Ok next) has came stops = read-filled s a b w w' joining counts offset 0 records given has came
-read-next s a b w w' joining counts offset records given (Err (fault.Input f)) has came stops =
-    let filled = read-filled s a b w w' joining counts offset 0 records given has came in
-    (decode-stops s b w' joining counts offset records given f filled stops, filled.steady)
-read-next s a b w w' joining counts offset records given (Err fault.Read) has came stops =
-    (stops-after s a (at_window w joining counts offset) records given has, calm-failed s a b (has.calm came.1) came.0)
-read-next s a b w w' joining counts offset records given (Err fault.Memory) has came stops =
-    let filled = read-filled s a b w w' joining counts offset 0 records given has came in
-    (stops-after s b (at_window w' joining counts offset) records given filled, filled.steady)
+pub read-next : (s a b : Device) (old new : Position) (joining : Joining) (records : List Record) (given : List Segment) (result : Result (Option Record) ReadFault) → HasRead s a (at_place old joining) records given → MatchResult result (λ _. HaveCome s b new records) (StopsRecords s b records)
+    → MatchResult result (λ _. HasRead s b (at_place new joining) records given) (StopsReading joining.tolerance s b given)
+read-next s a b old new joining records given (Ok next) has come = record {
+  came = come;
+  in_range = has.in_range;
+  joined = has.joined;
+  writable = has.writable;
+}
+read-next s a b old new joining records given (Err why) has stop =
+    stops-reading joining.tolerance s b records given why stop has.in_range (joined-begun joining records given has.joined)
 
 -- unless the source failed, the reader stands before the same record
-pub read-keeps : (s a b : Device) (w w' : Window) (joining : Joining) (counts : Counts) (offset : ℕ) (records : List Record) (given : List Segment) (result : Result (Option Record) ReadFault) → HasRead s a (at_window w joining counts offset) records given → MatchResult result (λ _. IsFilled 0 a b w w') (CameBefore a b w w')
-    → IfErr result (λ why. why ≢ fault.Read → HasRead s b (at_window w' joining counts offset) records given)
-read-keeps s a b w w' joining counts offset records given (Ok next) has came = tt
-read-keeps s a b w w' joining counts offset records given (Err (fault.Input f)) has came = λ other. read-filled s a b w w' joining counts offset 0 records given has came
-read-keeps s a b w w' joining counts offset records given (Err fault.Read) has came = λ other. absurd (other refl)
-read-keeps s a b w w' joining counts offset records given (Err fault.Memory) has came = λ other. read-filled s a b w w' joining counts offset 0 records given has came
+pub read-keeps : (s a b : Device) (old new : Position) (joining : Joining) (records : List Record) (given : List Segment) (result : Result (Option Record) ReadFault) → HasRead s a (at_place old joining) records given → IfErr result (λ why. why ≢ fault.Read → HaveCome s b new records)
+    → IfErr result (λ why. why ≢ fault.Read → HasRead s b (at_place new joining) records given)
+read-keeps s a b old new joining records given (Ok next) has kept = tt
+read-keeps s a b old new joining records given (Err why) has kept = λ other.
+    record { came = kept other; in_range = has.in_range; joined = has.joined; writable = has.writable }
 
--- why it stopped
-pub at-memory : (window : Window) (offset : ℕ) (result : Result (Option Record) ReadFault) → IfErr result (StopsDecoding window offset) → result ≡ Err fault.Memory → TakesMemoryFor window.bytes window.room
-at-memory window offset (Ok next) stops e = absurd cc
-at-memory window offset (Err why) stops e = let same : why ≡ fault.Memory = cc in subst (λ (w : ReadFault). StopsDecoding window offset w) same stops
-
-pub at-failure : (window : Window) (offset : ℕ) (result : Result (Option Record) ReadFault) → IfErr result (StopsDecoding window offset) → result ≡ Err fault.Read → HoldsRecord window.bytes → ⊥
-at-failure window offset (Ok next) stops e = absurd cc
-at-failure window offset (Err why) stops e = let same : why ≡ fault.Read = cc in subst (λ (w : ReadFault). StopsDecoding window offset w) same stops
-
-in-option : (P : Row → Type 0) (option : Option Row) (row : Row) → option ≡ Some row → IfSome option P → P row
+pub in-option : (P : Row → Type 0) (option : Option Row) (row : Row) → option ≡ Some row → IfSome option P → P row
 in-option P option row e h = let Q : Option Row → Type 0 = λ o. IfSome o P in subst Q e h
 
-rows-with : (records : List Record) (found : Record) (row : Row) → found.row ≡ Some row → rows_of_records (records ++ found ∷ []) ≡ rows_of_records records ++ row ∷ []
+pub rows-with : (records : List Record) (found : Record) (row : Row) → found.row ≡ Some row → rows_of_records (records ++ found ∷ []) ≡ rows_of_records records ++ row ∷ []
 rows-with records found row has_row =
     rows-snoc records found ∙ ap (λ (option : Option Row). rows_of_records records ++ option_to_list option) has_row
 
--- the row of the next record does not join, or there is no memory for it
-pub join-stops : (s a : Device) (reading : Reading) (records : List Record) (given : List Segment) (found : Record) (why : ReadFault) → HasRead s a reading records given → IsRecordOf reading.waiting found → StopsJoining reading.joining found.row reading.offset why → StopsReading reading.joining.tolerance s a given why
-join-stops s a reading records given found (fault.Input f) has is stop =
+-- the row of the next record ends its segment out of range
+pub overrun-stops : (s a : Device) (position : Position) (joining : Joining) (records : List Record) (ended given : List Segment) (found : Record) (f : Fault) → HaveCome s a position records → NoneOverruns joining.tolerance records → HasJoined joining (rows_of_records records) ended → IsRecordOf position.waiting found
+    → f.offset ≡ position.offset → f.kind ≡ TimeRange → OverrunsWith (following_of joining) found.row → HaveBegun joining.tolerance records given → StopsAtFault joining.tolerance s given f
+overrun-stops s a position joining records ended given found f come none joined is offset kind o begun =
     let left = left-of a in
-    let came = has.came left.0 left.1 in
-    let o : OverrunsWith reading.joining found.row = stop.2 in
-    let fits = record_fits reading.waiting found is in
+    let input = come.begins left.0 left.1 in
+    let fits = record_fits position.waiting found is in
     let time : RowIsInTime o.the_row = in-option RowIsInTime found.row o.the_row o.has_row is.in_time in
-    let out = (overruns_out reading.joining (rows_of_records records) given o.the_row has.joined time).0 o.overruns in
-    let at_fault : StopsAtFault reading.joining.tolerance s given f = record {
-      input = came.0;
+    let out = (overruns_out joining (rows_of_records records) ended o.the_row joined time).0 o.overruns in
+    record {
+      input = input.0;
       records = records;
-      left = came.1;
+      left = input.1;
       first = record {
-        rest = reading.waiting ++ left.0;
-        are_read = record { begins = came.2; in_range = has.in_range };
-        some_left = omega (arith, fits.0, fits.1, length-append reading.waiting left.0);
+        rest = position.waiting ++ left.0;
+        are_read = record { begins = input.2; in_range = none };
+        some_left = omega (arith, fits.0, fits.1, length-append position.waiting left.0);
         refused = inr (
-          stop.1,
+          kind,
           record {
             found = found;
             row = o.the_row;
             has_row = o.has_row;
-            is_record = shown_record reading.waiting left.0 found is;
-            out_of_range = subst (λ (rows : List Row). LastEndsOutOfRange reading.joining.tolerance rows) (sym (rows-with records found o.the_row o.has_row)) out;
+            is_record = shown_record position.waiting left.0 found is;
+            out_of_range = subst (λ (rows : List Row). LastEndsOutOfRange joining.tolerance rows) (sym (rows-with records found o.the_row o.has_row)) out;
           },
         );
-        offset_is = stop.0 ∙ has.offset;
+        offset_is = offset ∙ come.offset;
       };
-      begun = record { others = option_to_list reading.joining.current; are_segments = has.joined.segments };
-    } in
-    (at_fault, has.steady)
+      begun = begun;
+    }
+
+-- the row of the next record does not join, or there is no memory for it
+pub join-stops : (s a : Device) (reading : Reading) (records : List Record) (given : List Segment) (found : Record) (why : ReadFault) → HasRead s a reading records given → IsRecordOf reading.waiting found → StopsJoining reading.joining found.row reading.offset why → StopsReading reading.joining.tolerance s a given why
+join-stops s a reading records given found (fault.Input f) has is stop =
+    let begun = joined-begun reading.joining records given has.joined in
+    (overrun-stops s a (position_of reading) reading.joining records given given found f has.came has.in_range has.joined is stop.0 stop.1 stop.2 begun, has.came.steady)
 join-stops s a reading records given found fault.Read has is stop = absurd stop
-join-stops s a reading records given found fault.Memory has is stop = (stops-after s a reading records given has, has.steady)
+join-stops s a reading records given found fault.Memory has is stop = (
+  stops-after reading.joining.tolerance s records given (come-given s a (position_of reading) records has.came) has.in_range (joined-begun reading.joining records given has.joined),
+  has.came.steady,
+)
 
 joined-more : (old new : Joining) (rows : List Row) (given : List Segment) (row : Option Row) (ended : Option Segment) → HasJoined old rows given → JoinsRecord old row ended new → HasJoined new (rows ++ option_to_list row) (given ++ option_to_list ended)
 joined-more old new rows given None ended has joins = rw (joins.0, joins.1, append-nil rows, append-nil given) has
@@ -249,7 +199,7 @@ writable-more old new given None ended all writable joins = rw (joins.0, joins.1
 writable-more old new given (Some row) ended all writable joins = push-writable old new given row ended all (writable row refl) joins.0
 
 -- the row of a record, as a segment
-row-writable : (bytes : List ℕ) (found : Record) (row : Row) → IsRecordOf bytes found → found.row ≡ Some row → IsWritable (row_segment row)
+pub row-writable : (bytes : List ℕ) (found : Record) (row : Row) → IsRecordOf bytes found → found.row ≡ Some row → IsWritable (row_segment row)
 row-writable bytes found row is has_row =
     let writable = row_is_writable bytes row (in-option (IsRowOf bytes) found.row row has_row is.row) in
     record {
@@ -265,7 +215,7 @@ no-overrun old new (Some other) ended row joins e overruns =
     let same : other ≡ row = cc in
     joins.1 (subst (λ (r : Row). Overruns (following_of old) (row_span r)) (sym same) overruns)
 
-in-range-more : (old : Joining) (records : List Record) (given : List Segment) (found : Record) → NoneOverruns old.tolerance records → HasJoined old (rows_of_records records) given → IfSome found.row RowIsInTime → ((row : Row) → found.row ≡ Some row → Overruns (following_of old) (row_span row) → ⊥) → NoneOverruns old.tolerance (records ++ found ∷ [])
+pub in-range-more : (old : Joining) (records : List Record) (given : List Segment) (found : Record) → NoneOverruns old.tolerance records → HasJoined old (rows_of_records records) given → IfSome found.row RowIsInTime → ((row : Row) → found.row ≡ Some row → Overruns (following_of old) (row_span row) → ⊥) → NoneOverruns old.tolerance (records ++ found ∷ [])
 in-range-more old records given found none joined in_time no_overrun before after other row e has_row out =
     elim (cases_last records before after found other e) [
       | inl w ↦
@@ -278,80 +228,45 @@ in-range-more old records given found none joined in_time no_overrun before afte
     ]
 
 -- after a record was taken
-pub read-taken : (s a : Device) (reading : Reading) (new : Joining) (counts : Counts) (offset : ℕ) (records : List Record) (given : List Segment) (found : Record) (ended : Option Segment) → HasRead s a reading records given → IsRecordOf reading.waiting found → JoinsRecord reading.joining found.row ended new → counts ≡ counts_of (records ++ found ∷ []) → offset ≡ reading.offset + found.length → HasRead s a (record { waiting = drop found.length reading.waiting; ended = reading.ended; room = reading.room; joining = new; counts = counts; offset = offset }) (records ++ found ∷ []) (given ++ option_to_list ended)
-read-taken s a reading new counts offset records given found ended has is joins counts_are offset_is =
-    let old = reading.joining in
-    let fits = record_fits reading.waiting found is in
-    let size = bytes-snoc records found in
-    let left : length (drop found.length reading.waiting) + found.length ≡ length reading.waiting = omega (arith, fits.1, length-drop found.length reading.waiting) in
-    let none = in-range-more old records given found has.in_range has.joined is.in_time (λ row e. no-overrun old new found.row ended row joins e) in
+pub read-taken : (s a : Device) (old new : Position) (before after : Joining) (records : List Record) (given : List Segment) (found : Record) (ended : Option Segment) → HasRead s a (at_place old before) records given → IsRecordOf old.waiting found → JoinsRecord before found.row ended after → HaveCome s a new (records ++ found ∷ [])
+    → HasRead s a (at_place new after) (records ++ found ∷ []) (given ++ option_to_list ended)
+read-taken s a old new before after records given found ended has is joins come =
+    let none = in-range-more before records given found has.in_range has.joined is.in_time (λ row e. no-overrun before after found.row ended row joins e) in
     record {
-      came = λ rest h.
-          let before = has.came rest h in
-          let more = begins-snoc records found before.0 (reading.waiting ++ rest) before.2 (shown_record reading.waiting rest found is) in
-          (before.0, before.1, subst (λ (bytes : List ℕ). BeginsWith (records ++ found ∷ []) before.0 bytes) (drop-append-le found.length reading.waiting rest fits.1) more);
-      in_range = subst (λ (tolerance : ℕ). NoneOverruns tolerance (records ++ found ∷ [])) (sym (same-tolerance old new found.row ended joins)) none;
-      joined = subst (λ (rows : List Row). HasJoined new rows (given ++ option_to_list ended)) (sym (rows-snoc records found)) (joined-more old new (rows_of_records records) given found.row ended has.joined joins);
-      writable = writable-more old new given found.row ended has.writable (λ row e. row-writable reading.waiting found row is e) joins;
-      counts = counts_are;
-      offset = omega (arith, offset_is, has.offset, size);
-      moved = omega (arith, has.moved, size, left);
-      short = λ h. has.short (omega (arith, h, size, left));
-      end = has.end;
-      calm = has.calm;
-      steady = has.steady;
-    }
-
--- the numbers of a reader stay below 2^64
-pub record Bounds (reading : Reading) (records : List Record) (found : Record) : Type 0 where
-  pub records_few : length records < 2 ^ 64 - 1
-  pub offset_small : reading.offset + found.length < 2 ^ 64
-
-pub in-bounds : (s a : Device) (reading : Reading) (records : List Record) (given : List Segment) (found : Record) → HasRead s a reading records given → IsRecordOf reading.waiting found → Bounds reading records found
-in-bounds s a reading records given found has is =
-    let fits = record_fits reading.waiting found is in
-    let left = left-of a in
-    let came = has.came left.0 left.1 in
-    let few = records-few records came.0 (reading.waiting ++ left.0) came.2 in
-    let short : a.moved < 2 ^ 64 = has.short (omega (arith, fits.0, fits.1)) in
-    record {
-      records_few = omega (arith, few, fits.0, fits.1, short, has.moved);
-      offset_small = omega (arith, has.offset, fits.1, short, has.moved);
+      came = come;
+      in_range = subst (λ (tolerance : ℕ). NoneOverruns tolerance (records ++ found ∷ [])) (sym (same-tolerance before after found.row ended joins)) none;
+      joined = subst (λ (rows : List Row). HasJoined after rows (given ++ option_to_list ended)) (sym (rows-snoc records found)) (joined-more before after (rows_of_records records) given found.row ended has.joined joins);
+      writable = writable-more before after given found.row ended has.writable (λ row e. row-writable old.waiting found row is e) joins;
     }
 
 -- all was read
 pub read-all : (s a : Device) (reading : Reading) (records : List Record) (given : List Segment) → HasRead s a reading records given → reading.waiting ≡ [] → reading.ended ≡ true → HasReadAll s a reading given
 read-all s a reading records given has none ended = record { records = records; read = has; none_wait = none; ended = ended }
 
-pub all_read_is_readable : AllReadIsReadable
-all_read_is_readable start now reading given all =
-    let has = all.read in
-    let came = has.came [] (has.end all.ended) in
-    let none : reading.waiting ++ [] ≡ [] = append-nil reading.waiting ∙ all.none_wait in
+-- where all came that the source had, what came is all of it
+pub readable-at-end : (s a : Device) (position : Position) (joining : Joining) (records : List Record) (given : List Segment) → HaveCome s a position records → position.waiting ≡ [] → position.ended ≡ true → NoneOverruns joining.tolerance records → HasJoined joining (rows_of_records records) given
+    → GaveReadable s joining.tolerance (given ++ option_to_list joining.current) position.counts
+readable-at-end s a position joining records given come none_wait ended none joined =
+    let input = come.begins [] (come.end ended) in
     record {
-      input = came.0;
-      records = all.records;
-      left = came.1;
+      input = input.0;
+      records = records;
+      left = input.1;
       readable = record {
         are_read = record {
-          begins = subst (λ (bytes : List ℕ). BeginsWith all.records came.0 bytes) none came.2;
-          in_range = has.in_range;
+          begins = subst (λ (bytes : List ℕ). BeginsWith records input.0 bytes) (append-nil position.waiting ∙ none_wait) input.2;
+          in_range = none;
         };
-        are_segments = has.joined.segments;
+        are_segments = joined.segments;
       };
-      writable = has.writable;
-      counted = has.counts;
+      counted = come.counts;
     }
 
--- the segment given last can be written
-pub given-writable : (s a : Device) (reading : Reading) (records : List Record) (given : List Segment) (segment : Segment) → HasRead s a reading records (given ++ segment ∷ []) → IsWritable segment
-given-writable s a reading records given segment has =
-    all-last IsWritable given segment (all-left IsWritable (given ++ segment ∷ []) (option_to_list reading.joining.current) has.writable)
-
--- and so can the one that is still with the reader
-pub last-writable : (s a : Device) (reading : Reading) (records : List Record) (given : List Segment) (segment : Segment) → HasRead s a reading records given → reading.joining.current ≡ Some segment → IsWritable segment
-last-writable s a reading records given segment has current =
-    all-last IsWritable given segment (subst (λ (last : Option Segment). All IsWritable (given ++ option_to_list last)) current has.writable)
+pub all_read_is_readable : AllReadIsReadable
+all_read_is_readable start now reading given all = record {
+  gave = readable-at-end start now (position_of reading) reading.joining all.records given all.read.came all.none_wait all.ended all.read.in_range all.read.joined;
+  writable = all.read.writable;
+}
 
 row-takes : (bytes : List ℕ) (row : Option Row) → IsSome row → IfSome row (IsRowOf bytes) → TakesMemory bytes
 row-takes bytes None some is = absurd cc

@@ -1,3 +1,5 @@
 pub mod Input
+pub mod Records
 pub mod Reading
+pub mod Rows
 pub mod Steps

@@ -1,17 +1,18 @@
 -- What a reader of segments shows, and what reading does.
-use Rattle.std.specs.Prelude.{◌≡◌, ◌⊎◌, ℕ, ◌+◌, ◌-◌, ◌*◌, ◌<◌, ◌≤◌, ◌^◌, max, Bool, true, false, List, [], ◌++◌, length, All, IsTrue, Ok}
+use Rattle.std.specs.Prelude.{◌≡◌, ◌⊎◌, ℕ, ◌*◌, ◌≤◌, max, Bool, true, false, List, [], ◌++◌, length, All, IsTrue, Ok}
 use Rattle.std.specs.Option.{option_to_list}
 use Rattle.msr_header.specs.Reading.{header_of, is_quality}
 use Rattle.msr_header.specs.declared.header.Header.{Header}
 use Rattle.msr_record.specs.Correction.{is_pending}
 use Rattle.msr_record.specs.Records.{TakesMemory}
 use Rattle.msr_record.specs.declared.row.Record.{Record}
-use Rattle.msr_devices.specs.Device.{Device, HasLeft, HasFailed, IsCalm, IsSteady}
+use Rattle.msr_devices.specs.Device.{Device, HasLeft, HasFailed, IsSteady}
 use Rattle.msr_segments.specs.Segments.{SegmentIsInTime}
 use Rattle.msr_segments.specs.Joining.{Joining, HasJoined}
 use Rattle.msr_segments.specs.declared.joiner.Segment.{Segment}
 use Rattle.msr_report.specs.declared.report.Counts.{Counts}
-use Rattle.msr_input.specs.Input.{AreRead, IsReadable, IsFirstFault, HaveBegun, BeginsWith, NoneOverruns, rows_of_records, bytes_of_records, counts_of}
+use Rattle.msr_input.specs.Input.{AreRead, IsReadable, IsFirstFault, HaveBegun, NoneOverruns, rows_of_records, counts_of}
+use Rattle.msr_input.specs.Records.{Position, HaveCome, left_with}
 use Rattle.msr_input.specs.declared.fault.Fault.{Fault}
 use Rattle.msr_input.specs.declared.fault.ReadFault.{ReadFault}
 use Rattle.msr_input.specs.declared.fault.ReadFault.TheVariants.{Input, Read, Memory}
@@ -26,9 +27,19 @@ pub record Reading : Type 0 where
   pub counts : Counts
   pub offset : ℕ
 
+-- a reader's place in the input
+abbrev pub position_of : Reading → Position
+position_of reading = record {
+  waiting = reading.waiting;
+  ended = reading.ended;
+  room = reading.room;
+  counts = reading.counts;
+  offset = reading.offset;
+}
+
 -- how many bytes are left to read at most, of a source that gives fewer than 2^64
 abbrev pub left_to_read : Device → Reading → ℕ
-left_to_read source reading = (2 ^ 64 - source.moved) + length reading.waiting
+left_to_read source reading = left_with source reading.waiting
 
 -- The bytes begin with a whole record, by its header: what it is read as, be it refused or not, is decided.
 abbrev pub HoldsRecord : List ℕ → Type 0
@@ -57,17 +68,10 @@ pub record IsWritable (segment : Segment) : Type 0 where
 -- From the one state of the source to the other these records came, none refused; the rest waits. They ended
 -- these segments.
 pub record HasRead (start now : Device) (reading : Reading) (records : List Record) (given : List Segment) : Type 0 where
-  pub came : (rest : List ℕ) → HasLeft now rest → (input : List ℕ) × HasLeft start input × BeginsWith records input (reading.waiting ++ rest)
+  pub came : HaveCome start now (position_of reading) records
   pub in_range : NoneOverruns reading.joining.tolerance records
   pub joined : HasJoined reading.joining (rows_of_records records) given
   pub writable : All IsWritable (given ++ option_to_list reading.joining.current)
-  pub counts : reading.counts ≡ counts_of records
-  pub offset : reading.offset ≡ bytes_of_records records
-  pub moved : now.moved ≡ start.moved + (bytes_of_records records + length reading.waiting)
-  pub short : 0 < bytes_of_records records + length reading.waiting → now.moved < 2 ^ 64
-  pub end : reading.ended ≡ true → HasLeft now []
-  pub calm : reading.ended ≡ false → IsCalm start now
-  pub steady : IsSteady start now
 
 -- all records came, and their last segment is still with the reader
 pub record HasReadAll (start now : Device) (reading : Reading) (given : List Segment) : Type 0 where
@@ -99,15 +103,18 @@ StopsReading tolerance start now given (Input fault) = StopsAtFault tolerance st
 StopsReading tolerance start now given Read = StopsAfter tolerance start given × HasFailed start now
 StopsReading tolerance start now given Memory = StopsAfter tolerance start given × IsSteady start now
 
--- the source's bytes are a readable input, these are its segments, each of which can be written, and these its
--- counts
-pub record GaveInput (start : Device) (tolerance : ℕ) (segments : List Segment) (counts : Counts) : Type 0 where
+-- the source's bytes are a readable input, these are its segments, and these its counts
+pub record GaveReadable (start : Device) (tolerance : ℕ) (segments : List Segment) (counts : Counts) : Type 0 where
   pub input : List ℕ
   pub records : List Record
   pub left : HasLeft start input
   pub readable : IsReadable tolerance input records segments
-  pub writable : All IsWritable segments
   pub counted : counts ≡ counts_of records
+
+-- and each of the segments can be written
+pub record GaveInput (start : Device) (tolerance : ℕ) (segments : List Segment) (counts : Counts) : Type 0 where
+  pub gave : GaveReadable start tolerance segments counts
+  pub writable : All IsWritable segments
 
 -- Where all records came the input is readable, and the segment that is still with the reader is its last.
 abbrev pub AllReadIsReadable : Type 0

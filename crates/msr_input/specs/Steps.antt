@@ -9,12 +9,14 @@ use Rattle.msr_devices.specs.Device.{Device, HasFailed}
 use Rattle.msr_devices.specs.ReadBuffer.{Window, IsFilled}
 use Rattle.msr_devices.specs.declared.read_buffer.FillFault.{FillFault}
 use Rattle.msr_devices.specs.declared.read_buffer.FillFault.TheVariants as filling
-use Rattle.msr_segments.specs.Spans.{Overruns}
+use Rattle.msr_segments.specs.Spans.{Following, Overruns, IsStep}
 use Rattle.msr_segments.specs.Segments.{row_span}
 use Rattle.msr_segments.specs.Joining.{Joining, following_of, IsPush}
+use Rattle.msr_segments.specs.declared.follow.Step.{Step}
 use Rattle.msr_segments.specs.declared.joiner.Segment.{Segment}
 use Rattle.msr_input.specs.Reading.{HoldsRecord, TakesMemoryFor}
 use Rattle.msr_input.specs.declared.fault.ReadFault.{ReadFault}
+use Rattle.msr_input.specs.declared.row_reader.NextRow.{NextRow}
 use Rattle.msr_input.specs.declared.fault.ReadFault.TheVariants as fault
 
 -- why reading stops where the bytes of a record did not come
@@ -55,19 +57,37 @@ pub record CanJoin (row : Row) : Type 0 where
   pub few : length row.samples ≤ 65_535
   pub start : IsInstant row.start
 
+-- a follower's answer for the row, which is in range
+pub record FollowsRow (old : Following) (row : Row) (next : Option NextRow) (new : Following) : Type 0 where
+  pub answer : Step
+  pub told : next ≡ Some (record { step = answer; row = row })
+  pub step : IsStep old (row_span row) answer new
+  pub in_range : Overruns old (row_span row) → ⊥
+
 -- what a record's row does with a joiner: nothing, where there is none
 abbrev pub JoinsRecord : Joining → Option Row → Option Segment → Joining → Type 0
 JoinsRecord old None ended new = (ended ≡ None) × (new ≡ old)
 JoinsRecord old (Some row) ended new = IsPush old row ended new × (Overruns (following_of old) (row_span row) → ⊥)
 
--- the row ends the joiner's segment out of range
-pub record OverrunsWith (old : Joining) (row : Option Row) : Type 0 where
+-- and what it does with a follower
+abbrev pub FollowsRecord : Following → Option Row → Option NextRow → Following → Type 0
+FollowsRecord old None next new = (next ≡ None) × (new ≡ old)
+FollowsRecord old (Some row) next new = FollowsRow old row next new
+
+-- the row ends the segment that was begun last out of range
+pub record OverrunsWith (old : Following) (row : Option Row) : Type 0 where
   pub the_row : Row
   pub has_row : row ≡ Some the_row
-  pub overruns : Overruns (following_of old) (row_span the_row)
+  pub overruns : Overruns old (row_span the_row)
 
 -- why a row was not joined: it ends its segment out of range, or there was no memory for it
 abbrev pub StopsJoining : Joining → Option Row → ℕ → ReadFault → Type 0
-StopsJoining old row offset (fault.Input f) = (f.offset ≡ offset) × (f.kind ≡ refusal.TimeRange) × OverrunsWith old row
+StopsJoining old row offset (fault.Input f) = (f.offset ≡ offset) × (f.kind ≡ refusal.TimeRange) × OverrunsWith (following_of old) row
 StopsJoining old row offset fault.Read = ⊥
 StopsJoining old row offset fault.Memory = IsSome row
+
+-- and why it was not followed, which takes no memory
+abbrev pub StopsFollowing : Following → Option Row → ℕ → ReadFault → Type 0
+StopsFollowing old row offset (fault.Input f) = (f.offset ≡ offset) × (f.kind ≡ refusal.TimeRange) × OverrunsWith old row
+StopsFollowing old row offset fault.Read = ⊥
+StopsFollowing old row offset fault.Memory = ⊥

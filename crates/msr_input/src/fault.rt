@@ -1,4 +1,4 @@
-// Why reading stops.
+//! Why reading stops.
 ghost use Rattle.std.specs.Prelude.{◌≡◌};
 ghost use Rattle.msr_input.specs.Steps.{fault_of_fill, fault_at};
 

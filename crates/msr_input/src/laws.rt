@@ -1,6 +1,7 @@
 //! Laws of inputs, each the contract of a function that does nothing.
 ghost use Rattle.msr_input.specs.Input.{OneListOfRecords, OneFirstFault, ReadableHasNoFault, MemoryIsNoFault};
 ghost use Rattle.msr_input.specs.Reading.{AllReadIsReadable};
+ghost use Rattle.msr_input.specs.Rows.{AllRowsAreReadable};
 
 /// A readable input has one list of records, and one list of segments.
 pub fn one_list_of_records()
@@ -26,4 +27,10 @@ pub fn memory_is_no_fault()
 /// and the one that `finish` gives, and its counts are the reader's.
 pub fn all_read_is_readable()
     ensures { AllReadIsReadable }
+{}
+
+/// Once a reader of rows has answered `None` the input is readable: its segments are those of the rows
+/// that were given, and its counts are the reader's.
+pub fn all_rows_are_readable()
+    ensures { AllRowsAreReadable }
 {}

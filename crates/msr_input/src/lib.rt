@@ -8,14 +8,17 @@
 mod fault;
 mod laws;
 mod reader;
+mod record_reader;
+mod row_reader;
 mod step;
 
 pub use fault::{Fault, ReadFault};
 pub use laws::{
-    all_read_is_readable, memory_is_no_fault, one_first_fault, one_list_of_records,
-    readable_has_no_fault,
+    all_read_is_readable, all_rows_are_readable, memory_is_no_fault, one_first_fault,
+    one_list_of_records, readable_has_no_fault,
 };
 pub use reader::SegmentReader;
+pub use row_reader::{NextRow, RowReader};
 
 #[cfg(test)]
 mod tests;

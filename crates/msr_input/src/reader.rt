@@ -1,7 +1,8 @@
-// Reading records, and joining their rows.
+//! Reading records, and joining their rows.
 use crate::fault::ReadFault;
-use crate::step::{counted, join, read_record};
-use msr_devices::{ReadBuffer, Source};
+use crate::record_reader::RecordReader;
+use crate::step::{counted, join};
+use msr_devices::Source;
 use msr_record::Record;
 use msr_report::Counts;
 use msr_segments::{Joiner, Segment};
@@ -11,12 +12,8 @@ use std::marker::Model;
 /// Reads records from a source, and joins them into segments. All calls take the same source.
 #[derive(Drop)]
 pub struct SegmentReader {
-    alloc: Global,
-    buffer: ReadBuffer,
+    records: RecordReader,
     joiner: Joiner,
-    counts: Counts,
-    // how many bytes the records had so far
-    offset: u64,
 }
 
 impl Model for SegmentReader {
@@ -24,7 +21,7 @@ impl Model for SegmentReader {
 
     ghost Value = { Reading };
 
-    ghost view = { λ r. record { waiting = r.buffer.bytes; ended = r.buffer.ended; room = r.buffer.room; joining = r.joiner; counts = r.counts; offset = r.offset } };
+    ghost view = { λ r. record { waiting = r.records.waiting; ended = r.records.ended; room = r.records.room; joining = r.joiner; counts = r.records.counts; offset = r.records.offset } };
 }
 
 impl SegmentReader {
@@ -44,15 +41,8 @@ impl SegmentReader {
         ensures none { (start : Device) → HasRead start start result [] [] }
     {
         SegmentReader {
-            alloc,
-            buffer: ReadBuffer::new(alloc),
+            records: RecordReader::new(alloc),
             joiner: Joiner::new(alloc, tolerance),
-            counts: Counts {
-                read: 0,
-                empty: 0,
-                mismatched: 0,
-            },
-            offset: 0,
         }
     }
 
@@ -83,7 +73,7 @@ impl SegmentReader {
         // What is left to read does not grow.
         ensures left { OnOk result (left_to_read (R.device source.new) self.new ≤ left_to_read (R.device source.old) self.old) }
     {
-        read_record(self.alloc, &mut self.buffer, source, self.offset)
+        self.records.next(source)
     }
 
     /// Takes the record that [`next_record`](Self::next_record) gave, and gives the segment that it ended. For
@@ -100,11 +90,9 @@ impl SegmentReader {
         ensures unchanged { OnErr result (self.new ≡ self.old) }
         ensures fewer { OnOk result (length self.new.waiting < length self.old.waiting) }
     {
-        let counts = counted(self.counts, &found);
-        let ended = join(&mut self.joiner, found.row, self.offset)?;
-        self.buffer.consume(found.length as usize);
-        self.counts = counts;
-        self.offset = self.offset.saturating_add(found.length as u64);
+        let counts = counted(self.records.counts(), &found);
+        let ended = join(&mut self.joiner, found.row, self.records.offset())?;
+        self.records.pass(found.length, counts);
         Ok(ended)
     }
 
@@ -143,7 +131,7 @@ impl SegmentReader {
     pub fn counts(&self) -> Counts
         ensures { result ≡ self.now.counts }
     {
-        self.counts
+        self.records.counts()
     }
 
     /// The last segment, where a record with samples was read.

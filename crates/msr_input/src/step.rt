@@ -1,18 +1,20 @@
-// The steps of reading: bytes ahead, a record, its row, its counts.
+//! The steps of reading: bytes ahead, a record, its row, its counts.
 ghost use Rattle.std.specs.Prelude.{◌≡◌, ◌+◌, ◌<◌, ◌≤◌, ◌-◌, ◌^◌, ℕ, true, List, [], ◌∷◌, ◌++◌, length, IfOk, IfErr, IfSome, OnErr, MatchResult, MatchOption, if◌then◌else◌};
 ghost use Rattle.msr_record.specs.Records.{IsRecordOf};
 ghost use Rattle.msr_record.specs.declared.row.Record.{Record as Found};
 ghost use Rattle.msr_devices.specs.Device.{CanCountCall, CountsFew};
 ghost use Rattle.msr_devices.specs.ReadBuffer.{IsFilled};
+ghost use Rattle.msr_segments.specs.Spans.{IsInBounds};
 ghost use Rattle.msr_input.specs.Input.{counts_of};
 ghost use Rattle.msr_input.specs.Reading.{room_with};
-ghost use Rattle.msr_input.specs.Steps.{CanJoin, CameBefore, JoinsRecord, StopsDecoding, StopsJoining, may_change};
+ghost use Rattle.msr_input.specs.Steps.{CanJoin, CameBefore, FollowsRecord, JoinsRecord, StopsDecoding, StopsFollowing, StopsJoining, may_change};
 
 use crate::fault::{Fault, ReadFault, fault_at};
+use crate::row_reader::NextRow;
 use msr_devices::{ReadBuffer, Source};
 use msr_record::{FaultKind, Record, Row, decode_record};
 use msr_report::Counts;
-use msr_segments::{JoinFault, JoinKind, Joiner, Segment};
+use msr_segments::{Follow, JoinFault, JoinKind, Joiner, OutOfRange, Segment};
 use std::alloc::Global;
 
 // As many bytes as the longest record has.
@@ -88,6 +90,30 @@ pub(crate) fn join(
             })),
             JoinKind::Memory => Err(ReadFault::Memory),
         },
+    }
+}
+
+// Says what the row of the record at the offset does, where it has one.
+pub(crate) fn follow(
+    follow: &mut Follow,
+    row: Option<Row>,
+    offset: u64,
+) -> Result<Option<NextRow>, ReadFault>
+    requires { IfSome row CanJoin }
+    ensures followed { IfOk result (λ next. FollowsRecord follow.old row next follow.new) }
+    ensures in_bounds { IfOk result (λ next. IfSome next (λ _. IsInBounds follow.new.current)) }
+    ensures refused { IfErr result (StopsFollowing follow.old row offset) }
+    ensures unchanged { OnErr result (follow.new ≡ follow.old) }
+{
+    let Some(next) = row else {
+        return Ok(None);
+    };
+    match follow.step(&next.key, next.start, next.samples.len() as u16) {
+        Ok(step) => Ok(Some(NextRow { step, row: next })),
+        Err(OutOfRange) => Err(ReadFault::Input(Fault {
+            offset,
+            kind: FaultKind::TimeRange,
+        })),
     }
 }
 

@@ -1,10 +1,10 @@
 //! What readers do, which no clause says: printed faults, sources that play, and each call once.
-use crate::{Fault, ReadFault, SegmentReader};
+use crate::{Fault, ReadFault, RowReader, SegmentReader};
 use msr_devices::{Behavior, FillFault, TestSource};
 use msr_header::HeaderFault;
 use msr_record::FaultKind;
 use msr_report::Counts;
-use msr_segments::Segment;
+use msr_segments::{Segment, Step};
 use std::alloc::Global;
 use std::process::Abort;
 use std::test::Fail;
@@ -167,6 +167,43 @@ fn segments_end_at_a_gap(rt: HostRuntime) {
         counts,
     );
     assert_eq!(rt; segments_of(&rt, rt.alloc(), &bytes, WHOLE), want);
+}
+
+// Each row with what it does; a record without one is passed.
+#[test]
+fn rows_begin_and_join(rt: HostRuntime) {
+    let bytes = three(
+        &record(&rt, &[]),
+        &record(&rt, NEXT),
+        &record(&rt, MISMATCHED),
+    );
+    let empty = three(&record(&rt, EMPTY), &record(&rt, &[]), &record(&rt, LATER));
+    let rows: [(&[u8], &[(Step, usize)], u64); 2] = [
+        (
+            &bytes,
+            &[(Step::Begins, 48), (Step::Joins, 48), (Step::Begins, 1)],
+            0,
+        ),
+        (&empty, &[(Step::Begins, 48), (Step::Begins, 48)], 1),
+    ];
+    for (bytes, wants, empty) in rows {
+        let mut source = TestSource::new(bytes, WHOLE);
+        let mut reader = RowReader::new(rt.alloc(), 10_000);
+        for want in wants {
+            match reader.next_row(&mut source) {
+                Ok(Some(next)) => assert_eq!(rt; (next.step, next.row.samples.len()), *want),
+                _ => panic!(rt; "no row"),
+            }
+        }
+        assert_eq!(rt;
+            reader
+                .next_row(&mut source)
+                .is_ok_and(|next| next.is_none()),
+            true
+        );
+        assert_eq!(rt; reader.counts().read, 3);
+        assert_eq!(rt; reader.counts().empty, empty);
+    }
 }
 
 #[test]

@@ -35,7 +35,7 @@ steps_push old row Begins next k =
       ended = refl;
       after = refl;
     } in
-    (new, old.current, inr begins, k.after)
+    (new, old.current, begins, inr begins, k.after)
 steps_push old row Joins next k =
     let at = at_span old.current k.segment k.current in
     let new : Joining = record { tolerance = old.tolerance; current = Some (with_row at.0 row) } in
@@ -48,7 +48,7 @@ steps_push old row Joins next k =
       none = refl;
       after = refl;
     } in
-    (new, None, inl joins, k.after ∙ ap (λ (s : Span). record { tolerance = old.tolerance; current = Some s }) span)
+    (new, None, joins, inl joins, k.after ∙ ap (λ (s : Span). record { tolerance = old.tolerance; current = Some s }) span)
 
 -- the last of parts whose segments end with a segment is that segment
 last_part : (given : List Segment) (s : Segment) (parts : List Part) (p : Part) → given ++ s ∷ [] ≡ map segment_of (parts ++ p ∷ []) → s ≡ segment_of p

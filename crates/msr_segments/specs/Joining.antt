@@ -67,6 +67,11 @@ pub record BeginsRow (old : Joining) (row : Row) (last : Option Segment) (new : 
 abbrev pub IsPush : Joining → Row → Option Segment → Joining → Type 0
 IsPush old row ended new = JoinsRow old row ended new ⊎ BeginsRow old row ended new
 
+-- the same, by what a follower answers for the row
+abbrev pub IsPushTold : Step → Joining → Row → Option Segment → Joining → Type 0
+IsPushTold Begins old row ended new = BeginsRow old row ended new
+IsPushTold Joins old row ended new = JoinsRow old row ended new
+
 -- so the segments of all rows grow
 abbrev pub PushesGrowSegments : Type 0
 PushesGrowSegments =
@@ -80,7 +85,7 @@ abbrev pub StepsArePushes : Type 0
 StepsArePushes =
     (old : Joining) (row : Row) (answer : Step) (next : Following)
     → IsStep (following_of old) (row_span row) answer next
-    → (new : Joining) × (ended : Option Segment) × IsPush old row ended new × (next ≡ following_of new)
+    → (new : Joining) × (ended : Option Segment) × IsPushTold answer old row ended new × IsPush old row ended new × (next ≡ following_of new)
 
 -- After the same rows, with the same tolerance, a follower stands where a joiner does.
 abbrev pub FollowersStandWithJoiners : Type 0

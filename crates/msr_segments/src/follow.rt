@@ -34,11 +34,11 @@ impl Model for Follow {
 }
 
 impl Follow {
-    ghost use Rattle.std.specs.Prelude.{◌≡◌, ◌↔◌, ◌≤◌, List, [], ◌∷◌, ◌++◌, IsErr, IfOk, OnErr, None};
+    ghost use Rattle.std.specs.Prelude.{◌≡◌, ◌↔◌, ◌≤◌, List, [], ◌∷◌, ◌++◌, IsErr, IfOk, OnOk, OnErr, None};
     ghost use Rattle.msr_time.specs.Instant.{IsInstant};
     ghost use Rattle.msr_record.specs.declared.row.Row.{Row};
     ghost use Rattle.msr_segments.specs.declared.follow.Step.{Step as Answer};
-    ghost use Rattle.msr_segments.specs.Spans.{Overruns, IsStep, span_of};
+    ghost use Rattle.msr_segments.specs.Spans.{Overruns, IsInBounds, IsStep, span_of};
     ghost use Rattle.msr_segments.specs.Segments.{row_span};
     ghost use Rattle.msr_segments.specs.Joining.{HasFollowed};
 
@@ -69,6 +69,7 @@ impl Follow {
         ensures out_of_range { IsErr result ↔ Overruns self.old (span_of key.now start count) }
         ensures step { IfOk result (λ answer. IsStep self.old (span_of key.now start count) answer self.new) }
         ensures unchanged { OnErr result (self.new ≡ self.old) }
+        ensures in_bounds { OnOk result (IsInBounds self.new.current) }
 
         // The answers so far say which rows begin the segments of all rows so far.
         ensures history { (rows : List Row) (answers : List Answer) (row : Row)

@@ -1,7 +1,8 @@
 -- Lines written one behind another.
-use Rattle.std.proofs.Common.{◌≡◌, ◌⊎◌, inl, inr, ℕ, ◌+◌, ◌-◌, ◌^◌, ◌<◌, ◌≤◌, List, [], ◌∷◌, ◌++◌, ◌∙◌, length, codes, refl, sym, ap, arith, append_assoc, length-append}
+use Rattle.std.proofs.Common.{◌≡◌, ℕ, List, [], ◌∷◌, ◌++◌, ◌∙◌, length, refl, sym, ap, append_assoc, Option, Some, None}
+use Rattle.std.specs.Prelude.{option_map}
+use Rattle.std.specs.Option.{option_to_list}
 use Rattle.std.proofs.lemmas.List.{append-nil}
-use Rattle.std.proofs.lemmas.Bool.{cases_lt}
 use Rattle.msr_segments.specs.declared.joiner.Segment.{Segment}
 use Rattle.msr_devices.specs.Device.{Device, Takes, IsCalm}
 use Rattle.msr_devices.specs.WriteBuffer.{Passes}
@@ -9,7 +10,7 @@ use Rattle.msr_devices.proofs.Chaining.{takes-append, calm-calm}
 use Rattle.msr_report.specs.Text.{IsListLine, counts_line}
 use Rattle.msr_report.specs.declared.report.Counts.{Counts}
 use Rattle.msr_tool.specs.Listing.{AreListLines}
-use Rattle.msr_tool.specs.ListWriting.{HasListed, HasListedAll, HasListedFront, HasListedCut}
+use Rattle.msr_tool.specs.ListWriting.{HasListed, HasListedAll, HasListedFront, HasListedCut, IsLastLine, open_of}
 
 pub lists-snoc : (segments : List Segment) (text line : List ℕ) (segment : Segment) → AreListLines segments text → IsListLine segment.key segment.start (length segment.samples) line → AreListLines (segments ++ segment ∷ []) (text ++ line)
 lists-snoc [] text line segment are is = rw are ([], record { line = line; is_line = is; whole = sym (append-nil line) }, refl)
@@ -19,9 +20,10 @@ lists-snoc (one ∷ segments) text line segment are is = (
   lists-snoc segments are.0 line segment are.2 is,
 )
 
--- a line is not empty
-line-some : (segment : Segment) (line : List ℕ) → IsListLine segment.key segment.start (length segment.samples) line → 1 ≤ length line
-line-some segment line is = rw (is.is, length-append (codes "segment ")) (omega arith)
+-- the line of the segment that was begun last, where one was
+lists-last : (segments : List Segment) (text line : List ℕ) (current : Option Segment) → AreListLines segments text → IsLastLine (option_map open_of current) line → AreListLines (segments ++ option_to_list current) (text ++ line)
+lists-last segments text line None are is = rw (is, append-nil segments, append-nil text) are
+lists-last segments text line (Some segment) are is = lists-snoc segments text line segment are is
 
 -- a further text behind the lines so far, some of which the sink accepts
 pub record Flows (start now : Device) (waiting : List ℕ) (text : List ℕ) : Type 0 where
@@ -61,38 +63,37 @@ front-wider start now segments others all h same = record {
   };
 }
 
--- the line of one more segment
-pub listed-more : (start now next : Device) (waiting pushed waits line : List ℕ) (segments : List Segment) (segment : Segment) → HasListed start now waiting segments → IsListLine segment.key segment.start (length segment.samples) line → pushed ≡ waiting ++ line → Passes now next pushed [] waits → IsCalm now next → HasListed start next waits (segments ++ segment ∷ [])
-listed-more start now next waiting pushed waits line segments segment h is same passes calm =
-    let f = flows-on start now next waiting pushed waits line segments h same passes in
-    record { text = h.text ++ line; taken = f.taken; lines = lists-snoc segments h.text line segment h.lines is; takes = f.takes; whole = f.whole; calm = calm-calm start now next h.calm calm }
+-- the line of one more segment waits
+pub listed-pushed : (start now : Device) (waiting pushed line : List ℕ) (segments : List Segment) (current : Option Segment) → HasListed start now waiting segments → IsLastLine (option_map open_of current) line → pushed ≡ waiting ++ line → HasListed start now pushed (segments ++ option_to_list current)
+listed-pushed start now waiting pushed line segments current h is same = record {
+  text = h.text ++ line;
+  taken = h.taken;
+  lines = lists-last segments h.text line current h.lines is;
+  takes = h.takes;
+  whole = ap (λ (t : List ℕ). t ++ line) h.whole ∙ append_assoc h.taken waiting line ∙ ap (λ (t : List ℕ). h.taken ++ t) (sym same);
+  calm = h.calm;
+}
 
-pub listed-cut : (start now next : Device) (waiting pushed waits line : List ℕ) (segments : List Segment) (segment : Segment) → HasListed start now waiting segments → IsListLine segment.key segment.start (length segment.samples) line → pushed ≡ waiting ++ line → Passes now next pushed [] waits → HasListedFront start next (segments ++ segment ∷ [])
-listed-cut start now next waiting pushed waits line segments segment h is same passes =
-    let f = flows-on start now next waiting pushed waits line segments h same passes in
+-- what waited was written, or some of it
+pub listed-passed : (start now next : Device) (waiting waits : List ℕ) (segments : List Segment) → HasListed start now waiting segments → Passes now next waiting [] waits → IsCalm now next → HasListed start next waits segments
+listed-passed start now next waiting waits segments h passes calm =
+    let f = flows-on start now next waiting waiting waits [] segments h (sym (append-nil waiting)) passes in
+    record { text = h.text; taken = f.taken; lines = h.lines; takes = f.takes; whole = sym (append-nil h.text) ∙ f.whole; calm = calm-calm start now next h.calm calm }
+
+pub listed-cut : (start now next : Device) (waiting waits : List ℕ) (segments : List Segment) → HasListed start now waiting segments → Passes now next waiting [] waits → HasListedFront start next segments
+listed-cut start now next waiting waits segments h passes =
+    let f = flows-on start now next waiting waiting waits [] segments h (sym (append-nil waiting)) passes in
     record {
       taken = f.taken;
       takes = f.takes;
       front = record {
-        first = segments ++ segment ∷ [];
+        first = segments;
         others = [];
         tail = waits;
-        some_first = sym (append-nil (segments ++ segment ∷ []));
-        lines = rw (← f.whole) (lists-snoc segments h.text line segment h.lines is);
+        some_first = sym (append-nil segments);
+        lines = rw (← (sym (append-nil h.text) ∙ f.whole)) h.lines;
       };
     }
-
-less-by : (moved moved' taken waited line waits : ℕ) → waited + line ≡ taken + waits → moved' ≡ moved + taken → (0 < taken → moved' < 2 ^ 64) → 1 ≤ line → waits < 65536 → waited < 65536 → (0 < taken) ⊎ (taken ≤ 0) → (2 ^ 64 - moved') + (65536 - waits) < (2 ^ 64 - moved) + (65536 - waited)
-less-by moved moved' taken waited line waits whole is short some few before (inl lt) = let most : moved' < 2 ^ 64 = short lt in omega arith
-less-by moved moved' taken waited line waits whole is short some few before (inr le) = omega arith
-
--- there is less room for further lines
-pub less-room : (now next : Device) (waiting pushed waits line : List ℕ) (segment : Segment) → IsListLine segment.key segment.start (length segment.samples) line → pushed ≡ waiting ++ line → Passes now next pushed [] waits → length waits < 65536 → length waiting < 65536 → (2 ^ 64 - next.moved) + (65536 - length waits) < (2 ^ 64 - now.moved) + (65536 - length waiting)
-less-room now next waiting pushed waits line segment is same passes few before =
-    let some : 1 ≤ length line = line-some segment line is in
-    let left : length pushed ≡ length waiting + length line = ap length same ∙ length-append waiting line in
-    let right : length pushed ≡ length passes.taken + length waits = ap length (sym (append-nil pushed) ∙ passes.whole) ∙ length-append passes.taken waits in
-    less-by now.moved next.moved (length passes.taken) (length waiting) (length line) (length waits) (omega arith) passes.moved passes.short some few before (cases_lt 0 (length passes.taken))
 
 -- the line of the counts
 pub listed-all : (start now next : Device) (waiting pushed waits : List ℕ) (segments : List Segment) (counts : Counts) → HasListed start now waiting segments → pushed ≡ waiting ++ counts_line counts → Passes now next pushed [] waits → waits ≡ [] → IsCalm now next → HasListedAll start next segments counts

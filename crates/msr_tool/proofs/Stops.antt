@@ -31,7 +31,7 @@ pub record IsAnswered (choice : Choice) (source0 sink0 sink : Device) (result : 
 -- some first segments of the records that were read
 pub stops-with : (start now : Device) (reading : Reading) (records : List Record) (given first others : List Segment) → HasRead start now reading records given → given ++ option_to_list reading.joining.current ≡ first ++ others → StopsAfter reading.joining.tolerance start first
 stops-with start now reading records given first others h same =
-    let p = h.came (left-of now).0 (left-of now).1 in
+    let p = h.came.begins (left-of now).0 (left-of now).1 in
     record {
       input = p.0;
       records = records;

@@ -80,7 +80,7 @@ pub done : (choice : Choice) (source0 source sink0 sink : Device) (reading : Rea
     reading.joining.tolerance ≡ choice.tolerance → writing.size ≡ size_of choice → 1 ≤ choice.tolerance → choice.tolerance ≤ 1_000_000 → 1 ≤ size_of choice → OutputKeepsSegments → OutputHasSize →
     report.length ≡ choice.record_length → report.tolerance ≡ choice.tolerance → report.counts ≡ reading.counts → report.segments.items ≡ lines → IsFirst (bytes_of report.length) report.tolerance report.counts → IsAnswered choice source0 sink0 sink (Ok report)
 done choice source0 source sink0 sink reading writing packed all lines report end same wrote tolerance size least most some keeps has_size same_length same_tolerance same_counts same_lines is_first =
-    let came = end.read.came [] (end.read.end end.ended) in
+    let came = end.read.came.begins [] (end.read.came.end end.ended) in
     let writable : All IsWritable (map segment_of_packed all) = rw same end.read.writable in
     let segments : AreSegments choice.tolerance (rows_of_records end.records) (map segment_of_packed all) = rw (same, ← tolerance) end.read.joined.segments in
     let bytes : length wrote.written.bytes ≡ writing.size * count_of_runs all = has_size writing.size all wrote.rows wrote.written.bytes wrote.written.output in
@@ -102,7 +102,7 @@ done choice source0 source sink0 sink reading writing packed all lines report en
         is_report = record {
           size = rw same_length refl;
           tolerance = same_tolerance;
-          counts = same_counts ∙ end.read.counts;
+          counts = same_counts ∙ end.read.came.counts;
           lines = rw same_lines wrote.are_lines;
           proper = record {
             least = rw same_tolerance least;

@@ -1,12 +1,52 @@
 -- What writing the lines of segments does.
-use Rattle.std.specs.Prelude.{◌≡◌, ℕ, List, ◌++◌}
+use Rattle.std.specs.Prelude.{◌≡◌, ℕ, ◌+◌, ◌≤◌, ◌^◌, List, [], ◌++◌, length, Option, Some, None}
+use Rattle.msr_time.specs.Instant.{IsInstant}
+use Rattle.msr_record.specs.declared.row.Row.{Row}
 use Rattle.msr_devices.specs.Device.{Device, IsCalm, Takes}
+use Rattle.msr_segments.specs.declared.follow.Step.{Step}
+use Rattle.msr_segments.specs.declared.follow.Step.TheVariants.{Begins, Joins}
 use Rattle.msr_segments.specs.declared.joiner.Segment.{Segment}
-use Rattle.msr_report.specs.Text.{counts_line}
+use Rattle.msr_report.specs.Text.{IsListLine, counts_line}
 use Rattle.msr_report.specs.declared.report.Counts.{Counts}
 use Rattle.msr_tool.specs.Writing.{StopsSink}
 use Rattle.msr_tool.specs.Listing.{AreListLines, IsFrontOfList}
 use Rattle.msr_tool.specs.declared.fault.ToolFault.{ToolFault}
+use Rattle.msr_tool.specs.declared.open_segment.OpenSegment.{OpenSegment}
+
+-- what a writer of lines shows: the bytes that wait, and the segment that was begun last, without its samples
+pub record Lister : Type 0 where
+  pub waiting : List ℕ
+  pub last : Option OpenSegment
+
+-- a segment without its samples, and the one that a row begins
+abbrev pub open_of : Segment → OpenSegment
+open_of segment = record { key = segment.key; start = segment.start; count = length segment.samples }
+
+abbrev pub open_row : Row → OpenSegment
+open_row row = record { key = row.key; start = row.start; count = length row.samples }
+
+-- with the samples of a row that joins it
+abbrev pub open_longer : Option OpenSegment → Row → Option OpenSegment
+open_longer None row = None
+open_longer (Some before) row = Some (record { key = before.key; start = before.start; count = before.count + length row.samples })
+
+-- the segment that was begun last, after a row that does so, and the segment that the row ended
+abbrev pub open_after : Step → Option OpenSegment → Row → Option OpenSegment
+open_after Begins last row = Some (open_row row)
+open_after Joins last row = open_longer last row
+
+abbrev pub ended_by : Step → Option Segment → Option Segment
+ended_by Begins current = current
+ended_by Joins current = None
+
+-- the segment begins in the supported years, and its number of samples is bounded
+abbrev pub IsOpenInBounds : OpenSegment → Type 0
+IsOpenInBounds segment = IsInstant segment.start × (segment.count ≤ 2 ^ 63)
+
+-- the text is the line of the segment that was begun last, where one was
+abbrev pub IsLastLine : Option OpenSegment → List ℕ → Type 0
+IsLastLine None text = text ≡ []
+IsLastLine (Some last) text = IsListLine last.key last.start last.count text
 
 -- From the one state of the sink to the other a front of the lines of these segments was written; the rest waits.
 pub record HasListed (start now : Device) (waiting : List ℕ) (segments : List Segment) : Type 0 where

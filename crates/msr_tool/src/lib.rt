@@ -8,6 +8,7 @@ mod fault;
 mod laws;
 mod list;
 mod list_writer;
+mod open_segment;
 mod options;
 mod output;
 mod tasks;

@@ -1,4 +1,4 @@
-// Listing the segments of an input.
+//! Listing the segments of an input.
 ghost use Rattle.std.specs.Prelude.{◌≡◌, ◌↔◌, List, ℕ, IsErrOf};
 ghost use Rattle.msr_devices.specs.Device.{CanCountCall, CountsFew, HasFailed, HasLeft, Takes};
 ghost use Rattle.msr_tool.specs.Listing.{ListAnswers};
@@ -7,12 +7,12 @@ use crate::fault::ToolFault;
 use crate::list_writer::ListWriter;
 use crate::options::Options;
 use msr_devices::{Sink, Source};
-use msr_input::SegmentReader;
+use msr_input::RowReader;
 use msr_report::Counts;
 use std::alloc::Global;
 
-/// Reads all records of the source, joins their rows into segments, and writes a line for each segment and a
-/// last line with the counts of the records. Of the options it takes the tolerance alone.
+/// Reads all records of the source, and writes a line for each segment of their rows and a last line with the counts
+/// of the records. Of the options it takes the tolerance alone. It holds no samples but those of the record at hand.
 pub fn list_segments<R: Source, W: Sink>(
     alloc: Global,
     source: &mut R,
@@ -31,13 +31,12 @@ pub fn list_segments<R: Source, W: Sink>(
     ensures few_source { CountsFew (R.device source.old) (R.device source.new) }
     ensures few_sink { CountsFew (W.device sink.old) (W.device sink.new) }
 {
-    let mut reader = SegmentReader::new(alloc, options.tolerance());
+    let mut reader = RowReader::new(alloc, options.tolerance());
     let mut writer = ListWriter::new(alloc);
-    'segments: while let Some(segment) = reader.next_segment(source)? {
-        writer.write(sink, &segment)?;
+    'rows: while let Some(next) = reader.next_row(source)? {
+        writer.take(sink, &next)?;
     }
     let counts = reader.counts();
-    writer.write_last(sink, reader.finish())?;
     writer.finish(sink, &counts)?;
     Ok(counts)
 }

@@ -57,7 +57,7 @@ read-tells tolerance start now given fault.Memory h = ((λ e. absurd cc), (λ fa
 -- there is no memory for a run
 pub memory-fails : (report : Report) (start now : Device) (reading : Reading) (records : List Record) (given : List Segment) (why : ReadFault) → HasRead start now reading records given → reading.joining.tolerance ≡ report.tolerance → why ≡ fault.Memory → IsAnswered report start (Err why)
 memory-fails report start now reading records given why h tolerance memory =
-    let p = h.came (left-of now).0 (left-of now).1 in
+    let p = h.came.begins (left-of now).0 (left-of now).1 in
     rw memory (record {
       input = p.0;
       left = p.1;
@@ -115,7 +115,7 @@ verdict-answers report input records parts c NotShown are d compared exact = rec
 -- all was read
 pub done : (report : Report) (start now : Device) (reading : Reading) (records : List Record) (given : List Segment) (old new : Compared) (last : Option Segment) (verdict : Verdict) → HasRead start now reading records given → reading.joining.tolerance ≡ report.tolerance → Follows (bytes_of report.length) report.segments.items reading.joining records old → reading.waiting ≡ [] → reading.ended ≡ true → last ≡ reading.joining.current → ComparesEnded (bytes_of report.length) report.segments.items old last new → IfSome last (λ segment. length segment.samples < 2 ^ 64) → (verdict ≡ Least) ↔ ((new.agrees ≡ true) × (new.place ≡ length report.segments.items)) → IsAnswered report start (Ok verdict)
 done report start now reading records given old new last verdict read tolerance f none ended last_is k few exact =
-    let came = read.came [] (read.end ended) in
+    let came = read.came.begins [] (read.came.end ended) in
     let are : AreRead report.tolerance came.0 records [] = record { begins = rw none at came.2; in_range = rw tolerance at read.in_range } in
     let d : IsDivision report.tolerance (rows_of_records records) (f.parts ++ option_to_list f.last) = rw tolerance at f.has_parts.division in
     let compared = compare-last (bytes_of report.length) report.segments.items records f.parts f.last last old new f.compared (last_is ∙ f.has_parts.current) k few in

@@ -56,7 +56,7 @@ returns-in_err-write-clause-read g c =
     let u = c.segments.invariant in
     let r = rw c.in-Some.is at (c.in_ok-segment.ensures.read (g.R.Source.device c.args.source.now) u.records (map segment_of_packed u.packed) u.read) in
     let stops = c.in_err-write.ensures.written (g.W.Sink.device c.args.sink.now) u.packed u.lined in
-    rw (p.1, p.2) (lined-tells_source _ (g.R.Source.device c.args.source.now) (g.R.Source.device c.next_segment.new.source) (g.W.Sink.device c.args.sink.now) (g.W.Sink.device c.write.new.sink) _ c.in_err-write.field-0.0 r.1.steady stops)
+    rw (p.1, p.2) (lined-tells_source _ (g.R.Source.device c.args.source.now) (g.R.Source.device c.next_segment.new.source) (g.W.Sink.device c.args.sink.now) (g.W.Sink.device c.write.new.sink) _ c.in_err-write.field-0.0 r.1.came.steady stops)
 
 pub returns-in_err-write-clause-write : goal.returns-in_err-write-clause-write
 returns-in_err-write-clause-write g c =
@@ -90,7 +90,7 @@ returns-in_err-write_last-clause-read g c =
     let p = err_from_is_err_and c.from_residual-in_err-write_last.result c.from_residual-in_err-write_last.ensures.1 in
     let u = c.segments.invariant in
     let end = rw c.in_default.is at (c.in_ok-segment.ensures.read (g.R.Source.device c.args.source.now) u.records (map segment_of_packed u.packed) u.read) in
-    rw (p.1, p.2) (lined-tells_source _ (g.R.Source.device c.args.source.now) (g.R.Source.device c.next_segment.new.source) (g.W.Sink.device c.args.sink.now) (g.W.Sink.device c.write_last.new.sink) _ c.in_err-write_last.field-0.0 end.read.steady (c.in_err-write_last.ensures.written (g.W.Sink.device c.args.sink.now) u.packed u.lined))
+    rw (p.1, p.2) (lined-tells_source _ (g.R.Source.device c.args.source.now) (g.R.Source.device c.next_segment.new.source) (g.W.Sink.device c.args.sink.now) (g.W.Sink.device c.write_last.new.sink) _ c.in_err-write_last.field-0.0 end.read.came.steady (c.in_err-write_last.ensures.written (g.W.Sink.device c.args.sink.now) u.packed u.lined))
 
 pub returns-in_err-write_last-clause-write : goal.returns-in_err-write_last-clause-write
 returns-in_err-write_last-clause-write g c =
@@ -120,7 +120,7 @@ returns-in_err-segments-clause-read g c =
     let u = c.segments.invariant in
     let end = rw c.in_default.is at (c.in_ok-segment.ensures.read (g.R.Source.device c.args.source.now) u.records (map segment_of_packed u.packed) u.read) in
     let wrote = c.in_ok-write_last.ensures.written (g.W.Sink.device c.args.sink.now) u.packed u.lined in
-    rw (p.1, p.2) (lined-tells_source _ (g.R.Source.device c.args.source.now) (g.R.Source.device c.next_segment.new.source) (g.W.Sink.device c.args.sink.now) (g.W.Sink.device c.finish-2.new.sink) _ c.in_err-segments.field-0.0 end.read.steady (c.in_err-segments.ensures.written (g.W.Sink.device c.args.sink.now) wrote.all wrote.after))
+    rw (p.1, p.2) (lined-tells_source _ (g.R.Source.device c.args.source.now) (g.R.Source.device c.next_segment.new.source) (g.W.Sink.device c.args.sink.now) (g.W.Sink.device c.finish-2.new.sink) _ c.in_err-segments.field-0.0 end.read.came.steady (c.in_err-segments.ensures.written (g.W.Sink.device c.args.sink.now) wrote.all wrote.after))
 
 pub returns-in_err-segments-clause-write : goal.returns-in_err-segments-clause-write
 returns-in_err-segments-clause-write g c =
@@ -160,7 +160,7 @@ pub returns-clause-read : goal.returns-clause-read
 returns-clause-read g c =
     let u = c.segments.invariant in
     let end = rw c.in_default.is at (c.in_ok-segment.ensures.read (g.R.Source.device c.args.source.now) u.records (map segment_of_packed u.packed) u.read) in
-    ok-tells (g.R.Source.device c.args.source.now) (g.R.Source.device c.next_segment.new.source) _ _ end.read.steady
+    ok-tells (g.R.Source.device c.args.source.now) (g.R.Source.device c.next_segment.new.source) _ _ end.read.came.steady
 
 pub returns-clause-write : goal.returns-clause-write
 returns-clause-write g c =

@@ -1,0 +1,193 @@
+-- What a reader of rows has read, step by step, and why it stops.
+use Rattle.std.proofs.Common.{◌≡◌, ℕ, ◌∷◌, ◌++◌, [], List, map, refl, sym, ap, subst, ◌∙◌, Option, Some, None, IfSome, MatchOption}
+use Rattle.std.specs.Prelude.{option_map}
+use Rattle.std.specs.Option.{option_to_list}
+use Rattle.std.proofs.lemmas.List.{append-nil, map-append}
+use Rattle.msr_record.specs.Records.{IsRecordOf, RowIsInTime}
+use Rattle.msr_record.specs.declared.row.Record.{Record}
+use Rattle.msr_record.specs.declared.row.Row.{Row}
+use Rattle.msr_devices.specs.Device.{Device}
+use Rattle.msr_segments.specs.declared.span.Span.{Span}
+use Rattle.msr_segments.specs.declared.follow.Step.{Step}
+use Rattle.msr_segments.specs.declared.follow.Step.TheVariants.{Begins, Joins}
+use Rattle.msr_segments.specs.declared.joiner.Segment.{Segment}
+use Rattle.msr_segments.specs.Spans.{Following, Overruns, IsStep}
+use Rattle.msr_segments.specs.Segments.{Part, segment_of, part_span, row_segment, row_span, IsDivision}
+use Rattle.msr_segments.specs.Joining.{Joining, HasJoined, HasFollowed, following_of}
+use Rattle.msr_segments.proofs.Histories.{followed_none, followed_step}
+use Rattle.msr_input.specs.Input.{NoneOverruns, HaveBegun, rows_of_records}
+use Rattle.msr_input.specs.Records.{Position, HaveCome, StopsRecords}
+use Rattle.msr_input.specs.Reading.{IsWritable, StopsReading}
+use Rattle.msr_input.specs.Rows.{RowReading, HasReadRows, ReadsRow, ReadsNoRow, StopsRows, AllRowsAreReadable}
+use Rattle.msr_input.specs.Steps.{CanJoin, FollowsRecord, FollowsRow, OverrunsWith, StopsFollowing}
+use Rattle.msr_input.specs.declared.fault.ReadFault.{ReadFault}
+use Rattle.msr_input.specs.declared.fault.ReadFault.TheVariants as fault
+use Rattle.msr_input.specs.declared.row_reader.NextRow.{NextRow}
+use Rattle.msr_input.proofs.Records.{rows-snoc}
+use Rattle.msr_input.proofs.Histories.{in-range-more, none-overrun, overrun-stops, readable-at-end, row-writable, rows-with, stops-reading}
+
+-- a joiner of the same rows, at the follower's place
+record Stands (following : Following) (rows : List Row) : Type 0 where
+  joining : Joining
+  given : List Segment
+  joined : HasJoined joining rows given
+  stands : following ≡ following_of joining
+
+stands-at : (following : Following) (rows : List Row) (ended : List Part) (last : Option Part) → IsDivision following.tolerance rows (ended ++ option_to_list last) → following.current ≡ option_map part_span last → (last ≡ None → rows ≡ []) → Stands following rows
+stands-at following rows ended None division current begun = record {
+  joining = record { tolerance = following.tolerance; current = None };
+  given = map segment_of ended;
+  joined = record {
+    segments = record { parts = ended ++ []; division = division; each = sym (map-append segment_of ended []) };
+    begun = λ e. begun refl;
+  };
+  stands = ap (λ (at : Option Span). record { tolerance = following.tolerance; current = at }) current;
+}
+stands-at following rows ended (Some p) division current begun = record {
+  joining = record { tolerance = following.tolerance; current = Some (segment_of p) };
+  given = map segment_of ended;
+  joined = record {
+    segments = record { parts = ended ++ p ∷ []; division = division; each = sym (map-append segment_of ended (p ∷ [])) };
+    begun = λ e. absurd cc;
+  };
+  stands = ap (λ (at : Option Span). record { tolerance = following.tolerance; current = at }) current;
+}
+
+stands-so : (following : Following) (rows : List Row) (answers : List Step) → HasFollowed following rows answers → Stands following rows
+stands-so following rows answers followed = stands-at following rows followed.ended followed.last followed.division followed.current followed.begun
+
+same-tolerance : (following : Following) (rows : List Row) (at : Stands following rows) → following.tolerance ≡ at.joining.tolerance
+same-tolerance following rows at = ap (λ (f : Following). f.tolerance) at.stands
+
+-- before the first record
+pub rows-none : (start : Device) (position : Position) (tolerance : ℕ) → HaveCome start start position [] → HasReadRows start start (record { position = position; following = record { tolerance = tolerance; current = None } }) [] []
+rows-none start position tolerance come = record { came = come; in_range = none-overrun tolerance; followed = followed_none tolerance }
+
+-- after bytes were read ahead
+pub rows-come : (s a b : Device) (reading : RowReading) (new : Position) (records : List Record) (answers : List Step) → HasReadRows s a reading records answers → HaveCome s b new records → HasReadRows s b (record { position = new; following = reading.following }) records answers
+rows-come s a b reading new records answers has come = record { came = come; in_range = has.in_range; followed = has.followed }
+
+-- no further record was given
+pub rows-stop : (tolerance : ℕ) (s a : Device) (records : List Record) (why : ReadFault) → StopsRecords s a records why → NoneOverruns tolerance records → StopsRows tolerance s a records why
+rows-stop tolerance s a records why stop none = λ given begun. stops-reading tolerance s a records given why stop none begun
+
+-- the row of the next record ends its segment out of range
+pub follow-stops : (s a : Device) (reading : RowReading) (records : List Record) (answers : List Step) (found : Record) (why : ReadFault) → HasReadRows s a reading records answers → IsRecordOf reading.position.waiting found → StopsFollowing reading.following found.row reading.position.offset why → StopsRows reading.following.tolerance s a records why
+follow-stops s a reading records answers found (fault.Input f) has is stop = λ given begun.
+    let at = stands-so reading.following (rows_of_records records) answers has.followed in
+    let same = same-tolerance reading.following (rows_of_records records) at in
+    let over : OverrunsWith (following_of at.joining) found.row = subst (λ (f : Following). OverrunsWith f found.row) at.stands stop.2 in
+    let none = subst (λ (t : ℕ). NoneOverruns t records) same has.in_range in
+    let begun-at = subst (λ (t : ℕ). HaveBegun t records given) same begun in
+    let stops = overrun-stops s a reading.position at.joining records at.given given found f has.came none at.joined is stop.0 stop.1 over begun-at in
+    subst (λ (t : ℕ). StopsReading t s a given (fault.Input f)) (sym same) (stops, has.came.steady)
+follow-stops s a reading records answers found fault.Read has is stop = absurd stop
+follow-stops s a reading records answers found fault.Memory has is stop = absurd stop
+
+in-range-followed : (following : Following) (records : List Record) (answers : List Step) (found : Record) → NoneOverruns following.tolerance records → HasFollowed following (rows_of_records records) answers → IfSome found.row RowIsInTime → ((row : Row) → found.row ≡ Some row → Overruns following (row_span row) → ⊥) → NoneOverruns following.tolerance (records ++ found ∷ [])
+in-range-followed following records answers found none followed in_time within =
+    let at = stands-so following (rows_of_records records) answers followed in
+    let same = same-tolerance following (rows_of_records records) at in
+    let none-at = subst (λ (t : ℕ). NoneOverruns t records) same none in
+    let more = in-range-more at.joining records at.given found none-at at.joined in_time (λ row e over. within row e (subst (λ (f : Following). Overruns f (row_span row)) (sym at.stands) over)) in
+    subst (λ (t : ℕ). NoneOverruns t (records ++ found ∷ [])) (sym same) more
+
+pub step-tolerance : (old new : Following) (row : Span) (answer : Step) → IsStep old row answer new → new.tolerance ≡ old.tolerance
+step-tolerance old new row Begins k = ap (λ (f : Following). f.tolerance) k.after
+step-tolerance old new row Joins k = ap (λ (f : Following). f.tolerance) k.after
+
+pub follows-tolerance : (old new : Following) (row : Option Row) (next : Option NextRow) → FollowsRecord old row next new → new.tolerance ≡ old.tolerance
+follows-tolerance old new None next follows = ap (λ (f : Following). f.tolerance) follows.1
+follows-tolerance old new (Some row) next follows = step-tolerance old new (row_span row) follows.answer follows.step
+
+-- a follower stays where it is where there is no row
+pub stays : (old new : Following) (row : Option Row) (next : Option NextRow) → FollowsRecord old row next new → next ≡ None → new ≡ old
+stays old new None next follows none = follows.1
+stays old new (Some row) next follows none = let told = follows.told in absurd cc
+
+-- after a record without a row
+passed-none : (s a : Device) (old new : Position) (before : Following) (records : List Record) (answers : List Step) (found : Record) → HasReadRows s a (record { position = old; following = before }) records answers → IsRecordOf old.waiting found → found.row ≡ None → HaveCome s a new (records ++ found ∷ []) → ReadsNoRow s a (record { position = new; following = before }) records answers
+passed-none s a old new before records answers found has is none come =
+    let rows : rows_of_records (records ++ found ∷ []) ≡ rows_of_records records = rows-snoc records found ∙ ap (λ (row : Option Row). rows_of_records records ++ option_to_list row) none ∙ append-nil (rows_of_records records) in
+    record {
+      after = records ++ found ∷ [];
+      rows = rows;
+      read = record {
+        came = come;
+        in_range = in-range-followed before records answers found has.in_range has.followed is.in_time (λ row e over. let no : ◌≡◌ {A = Option Row} None (Some row) = sym none ∙ e in cc);
+        followed = subst (λ (all : List Row). HasFollowed before all answers) (sym rows) has.followed;
+      };
+    }
+
+-- after one with a row
+passed-row : (s a : Device) (old new : Position) (before after : Following) (records : List Record) (answers : List Step) (found : Record) (row : Row) (answer : Step) → HasReadRows s a (record { position = old; following = before }) records answers → IsRecordOf old.waiting found → found.row ≡ Some row → IsStep before (row_span row) answer after → (Overruns before (row_span row) → ⊥) → HaveCome s a new (records ++ found ∷ [])
+    → ReadsRow s a (record { position = new; following = after }) records answers (record { step = answer; row = row })
+passed-row s a old new before after records answers found row answer has is some step within come =
+    let rows = rows-with records found row some in
+    let none = in-range-followed before records answers found has.in_range has.followed is.in_time (λ other e over.
+    (let same : other ≡ row = (let both : ◌≡◌ {A = Option Row} (Some other) (Some row) = sym e ∙ some in cc) in
+    within (subst (λ (r : Row). Overruns before (row_span r)) same over))) in
+    record {
+      after = records ++ found ∷ [];
+      rows = rows;
+      read = record {
+        came = come;
+        in_range = subst (λ (t : ℕ). NoneOverruns t (records ++ found ∷ [])) (sym (step-tolerance before after (row_span row) answer step)) none;
+        followed = subst (λ (all : List Row). HasFollowed after all (answers ++ answer ∷ [])) (sym rows) (followed_step before after (rows_of_records records) answers row answer has.followed step);
+      };
+    }
+
+-- what a reader of rows shows after a record, by what its row did
+abbrev pub ReadsOn : Device → Device → RowReading → List Record → List Step → Option NextRow → Type 0
+ReadsOn s a reading records answers next = MatchOption next (ReadsNoRow s a reading records answers) (ReadsRow s a reading records answers)
+
+passed-some : (s a : Device) (old new : Position) (before after : Following) (records : List Record) (answers : List Step) (found : Record) (row : Row) (next : Option NextRow) → HasReadRows s a (record { position = old; following = before }) records answers → IsRecordOf old.waiting found → found.row ≡ Some row → FollowsRow before row next after → HaveCome s a new (records ++ found ∷ [])
+    → ReadsOn s a (record { position = new; following = after }) records answers next
+passed-some s a old new before after records answers found row next has is some follows come =
+    subst (λ (n : Option NextRow). ReadsOn s a (record { position = new; following = after }) records answers n) (sym follows.told) (passed-row s a old new before after records answers found row follows.answer has is some follows.step follows.in_range come)
+
+passed-so : (s a : Device) (old new : Position) (before after : Following) (records : List Record) (answers : List Step) (found : Record) (row : Option Row) (next : Option NextRow) → HasReadRows s a (record { position = old; following = before }) records answers → IsRecordOf old.waiting found → found.row ≡ row → FollowsRecord before row next after → HaveCome s a new (records ++ found ∷ [])
+    → ReadsOn s a (record { position = new; following = after }) records answers next
+passed-so s a old new before after records answers found None next has is none follows come =
+    rw (follows.0, follows.1) (passed-none s a old new before records answers found has is none come)
+passed-so s a old new before after records answers found (Some row) next has is some follows come =
+    passed-some s a old new before after records answers found row next has is some follows come
+
+-- after a record was passed
+pub rows-passed : (s a : Device) (old new : Position) (before after : Following) (records : List Record) (answers : List Step) (found : Record) (next : Option NextRow) → HasReadRows s a (record { position = old; following = before }) records answers → IsRecordOf old.waiting found → FollowsRecord before found.row next after → HaveCome s a new (records ++ found ∷ [])
+    → ReadsOn s a (record { position = new; following = after }) records answers next
+rows-passed s a old new before after records answers found next has is follows come =
+    passed-so s a old new before after records answers found found.row next has is refl follows come
+
+-- a record's row can be joined and written
+abbrev pub CanBeTaken : NextRow → Type 0
+CanBeTaken next = CanJoin next.row × IsWritable (row_segment next.row)
+
+row-given-so : (bytes : List ℕ) (old new : Following) (found : Record) (row : Option Row) (next : Option NextRow) → IsRecordOf bytes found → found.row ≡ row → IfSome row CanJoin → FollowsRecord old row next new → IfSome next CanBeTaken
+row-given-so bytes old new found None next is e can follows = rw follows.0 tt
+row-given-so bytes old new found (Some row) next is e can follows =
+    subst (λ (n : Option NextRow). IfSome n CanBeTaken) (sym follows.told) (can, row-writable bytes found row is e)
+
+pub row-given : (bytes : List ℕ) (old new : Following) (found : Record) (next : Option NextRow) → IsRecordOf bytes found → IfSome found.row CanJoin → FollowsRecord old found.row next new → IfSome next CanBeTaken
+row-given bytes old new found next is can follows = row-given-so bytes old new found found.row next is refl can follows
+
+-- behind records without rows the same holds
+pub stops-behind : (tolerance : ℕ) (s a b : Device) (reading : RowReading) (records : List Record) (answers : List Step) (why : ReadFault) (none : ReadsNoRow s a reading records answers) → StopsRows tolerance s b none.after why → StopsRows tolerance s b records why
+stops-behind tolerance s a b reading records answers why none stops = λ given begun.
+    stops given (record { others = begun.others; are_segments = rw none.rows begun.are_segments })
+
+pub none-behind : (s a b : Device) (reading new : RowReading) (records : List Record) (answers : List Step) (none : ReadsNoRow s a reading records answers) → ReadsNoRow s b new none.after answers → ReadsNoRow s b new records answers
+none-behind s a b reading new records answers none more = record { after = more.after; rows = more.rows ∙ none.rows; read = more.read }
+
+pub row-behind : (s a b : Device) (reading new : RowReading) (records : List Record) (answers : List Step) (next : NextRow) (none : ReadsNoRow s a reading records answers) → ReadsRow s b new none.after answers next → ReadsRow s b new records answers next
+row-behind s a b reading new records answers next none more = record {
+  after = more.after;
+  rows = more.rows ∙ ap (λ (rows : List Row). rows ++ next.row ∷ []) none.rows;
+  read = more.read;
+}
+
+pub all_rows_are_readable : AllRowsAreReadable
+all_rows_are_readable start now reading records answers joining given end joined same =
+    let none = subst (λ (t : ℕ). NoneOverruns t end.none.after) (sym same) end.none.read.in_range in
+    let all = subst (λ (rows : List Row). HasJoined joining rows given) (sym end.none.rows) joined in
+    readable-at-end start now reading.position joining end.none.after given end.none.read.came end.none_wait end.ended none all

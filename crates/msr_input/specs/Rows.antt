@@ -1,0 +1,60 @@
+-- What a reader of rows shows, and what reading them does.
+use Rattle.std.specs.Prelude.{◌≡◌, ℕ, true, List, [], ◌∷◌, ◌++◌}
+use Rattle.std.specs.Option.{option_to_list}
+use Rattle.msr_record.specs.declared.row.Record.{Record}
+use Rattle.msr_devices.specs.Device.{Device}
+use Rattle.msr_segments.specs.Spans.{Following}
+use Rattle.msr_segments.specs.Joining.{Joining, HasJoined, HasFollowed}
+use Rattle.msr_segments.specs.declared.follow.Step.{Step}
+use Rattle.msr_segments.specs.declared.joiner.Segment.{Segment}
+use Rattle.msr_input.specs.Input.{NoneOverruns, HaveBegun, rows_of_records}
+use Rattle.msr_input.specs.Records.{Position, HaveCome}
+use Rattle.msr_input.specs.Reading.{StopsReading, GaveReadable}
+use Rattle.msr_input.specs.declared.fault.ReadFault.{ReadFault}
+use Rattle.msr_input.specs.declared.row_reader.NextRow.{NextRow}
+
+-- what a reader of rows shows: its place in the input, and its follower
+pub record RowReading : Type 0 where
+  pub position : Position
+  pub following : Following
+
+-- From the one state of the source to the other these records came, none refused; the rest waits. These answers
+-- were given for their rows.
+pub record HasReadRows (start now : Device) (reading : RowReading) (records : List Record) (answers : List Step) : Type 0 where
+  pub came : HaveCome start now reading.position records
+  pub in_range : NoneOverruns reading.following.tolerance records
+  pub followed : HasFollowed reading.following (rows_of_records records) answers
+
+-- Records came behind these, of which the last alone has a row: this one, and what it does.
+pub record ReadsRow (start now : Device) (reading : RowReading) (records : List Record) (answers : List Step) (next : NextRow) : Type 0 where
+  pub after : List Record
+  pub rows : rows_of_records after ≡ rows_of_records records ++ next.row ∷ []
+  pub read : HasReadRows start now reading after (answers ++ next.step ∷ [])
+
+-- Records came behind these, none of which has a row.
+pub record ReadsNoRow (start now : Device) (reading : RowReading) (records : List Record) (answers : List Step) : Type 0 where
+  pub after : List Record
+  pub rows : rows_of_records after ≡ rows_of_records records
+  pub read : HasReadRows start now reading after answers
+
+-- And none are left: the input has ended.
+pub record ReadsToEnd (start now : Device) (reading : RowReading) (records : List Record) (answers : List Step) : Type 0 where
+  pub none : ReadsNoRow start now reading records answers
+  pub none_wait : reading.position.waiting ≡ []
+  pub ended : reading.position.ended ≡ true
+
+-- Why no row was given, of the segments that the rows before it began: what stops a reader of segments that gave
+-- some first ones of these.
+abbrev pub StopsRows : ℕ → Device → Device → List Record → ReadFault → Type 0
+StopsRows tolerance start now records why =
+    (given : List Segment) → HaveBegun tolerance records given → StopsReading tolerance start now given why
+
+-- Where all records came the input is readable, and its segments are those of a joiner of the same rows, the last
+-- one included.
+abbrev pub AllRowsAreReadable : Type 0
+AllRowsAreReadable =
+    (start now : Device) (reading : RowReading) (records : List Record) (answers : List Step) (joining : Joining) (given : List Segment)
+    → ReadsToEnd start now reading records answers
+    → HasJoined joining (rows_of_records records) given
+    → joining.tolerance ≡ reading.following.tolerance
+    → GaveReadable start joining.tolerance (given ++ option_to_list joining.current) reading.position.counts

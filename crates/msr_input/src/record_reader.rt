@@ -1,0 +1,107 @@
+//! Reading records one after another.
+use crate::fault::ReadFault;
+use crate::step::read_record;
+use msr_devices::{ReadBuffer, Source};
+use msr_record::Record;
+use msr_report::Counts;
+use std::alloc::Global;
+use std::marker::Model;
+
+/// Reads records from a source, each judged by itself, and counts those that were passed. All calls take the same
+/// source.
+#[derive(Drop)]
+pub(crate) struct RecordReader {
+    alloc: Global,
+    buffer: ReadBuffer,
+    counts: Counts,
+    // how many bytes the records had so far
+    offset: u64,
+}
+
+impl Model for RecordReader {
+    ghost use Rattle.msr_input.specs.Records.{Position};
+
+    ghost Value = { Position };
+
+    ghost view = { λ r. record { waiting = r.buffer.bytes; ended = r.buffer.ended; room = r.buffer.room; counts = r.counts; offset = r.offset } };
+}
+
+impl RecordReader {
+    ghost use Rattle.std.specs.Prelude.{◌≡◌, ◌≢◌, ◌≤◌, ◌<◌, ◌+◌, ◌^◌, List, [], drop, length, true, OnOk, IfOk, IfErr, IsErrOf, IfSome, MatchResult, MatchOption};
+    ghost use Rattle.msr_devices.specs.Device.{Device, CanCountCall, CountsFew, IsSteady};
+    ghost use Rattle.msr_record.specs.Records.{IsRecordOf};
+    ghost use Rattle.msr_record.specs.declared.row.Record.{Record as Found};
+    ghost use Rattle.msr_input.specs.Records.{HaveCome, StopsRecords, left_with};
+    ghost use Rattle.msr_input.specs.Reading.{HoldsRecord, TakesMemoryFor, room_with};
+    ghost use Rattle.msr_input.specs.Steps.{CanJoin};
+
+    /// A reader before the first record. It takes no memory yet.
+    pub fn new(alloc: Global) -> RecordReader
+        ensures { (start : Device) → HaveCome start start result [] }
+    {
+        RecordReader {
+            alloc,
+            buffer: ReadBuffer::new(alloc),
+            counts: Counts {
+                read: 0,
+                empty: 0,
+                mismatched: 0,
+            },
+            offset: 0,
+        }
+    }
+
+    /// The next record, which [`pass`](Self::pass) then passes; `None` where the input has ended. A further call
+    /// gives the same record again. A record is given as soon as its own bytes have come, before a further read; so
+    /// is a refusal of what stands behind its header. One of the header waits for the input's end or for as many
+    /// bytes as the longest record has, since more could change it.
+    pub fn next<R: Source>(&mut self, source: &mut R) -> Result<Option<Record>, ReadFault>
+        requires { CanCountCall (R.device source.old) }
+        ensures came { (start : Device) (records : List Found) → HaveCome start (R.device source.old) self.old records
+            → MatchResult result
+            (λ _. HaveCome start (R.device source.new) self.new records)
+            (StopsRecords start (R.device source.new) records) }
+        ensures next { IfOk result (λ next. MatchOption next
+            ((self.new.waiting ≡ []) × (self.new.ended ≡ true))
+            (λ found. IsRecordOf self.new.waiting found × IfSome found.row CanJoin)) }
+        ensures kept { (start : Device) (records : List Found) → HaveCome start (R.device source.old) self.old records
+            → IfErr result (λ fault. fault ≢ ReadFault.Read → HaveCome start (R.device source.new) self.new records) }
+        ensures memory { IsErrOf result ReadFault.Memory → TakesMemoryFor self.new.waiting self.new.room }
+        ensures awaited { IsErrOf result ReadFault.Read → HoldsRecord self.new.waiting → ⊥ }
+        ensures room { IfOk result (λ next. IfSome next (λ found. self.new.room ≤ room_with found.length self.old.room)) }
+        ensures steady { OnOk result (IsSteady (R.device source.old) (R.device source.new)) }
+        ensures few { CountsFew (R.device source.old) (R.device source.new) }
+        ensures left { OnOk result (left_with (R.device source.new) self.new.waiting
+            ≤ left_with (R.device source.old) self.old.waiting) }
+    {
+        read_record(self.alloc, &mut self.buffer, source, self.offset)
+    }
+
+    /// Passes a record of so many bytes; the counts are those with it.
+    pub fn pass(&mut self, size: u32, counts: Counts)
+        requires { size ≤ length self.old.waiting }
+        ensures waiting { self.new.waiting ≡ drop size self.old.waiting }
+        ensures ended { self.new.ended ≡ self.old.ended }
+        ensures room { self.new.room ≡ self.old.room }
+        ensures counts { self.new.counts ≡ counts }
+        ensures offset { self.old.offset + size < 2 ^ 64 → self.new.offset ≡ self.old.offset + size }
+    {
+        self.buffer.consume(size as usize);
+        self.counts = counts;
+        self.offset = self.offset.saturating_add(size as u64);
+    }
+
+    /// The counts of the records that were passed.
+    pub fn counts(&self) -> Counts
+        ensures { result ≡ self.now.counts }
+    {
+        self.counts
+    }
+
+    /// How many bytes they had.
+    pub fn offset(&self) -> u64
+        ensures { result ≡ self.now.offset }
+    {
+        self.offset
+    }
+}

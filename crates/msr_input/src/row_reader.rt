@@ -1,0 +1,134 @@
+//! Reading rows, each with what it does.
+use crate::fault::ReadFault;
+use crate::record_reader::RecordReader;
+use crate::step::{counted, follow};
+use msr_devices::Source;
+use msr_record::{Record, Row};
+use msr_report::Counts;
+use msr_segments::{Follow, Step};
+use std::alloc::Global;
+use std::marker::Model;
+
+/// The next row, and what it does.
+#[derive(Debug, Drop)]
+pub struct NextRow {
+    /// It begins a segment, so that the one before it has ended, or joins the one that was begun last.
+    pub step: Step,
+    pub row: Row,
+}
+
+/// Reads records from a source, and says of each row whether it begins a segment. It holds no samples. All calls
+/// take the same source.
+#[derive(Drop)]
+pub struct RowReader {
+    records: RecordReader,
+    follow: Follow,
+}
+
+impl Model for RowReader {
+    ghost use Rattle.msr_input.specs.Rows.{RowReading};
+
+    ghost Value = { RowReading };
+
+    ghost view = { λ r. record { position = r.records; following = r.follow } };
+}
+
+impl RowReader {
+    ghost use Rattle.std.specs.Prelude.{◌≡◌, ◌≢◌, ◌≤◌, ◌<◌, List, [], ◌∷◌, ◌++◌, length, None, OnOk, OnErr, IfOk, IfErr, IsErrOf, IfSome, MatchResult, MatchOption};
+    ghost use Rattle.msr_devices.specs.Device.{Device, CanCountCall, CountsFew};
+    ghost use Rattle.msr_record.specs.Records.{IsRecordOf};
+    ghost use Rattle.msr_record.specs.declared.row.Record.{Record as Found};
+    ghost use Rattle.msr_segments.specs.Spans.{IsInBounds, IsStep};
+    ghost use Rattle.msr_segments.specs.Segments.{row_span, row_segment};
+    ghost use Rattle.msr_segments.specs.declared.follow.Step.{Step as Answer};
+    ghost use Rattle.msr_input.specs.Records.{left_with};
+    ghost use Rattle.msr_input.specs.Reading.{HoldsRecord, IsWritable, TakesMemoryFor};
+    ghost use Rattle.msr_input.specs.Rows.{HasReadRows, ReadsRow, ReadsNoRow, ReadsToEnd, StopsRows};
+    ghost use Rattle.msr_input.specs.Steps.{CanJoin, FollowsRecord};
+
+    /// A reader before the first record, for that tolerance in microseconds. It takes no memory yet.
+    pub fn new(alloc: Global, tolerance: u32) -> RowReader
+        requires { (1 ≤ tolerance) × (tolerance ≤ 1_000_000) }
+        ensures following { result.following ≡ record { tolerance = tolerance; current = None } }
+        ensures none { (start : Device) → HasReadRows start start result [] [] }
+    {
+        RowReader {
+            records: RecordReader::new(alloc),
+            follow: Follow::new(tolerance),
+        }
+    }
+
+    /// The next row, behind records that have none; `None` where the input has ended, and with it the last segment.
+    /// At an `Err` but `Read` the reader stands before the record that it did not take: a further call gives the
+    /// same fault again, or tries again to get memory.
+    pub fn next_row<R: Source>(&mut self, source: &mut R) -> Result<Option<NextRow>, ReadFault>
+        requires { CanCountCall (R.device source.old) }
+        ensures read { (start : Device) (records : List Found) (answers : List Answer)
+            → HasReadRows start (R.device source.old) self.old records answers
+            → MatchResult result
+            (λ next. MatchOption next
+            (ReadsToEnd start (R.device source.new) self.new records answers)
+            (ReadsRow start (R.device source.new) self.new records answers))
+            (StopsRows self.old.following.tolerance start (R.device source.new) records) }
+        ensures kept { (start : Device) (records : List Found) (answers : List Answer)
+            → HasReadRows start (R.device source.old) self.old records answers
+            → IfErr result (λ fault. fault ≢ ReadFault.Read → ReadsNoRow start (R.device source.new) self.new records answers) }
+
+        // What the row does, and what rows are given.
+        ensures step { IfOk result (λ next. IfSome next (λ given.
+            IsStep self.old.following (row_span given.row) given.step self.new.following)) }
+        ensures row { IfOk result (λ next. IfSome next (λ given. CanJoin given.row × IsWritable (row_segment given.row))) }
+        ensures in_bounds { IfOk result (λ next. IfSome next (λ _. IsInBounds self.new.following.current)) }
+
+        ensures tolerance { self.new.following.tolerance ≡ self.old.following.tolerance }
+
+        // Want of memory comes only where memory is taken.
+        ensures memory { IsErrOf result ReadFault.Memory → TakesMemoryFor self.new.position.waiting self.new.position.room }
+
+        // Of a record whose bytes have come none are awaited.
+        ensures awaited { IsErrOf result ReadFault.Read → HoldsRecord self.new.position.waiting → ⊥ }
+        ensures less { IfOk result (λ next. IfSome next (λ _.
+            left_with (R.device source.new) self.new.position.waiting
+            < left_with (R.device source.old) self.old.position.waiting)) }
+        ensures few { CountsFew (R.device source.old) (R.device source.new) }
+    {
+        'records: while let Some(found) = self.records.next(source)? {
+            if let Some(next) = self.take(found)? {
+                return Ok(Some(next));
+            }
+        }
+        Ok(None)
+    }
+
+    // Takes the record that was read, and says what its row does, where it has one.
+    fn take(&mut self, found: Record) -> Result<Option<NextRow>, ReadFault>
+        requires is_record { IsRecordOf self.old.position.waiting found }
+        requires can_join { IfSome found.row CanJoin }
+        ensures read { (start now : Device) (records : List Found) (answers : List Answer)
+            → HasReadRows start now self.old records answers
+            → MatchResult result
+            (λ next. MatchOption next
+            (ReadsNoRow start now self.new records answers)
+            (ReadsRow start now self.new records answers))
+            (StopsRows self.old.following.tolerance start now records) }
+        ensures step { IfOk result (λ next. FollowsRecord self.old.following found.row next self.new.following) }
+        ensures row { IfOk result (λ next. IfSome next (λ given. CanJoin given.row × IsWritable (row_segment given.row))) }
+        ensures in_bounds { IfOk result (λ next. IfSome next (λ _. IsInBounds self.new.following.current)) }
+        ensures no_memory { IsErrOf result ReadFault.Memory → ⊥ }
+        ensures unread { IsErrOf result ReadFault.Read → ⊥ }
+        ensures unchanged { OnErr result (self.new ≡ self.old) }
+        ensures fewer { OnOk result (length self.new.position.waiting < length self.old.position.waiting) }
+    {
+        let counts = counted(self.records.counts(), &found);
+        let next = follow(&mut self.follow, found.row, self.records.offset())?;
+        self.records.pass(found.length, counts);
+        Ok(next)
+    }
+
+    /// The counts of the records so far.
+    pub fn counts(&self) -> Counts
+        ensures { result ≡ self.now.position.counts }
+    {
+        self.records.counts()
+    }
+}
