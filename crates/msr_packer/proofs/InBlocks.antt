@@ -1,5 +1,5 @@
 -- What a packer of blocks knows after each call.
-use Rattle.std.proofs.Common.{◌≡◌, ℕ, ◌+◌, ◌≤◌, Bool, true, false, ℤ, List, [], ◌++◌, length, Option, Some, None, IsNone, sym, ap, ◌∙◌, subst, append-nil}
+use Rattle.std.proofs.Common.{◌≡◌, ℕ, ◌≤◌, Bool, true, false, ℤ, List, [], ◌++◌, length, Option, Some, None, IsNone, sym, ap, ◌∙◌, subst, append-nil}
 use Rattle.msr_words.specs.declared.kinds.Run.{Run}
 use Rattle.msr_words.specs.Lengths.{bytes_of}
 use Rattle.msr_words.specs.Packing.{IsCanonical}

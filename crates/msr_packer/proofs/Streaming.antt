@@ -1,7 +1,7 @@
 -- What a packer of a stream knows after each piece and each sample.
-use Rattle.std.proofs.Common.{◌≡◌, ℕ, ◌+◌, ◌-◌, ◌*◌, ◌<◌, ◌≤◌, ◌⊎◌, ℤ, List, [], ◌∷◌, ◌++◌, length, drop, Option, Some, None, refl, sym, ap, ◌∙◌, subst, arith, inl, inr, length-append, length-drop, append_assoc}
+use Rattle.std.proofs.Common.{◌≡◌, ℕ, ◌+◌, ◌-◌, ◌<◌, ◌≤◌, ◌⊎◌, ℤ, List, [], ◌∷◌, ◌++◌, length, drop, Option, Some, None, ap, ◌∙◌, subst, arith, inl, inr, length-append, length-drop, append_assoc}
 use Rattle.std.proofs.lemmas.Bool.{cases_lt}
-use Rattle.std.proofs.lemmas.List.{drop-drop, map-append}
+use Rattle.std.proofs.lemmas.List.{map-append}
 use Rattle.msr_words.specs.declared.kinds.Kind.{Kind}
 use Rattle.msr_words.specs.declared.kinds.Run.{Run}
 use Rattle.msr_words.specs.declared.lengths.Length.{Length}
@@ -10,7 +10,7 @@ use Rattle.msr_words.specs.Fit.{Fits, FitsAny, IsRun, IsFirstKind}
 use Rattle.msr_words.specs.Laws.{most_any}
 use Rattle.msr_words.specs.declared.kinds.Kind.TheVariants.{Int16, Int32, Steim1, Steim2}
 use Rattle.msr_words.specs.Lemmas.KindLaws.{back_step_any, empty_int16, empty_int32, empty_steim}
-use Rattle.msr_words.specs.Packing.{IsCanonical, IsStep, Joins}
+use Rattle.msr_words.specs.Packing.{IsCanonical, IsStep}
 use Rattle.msr_words.proofs.Runs.{run_points_none}
 use Rattle.msr_packer.specs.Live.{Follows, IsLive, IsTracked, kind_of_tracker}
 use Rattle.msr_packer.specs.Held.{InsideIfAny, IsWindow, frontier_of, piece_of, pieces_of, runs_of, separators_of, start_of}

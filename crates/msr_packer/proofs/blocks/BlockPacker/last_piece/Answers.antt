@@ -1,4 +1,4 @@
-use Rattle.std.proofs.Common.{◌≡◌, Bool, false, Some, refl, rules, subst, sym}
+use Rattle.std.proofs.Common.{◌≡◌, false, Some, rules, subst}
 use Rattle.msr_packer.specs.Blocks.{PacksLast, holding_of}
 use Rattle.msr_packer.proofs.Holding.{holds_still}
 use Rattle.msr_packer.proofs.InBlocks.{all_given, holds_in, packs_all, packs_last_next}

@@ -1,4 +1,4 @@
-use Rattle.std.proofs.Common.{◌∙◌, ◌≡◌, ◌≤◌, arith, length, refl}
+use Rattle.std.proofs.Common.{◌∙◌, ◌≤◌, arith, length, refl}
 use Rattle.msr_packer.specs.Held.{frontier_of, start_of}
 use Rattle.msr_packer.proofs.Holding.{shows_next, start_before, stepped, window_next}
 use Rattle.msr_packer.proofs.held.Held.go_on.Goals as goal

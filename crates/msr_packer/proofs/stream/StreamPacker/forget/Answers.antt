@@ -1,5 +1,4 @@
-use Rattle.std.proofs.Common.{◌∙◌, ◌-◌, ◌≡◌, ap, arith, drop, length, length-drop, refl, sym}
-use Rattle.msr_words.specs.Lengths.{bytes_of}
+use Rattle.std.proofs.Common.{◌∙◌, ◌-◌, ap, arith, length, length-drop, refl}
 use Rattle.msr_packer.specs.Held.{frontier_of, start_of}
 use Rattle.msr_packer.proofs.Holding.{frontier_few}
 use Rattle.msr_packer.proofs.Streaming.{live_few, live_forgets, may_forget}

@@ -1,4 +1,4 @@
-use Rattle.std.proofs.Common.{rules, ◌≡◌, ◌<◌, ◌^◌, ◌+◌, ◌++◌, ◌∷◌, [], length, arith, refl, ap, ◌∙◌, append-nil, drop, length-append, length-drop, to_z-of_z}
+use Rattle.std.proofs.Common.{rules, ◌≡◌, ◌++◌, ◌∷◌, [], length, arith, refl, ap, ◌∙◌, append-nil, length-append, length-drop, to_z-of_z}
 use Rattle.std.proofs.lemmas.Result.{err_from_is_err_and}
 use Rattle.msr_packer.specs.Held.{frontier_of}
 use Rattle.msr_packer.proofs.Holding.{shown_if_any, sound_more, stays_at, stays_more, window_more}
