@@ -17,7 +17,7 @@ use Rattle.msr_packer.specs.Held.{BeginsAll, GivesPiece, Holds, InsideIfAny, IsC
 use Rattle.msr_packer.specs.declared.held.Current.{Current}
 use Rattle.msr_packer.specs.declared.held.Held.{Held}
 use Rattle.msr_packer.specs.declared.held.Piece.{Piece}
-use Rattle.msr_packer.proofs.Exist.{has_packing}
+use Rattle.msr_packer.proofs.Exist.{HasRest, has_packing, rest_of}
 use Rattle.msr_packer.proofs.Least.{forth, goes_on, last_one, one_more}
 use Rattle.msr_packer.proofs.Windows.{front_of_all, near_by_one, run_of_window, run_points_stay, run_points_window, so_far_stays, step_of_window}
 
@@ -207,6 +207,15 @@ leaves bytes samples runs separators held offset (Some c) w = record {
 pub frontier_inside : (held : List ℤ) (current : Option Current) → Stays current (length held) → 0 < length held → frontier_of current < length held
 frontier_inside held None stays some = some
 frontier_inside held (Some c) stays some = stays
+
+-- and that of all samples, where none follows
+pub begins_rest : (bytes : ℕ) → 256 ≤ bytes → (samples : List ℤ) (runs : List Run) (separators : List ℕ) (held : List ℤ) (offset : ℕ) (current : Option Current) → IsWindow bytes samples runs separators held offset current → HasRest bytes samples runs separators
+begins_rest bytes enough samples runs separators held offset None w =
+    let none = w.at in
+    let p = has_packing bytes samples enough in
+    record { others = p.others; places = p.places; canonical = rw (none.0, none.1) p.canonical }
+begins_rest bytes enough samples runs separators held offset (Some c) w =
+    rest_of bytes samples enough (length samples) runs separators (offset + c.frontier) (offset + c.end) (offset + c.start) c.whole w.at.so_far (omega arith)
 
 -- where a longest run at most is held behind the frontier
 pub leaves_few : (bytes : ℕ) (samples : List ℤ) (runs : List Run) (separators : List ℕ) (held : List ℤ) (offset : ℕ) (current : Option Current) → IsWindow bytes samples runs separators held offset current → length held ≤ frontier_of current + most_any bytes → LeavesFew bytes samples runs

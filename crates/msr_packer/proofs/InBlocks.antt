@@ -3,11 +3,12 @@ use Rattle.std.proofs.Common.{◌≡◌, ℕ, ◌≤◌, Bool, true, false, ℤ,
 use Rattle.msr_words.specs.declared.kinds.Run.{Run}
 use Rattle.msr_words.specs.Lengths.{bytes_of}
 use Rattle.msr_words.specs.Packing.{IsCanonical}
-use Rattle.msr_packer.specs.Blocks.{Packs, PacksLast, holding_of}
+use Rattle.msr_packer.specs.Blocks.{Holding, LeftAt, Packs, PacksLast, holding_of}
 use Rattle.msr_packer.specs.Held.{GivesPiece, Holds, IsWindow, Stays, pieces_of, runs_of, separators_of}
 use Rattle.msr_packer.specs.declared.held.Held.{Held}
 use Rattle.msr_packer.specs.declared.held.Piece.{Piece}
-use Rattle.msr_packer.proofs.Holding.{holds_still, stays_more, window_more}
+use Rattle.msr_packer.proofs.Exist.{HasRest}
+use Rattle.msr_packer.proofs.Holding.{begins_rest, holds_still, stays_more, window_more}
 
 module _ (bytes : ℕ) (samples : List ℤ) (runs : List Run) (separators : List ℕ) where
   -- in records of the packer's length, and back
@@ -81,3 +82,8 @@ pub all_given : (bytes : ℕ) (samples : List ℤ) (runs : List Run) (separators
 all_given bytes samples runs separators None none canonical =
     subst (λ xs. IsCanonical bytes samples xs separators) (append-nil runs) (subst (λ xs. IsCanonical bytes samples (runs ++ []) xs) (append-nil separators) canonical)
 all_given bytes samples runs separators (Some piece) none canonical = cc
+
+-- the pieces that were given begin the packing of all samples
+pub last_begin : (bytes : ℕ) → 256 ≤ bytes → (samples : List ℤ) (runs : List Run) (separators : List ℕ) (packer : Holding) (ended : Bool) → LeftAt ended bytes samples runs separators packer → HasRest bytes samples runs separators
+last_begin bytes enough samples runs separators packer false left = begins_rest bytes enough samples runs separators packer.held packer.offset packer.current left
+last_begin bytes enough samples runs separators packer true left = record { others = []; places = []; canonical = rw (append-nil runs, append-nil separators) left }

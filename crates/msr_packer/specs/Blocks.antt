@@ -1,5 +1,5 @@
 -- Which pieces a packer of blocks of samples has given.
-use Rattle.std.specs.Prelude.{◌≡◌, ℕ, ◌+◌, ◌-◌, ◌≤◌, Bool, true, false, ℤ, List, length, Option, if◌then◌else◌}
+use Rattle.std.specs.Prelude.{◌≡◌, ℕ, ◌+◌, ◌-◌, ◌≤◌, Bool, true, false, ℤ, List, ◌++◌, length, Option, if◌then◌else◌}
 use Rattle.msr_words.specs.declared.kinds.Run.{Run}
 use Rattle.msr_words.specs.Laws.{most_any}
 use Rattle.msr_words.specs.Lengths.{bytes_of}
@@ -63,6 +63,11 @@ HoldsFew packer = length packer.held ≤ frontier_of packer.current + most_any p
 -- whatever samples follow, the pieces that were given begin their canonical packing
 abbrev pub BlocksBeginAll : Type 0
 BlocksBeginAll = (bytes : ℕ) (samples : List ℤ) (runs : List Run) (separators : List ℕ) (packer : Holding) → 256 ≤ bytes → Packs bytes samples runs separators packer → BeginsAll bytes samples runs separators
+
+-- where no sample follows, the pieces that were given begin the canonical packing of all
+abbrev pub LastBlocksBegin : Type 0
+LastBlocksBegin = (bytes : ℕ) (samples : List ℤ) (runs : List Run) (separators : List ℕ) (packer : Holding) → 256 ≤ bytes → PacksLast bytes samples runs separators packer
+    → (others : List Run) × (places : List ℕ) × IsCanonical bytes samples (runs ++ others) (separators ++ places)
 
 -- where no piece is decided, at most two longest runs of samples were pushed and not given
 abbrev pub BlocksLeaveFew : Type 0

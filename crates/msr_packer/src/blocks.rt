@@ -5,7 +5,7 @@ ghost use Rattle.msr_words.specs.declared.kinds.Run.{Run};
 ghost use Rattle.msr_words.specs.Laws.{most_any};
 ghost use Rattle.msr_words.specs.Lengths.{bytes_of};
 ghost use Rattle.msr_words.specs.Packing.{IsCanonical};
-ghost use Rattle.msr_packer.specs.Blocks.{BlocksBeginAll, BlocksEnd, BlocksLeaveFew, HoldsFew, Packs, PacksLast, left_of, pushed};
+ghost use Rattle.msr_packer.specs.Blocks.{BlocksBeginAll, BlocksEnd, BlocksLeaveFew, HoldsFew, LastBlocksBegin, Packs, PacksLast, left_of, pushed};
 ghost use Rattle.msr_packer.specs.Held.{Shows, pieces_of, runs_of, separators_of};
 
 use crate::held::{Held, Piece};
@@ -87,6 +87,7 @@ impl BlockPacker {
         ensures shows { (bytes : ℕ) (samples : List ℤ) (runs : List Run) (separators : List ℕ) → PacksLast bytes samples runs separators self.old
             → IfSome result (Shows samples self.new.shown self.new.before) }
         ensures fewer { IfSome result (λ _. left_of self.new < left_of self.old) }
+        ensures count { pushed self.new ≡ pushed self.old }
     {
         if self.ended {
             return None;
@@ -96,6 +97,13 @@ impl BlockPacker {
         }
         self.ended = true;
         self.held.last_piece()
+    }
+
+    /// How many samples were pushed.
+    pub fn pushed(&self) -> u64
+        ensures { result ≡ pushed self.now }
+    {
+        self.held.offset + self.held.samples.len() as u64
     }
 
     /// The samples of the piece that was given last.
@@ -116,6 +124,11 @@ impl BlockPacker {
 /// Whatever samples follow, the pieces that were given begin their canonical packing.
 pub fn blocks_begin_all()
     ensures { BlocksBeginAll }
+{}
+
+/// Where no sample follows, the pieces that were given begin the canonical packing of all.
+pub fn last_blocks_begin()
+    ensures { LastBlocksBegin }
 {}
 
 /// Where no piece is decided, at most two longest runs of samples were pushed and not given.

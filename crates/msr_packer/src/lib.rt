@@ -19,7 +19,7 @@ ghost use Rattle.msr_words.specs.Fit.{Fits, IsRun, IsFirstKind};
 ghost use Rattle.msr_packer.specs.Steps.{AreEnds};
 ghost use Rattle.msr_words.specs.Packing.{IsPacking, IsSeparating, IsLeast, IsCanonical};
 
-pub use blocks::{BlockPacker, blocks_begin_all, blocks_end, blocks_leave_few};
+pub use blocks::{BlockPacker, blocks_begin_all, blocks_end, blocks_leave_few, last_blocks_begin};
 pub use existence::{packing_exists, step_of_window};
 pub use held::Piece;
 pub use msr_words::Run;
