@@ -2,6 +2,8 @@ pub mod Better
 pub mod Canonical
 pub mod Ends
 pub mod Exist
+pub mod Holding
+pub mod InBlocks
 pub mod Least
 pub mod Narrow
 pub mod Reach

@@ -1,7 +1,9 @@
 //! The least packing of a segment, with the separators that show it.
 #![tactic(auto)]
 
+mod blocks;
 mod existence;
+mod held;
 mod live;
 mod steim1;
 mod step;
@@ -17,12 +19,14 @@ ghost use Rattle.msr_words.specs.Fit.{Fits, IsRun, IsFirstKind};
 ghost use Rattle.msr_packer.specs.Steps.{AreEnds};
 ghost use Rattle.msr_words.specs.Packing.{IsPacking, IsSeparating, IsLeast, IsCanonical};
 
+pub use blocks::{BlockPacker, blocks_begin_all, blocks_end, blocks_leave_few, last_blocks_begin};
 pub use existence::{packing_exists, step_of_window};
+pub use held::Piece;
 pub use msr_words::Run;
 use msr_words::{Kind, Length, first_kind};
 use std::alloc::{AllocError, Global};
 use step::{Found, next_step};
-pub use stream::{Last, Piece, StreamPacker, pieces_begin_all, stream_leaves_few};
+pub use stream::{Last, StreamPacker, pieces_begin_all, stream_leaves_few};
 
 /// Runs that join to a segment, and samples that show that no packing has fewer.
 #[derive(Debug, Drop, PartialEq, Eq)]

@@ -1,6 +1,9 @@
 //! Segments with their packings, worked out by hand, or from the definitions by exhaustive search.
 
-use crate::{Packing, Piece, Run, StreamPacker, pack};
+ghost use Rattle.std.specs.Prelude.{◌≡◌};
+ghost use Rattle.msr_packer.specs.Blocks.{pushed};
+
+use crate::{BlockPacker, Packing, Piece, Run, StreamPacker, pack};
 use Made::{Extremes, Noise, Signs, Swings, Turns, Zeros};
 use msr_words::Kind::{self, Int16, Int32, Steim1, Steim2};
 use msr_words::Length;
@@ -260,6 +263,35 @@ fn the_ramp_of_a_day(rt: HostRuntime) -> Result<(), Fail> {
 struct Streamed {
     packing: Packing,
     samples: Vec<i32>,
+    /// Whether the sample before each run was the last one of the run before it.
+    joined: bool,
+}
+
+impl Streamed {
+    fn empty(alloc: Global) -> Streamed {
+        Streamed {
+            packing: Packing {
+                runs: Vec::new(alloc),
+                separators: Vec::new(alloc),
+            },
+            samples: Vec::new(alloc),
+            joined: true,
+        }
+    }
+
+    /// Adds a piece with its samples, and the sample before them.
+    fn add(
+        &mut self,
+        piece: Piece,
+        before: Option<i32>,
+        samples: &[i32],
+    ) -> Result<(), AllocError> {
+        let last = self.samples.as_slice().last().copied();
+        self.joined = self.joined && before == last;
+        self.packing.runs.push(piece.run)?;
+        self.packing.separators.push(piece.separator)?;
+        self.samples.extend_from_slice(samples)
+    }
 }
 
 /// The samples pushed one after another.
@@ -288,6 +320,7 @@ fn stream_of(
     Ok(Streamed {
         packing: Packing { runs, separators },
         samples: shown,
+        joined: true,
     })
 }
 
@@ -300,6 +333,61 @@ fn the_rows_as_a_stream(rt: HostRuntime) -> Result<(), Fail> {
         let packing = pack(rt.alloc(), samples.as_slice(), record_length)?;
         assert_eq!(rt; given.packing, packing, "{bytes} {made:?}");
         assert_eq!(rt; given.samples, samples, "{bytes} {made:?}");
+    }
+    Ok(())
+}
+
+/// Adds the pieces that are decided.
+fn add_decided(packer: &mut BlockPacker, given: &mut Streamed) -> Result<(), AllocError>
+    ensures { pushed packer.new ≡ pushed packer.old }
+{
+    while let Some(piece) = packer.next_piece() {
+        given.add(piece, packer.sample_before(), packer.run_samples())?;
+    }
+    Ok(())
+}
+
+/// Adds the pieces at the end.
+fn add_last(packer: &mut BlockPacker, given: &mut Streamed) -> Result<(), AllocError> {
+    while let Some(piece) = packer.last_piece() {
+        given.add(piece, packer.sample_before(), packer.run_samples())?;
+    }
+    Ok(())
+}
+
+/// What a packer gives, where so many samples are pushed at a time.
+fn in_blocks(
+    alloc: Global,
+    samples: &[i32],
+    record_length: Length,
+    size: usize,
+) -> Result<Streamed, AllocError> {
+    let mut packer = BlockPacker::new(alloc, record_length);
+    let mut given = Streamed::empty(alloc);
+    let mut from = 0;
+    while from < samples.len() {
+        let to = from + size.max(1).min(samples.len() - from);
+        packer.push_all(&samples[from..to])?;
+        add_decided(&mut packer, &mut given)?;
+        from = to;
+    }
+    add_last(&mut packer, &mut given)?;
+    Ok(given)
+}
+
+/// Blocks of one sample, of a few, of about a record, and all at once.
+#[test]
+fn the_rows_in_blocks(rt: HostRuntime) -> Result<(), Fail> {
+    for (bytes, made, _, _) in ROWS {
+        let record_length = Length::new(bytes).ok_or("a length")?;
+        let samples = made.samples(rt.alloc())?;
+        let packing = pack(rt.alloc(), samples.as_slice(), record_length)?;
+        for size in [1, 7, 100, 1_000_000] {
+            let given = in_blocks(rt.alloc(), samples.as_slice(), record_length, size)?;
+            assert_eq!(rt; given.packing, packing, "{bytes} {made:?} by {size}");
+            assert_eq!(rt; given.samples, samples, "{bytes} {made:?} by {size}");
+            assert!(rt; given.joined, "{bytes} {made:?} by {size}");
+        }
     }
     Ok(())
 }

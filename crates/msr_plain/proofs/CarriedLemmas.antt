@@ -45,7 +45,7 @@ each_back width (x ∷ xs) rest (suc place) fit h =
     ∙ sym (ap (λ (bytes : List ℕ). number_in width Big (drop (size_of width * suc place) bytes)) apart
     ∙ ap (λ (bytes : List ℕ). number_in width Big bytes) (next_place width x (bytes_of_all width xs ++ rest) place))
 
-length-bytes_of_all : (width : Width) (xs : List ℤ) → length (bytes_of_all width xs) ≡ size_of width * length xs
+pub length-bytes_of_all : (width : Width) (xs : List ℤ) → length (bytes_of_all width xs) ≡ size_of width * length xs
 length-bytes_of_all width [] = omega arith
 length-bytes_of_all width (x ∷ xs) = omega (arith, length-append (bytes_of width x) (bytes_of_all width xs), length-bytes_of width x, length-bytes_of_all width xs)
 

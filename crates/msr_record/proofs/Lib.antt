@@ -10,3 +10,4 @@ pub mod OneWritten
 pub mod FirstBytes
 pub mod Shown
 pub mod WritableRows
+pub mod Existing

@@ -1,7 +1,8 @@
 -- The bytes of a written record (SEED 2.4, data record): a header of 64 bytes, then the data area.
-use Rattle.std.specs.Prelude.{◌≡◌, ℕ, ◌+◌, ◌-◌, ◌*◌, ◌/◌, ◌%◌, nat_le, if◌then◌else◌, ℤ, pos, List, [], ◌∷◌, ◌++◌, length, map, replicate, slice_index_or, Option, Some, true}
+use Rattle.std.specs.Prelude.{◌≡◌, ◌≢◌, ◌≤◌, ℕ, ◌+◌, ◌-◌, ◌*◌, ◌/◌, ◌%◌, nat_le, if◌then◌else◌, ℤ, pos, List, [], ◌∷◌, ◌++◌, length, map, replicate, slice_index_or, Option, Some, true, false, All, FitsSigned, IsTrue}
+use Rattle.std.specs.Int.{w16, w32}
 use Rattle.msr_time.specs.declared.btime.BTime.{BTime}
-use Rattle.msr_time.specs.Instant.{IsSplit}
+use Rattle.msr_time.specs.Instant.{IsInstant, IsSplit}
 use Rattle.msr_header.specs.declared.header.Order.TheVariants.{Big}
 use Rattle.msr_header.specs.declared.header.Header.{Header}
 use Rattle.msr_header.specs.Writing.{header_bytes}
@@ -12,11 +13,13 @@ use Rattle.msr_steim.specs.Frames.{frame_bytes}
 use Rattle.msr_steim.specs.declared.word.Version.{Version}
 use Rattle.msr_steim.specs.declared.word.Version.TheVariants.{One, Two}
 use Rattle.msr_words.specs.Canonical.{IsCanonicalDivision}
-use Rattle.msr_words.specs.Fit.{code_of}
+use Rattle.msr_words.specs.Fit.{Fits, code_of}
 use Rattle.msr_words.specs.RecordLength.{IsRecordLength}
-use Rattle.msr_words.specs.Segment.{differences}
+use Rattle.msr_words.specs.Segment.{differences, points}
 use Rattle.msr_words.specs.declared.kinds.Kind.{Kind}
 use Rattle.msr_words.specs.declared.kinds.Kind.TheVariants.{Int16, Int32, Steim1, Steim2}
+use Rattle.msr_header.specs.Reading.{is_quality}
+use Rattle.msr_record.specs.Correction.{is_pending}
 use Rattle.msr_record.specs.Records.{IsRowOf, IsRecordOf, IsInTime}
 use Rattle.msr_record.specs.declared.row.Key.{Key}
 
@@ -97,3 +100,28 @@ pub record AppendsRecord (old new : List ℕ) (key : Key) (start : ℤ) (sequenc
   pub row : (rest : List ℕ) → IsRowOf (bytes ++ rest) (record { key = key; start = start; kind = kind; samples = samples })
   pub found : (rest : List ℕ) → IsInTime key.rate start (length samples)
       → IsRecordOf (bytes ++ rest) (record { length = size; row = Some (record { key = key; start = start; kind = kind; samples = samples }); reverse_agrees = true })
+
+-- the fields of a key are as long and as wide as those of a header; neither part of the rate is 0
+pub record IsKey (key : Key) : Type 0 where
+  pub network : length key.network ≡ 2
+  pub station : length key.station ≡ 5
+  pub location : length key.location ≡ 2
+  pub channel : length key.channel ≡ 3
+  pub factor : FitsSigned w16 key.rate.factor
+  pub multiplier : FitsSigned w16 key.rate.multiplier
+  pub rate : (key.rate.factor ≢ pos 0) × (key.rate.multiplier ≢ pos 0)
+  pub correction : FitsSigned w32 key.correction
+
+-- a key that can be written
+pub record IsWritableKey (key : Key) : Type 0 where
+  pub is_key : IsKey key
+  pub quality : IsTrue (is_quality key.quality)
+  pub normal : is_pending key.activity key.correction ≡ false
+
+-- each run that fits has a written record, after any bytes
+abbrev pub RunHasRecord : Type 0
+RunHasRecord =
+    (old : List ℕ) (key : Key) (start : ℤ) (sequence : ℕ) (before : Option ℤ) (samples : List ℤ) (kind : Kind) (size : ℕ)
+    → IsRecordLength size → IsWritableKey key → IsInstant start
+    → 1 ≤ length samples → All (FitsSigned w32) samples → Fits kind size (points before samples)
+    → (bytes : List ℕ) × AppendsRecord old (old ++ bytes) key start sequence before samples kind size

@@ -6,7 +6,7 @@ ghost use Rattle.msr_header.specs.Reading.{header_of, is_quality};
 ghost use Rattle.msr_record.specs.Correction.{is_pending};
 ghost use Rattle.msr_record.specs.Records.{IsRowOf, IsRecordOf, IsRefused, RowIsInTime};
 ghost use Rattle.msr_record.specs.Reverse.{HasReverse, IsRefusedBeforeTime};
-ghost use Rattle.msr_record.specs.Written.{IsWritten};
+ghost use Rattle.msr_record.specs.Written.{IsWritten, RunHasRecord};
 ghost use Rattle.msr_words.specs.declared.kinds.Kind.{Kind};
 ghost use Rattle.msr_record.specs.declared.row.Key.{Key};
 ghost use Rattle.msr_record.specs.declared.row.Row.{Row};
@@ -53,4 +53,9 @@ pub fn rows_are_writable()
 pub fn one_written()
     ensures { (bytes others : List ℕ) (key : Key) (start : ℤ) (sequence : ℕ) (before : Option ℤ) (samples : List ℤ) (kind : Kind) (size : ℕ)
         → IsWritten bytes key start sequence before samples kind size → IsWritten others key start sequence before samples kind size → bytes ≡ others }
+{}
+
+/// Each run that fits a record of a kind has one written record of it.
+pub fn run_has_record()
+    ensures { RunHasRecord }
 {}

@@ -21,7 +21,7 @@ use msr_words::{Kind, Length, fill_steim1, fill_steim2};
 use std::alloc::{AllocError, Global};
 
 /// Each sample has 32 bits, which is known of it once it is read.
-fn are_32_bit(run: &[i32])
+pub fn are_32_bit(run: &[i32])
     ensures { All (FitsSigned w32) run.now }
 {
     for sample in run {

@@ -291,7 +291,7 @@ word_holds_group version first last gs frames number are f g within =
 held_lists : Version → List (List ℤ) → ℕ → List (List ℤ)
 held_lists version gs n = map (λ number. as_read version (group_in gs number)) (range_with_len 0 n)
 
-length-frame_bytes : (version : Version) (first last : ℤ) (gs : List (List ℤ)) (frames : ℕ) → length (frame_bytes version first last gs frames) ≡ 64 * frames
+pub length-frame_bytes : (version : Version) (first last : ℤ) (gs : List (List ℤ)) (frames : ℕ) → length (frame_bytes version first last gs frames) ≡ 64 * frames
 length-frame_bytes version first last gs frames =
     let e : 4 * (16 * frames) ≡ 64 * frames = omega arith in
     length-words (frame_words version first last gs frames) ∙ ap (λ n. 4 * n) (length-map-range_with_len (frame_word version first last gs) 0 (16 * frames)) ∙ e

@@ -1,4 +1,5 @@
 pub mod CalendarLemmas
+pub mod Existing
 pub mod NominalLemmas
 pub mod RateLemmas
 pub mod SignedFacts

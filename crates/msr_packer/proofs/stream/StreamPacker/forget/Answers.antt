@@ -1,45 +1,35 @@
-use Rattle.std.proofs.Common.{◌≡◌, ◌-◌, ◌<◌, ap, arith, drop, length, length-drop, refl}
-use Rattle.msr_packer.specs.Stream.{start_of}
-use Rattle.msr_packer.proofs.Streaming.{current_in_order, leaves, live_less, window_less}
+use Rattle.std.proofs.Common.{◌∙◌, ◌-◌, ap, arith, length, length-drop, refl}
+use Rattle.msr_packer.specs.Held.{frontier_of, start_of}
+use Rattle.msr_packer.proofs.Holding.{frontier_few}
+use Rattle.msr_packer.proofs.Streaming.{live_few, live_forgets, may_forget}
 use Rattle.msr_packer.proofs.stream.StreamPacker.forget.Goals as goal
 
 pub returns-clause-streams : goal.returns-clause-streams
 returns-clause-streams c = λ record_length samples runs separators s.
-    let w = rw c.in-Some.is at s.is_window in
-    let l = rw c.in-Some.is at s.live in
-    let order = current_in_order c.args.self.now.record_length.bytes c.args.self.now.record_length.least samples runs separators c.args.self.now.offset c.in-Some.current w.at in
-    let first = order.0 in
-    let second = order.1 in
-    let value = c.saturating_sub-count.ensures in
-    let near = l.near in
-    let some : 0 < c.saturating_sub-count.result = let never = c.if-count-eq0.false in grind arith in
-    let small : c.saturating_sub-count.result < c.args.self.now.live.start = omega arith in
+    let held = c.args.self.now.held in
+    let count = start_of held.current - 1 in
+    let value = c.unneeded.ensures in
+    let f = c.forget.ensures in
+    let may = may_forget held.record_length.bytes (length held.samples.items) held.current c.args.self.now.live.start s.sound.inside s.live.near in
+    let inside = s.sound.inside in
+    let long = ap length f.samples ∙ length-drop count held.samples.items in
+    let few = s.few in
     record {
-      size = s.size;
-      is_window = rw c.remove_front.ensures
-          (window_less c.args.self.now.record_length.bytes samples runs separators c.args.self.now.held.items c.args.self.now.offset c.saturating_sub-count.result c.in-Some.current _ w (omega arith) (omega arith) (omega arith) (omega arith) refl refl);
-      live = rw c.remove_front.ensures
-          (live_less c.args.self.now.record_length.bytes c.args.self.now.held.items c.in-Some.current.end (c.in-Some.current.end - c.saturating_sub-count.result) c.saturating_sub-count.result c.args.self.now.live _ l small (omega arith) (omega arith) refl);
-      from = omega arith;
-      few = (let f = s.few in let m = c.remove_front.ensures in let l = length-drop c.saturating_sub-count.result c.args.self.now.held.items in let n : length c.remove_front.new.held.items ≡ length (drop c.saturating_sub-count.result c.args.self.now.held.items) = ap length m in omega arith);
+      size = f.size ∙ s.size;
+      holds = f.holds samples runs separators s.holds;
+      sound = f.sound;
+      stays = f.stays s.stays;
+      live = rw (f.size, f.samples)
+          (live_forgets held.record_length.bytes held.samples.items (frontier_of held.current) (frontier_of c.forget.new.self.current) count c.args.self.now.live _ s.live may f.frontier (omega arith) refl);
+      few = rw f.size (omega arith);
     }
 
-pub returns-in_default-clause-few : goal.returns-in_default-clause-few
-returns-in_default-clause-few c =
-    let r = c.requires in
-    let s = r.streams in
-    let l = leaves c.args.self.now.record_length.bytes r.samples r.runs r.separators c.args.self.now.held.items c.args.self.now.offset c.args.self.now.current c.args.self.now.live s.is_window s.live in
-    let few = l.held_few in
-    let none : start_of c.args.self.now.current ≡ 0 = ap start_of c.in_default.is in
-    omega arith
-
-pub returns-then-count-eq0-clause-few : goal.returns-then-count-eq0-clause-few
-returns-then-count-eq0-clause-few c =
-    let r = c.requires in
-    let s = r.streams in
-    let l = leaves c.args.self.now.record_length.bytes r.samples r.runs r.separators c.args.self.now.held.items c.args.self.now.offset c.args.self.now.current c.args.self.now.live s.is_window s.live in
-    let few = l.held_few in
-    let here : start_of c.args.self.now.current ≡ c.in-Some.current.start = ap start_of c.in-Some.is in
-    let value = c.saturating_sub-count.ensures in
-    let zero_count = c.if-count-eq0.true in
-    omega arith
+pub returns-clause-few : goal.returns-clause-few
+returns-clause-few c =
+    let held = c.args.self.now.held in
+    let s = c.requires.streams in
+    let f = c.forget.ensures in
+    let long = ap length f.samples ∙ length-drop (start_of held.current - 1) held.samples.items in
+    let few = live_few held.record_length.bytes held.samples.items (frontier_of held.current) c.args.self.now.live s.live in
+    let short = frontier_few held.record_length.bytes (length held.samples.items) held.current s.sound.inside in
+    rw f.size (omega arith)

@@ -1,0 +1,142 @@
+//! The packing of a segment whose samples come in blocks.
+
+ghost use Rattle.std.specs.Prelude.{◌≡◌, ℕ, ℤ, List, [], ◌++◌, ◌+◌, ◌*◌, ◌^◌, ◌<◌, ◌≤◌, length, IfSome, IsNone, MatchResult};
+ghost use Rattle.msr_words.specs.declared.kinds.Run.{Run};
+ghost use Rattle.msr_words.specs.Laws.{most_any};
+ghost use Rattle.msr_words.specs.Lengths.{bytes_of};
+ghost use Rattle.msr_words.specs.Packing.{IsCanonical};
+ghost use Rattle.msr_packer.specs.Blocks.{BlocksBeginAll, BlocksEnd, BlocksLeaveFew, HoldsFew, LastBlocksBegin, Packs, PacksLast, left_of, pushed};
+ghost use Rattle.msr_packer.specs.Held.{Shows, pieces_of, runs_of, separators_of};
+
+use crate::held::{Held, Piece};
+use msr_words::{AnyKind, Length, Tracker};
+use std::alloc::{AllocError, Global};
+use std::marker::Model;
+
+/// Takes the samples of a segment in blocks, and gives the runs of the packing one after another: each where so many
+/// samples are there that its step ends before the last, whatever their kind. Each step is found once, over all that
+/// is held.
+#[derive(Drop)]
+pub struct BlockPacker {
+    held: Held,
+    /// Whether all pieces were given.
+    ended: bool,
+}
+
+impl Model for BlockPacker {
+    ghost use Rattle.msr_packer.specs.Blocks.{Holding, holding_of};
+    ghost use Rattle.msr_packer.specs.Held.{IsSound};
+
+    ghost Value = { Holding };
+
+    ghost view = { λ p. holding_of p.held p.ended };
+
+    ghost invariant = { λ p. IsSound p.held };
+}
+
+impl BlockPacker {
+    /// A packer that no sample was pushed to. It takes no memory yet.
+    pub fn new(alloc: Global, record_length: Length) -> BlockPacker
+        ensures none { Packs (bytes_of record_length) [] [] [] result }
+        ensures few { HoldsFew result }
+        ensures count { pushed result ≡ 0 }
+    {
+        BlockPacker {
+            held: Held::empty(alloc, record_length),
+            ended: false,
+        }
+    }
+
+    /// Takes more samples. First it forgets those that no step needs any more, where they are at least as many as those
+    /// that it needs, so that in all no more samples are moved than pushed. Where memory is refused, no sample was
+    /// taken.
+    pub fn push_all(&mut self, samples: &[i32]) -> Result<(), AllocError>
+        requires { pushed self.old + length samples.now < 2 ^ 64 }
+        ensures taken { (bytes : ℕ) (before : List ℤ) (runs : List Run) (separators : List ℕ) → Packs bytes before runs separators self.old
+            → MatchResult result
+            (λ _. Packs bytes (before ++ samples.now) runs separators self.new)
+            (λ _. Packs bytes before runs separators self.new) }
+        ensures few { HoldsFew self.old → length self.new.held ≤ 4 * most_any self.old.size + 2 + length samples.now }
+        ensures count { MatchResult result (λ _. pushed self.new ≡ pushed self.old + length samples.now) (λ _. pushed self.new ≡ pushed self.old) }
+    {
+        self.held.make_room();
+        self.held.samples.extend_from_slice(samples)?;
+        Ok(())
+    }
+
+    /// The next piece, where it is decided whatever samples follow.
+    pub fn next_piece(&mut self) -> Option<Piece>
+        ensures given { (bytes : ℕ) (samples : List ℤ) (runs : List Run) (separators : List ℕ) → Packs bytes samples runs separators self.old
+            → Packs bytes samples (runs ++ runs_of (pieces_of result)) (separators ++ separators_of (pieces_of result)) self.new }
+        ensures shows { (bytes : ℕ) (samples : List ℤ) (runs : List Run) (separators : List ℕ) → Packs bytes samples runs separators self.old
+            → IfSome result (Shows samples self.new.shown self.new.before) }
+        ensures few { IsNone result → HoldsFew self.new }
+        ensures fewer { IfSome result (λ _. left_of self.new < left_of self.old) }
+        ensures count { pushed self.new ≡ pushed self.old }
+    {
+        let most = AnyKind::most(self.held.record_length);
+        self.held.next_piece(most)
+    }
+
+    /// The next piece, where no sample follows. Where there is none, all pieces were given.
+    pub fn last_piece(&mut self) -> Option<Piece>
+        ensures given { (bytes : ℕ) (samples : List ℤ) (runs : List Run) (separators : List ℕ) → PacksLast bytes samples runs separators self.old
+            → PacksLast bytes samples (runs ++ runs_of (pieces_of result)) (separators ++ separators_of (pieces_of result)) self.new }
+        ensures all { (bytes : ℕ) (samples : List ℤ) (runs : List Run) (separators : List ℕ) → PacksLast bytes samples runs separators self.old
+            → IsNone result → IsCanonical bytes samples runs separators }
+        ensures shows { (bytes : ℕ) (samples : List ℤ) (runs : List Run) (separators : List ℕ) → PacksLast bytes samples runs separators self.old
+            → IfSome result (Shows samples self.new.shown self.new.before) }
+        ensures fewer { IfSome result (λ _. left_of self.new < left_of self.old) }
+        ensures count { pushed self.new ≡ pushed self.old }
+    {
+        if self.ended {
+            return None;
+        }
+        if let Some(piece) = self.held.next_piece(0) {
+            return Some(piece);
+        }
+        self.ended = true;
+        self.held.last_piece()
+    }
+
+    /// How many samples were pushed.
+    pub fn pushed(&self) -> u64
+        ensures { result ≡ pushed self.now }
+    {
+        self.held.offset + self.held.samples.len() as u64
+    }
+
+    /// The samples of the piece that was given last.
+    pub fn run_samples(&self) -> &[i32]
+        ensures { result.now ≡ self.now.shown }
+    {
+        self.held.shown()
+    }
+
+    /// The sample before those of the piece that was given last, if there is one.
+    pub fn sample_before(&self) -> Option<i32>
+        ensures { result ≡ self.now.before }
+    {
+        self.held.before()
+    }
+}
+
+/// Whatever samples follow, the pieces that were given begin their canonical packing.
+pub fn blocks_begin_all()
+    ensures { BlocksBeginAll }
+{}
+
+/// Where no sample follows, the pieces that were given begin the canonical packing of all.
+pub fn last_blocks_begin()
+    ensures { LastBlocksBegin }
+{}
+
+/// Where no piece is decided, at most two longest runs of samples were pushed and not given.
+pub fn blocks_leave_few()
+    ensures { BlocksLeaveFew }
+{}
+
+/// Where no sample follows, the last pieces may be given.
+pub fn blocks_end()
+    ensures { BlocksEnd }
+{}

@@ -1,0 +1,324 @@
+//! The last samples of a segment, with the step whose piece comes next.
+
+ghost use Rattle.std.specs.Prelude.{◌≡◌, ℕ, ℤ, List, [], ◌++◌, ◌+◌, ◌-◌, ◌*◌, ◌<◌, ◌≤◌, ◌⊎◌, length, drop, IfSome, IsNone, IsSome};
+ghost use Rattle.msr_words.specs.declared.kinds.Run.{Run};
+ghost use Rattle.msr_words.specs.Fit.{Fits, FitsAny, IsFirstKind, IsRun};
+ghost use Rattle.msr_words.specs.Laws.{most_any};
+ghost use Rattle.msr_words.specs.Lengths.{bytes_of};
+ghost use Rattle.msr_words.specs.Packing.{IsCanonical, IsStep};
+ghost use Rattle.msr_words.specs.Segment.{run_points};
+ghost use Rattle.msr_packer.specs.Held.{GivesPiece, Holds, IsSound, Shows, Stays, before_shown, frontier_of, piece_of, pieces_of, runs_of, separators_of, shown_by, start_of};
+ghost use Rattle.msr_packer.specs.Steps.{AreEnds};
+
+use crate::kind_of;
+use crate::step::{Found, next_step};
+use msr_words::{Kind, Length, Run};
+use std::alloc::Global;
+
+/// A run of the packing, with the separator that goes with it.
+#[derive(Clone, Copy, Debug, PartialEq, Eq)]
+pub struct Piece {
+    pub run: Run,
+    pub separator: u64,
+}
+
+/// What stands in a place of `Last` that holds no piece.
+impl Default for Piece {
+    fn default() -> Piece {
+        Piece {
+            run: Run {
+                start: 0,
+                end: 0,
+                kind: Kind::Int32,
+            },
+            separator: 0,
+        }
+    }
+}
+
+/// A step whose run is cut where the next one starts: at its end, in the first of these kinds, or at the sample
+/// before, in the other.
+#[derive(Clone, Copy, Debug)]
+pub struct Current {
+    pub frontier: usize,
+    pub start: usize,
+    pub end: usize,
+    pub whole: Kind,
+    pub short: Kind,
+}
+
+impl Current {
+    /// A step that was found, with the kinds of its run.
+    fn of(samples: &[i32], record_length: Length, frontier: usize, found: Found) -> Current
+        requires inside { frontier < length samples.now }
+        requires step { IsStep (FitsAny (bytes_of record_length)) samples.now frontier found.step.end found.step.start }
+        requires kind { IsRun (Fits found.step.kind (bytes_of record_length)) samples.now found.step.start found.step.end }
+        requires ends { AreEnds (bytes_of record_length) samples.now frontier found.step.end found.ends }
+        ensures frontier { result.frontier ≡ frontier }
+        ensures start { result.start ≡ found.step.start }
+        ensures end { result.end ≡ found.step.end }
+        ensures whole { IsFirstKind (bytes_of record_length) (run_points samples.now result.start result.end) result.whole }
+        ensures short { IsFirstKind (bytes_of record_length) (run_points samples.now result.start (result.end - 1)) result.short }
+    {
+        let end = found.step.end;
+        Current {
+            frontier,
+            start: found.step.start,
+            end,
+            whole: kind_of(samples, record_length, frontier, found, end),
+            short: kind_of(samples, record_length, frontier, found, end - 1),
+        }
+    }
+}
+
+/// Takes the first samples away.
+pub fn remove_front(held: &mut Vec<i32>, count: usize)
+    requires { count ≤ length held.old.items }
+    ensures { held.new.items ≡ drop count held.old.items }
+{
+    let left = held.len() - count;
+    held.copy_within(count.., 0);
+    held.truncate(left);
+}
+
+/// The last samples of a segment, with the step whose piece comes next. It shows the samples of the piece that was
+/// given last.
+#[derive(Drop)]
+pub struct Held {
+    pub record_length: Length,
+    pub samples: Vec<i32>,
+    /// How many samples of the segment stand before those that are held.
+    pub offset: u64,
+    pub current: Option<Current>,
+    /// Where the samples begin that are shown.
+    pub from: usize,
+    /// Where they end.
+    pub to: usize,
+}
+
+impl Held {
+    /// Of no samples. It takes no memory yet.
+    pub fn empty(alloc: Global, record_length: Length) -> Held
+        ensures size { result.record_length ≡ record_length }
+        ensures none { Holds [] [] [] result }
+        ensures sound { IsSound result }
+        ensures current { IsNone result.current }
+        ensures samples { result.samples.items ≡ [] }
+        ensures shown { shown_by result ≡ [] }
+    {
+        Held {
+            record_length,
+            samples: Vec::new(alloc),
+            offset: 0,
+            current: None,
+            from: 0,
+            to: 0,
+        }
+    }
+
+    /// The frontier of the next step.
+    pub fn frontier(&self) -> usize
+        ensures { result ≡ frontier_of self.now.current }
+    {
+        match self.current {
+            Some(current) => current.end,
+            None => 0,
+        }
+    }
+
+    /// Where the samples begin that were not given yet.
+    pub fn start(&self) -> usize
+        ensures { result ≡ start_of self.now.current }
+    {
+        match self.current {
+            Some(current) => current.start,
+            None => 0,
+        }
+    }
+
+    /// The kind of the last step.
+    pub fn likely(&self) -> Kind {
+        match self.current {
+            Some(current) => current.whole,
+            None => Kind::Steim2,
+        }
+    }
+
+    /// The piece that ends where the next run starts.
+    pub fn piece_to(&self, next: usize) -> Option<Piece>
+        requires sound { IsSound self.now }
+        requires within { next ≤ length self.now.samples.items }
+        ensures { result ≡ piece_of self.now.offset self.now.current next }
+    {
+        let current = self.current?;
+        Some(Piece {
+            run: Run {
+                start: self.offset + current.start as u64,
+                end: self.offset + next as u64,
+                kind: if next == current.end {
+                    current.whole
+                } else {
+                    current.short
+                },
+            },
+            separator: self.offset + current.frontier as u64,
+        })
+    }
+
+    /// Goes on to the step that was found from the frontier, and gives the piece before it, which is shown.
+    pub fn go_on(&mut self, found: Found) -> Option<Piece>
+        requires sound { IsSound self.old }
+        requires inside { frontier_of self.old.current < length self.old.samples.items }
+        requires step { IsStep (FitsAny (bytes_of self.old.record_length)) self.old.samples.items (frontier_of self.old.current) found.step.end found.step.start }
+        requires kind { IsRun (Fits found.step.kind (bytes_of self.old.record_length)) self.old.samples.items found.step.start found.step.end }
+        requires ends { AreEnds (bytes_of self.old.record_length) self.old.samples.items (frontier_of self.old.current) found.step.end found.ends }
+        ensures given { GivesPiece self.old self.new result }
+        ensures none { IsNone result → shown_by self.new ≡ [] }
+        ensures end { frontier_of self.new.current ≡ found.step.end }
+        ensures some { IsSome self.new.current }
+        ensures first { IsNone result → IsNone self.old.current }
+    {
+        let frontier = self.frontier();
+        let start = self.start();
+        let piece = self.piece_to(found.step.start);
+        let next = Current::of(self.samples.as_slice(), self.record_length, frontier, found);
+        self.from = start;
+        self.to = next.start;
+        self.current = Some(next);
+        piece
+    }
+
+    /// Where more samples than this stand behind the frontier, the piece before the next step, which has none where it
+    /// is the first.
+    fn step_past(&mut self, behind: usize) -> Option<Piece>
+        requires { IsSound self.old }
+        ensures given { GivesPiece self.old self.new result }
+        ensures stays { most_any (bytes_of self.old.record_length) ≤ behind → Stays self.old.current (length self.old.samples.items) → Stays self.new.current (length self.old.samples.items) }
+        ensures few { IsNone result → IsSome self.old.current → length self.old.samples.items ≤ frontier_of self.new.current + behind }
+        ensures first { IsNone result → (length self.old.samples.items ≤ frontier_of self.new.current + behind) ⊎ IsSome self.new.current }
+        ensures order { frontier_of self.old.current ≤ frontier_of self.new.current }
+        ensures fewer { IfSome result (λ _. frontier_of self.old.current < frontier_of self.new.current) }
+    {
+        let frontier = self.frontier();
+        if self.samples.len() - frontier <= behind {
+            return None;
+        }
+        let samples = self.samples.as_slice();
+        let found = next_step(samples, self.record_length, frontier, self.likely());
+        self.go_on(found)
+    }
+
+    /// The next piece, where more samples than this stand behind the frontier. It is shown.
+    pub fn next_piece(&mut self, behind: usize) -> Option<Piece>
+        requires { IsSound self.old }
+        ensures given { GivesPiece self.old self.new result }
+        ensures stays { most_any (bytes_of self.old.record_length) ≤ behind → Stays self.old.current (length self.old.samples.items) → Stays self.new.current (length self.old.samples.items) }
+        ensures few { IsNone result → length self.old.samples.items ≤ frontier_of self.new.current + behind }
+        ensures fewer { IfSome result (λ _. frontier_of self.old.current < frontier_of self.new.current) }
+    {
+        if let Some(piece) = self.step_past(behind) {
+            return Some(piece);
+        }
+        // no piece stands before the first step
+        self.step_past(behind)
+    }
+
+    /// The piece of the last step, where no sample stands behind it; none where there are no samples. It is shown.
+    pub fn last_piece(&mut self) -> Option<Piece>
+        requires sound { IsSound self.old }
+        requires end { length self.old.samples.items ≤ frontier_of self.old.current }
+        ensures sound { IsSound self.new }
+        ensures size { self.new.record_length ≡ self.old.record_length }
+        ensures held { self.new.samples.items ≡ self.old.samples.items }
+        ensures offset { self.new.offset ≡ self.old.offset }
+        ensures current { self.new.current ≡ self.old.current }
+        ensures canonical { (samples : List ℤ) (runs : List Run) (separators : List ℕ) → Holds samples runs separators self.old
+            → IsCanonical (bytes_of self.old.record_length) samples (runs ++ runs_of (pieces_of result)) (separators ++ separators_of (pieces_of result)) }
+        ensures shows { (samples : List ℤ) (runs : List Run) (separators : List ℕ) → Holds samples runs separators self.old
+            → IfSome result (Shows samples (shown_by self.new) (before_shown self.new)) }
+    {
+        let end = self.samples.len();
+        self.from = self.start();
+        self.to = end;
+        self.piece_to(end)
+    }
+
+    /// How many samples no step needs any more: those before the one before the run.
+    pub fn unneeded(&self) -> usize
+        ensures { result ≡ start_of self.now.current - 1 }
+    {
+        self.start().saturating_sub(1)
+    }
+
+    /// Takes the samples away that no step needs any more. None is shown then.
+    pub fn forget(&mut self)
+        requires { IsSound self.old }
+        ensures sound { IsSound self.new }
+        ensures holds { (samples : List ℤ) (runs : List Run) (separators : List ℕ) → Holds samples runs separators self.old
+            → Holds samples runs separators self.new }
+        ensures stays { Stays self.old.current (length self.old.samples.items) → Stays self.new.current (length self.new.samples.items) }
+        ensures size { self.new.record_length ≡ self.old.record_length }
+        ensures samples { self.new.samples.items ≡ drop (start_of self.old.current - 1) self.old.samples.items }
+        ensures number { self.new.offset + length self.new.samples.items ≡ self.old.offset + length self.old.samples.items }
+        ensures frontier { frontier_of self.new.current + (start_of self.old.current - 1) ≡ frontier_of self.old.current }
+        ensures start { start_of self.new.current + (start_of self.old.current - 1) ≡ start_of self.old.current }
+        ensures from { self.new.from ≡ 0 }
+        ensures to { self.new.to ≡ 0 }
+    {
+        self.from = 0;
+        self.to = 0;
+        let count = self.unneeded();
+        let Some(current) = self.current else {
+            return;
+        };
+        if count == 0 {
+            return;
+        }
+        remove_front(&mut self.samples, count);
+        self.offset += count as u64;
+        self.current = Some(Current {
+            frontier: current.frontier - count,
+            start: current.start - count,
+            end: current.end - count,
+            whole: current.whole,
+            short: current.short,
+        });
+    }
+
+    /// Takes the samples away that no step needs any more, where they are at least as many as the others: then each
+    /// sample that is moved is paid for by one that goes.
+    pub fn make_room(&mut self)
+        requires { IsSound self.old }
+        ensures sound { IsSound self.new }
+        ensures holds { (samples : List ℤ) (runs : List Run) (separators : List ℕ) → Holds samples runs separators self.old
+            → Holds samples runs separators self.new }
+        ensures stays { Stays self.old.current (length self.old.samples.items) → Stays self.new.current (length self.new.samples.items) }
+        ensures size { self.new.record_length ≡ self.old.record_length }
+        ensures number { self.new.offset + length self.new.samples.items ≡ self.old.offset + length self.old.samples.items }
+        ensures few { length self.old.samples.items ≤ frontier_of self.old.current + most_any (bytes_of self.old.record_length) → length self.new.samples.items ≤ 4 * most_any (bytes_of self.old.record_length) + 2 }
+    {
+        let unneeded = self.unneeded();
+        if unneeded >= self.samples.len() - unneeded {
+            self.forget();
+        }
+    }
+
+    /// The samples that are shown.
+    pub fn shown(&self) -> &[i32]
+        requires { IsSound self.now }
+        ensures { result.now ≡ shown_by self.now }
+    {
+        &self.samples.as_slice()[self.from..self.to]
+    }
+
+    /// The sample before those that are shown, if there is one.
+    pub fn before(&self) -> Option<i32>
+        requires { IsSound self.now }
+        ensures { result ≡ before_shown self.now }
+    {
+        if self.from == 0 {
+            return None;
+        }
+        Some(self.samples[self.from - 1])
+    }
+}
