@@ -1,5 +1,5 @@
 -- What the words of a command line ask for.
-use Rattle.std.specs.Prelude.{◌≡◌, ◌≢◌, ◌⊎◌, ◌≤◌, ℕ, ⊤, List, ◌++◌, Option, None, Some, IfSome, codes, string_bytes}
+use Rattle.std.specs.Prelude.{◌≡◌, ◌≢◌, ◌⊎◌, ◌≤◌, ℕ, ⊤, List, ◌++◌, map, AllPairs, Option, None, Some, IfSome, codes, string_bytes}
 use Rattle.std.specs.Option.{option_map}
 use Rattle.msr_words.specs.Lengths.{bytes_of}
 use Rattle.msr_program.specs.declared.words.Folders.{Folders}
@@ -28,6 +28,10 @@ IsBelow folder path = (rest : List ℕ) × (path ≡ folder ++ (codes "/" ++ res
 abbrev pub Overlap : (a b : List ℕ) → Type 0
 Overlap a b = (a ≡ b) ⊎ (IsBelow a b ⊎ IsBelow b a)
 
+-- of these folders of an archive none is another or stands below it
+abbrev pub AreApart : (folders : List (List ℕ)) → Type 0
+AreApart folders = AllPairs (λ a b. ¬ (Overlap a b)) folders
+
 -- no two of the folders overlap
 pub record StandApart (folders : Folders) : Type 0 where
   pub out : ¬ (Overlap folders.root.now folders.out.now)
@@ -55,12 +59,12 @@ IsChecking packed report (Listing asked) = ⊥
 IsChecking packed report (Archive asked) = ⊥
 IsChecking packed report (Check asked) = (packed ≡ Some asked.packed.now) × (report ≡ Some asked.report.now)
 
--- the archive in these folders is to be repacked with these choices
-abbrev pub IsArchiving : (bytes tolerance : ℕ) → (folders : Folders) → Task → Type 0
-IsArchiving bytes tolerance folders (Repack asked) = ⊥
-IsArchiving bytes tolerance folders (Listing asked) = ⊥
-IsArchiving bytes tolerance folders (Check asked) = ⊥
-IsArchiving bytes tolerance folders (Archive asked) = (bytes_of asked.length ≡ bytes) × (asked.tolerance ≡ tolerance) × (asked.folders ≡ folders)
+-- the archive in these folders is to be repacked with these choices, those of its folders that are asked for
+abbrev pub IsArchiving : (bytes tolerance : ℕ) → (folders : Folders) → (below : List (List ℕ)) → Task → Type 0
+IsArchiving bytes tolerance folders below (Repack asked) = ⊥
+IsArchiving bytes tolerance folders below (Listing asked) = ⊥
+IsArchiving bytes tolerance folders below (Check asked) = ⊥
+IsArchiving bytes tolerance folders below (Archive asked) = (bytes_of asked.length ≡ bytes) × (asked.tolerance ≡ tolerance) × (asked.folders ≡ folders) × (map (λ folder. folder.now) asked.below.items ≡ below)
 
 -- standard input is to be repacked to nowhere, with records of 512 bytes and a tolerance of 1000 microseconds
 abbrev pub IsDefault : Task → Type 0

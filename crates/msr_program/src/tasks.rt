@@ -185,6 +185,7 @@ fn repack_archive<'a, R: Files, O: Sink>(
         out: asked.folders.out,
         reports: asked.folders.reports,
         options: options_of(asked.length, asked.tolerance),
+        below: asked.below.as_slice(),
     };
     let refused = walk(rt, alloc, &archive, output)?;
     Ok(Done::Walked { refused })

@@ -120,6 +120,13 @@ removed, also where they were there before. The walk goes on after a refused fil
 pub const ARCHIVE_AFTER: &str = "Example:
   msrepack archive --length 4096 sds packed reports > log.txt";
 
+pub const BELOW: &str = "Walk only this folder of the archive. May be repeated";
+
+pub const LONG_BELOW: &str =
+    "Walk only this folder of the archive, given by its path from ROOT, as 2020/XX/TEST/BHZ.D.
+May be repeated, for folders of which none is another or stands below it: they are
+walked in the order in which they are given. All paths are still counted from ROOT";
+
 pub const ROOT: &str = "The folder of the archive";
 
 pub const OUT_FOLDER: &str = "The folder of the records. It is made if it is missing";
@@ -150,6 +157,8 @@ pub const NOT_A_LENGTH: &str = "msrepack: not a record length\n";
 pub const SAME_FILE: &str = "msrepack: the output is the input\n";
 
 pub const OVERLAP: &str = "msrepack: the folders overlap\n";
+
+pub const NOT_BELOW: &str = "msrepack: not a folder of an archive\n";
 
 pub const NO_COMMAND: &str = "error: no command\n";
 

@@ -14,3 +14,4 @@ mod tally;
 
 pub use files::settle;
 pub use folders::{Archive, walk};
+pub use paths::levels_below;

@@ -221,6 +221,48 @@ files 1 skipped 12 refused 2
     tree.remove(&rt)
 }
 
+// Only the folders that are asked for, in the order in which they are: of any depth, one that is missing, one that is a
+// file. Paths are those of the whole walk.
+#[test]
+fn folders_that_are_asked_for(rt: HostRuntime) -> Result<(), Fail> {
+    let tree = Tree::new(&rt)?;
+    let day = zeros(rt.alloc())?;
+    let other = "2020/XX/TEST/BHN.D/XX.TEST.00.BHN.D.2020.001";
+    let early = "2019/XX/TEST/BHZ.D/XX.TEST.00.BHZ.D.2019.001";
+    for path in [
+        DAY_1,
+        other,
+        early,
+        "2020/readme",
+        "2018/YY/S/BHZ.D/deep/file",
+    ] {
+        tree.write(&rt, "sds", path, day.as_slice())?;
+    }
+    let mut words = Vec::new(rt.alloc());
+    words.extend_from_slice(&tree.words())?;
+    words.extend_from_slice(&[
+        "--below=2020/XX/TEST/BHZ.D",
+        "--below=2020/YY",
+        "--below=2020/readme",
+        "--below=2018",
+        "--below=2019/XX",
+    ])?;
+    let lines = "done 2020/XX/TEST/BHZ.D/XX.TEST.00.BHZ.D.2020.001 read 1 written 2
+refused 2020/YY: listing
+refused 2020/readme: listing
+skipped 2018/YY/S/BHZ.D/deep: not an SDS path
+done 2019/XX/TEST/BHZ.D/XX.TEST.00.BHZ.D.2019.001 read 1 written 2
+channel XX.TEST.00.BHZ files 2 read 2 written 4
+files 2 skipped 1 refused 2
+";
+    let ran = run_on(&rt, words.as_slice(), &[])?;
+    shows(&rt, &ran, 1, lines);
+    assert!(&rt; tree.has(&rt, "out", DAY_1)? && tree.has(&rt, "out", early)?);
+    assert!(&rt; !tree.has(&rt, "out", other)?);
+    drop(words);
+    tree.remove(&rt)
+}
+
 // Channels in the order of their first days that were done, each with its sums.
 #[test]
 fn totals_of_channels(rt: HostRuntime) -> Result<(), Fail> {
