@@ -4,6 +4,7 @@ use Rattle.std.specs.Option.{option_map}
 use Rattle.msr_words.specs.Lengths.{bytes_of}
 use Rattle.msr_program.specs.declared.words.Folders.{Folders}
 use Rattle.msr_program.specs.declared.words.Task.{Task}
+use Rattle.msr_program.specs.declared.words.Walking.{Walking}
 use Rattle.msr_program.specs.declared.words.Task.TheVariants.{Repack, List as Listing, Check, Archive}
 use Rattle.msr_program.specs.declared.words.NoTask.{NoTask}
 use Rattle.msr_program.specs.declared.words.NoTask.TheVariants.{Ending, Memory}
@@ -59,12 +60,12 @@ IsChecking packed report (Listing asked) = ⊥
 IsChecking packed report (Archive asked) = ⊥
 IsChecking packed report (Check asked) = (packed ≡ Some asked.packed.now) × (report ≡ Some asked.report.now)
 
--- the archive in these folders is to be repacked with these choices, those of its folders that are asked for
-abbrev pub IsArchiving : (bytes tolerance : ℕ) → (folders : Folders) → (below : List (List ℕ)) → Task → Type 0
-IsArchiving bytes tolerance folders below (Repack asked) = ⊥
-IsArchiving bytes tolerance folders below (Listing asked) = ⊥
-IsArchiving bytes tolerance folders below (Check asked) = ⊥
-IsArchiving bytes tolerance folders below (Archive asked) = (bytes_of asked.length ≡ bytes) × (asked.tolerance ≡ tolerance) × (asked.folders ≡ folders) × (map (λ folder. folder.now) asked.below.items ≡ below)
+-- the archive in these folders is to be repacked with these choices, and walked in this way
+abbrev pub IsArchiving : (bytes tolerance : ℕ) → (folders : Folders) → (walking : Walking) → Task → Type 0
+IsArchiving bytes tolerance folders walking (Repack asked) = ⊥
+IsArchiving bytes tolerance folders walking (Listing asked) = ⊥
+IsArchiving bytes tolerance folders walking (Check asked) = ⊥
+IsArchiving bytes tolerance folders walking (Archive asked) = (bytes_of asked.length ≡ bytes) × (asked.tolerance ≡ tolerance) × (asked.folders ≡ folders) × (asked.walking ≡ walking)
 
 -- standard input is to be repacked to nowhere, with records of 512 bytes and a tolerance of 1000 microseconds
 abbrev pub IsDefault : Task → Type 0

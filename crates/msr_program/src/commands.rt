@@ -68,6 +68,10 @@ fn below<'a>(alloc: Global) -> Arg<'a> {
         .long_help(texts::LONG_BELOW)
 }
 
+fn flag<'a>(alloc: Global, name: &'a str) -> Arg<'a> {
+    Arg::new(alloc, name).long(name).action(ArgAction::SetTrue)
+}
+
 fn archive<'a>(alloc: Global) -> Result<Command<'a>, AllocError> {
     Command::new(alloc, "archive")
         .about(texts::ARCHIVE_ABOUT)
@@ -76,6 +80,16 @@ fn archive<'a>(alloc: Global) -> Result<Command<'a>, AllocError> {
         .arg(length(alloc))?
         .arg(tolerance(alloc))?
         .arg(below(alloc))?
+        .arg(
+            flag(alloc, "resume")
+                .help(texts::RESUME)
+                .long_help(texts::LONG_RESUME),
+        )?
+        .arg(
+            flag(alloc, "check")
+                .help(texts::CHECKED)
+                .long_help(texts::LONG_CHECKED),
+        )?
         .arg(file(alloc, "ROOT").help(texts::ROOT))?
         .arg(file(alloc, "OUT").help(texts::OUT_FOLDER))?
         .arg(file(alloc, "REPORTS").help(texts::REPORTS))

@@ -53,6 +53,17 @@ pub struct Folders<'a> {
     pub reports: &'a str,
 }
 
+/// Which folders of an archive are walked, and what is asked of its days.
+#[derive(Debug, Drop, PartialEq, Eq)]
+pub struct Walking<'a> {
+    /// The paths, from the archive's folder, of the folders that are walked; none for the whole archive.
+    pub below: Vec<&'a str>,
+    /// Whether days are left alone that an earlier walk did.
+    pub resume: bool,
+    /// Whether the records of a day are held against their report before they get their name.
+    pub check: bool,
+}
+
 /// An archive whose day files are to be repacked.
 #[derive(Debug, Drop, PartialEq, Eq)]
 pub struct Archiving<'a> {
@@ -61,8 +72,7 @@ pub struct Archiving<'a> {
     /// The tolerance in microseconds.
     pub tolerance: u32,
     pub folders: Folders<'a>,
-    /// The paths, from the archive's folder, of the folders that are walked; none for the whole archive.
-    pub below: Vec<&'a str>,
+    pub walking: Walking<'a>,
 }
 
 /// What the program is asked to do.
@@ -249,17 +259,32 @@ fn below_of<'a>(alloc: Global, given: &[&'a str]) -> Result<Vec<&'a str>, NoTask
     }
 }
 
+fn walking_in<'a>(alloc: Global, found: &ArgMatches<'a>) -> Result<Walking<'a>, NoTask>
+    ensures apart { IfOk result (λ walking. AreApart (map (λ folder. folder.now) walking.below.items)) }
+    ensures status { IfErr result IsBadLine }
+{
+    let below = match found.get_strs("below") {
+        Some(given) => below_of(alloc, given)?,
+        None => Vec::new(alloc),
+    };
+    Ok(Walking {
+        below,
+        resume: found.get_flag("resume"),
+        check: found.get_flag("check"),
+    })
+}
+
 // An archive to be repacked, exactly where the length is one of a record and no two folders overlap.
 fn archiving_of<'a>(
     alloc: Global,
     bytes: u32,
     tolerance: u32,
     folders: Folders<'a>,
-    below: Vec<&'a str>,
+    walking: Walking<'a>,
 ) -> Result<Task<'a>, NoTask>
     requires { IsTolerance tolerance }
     ensures ok { IsOk result ↔ (IsRecordLength bytes × StandApart folders.entry) }
-    ensures asked { IfOk result (IsArchiving bytes tolerance folders.entry (map (λ folder. folder.now) below.entry.items)) }
+    ensures asked { IfOk result (IsArchiving bytes tolerance folders.entry walking.entry) }
     ensures tolerance { IfOk result HasTolerance }
     ensures keeps_input { IfOk result KeepsInput }
     ensures status { IfErr result IsBadLine }
@@ -275,7 +300,7 @@ fn archiving_of<'a>(
         length,
         tolerance,
         folders,
-        below,
+        walking,
     }))
 }
 
@@ -307,12 +332,9 @@ fn task_of<'a>(alloc: Global, matches: &ArgMatches<'a>) -> Result<Task<'a>, NoTa
         return Err(wrong(alloc, texts::NO_COMMAND));
     };
     if name == "archive" {
-        let below = match found.get_strs("below") {
-            Some(given) => below_of(alloc, given)?,
-            None => Vec::new(alloc),
-        };
+        let walking = walking_in(alloc, found)?;
         return match folders_in(found) {
-            Some(folders) => archiving_of(alloc, bytes, tolerance, folders, below),
+            Some(folders) => archiving_of(alloc, bytes, tolerance, folders, walking),
             None => Err(wrong(alloc, texts::NO_COMMAND)),
         };
     }

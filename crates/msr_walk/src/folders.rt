@@ -32,6 +32,10 @@ pub struct Archive<'a> {
     pub options: Options,
     /// The paths, from the archive's folder, of the folders that are walked; none for the whole archive.
     pub below: &'a [&'a str],
+    /// Whether days are left alone that an earlier walk did.
+    pub resume: bool,
+    /// Whether the records of a day are held against their report before they get their name.
+    pub check: bool,
 }
 
 // Prints the line of an entry, and counts it. The channel is that of a day.
@@ -72,10 +76,7 @@ fn tell_day<R: Files, O: Sink>(
 {
     let channel = channel_text(alloc, name)?;
     let day = Day::new(alloc, archive, path)?;
-    let outcome = match day.repack(rt, alloc, archive.options) {
-        Ok(repacked) => Outcome::Done(repacked),
-        Err(refusal) => Outcome::Refused(refusal),
-    };
+    let outcome = day.handle(rt, alloc, archive);
     tell(alloc, path, channel.as_str(), outcome, out, tally)
 }
 

@@ -9,6 +9,7 @@ mod listing;
 mod outcome;
 mod paths;
 mod repacking;
+mod stamp;
 mod summary;
 mod tally;
 

@@ -1,7 +1,7 @@
 //! What command lines are read as, and the text and status that the others end with.
 use crate::words::{
-    Archiving, Checking, Ending, Folders, Listing, NoTask, Repacking, Task, default_length,
-    read_words,
+    Archiving, Checking, Ending, Folders, Listing, NoTask, Repacking, Task, Walking,
+    default_length, read_words,
 };
 use msr_words::Length;
 use std::alloc::{AllocError, Global};
@@ -107,18 +107,21 @@ fn reads_archive(rt: HostRuntime) -> Result<(), Fail> {
         u32,
         [&'static str; 3],
         &'static [&'static str],
-    ); 6] = [
+        (bool, bool),
+    ); 7] = [
         (
             &["msrepack", "archive", "a", "b", "c"],
             1000,
             ["a", "b", "c"],
             &[],
+            (false, false),
         ),
         (
             &["msrepack", "archive", "--tolerance=7", "a/b", "a/c", "a/bb"],
             7,
             ["a/b", "a/c", "a/bb"],
             &[],
+            (false, false),
         ),
         // Names are compared as they are written.
         (
@@ -126,18 +129,28 @@ fn reads_archive(rt: HostRuntime) -> Result<(), Fail> {
             1000,
             ["a/", "a/b", "a/./b"],
             &[],
+            (false, false),
         ),
         (
             &["msrepack", "archive", "-", "--", "-a", "b"],
             1000,
             ["-", "-a", "b"],
             &[],
+            (false, false),
         ),
         (
             &["msrepack", "archive", "--below", "2020", "a", "b", "c"],
             1000,
             ["a", "b", "c"],
             &["2020"],
+            (false, false),
+        ),
+        (
+            &["msrepack", "archive", "a", "b", "c", "--resume"],
+            1000,
+            ["a", "b", "c"],
+            &[],
+            (true, false),
         ),
         // One that begins as another does is beside it.
         (
@@ -147,6 +160,8 @@ fn reads_archive(rt: HostRuntime) -> Result<(), Fail> {
                 "--below=2021/XX/S/Z.D",
                 "--below=2020/a..b",
                 "--below=2020/a",
+                "--check",
+                "--resume",
                 "a",
                 "b",
                 "c",
@@ -154,14 +169,19 @@ fn reads_archive(rt: HostRuntime) -> Result<(), Fail> {
             1000,
             ["a", "b", "c"],
             &["2021/XX/S/Z.D", "2020/a..b", "2020/a"],
+            (true, true),
         ),
     ];
-    for (words, tolerance, [root, out, reports], below) in rows {
+    for (words, tolerance, [root, out, reports], below, (resume, check)) in rows {
         let want = Some(Task::Archive(Archiving {
             length: default_length(),
             tolerance,
             folders: Folders { root, out, reports },
-            below: below.to_vec(rt.alloc())?,
+            walking: Walking {
+                below: below.to_vec(rt.alloc())?,
+                resume,
+                check,
+            },
         }));
         assert_eq!(&rt; read_words(rt.alloc(), words).ok(), want, "at {words:?}");
     }
