@@ -1,9 +1,10 @@
 -- What the words of a command line ask for.
-use Rattle.std.specs.Prelude.{◌≡◌, ◌≢◌, ◌⊎◌, ◌≤◌, ℕ, ⊤, List, ◌++◌, Option, None, Some, IfSome, codes, string_bytes}
+use Rattle.std.specs.Prelude.{◌≡◌, ◌≢◌, ◌⊎◌, ◌≤◌, ℕ, ⊤, List, ◌++◌, map, AllPairs, Option, None, Some, IfSome, codes, string_bytes}
 use Rattle.std.specs.Option.{option_map}
 use Rattle.msr_words.specs.Lengths.{bytes_of}
 use Rattle.msr_program.specs.declared.words.Folders.{Folders}
 use Rattle.msr_program.specs.declared.words.Task.{Task}
+use Rattle.msr_program.specs.declared.words.Walking.{Walking}
 use Rattle.msr_program.specs.declared.words.Task.TheVariants.{Repack, List as Listing, Check, Archive}
 use Rattle.msr_program.specs.declared.words.NoTask.{NoTask}
 use Rattle.msr_program.specs.declared.words.NoTask.TheVariants.{Ending, Memory}
@@ -27,6 +28,10 @@ IsBelow folder path = (rest : List ℕ) × (path ≡ folder ++ (codes "/" ++ res
 -- one folder is the other, or stands below it, by their names
 abbrev pub Overlap : (a b : List ℕ) → Type 0
 Overlap a b = (a ≡ b) ⊎ (IsBelow a b ⊎ IsBelow b a)
+
+-- of these folders of an archive none is another or stands below it
+abbrev pub AreApart : (folders : List (List ℕ)) → Type 0
+AreApart folders = AllPairs (λ a b. ¬ (Overlap a b)) folders
 
 -- no two of the folders overlap
 pub record StandApart (folders : Folders) : Type 0 where
@@ -55,12 +60,12 @@ IsChecking packed report (Listing asked) = ⊥
 IsChecking packed report (Archive asked) = ⊥
 IsChecking packed report (Check asked) = (packed ≡ Some asked.packed.now) × (report ≡ Some asked.report.now)
 
--- the archive in these folders is to be repacked with these choices
-abbrev pub IsArchiving : (bytes tolerance : ℕ) → (folders : Folders) → Task → Type 0
-IsArchiving bytes tolerance folders (Repack asked) = ⊥
-IsArchiving bytes tolerance folders (Listing asked) = ⊥
-IsArchiving bytes tolerance folders (Check asked) = ⊥
-IsArchiving bytes tolerance folders (Archive asked) = (bytes_of asked.length ≡ bytes) × (asked.tolerance ≡ tolerance) × (asked.folders ≡ folders)
+-- the archive in these folders is to be repacked with these choices, and walked in this way
+abbrev pub IsArchiving : (bytes tolerance : ℕ) → (folders : Folders) → (walking : Walking) → Task → Type 0
+IsArchiving bytes tolerance folders walking (Repack asked) = ⊥
+IsArchiving bytes tolerance folders walking (Listing asked) = ⊥
+IsArchiving bytes tolerance folders walking (Check asked) = ⊥
+IsArchiving bytes tolerance folders walking (Archive asked) = (bytes_of asked.length ≡ bytes) × (asked.tolerance ≡ tolerance) × (asked.folders ≡ folders) × (asked.walking ≡ walking)
 
 -- standard input is to be repacked to nowhere, with records of 512 bytes and a tolerance of 1000 microseconds
 abbrev pub IsDefault : Task → Type 0

@@ -1,6 +1,6 @@
 // The commands and options that the program knows.
 use crate::texts;
-use clap::{Arg, Command, value_parser};
+use clap::{Arg, ArgAction, Command, value_parser};
 use std::alloc::{AllocError, Global};
 
 fn tolerance<'a>(alloc: Global) -> Arg<'a> {
@@ -59,6 +59,19 @@ fn check<'a>(alloc: Global) -> Result<Command<'a>, AllocError> {
         .arg(file(alloc, "REPORT").help(texts::REPORT))
 }
 
+fn below<'a>(alloc: Global) -> Arg<'a> {
+    Arg::new(alloc, "below")
+        .long("below")
+        .value_name("FOLDER")
+        .action(ArgAction::Append)
+        .help(texts::BELOW)
+        .long_help(texts::LONG_BELOW)
+}
+
+fn flag<'a>(alloc: Global, name: &'a str) -> Arg<'a> {
+    Arg::new(alloc, name).long(name).action(ArgAction::SetTrue)
+}
+
 fn archive<'a>(alloc: Global) -> Result<Command<'a>, AllocError> {
     Command::new(alloc, "archive")
         .about(texts::ARCHIVE_ABOUT)
@@ -66,6 +79,17 @@ fn archive<'a>(alloc: Global) -> Result<Command<'a>, AllocError> {
         .after_long_help(texts::ARCHIVE_AFTER)
         .arg(length(alloc))?
         .arg(tolerance(alloc))?
+        .arg(below(alloc))?
+        .arg(
+            flag(alloc, "resume")
+                .help(texts::RESUME)
+                .long_help(texts::LONG_RESUME),
+        )?
+        .arg(
+            flag(alloc, "check")
+                .help(texts::CHECKED)
+                .long_help(texts::LONG_CHECKED),
+        )?
         .arg(file(alloc, "ROOT").help(texts::ROOT))?
         .arg(file(alloc, "OUT").help(texts::OUT_FOLDER))?
         .arg(file(alloc, "REPORTS").help(texts::REPORTS))

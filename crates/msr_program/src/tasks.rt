@@ -185,6 +185,9 @@ fn repack_archive<'a, R: Files, O: Sink>(
         out: asked.folders.out,
         reports: asked.folders.reports,
         options: options_of(asked.length, asked.tolerance),
+        below: asked.walking.below.as_slice(),
+        resume: asked.walking.resume,
+        check: asked.walking.check,
     };
     let refused = walk(rt, alloc, &archive, output)?;
     Ok(Done::Walked { refused })

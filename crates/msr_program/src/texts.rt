@@ -104,11 +104,13 @@ soon as it is done:
 done PATH read N written M            repacked, from N records to M
 skipped PATH: not an SDS path         left alone, as also where it says
                                       `not waveform data` or `bad day`
+same PATH read N written M            done by an earlier walk, with --resume
+notshown PATH                         not kept, with --check
 refused PATH: TEXT                    a fault, as repack tells it, or `cannot open`
 refused PATH: listing                 a folder that cannot be listed, or has a name that
                                       is not UTF-8: nothing in it is handled
 
-and at the end, of the files that were done, one line for each channel, and the counts:
+and at the end, of the files that are done, one line for each channel, and the counts:
 
 channel NET.STA.LOC.CHAN files N read N written N
 files N skipped N refused N
@@ -117,8 +119,31 @@ Records and report appear under their names whole or not at all: they are writte
 them, with .part added, and then renamed, the report first. Those of a refused file are
 removed, also where they were there before. The walk goes on after a refused file.";
 
-pub const ARCHIVE_AFTER: &str = "Example:
-  msrepack archive --length 4096 sds packed reports > log.txt";
+pub const ARCHIVE_AFTER: &str = "Examples:
+  msrepack archive --length 4096 sds packed reports > log.txt
+  msrepack archive --resume --check --below 2020/XX sds packed reports > log.txt";
+
+pub const BELOW: &str = "Walk only this folder of the archive. May be repeated";
+
+pub const LONG_BELOW: &str =
+    "Walk only this folder of the archive, given by its path from ROOT, as 2020/XX/TEST/BHZ.D.
+May be repeated, for folders of which none is another or stands below it: they are
+walked in the order in which they are given. All paths are still counted from ROOT";
+
+pub const RESUME: &str = "Leave files alone that an earlier walk with this option did";
+
+pub const LONG_RESUME: &str =
+    "Leave files alone that an earlier walk with this option did: their records and their
+report are whole, of this length and tolerance, and made from an input of the same size
+and time of change. For them one line is printed, which counts as one of those done:
+`same PATH read N written M`";
+
+pub const CHECKED: &str = "Hold records against their report before they get their name";
+
+pub const LONG_CHECKED: &str =
+    "Hold records against their report, as `check` does, before they get their name. Where
+the report does not show that they are the fewest, neither is kept, and `notshown PATH`
+is printed, which counts as one of those refused";
 
 pub const ROOT: &str = "The folder of the archive";
 
@@ -150,6 +175,8 @@ pub const NOT_A_LENGTH: &str = "msrepack: not a record length\n";
 pub const SAME_FILE: &str = "msrepack: the output is the input\n";
 
 pub const OVERLAP: &str = "msrepack: the folders overlap\n";
+
+pub const NOT_BELOW: &str = "msrepack: not a folder of an archive\n";
 
 pub const NO_COMMAND: &str = "error: no command\n";
 

@@ -1,15 +1,16 @@
 // The command line: what the words ask for.
-ghost use Rattle.std.specs.Prelude.{◌≡◌, ◌≢◌, ◌<◌, ◌↔◌, length, codes, IfOk, IfErr, IfSome, IsSome, IsOk, IsOkAnd, IsTrue};
+ghost use Rattle.std.specs.Prelude.{◌≡◌, ◌≢◌, ◌<◌, ◌↔◌, length, codes, IfOk, IfErr, IfSome, IsSome, IsOk, IsOkAnd, IsTrue, Any, map};
 ghost use Rattle.std.specs.Option.{option_map};
 ghost use Rattle.msr_words.specs.RecordLength.{IsRecordLength};
 ghost use Rattle.msr_words.specs.Lengths.{bytes_of};
 ghost use Rattle.clap.specs.Words.{first_value, found_of};
-ghost use Rattle.msr_program.specs.Tasks.{HasStatus, HasTolerance, IsArchiving, IsBadLine, IsBelow, IsChecking, IsDefault, IsRepacking, IsTolerance, IsWrong, KeepsInput, Overlap, StandApart};
+ghost use Rattle.msr_program.specs.Tasks.{AreApart, HasStatus, HasTolerance, IsArchiving, IsBadLine, IsBelow, IsChecking, IsDefault, IsRepacking, IsTolerance, IsWrong, KeepsInput, Overlap, StandApart};
 
 use crate::commands::command;
 use crate::texts;
 use clap::ArgMatches;
 use clap::error::ErrorKind;
+use msr_walk::levels_below;
 use msr_words::Length;
 use std::alloc::{AllocError, Global};
 
@@ -52,18 +53,30 @@ pub struct Folders<'a> {
     pub reports: &'a str,
 }
 
+/// Which folders of an archive are walked, and what is asked of its days.
+#[derive(Debug, Drop, PartialEq, Eq)]
+pub struct Walking<'a> {
+    /// The paths, from the archive's folder, of the folders that are walked; none for the whole archive.
+    pub below: Vec<&'a str>,
+    /// Whether days are left alone that an earlier walk did.
+    pub resume: bool,
+    /// Whether the records of a day are held against their report before they get their name.
+    pub check: bool,
+}
+
 /// An archive whose day files are to be repacked.
-#[derive(Clone, Copy, Debug, PartialEq, Eq)]
+#[derive(Debug, Drop, PartialEq, Eq)]
 pub struct Archiving<'a> {
     /// The length of the records that are written.
     pub length: Length,
     /// The tolerance in microseconds.
     pub tolerance: u32,
     pub folders: Folders<'a>,
+    pub walking: Walking<'a>,
 }
 
 /// What the program is asked to do.
-#[derive(Clone, Copy, Debug, PartialEq, Eq)]
+#[derive(Debug, Drop, PartialEq, Eq)]
 pub enum Task<'a> {
     Repack(Repacking<'a>),
     List(Listing<'a>),
@@ -219,16 +232,59 @@ fn folders_in<'a>(found: &ArgMatches<'a>) -> Option<Folders<'a>> {
     Some(Folders { root, out, reports })
 }
 
+// Whether one of the folders is that one, or either stands below the other, by their names.
+fn overlaps_one(folders: &[&str], folder: &str) -> bool
+    ensures { IsTrue result ↔ Any (λ other. Overlap other.now folder.now) folders.now }
+{
+    folders.iter().any(|other| overlap(other, folder))
+}
+
+// The folders of an archive that are to be walked: paths of names, of which no two overlap.
+fn below_of<'a>(alloc: Global, given: &[&'a str]) -> Result<Vec<&'a str>, NoTask>
+    ensures asked { IfOk result (λ below. map (λ folder. folder.now) below.items ≡ map (λ folder. folder.now) given.now) }
+    ensures apart { IfOk result (λ below. AreApart (map (λ folder. folder.now) below.items)) }
+    ensures status { IfErr result IsBadLine }
+{
+    for place in 0..given.len() {
+        if levels_below(given[place]).is_none() {
+            return Err(wrong(alloc, texts::NOT_BELOW));
+        }
+        if overlaps_one(&given[..place], given[place]) {
+            return Err(wrong(alloc, texts::OVERLAP));
+        }
+    }
+    match given.to_vec(alloc) {
+        Ok(below) => Ok(below),
+        Err(AllocError) => Err(NoTask::Memory),
+    }
+}
+
+fn walking_in<'a>(alloc: Global, found: &ArgMatches<'a>) -> Result<Walking<'a>, NoTask>
+    ensures apart { IfOk result (λ walking. AreApart (map (λ folder. folder.now) walking.below.items)) }
+    ensures status { IfErr result IsBadLine }
+{
+    let below = match found.get_strs("below") {
+        Some(given) => below_of(alloc, given)?,
+        None => Vec::new(alloc),
+    };
+    Ok(Walking {
+        below,
+        resume: found.get_flag("resume"),
+        check: found.get_flag("check"),
+    })
+}
+
 // An archive to be repacked, exactly where the length is one of a record and no two folders overlap.
 fn archiving_of<'a>(
     alloc: Global,
     bytes: u32,
     tolerance: u32,
     folders: Folders<'a>,
+    walking: Walking<'a>,
 ) -> Result<Task<'a>, NoTask>
     requires { IsTolerance tolerance }
     ensures ok { IsOk result ↔ (IsRecordLength bytes × StandApart folders.entry) }
-    ensures asked { IfOk result (IsArchiving bytes tolerance folders.entry) }
+    ensures asked { IfOk result (IsArchiving bytes tolerance folders.entry walking.entry) }
     ensures tolerance { IfOk result HasTolerance }
     ensures keeps_input { IfOk result KeepsInput }
     ensures status { IfErr result IsBadLine }
@@ -244,6 +300,7 @@ fn archiving_of<'a>(
         length,
         tolerance,
         folders,
+        walking,
     }))
 }
 
@@ -275,8 +332,9 @@ fn task_of<'a>(alloc: Global, matches: &ArgMatches<'a>) -> Result<Task<'a>, NoTa
         return Err(wrong(alloc, texts::NO_COMMAND));
     };
     if name == "archive" {
+        let walking = walking_in(alloc, found)?;
         return match folders_in(found) {
-            Some(folders) => archiving_of(alloc, bytes, tolerance, folders),
+            Some(folders) => archiving_of(alloc, bytes, tolerance, folders, walking),
             None => Err(wrong(alloc, texts::NO_COMMAND)),
         };
     }

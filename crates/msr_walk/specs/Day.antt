@@ -1,13 +1,21 @@
 -- What is said of a day file that was repacked, or refused.
-use Rattle.std.specs.Prelude.{◌≡◌, ℕ, ⊤, List, Result, Ok, Err}
+use Rattle.std.specs.Prelude.{◌≡◌, ◌≢◌, ℕ, ⊤, Bool, IsTrue, List, Result, Ok, Err}
 use Rattle.msr_devices.specs.Device.{Device, HasLeft, Takes}
+use Rattle.msr_certificate.specs.Reading.{IsReadFrom}
 use Rattle.msr_report.specs.Proper.{records_of}
 use Rattle.msr_report.specs.declared.report.Report.{Report}
-use Rattle.msr_tool.specs.Choice.{Choice}
+use Rattle.msr_tool.specs.Checking.{CheckAnswers, IsChecked}
+use Rattle.msr_tool.specs.Choice.{Choice, size_of}
 use Rattle.msr_tool.specs.Tasks.{IsReported, ReportAnswers}
 use Rattle.msr_tool.specs.declared.fault.ToolFault.{ToolFault}
+use Rattle.msr_tool.specs.declared.fault.ToolFault.TheVariants.{Memory}
+use Rattle.msr_verdict.specs.declared.verdict.Verdict.{Verdict}
+use Rattle.msr_verdict.specs.declared.verdict.Verdict.TheVariants.{Least}
+use Rattle.msr_words.specs.Lengths.{bytes_of}
+use Rattle.msr_walk.specs.declared.outcome.Outcome.{Outcome}
+use Rattle.msr_walk.specs.declared.outcome.Outcome.TheVariants.{Done, Same, Skipped, Refused, NotShown as Unshown}
 use Rattle.msr_walk.specs.declared.outcome.Refusal.{Refusal}
-use Rattle.msr_walk.specs.declared.outcome.Refusal.TheVariants.{CannotOpen, Listing, Tool}
+use Rattle.msr_walk.specs.declared.outcome.Refusal.TheVariants.{CannotOpen, Listing, NotShown, Tool}
 use Rattle.msr_walk.specs.declared.outcome.Repacked.{Repacked}
 
 -- The input was repacked, what was told is the text of its report, and the counts are those of this report: the
@@ -40,9 +48,59 @@ pub record HasAnswer (choice : Choice) (result : Result Repacked ToolFault) : Ty
   pub told : List ℕ
   pub answers : CountAnswers choice input written told result
 
+-- Some bytes are records that some text, a report, shows to be the fewest.
+pub record WasShown : Type 0 where
+  pub input : List ℕ
+  pub text : List ℕ
+  pub shown : IsChecked input text (Ok Least)
+
+-- Some bytes and some text were checked, with another answer.
+pub record IsUnshown : Type 0 where
+  pub input : List ℕ
+  pub text : List ℕ
+  pub answer : Result Verdict ToolFault
+  pub answers : CheckAnswers input text answer
+  pub other : answer ≢ Ok Least
+
+-- why records that were written are not kept
+abbrev pub IsUnkept : Refusal → Type 0
+IsUnkept CannotOpen = ⊤
+IsUnkept Listing = ⊥
+IsUnkept NotShown = IsUnshown
+IsUnkept (Tool fault) = fault ≡ Memory
+
+-- what holding records against their report answers
+abbrev pub IsShown : Result (Unit {0}) Refusal → Type 0
+IsShown (Ok done) = WasShown
+IsShown (Err refusal) = IsUnkept refusal
+
+-- the same where it is asked for
+abbrev pub IsShownWhere : Bool → Result (Unit {0}) Refusal → Type 0
+IsShownWhere check (Ok done) = IsTrue check → WasShown
+IsShownWhere check (Err refusal) = IsUnkept refusal
+
 -- what an answer says of a day file; nothing is known of the files of the system but that they have some bytes
 abbrev pub IsRepackedDay : Choice → Result Repacked Refusal → Type 0
 IsRepackedDay choice (Ok repacked) = HasAnswer choice (Ok repacked)
 IsRepackedDay choice (Err CannotOpen) = ⊤
 IsRepackedDay choice (Err Listing) = ⊥
+IsRepackedDay choice (Err NotShown) = IsUnshown
 IsRepackedDay choice (Err (Tool fault)) = HasAnswer choice (Err fault)
+
+-- Some text is that of a report of these options, and the counts are those of this report.
+pub record IsKept (choice : Choice) (repacked : Repacked) : Type 0 where
+  pub text : List ℕ
+  pub report : Report
+  pub reads : IsReadFrom report text
+  pub record_length : bytes_of report.length ≡ size_of choice
+  pub tolerance : report.tolerance ≡ choice.tolerance
+  pub read : repacked.read ≡ report.counts.read
+  pub written : repacked.written ≡ records_of report.segments.items
+
+-- what an outcome says of a day file
+abbrev pub IsDayOutcome : Choice → Outcome → Type 0
+IsDayOutcome choice (Done repacked) = IsRepackedDay choice (Ok repacked)
+IsDayOutcome choice (Same repacked) = IsKept choice repacked
+IsDayOutcome choice (Skipped fault) = ⊥
+IsDayOutcome choice (Refused refusal) = IsRepackedDay choice (Err refusal)
+IsDayOutcome choice Unshown = IsUnshown

@@ -8,11 +8,11 @@ use Rattle.msr_sds.specs.declared.SdsFault.TheVariants.{NotSds, NotWaveform, Bad
 use Rattle.msr_totals.specs.Totals.{Add, saturated, totals_of}
 use Rattle.msr_totals.specs.declared.Total.{Total}
 use Rattle.msr_tool.specs.Choice.{Choice}
-use Rattle.msr_walk.specs.Day.{IsRepackedDay}
+use Rattle.msr_walk.specs.Day.{IsKept, IsRepackedDay, IsUnshown}
 use Rattle.msr_walk.specs.Paths.{channel_of}
 use Rattle.msr_walk.specs.declared.outcome.Outcome.{Outcome}
-use Rattle.msr_walk.specs.declared.outcome.Outcome.TheVariants.{Done, Skipped, Refused}
-use Rattle.msr_walk.specs.declared.outcome.Refusal.TheVariants.{CannotOpen, Listing, Tool}
+use Rattle.msr_walk.specs.declared.outcome.Outcome.TheVariants.{Done, Same, Skipped, Refused, NotShown as Unshown}
+use Rattle.msr_walk.specs.declared.outcome.Refusal.TheVariants.{CannotOpen, Listing, NotShown, Tool}
 use Rattle.msr_walk.specs.declared.tally.Tally.{Tally}
 
 -- an entry: its path from the archive's folder, and what became of it; of a day its channel too
@@ -36,10 +36,13 @@ IsNoDay path BadDay = (name : SdsPath) × ReadsAs path name × IsWaveform name �
 -- what an outcome says of an entry
 abbrev pub IsOutcomeOf : Choice → (path channel : List ℕ) → Outcome → Type 0
 IsOutcomeOf choice path channel (Done repacked) = IsDayOf path channel × IsRepackedDay choice (Ok repacked)
+IsOutcomeOf choice path channel (Same repacked) = IsDayOf path channel × IsKept choice repacked
 IsOutcomeOf choice path channel (Skipped fault) = IsNoDay path fault
 IsOutcomeOf choice path channel (Refused CannotOpen) = IsDayOf path channel
 IsOutcomeOf choice path channel (Refused Listing) = ⊤
+IsOutcomeOf choice path channel (Refused NotShown) = IsDayOf path channel × IsUnshown
 IsOutcomeOf choice path channel (Refused (Tool fault)) = IsDayOf path channel × IsRepackedDay choice (Err (Tool fault))
+IsOutcomeOf choice path channel Unshown = IsDayOf path channel × IsUnshown
 
 abbrev pub IsEntry : Choice → Entry → Type 0
 IsEntry choice entry = IsOutcomeOf choice entry.path entry.channel entry.outcome
@@ -48,8 +51,11 @@ IsEntry choice entry = IsOutcomeOf choice entry.path entry.channel entry.outcome
 abbrev pub IsLineOf : List ℕ → Outcome → List ℕ → Type 0
 IsLineOf path (Done repacked) line =
     line ≡ codes "done " ++ (path ++ (codes " read " ++ (decimal repacked.read ++ (codes " written " ++ (decimal repacked.written ++ codes "\n")))))
+IsLineOf path (Same repacked) line =
+    line ≡ codes "same " ++ (path ++ (codes " read " ++ (decimal repacked.read ++ (codes " written " ++ (decimal repacked.written ++ codes "\n")))))
 IsLineOf path (Skipped fault) line = (why : List ℕ) × (line ≡ codes "skipped " ++ (path ++ (codes ": " ++ (why ++ codes "\n"))))
 IsLineOf path (Refused refusal) line = (why : List ℕ) × (line ≡ codes "refused " ++ (path ++ (codes ": " ++ (why ++ codes "\n"))))
+IsLineOf path Unshown line = line ≡ codes "notshown " ++ (path ++ codes "\n")
 
 -- a line for each entry, in order
 abbrev pub AreLines : List Entry → List ℕ → Type 0
@@ -57,26 +63,36 @@ AreLines [] lines = lines ≡ []
 AreLines (entry ∷ entries) lines =
     (line rest : List ℕ) × IsLineOf entry.path entry.outcome line × AreLines entries rest × (lines ≡ line ++ rest)
 
+-- done in this walk or an earlier one
 abbrev pub is_done : Outcome → Bool
 is_done (Done repacked) = true
+is_done (Same repacked) = true
 is_done (Skipped fault) = false
 is_done (Refused refusal) = false
+is_done Unshown = false
 
 abbrev pub is_skipped : Outcome → Bool
 is_skipped (Done repacked) = false
+is_skipped (Same repacked) = false
 is_skipped (Skipped fault) = true
 is_skipped (Refused refusal) = false
+is_skipped Unshown = false
 
+-- refused, or not kept since it is not shown
 abbrev pub is_refused : Outcome → Bool
 is_refused (Done repacked) = false
+is_refused (Same repacked) = false
 is_refused (Skipped fault) = false
 is_refused (Refused refusal) = true
+is_refused Unshown = true
 
 -- what an entry adds to the totals of the channels
 abbrev pub adds_of : (channel : List ℕ) → Outcome → List Add
 adds_of channel (Done repacked) = record { name = channel; read = repacked.read; written = repacked.written } ∷ []
+adds_of channel (Same repacked) = record { name = channel; read = repacked.read; written = repacked.written } ∷ []
 adds_of channel (Skipped fault) = []
 adds_of channel (Refused refusal) = []
+adds_of channel Unshown = []
 
 -- how many entries have such an outcome, or 2^64 - 1 where they are more
 abbrev pub counted : (Outcome → Bool) → List Entry → ℕ

@@ -1,13 +1,16 @@
 //! One day file: from its file to the files of its records and its report.
-ghost use Rattle.msr_walk.specs.Day.{IsRepackedDay};
+ghost use Rattle.std.specs.Prelude.{IfSome};
+ghost use Rattle.msr_walk.specs.Day.{IsDayOutcome, IsKept, IsRepackedDay, IsShownWhere};
 
 use crate::files::{NewFile, may_be_one_file, settle};
 use crate::folders::Archive;
-use crate::outcome::{Refusal, Repacked};
+use crate::outcome::{Outcome, Refusal, Repacked};
 use crate::paths::join;
-use crate::repacking::repack_day_of;
+use crate::repacking::{counts_kept, repack_day_of, require_shown};
+use crate::stamp::Stamp;
 use msr_tool::{FromRead, FromWrite, Options};
 use std::alloc::{AllocError, Global};
+use std::fs;
 use std::fs::File;
 use std::rt::Files;
 
@@ -17,6 +20,7 @@ pub struct Day {
     input: String,
     records: NewFile,
     report: NewFile,
+    stamp: NewFile,
 }
 
 impl Day {
@@ -26,12 +30,19 @@ impl Day {
             input: join(alloc, archive.root, path)?,
             records: NewFile::new(alloc, archive.out, path, "")?,
             report: NewFile::new(alloc, archive.reports, path, ".txt")?,
+            stamp: NewFile::new(alloc, archive.reports, path, ".from")?,
         })
     }
 
-    // Opens the input before anything is made. The report gets its name first, so that records that have theirs have a
-    // report.
-    fn write<R: Files>(&self, rt: &R, alloc: Global, options: Options) -> Result<Repacked, Refusal>
+    // Opens the input before anything is made. An old stamp goes before anything gets its name, so that what has one was
+    // made whole; the report gets its name first, so that records that have theirs have a report.
+    fn write<R: Files>(
+        &self,
+        rt: &R,
+        alloc: Global,
+        options: Options,
+        check: bool,
+    ) -> Result<Repacked, Refusal>
         ensures { IsRepackedDay options result }
     {
         let Ok(input) = File::open(rt, self.input.as_str()) else {
@@ -48,32 +59,118 @@ impl Day {
         )?;
         settle(&records)?;
         settle(&report)?;
+        self.hold(rt, alloc, check)?;
+        self.stamp.clear(rt)?;
         self.report.keep(rt)?;
         self.records.keep(rt)?;
         Ok(repacked)
     }
 
-    /// Repacks the day. Where it is refused, no records and no report of it are left, unless they may be the input by
-    /// another name: then nothing is touched.
-    pub fn repack<R: Files>(
+    // Reads the records and the report again that were written, and holds one against the other, where that is asked for.
+    fn hold<R: Files>(&self, rt: &R, alloc: Global, check: bool) -> Result<(), Refusal>
+        ensures { IsShownWhere check result }
+    {
+        if !check {
+            return Ok(());
+        }
+        let Ok(records) = File::open(rt, self.records.part()) else {
+            return Err(Refusal::CannotOpen);
+        };
+        let Ok(report) = File::open(rt, self.report.part()) else {
+            return Err(Refusal::CannotOpen);
+        };
+        require_shown(
+            alloc,
+            &mut FromRead::new(records),
+            &mut FromRead::new(report),
+        )
+    }
+
+    // Repacks the day, and stamps it where it is asked for and the input did not change meanwhile; without a stamp the
+    // next walk repacks it again. Where it is refused, nothing of it is left.
+    fn repack<R: Files>(
         &self,
         rt: &R,
         alloc: Global,
-        options: Options,
+        archive: &Archive<'_>,
     ) -> Result<Repacked, Refusal>
-        ensures { IsRepackedDay options result }
+        ensures { IsRepackedDay archive.now.options result }
+    {
+        let before = Stamp::of(rt, self.input.as_str());
+        let result = self.write(rt, alloc, archive.options, archive.check);
+        if result.is_err() {
+            self.remove(rt);
+        } else if archive.resume {
+            self.put_stamp(rt, alloc, before);
+        }
+        result
+    }
+
+    fn remove<R: Files>(&self, rt: &R) {
+        self.records.remove(rt);
+        self.report.remove(rt);
+        self.stamp.remove(rt);
+    }
+
+    fn put_stamp<R: Files>(&self, rt: &R, alloc: Global, before: Option<Stamp>) {
+        let Some(stamp) = Stamp::of(rt, self.input.as_str()) else {
+            return;
+        };
+        if before == Some(stamp) && stamp.put(rt, alloc, &self.stamp).is_err() {
+            self.stamp.remove(rt);
+        }
+    }
+
+    // What an earlier walk left of the day, where it is whole, was made with these options, and from the input as it is.
+    fn kept<R: Files>(&self, rt: &R, alloc: Global, options: Options) -> Option<Repacked>
+        ensures { IfSome result (IsKept options) }
+    {
+        let stamp = Stamp::of(rt, self.input.as_str())?;
+        let Ok(true) = stamp.stands_in(rt, alloc, self.stamp.path()) else {
+            return None;
+        };
+        let Ok(report) = File::open(rt, self.report.path()) else {
+            return None;
+        };
+        let repacked = counts_kept(alloc, &mut FromRead::new(report), options)?;
+        if self.has_records(rt, repacked.written, options) {
+            Some(repacked)
+        } else {
+            None
+        }
+    }
+
+    // Whether the file of the records is as long as so many are.
+    fn has_records<R: Files>(&self, rt: &R, records: u64, options: Options) -> bool {
+        let Some(bytes) = records.checked_mul(u64::from(options.length().bytes())) else {
+            return false;
+        };
+        match fs::metadata(rt, self.records.path()) {
+            Ok(metadata) => metadata.is_file() && metadata.len() == bytes,
+            Err(_) => false,
+        }
+    }
+
+    /// Repacks the day, or leaves it alone where an earlier walk did it and that is asked for. Where it is refused, no
+    /// records and no report of it are left, unless they may be the input by another name: then nothing is touched.
+    pub fn handle<R: Files>(&self, rt: &R, alloc: Global, archive: &Archive<'_>) -> Outcome
+        ensures { IsDayOutcome archive.now.options result }
     {
         let input = self.input.as_str();
         if may_be_one_file(rt, input, self.records.path())
             || may_be_one_file(rt, input, self.report.path())
         {
-            return Err(Refusal::CannotOpen);
+            return Outcome::Refused(Refusal::CannotOpen);
         }
-        let result = self.write(rt, alloc, options);
-        if result.is_err() {
-            self.records.remove(rt);
-            self.report.remove(rt);
+        if archive.resume {
+            if let Some(repacked) = self.kept(rt, alloc, archive.options) {
+                return Outcome::Same(repacked);
+            }
         }
-        result
+        match self.repack(rt, alloc, archive) {
+            Ok(repacked) => Outcome::Done(repacked),
+            Err(Refusal::NotShown) => Outcome::NotShown,
+            Err(refusal) => Outcome::Refused(refusal),
+        }
     }
 }

@@ -77,6 +77,11 @@ impl NewFile {
         self.path.as_str()
     }
 
+    /// The name beside it, under which it is written.
+    pub fn part(&self) -> &str {
+        self.part.as_str()
+    }
+
     /// Makes the folder, and the file beside its name, in the place of what a run that was killed left there.
     pub fn create<R: Files>(&self, rt: &R) -> Result<R::File, Refusal>
         ensures { IfErr result (λ why. why ≡ Refusal.CannotOpen) }
@@ -95,6 +100,19 @@ impl NewFile {
         {
             Ok(file) => Ok(file),
             Err(_) => Err(Refusal::CannotOpen),
+        }
+    }
+
+    /// Removes an older file of its name, if there is one.
+    pub fn clear<R: Files>(&self, rt: &R) -> Result<(), Refusal>
+        ensures { IfErr result (λ why. why ≡ Refusal.CannotOpen) }
+    {
+        match fs::remove_file(rt, self.path.as_str()) {
+            Ok(()) => Ok(()),
+            Err(error) => match error.kind() {
+                ErrorKind::NotFound => Ok(()),
+                _ => Err(Refusal::CannotOpen),
+            },
         }
     }
 

@@ -9,7 +9,7 @@ ghost use Rattle.msr_walk.specs.Walk.{StopsTelling, Tells, Walks};
 use crate::day::Day;
 use crate::listing::{ListFault, names_in};
 use crate::outcome::{Outcome, Refusal};
-use crate::paths::{channel_text, entry_path, join};
+use crate::paths::{FOLDERS, channel_text, entry_path, join, levels_below};
 use crate::summary::write_summary;
 use crate::tally::Tally;
 use msr_devices::write_all;
@@ -30,10 +30,13 @@ pub struct Archive<'a> {
     /// The folder of their reports.
     pub reports: &'a str,
     pub options: Options,
+    /// The paths, from the archive's folder, of the folders that are walked; none for the whole archive.
+    pub below: &'a [&'a str],
+    /// Whether days are left alone that an earlier walk did.
+    pub resume: bool,
+    /// Whether the records of a day are held against their report before they get their name.
+    pub check: bool,
 }
-
-// How many folders a path of a day file has.
-const FOLDERS: u8 = 4;
 
 // Prints the line of an entry, and counts it. The channel is that of a day.
 fn tell<O: Sink>(
@@ -73,10 +76,7 @@ fn tell_day<R: Files, O: Sink>(
 {
     let channel = channel_text(alloc, name)?;
     let day = Day::new(alloc, archive, path)?;
-    let outcome = match day.repack(rt, alloc, archive.options) {
-        Ok(repacked) => Outcome::Done(repacked),
-        Err(refusal) => Outcome::Refused(refusal),
-    };
+    let outcome = day.handle(rt, alloc, archive);
     tell(alloc, path, channel.as_str(), outcome, out, tally)
 }
 
@@ -144,7 +144,29 @@ fn walk_folder<R: Files, O: Sink>(
     Ok(())
 }
 
-/// Walks the archive, and tells whether an entry was refused.
+// The whole archive, or the folders of it that are asked for, one after another.
+fn walk_folders<R: Files, O: Sink>(
+    rt: &R,
+    alloc: Global,
+    archive: &Archive<'_>,
+    out: &mut O,
+    tally: &mut Tally,
+) -> Result<(), ToolFault>
+    requires { CanCountCall (O.device out.old) }
+    ensures told { OnOk result (Tells archive.now.options (O.device out.old) (O.device out.new) tally.old tally.new) }
+    ensures stops { IfErr result (StopsTelling archive.now.options (O.device out.old) (O.device out.new)) }
+{
+    if archive.below.is_empty() {
+        return walk_folder(rt, alloc, archive, "", FOLDERS, out, tally);
+    }
+    for folder in archive.below {
+        let levels = levels_below(folder).unwrap_or(0);
+        walk_folder(rt, alloc, archive, folder, levels, out, tally)?;
+    }
+    Ok(())
+}
+
+/// Walks the archive, or the folders of it that are asked for, and tells whether an entry was refused.
 pub fn walk<R: Files, O: Sink>(
     rt: &R,
     alloc: Global,
@@ -158,7 +180,7 @@ pub fn walk<R: Files, O: Sink>(
     ensures write { IsErrOf result ToolFault.Write ↔ HasFailed (O.device out.old) (O.device out.new) }
 {
     let mut tally = Tally::new(alloc);
-    walk_folder(rt, alloc, archive, "", FOLDERS, out, &mut tally)?;
+    walk_folders(rt, alloc, archive, out, &mut tally)?;
     write_summary(alloc, out, &tally)?;
     Ok(0 < tally.refused)
 }

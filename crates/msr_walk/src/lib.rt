@@ -9,8 +9,10 @@ mod listing;
 mod outcome;
 mod paths;
 mod repacking;
+mod stamp;
 mod summary;
 mod tally;
 
 pub use files::settle;
 pub use folders::{Archive, walk};
+pub use paths::levels_below;

@@ -17,6 +17,9 @@ pub enum Refusal {
     /// A folder could not be listed, or has a name that is not UTF-8.
     #[error("listing")]
     Listing,
+    /// The report did not show that the records are the fewest, though it is their own.
+    #[error("not shown")]
+    NotShown,
     /// The file was not repacked.
     #[error("{0}")]
     Tool(ToolFault),
@@ -44,8 +47,12 @@ pub struct Repacked {
 #[derive(Clone, Copy)]
 pub enum Outcome {
     Done(Repacked),
+    /// An earlier walk had done it, and it was left alone.
+    Same(Repacked),
     Skipped(SdsFault),
     Refused(Refusal),
+    /// It was repacked, but not shown to be in the fewest records, and so not kept.
+    NotShown,
 }
 
 impl Outcome {
@@ -57,10 +64,14 @@ impl Outcome {
             Outcome::Done(Repacked { read, written }) => {
                 format!(in alloc; "done {path} read {read} written {written}\n")
             }
+            Outcome::Same(Repacked { read, written }) => {
+                format!(in alloc; "same {path} read {read} written {written}\n")
+            }
             Outcome::Skipped(fault) => {
                 let why = fault.to_string(alloc)?;
                 format!(in alloc; "skipped {path}: {why}\n")
             }
+            Outcome::NotShown => format!(in alloc; "notshown {path}\n"),
             Outcome::Refused(refusal) => {
                 let why = refusal.to_string(alloc)?;
                 format!(in alloc; "refused {path}: {why}\n")

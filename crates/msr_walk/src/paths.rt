@@ -1,5 +1,5 @@
 //! The paths of folders and files.
-ghost use Rattle.std.specs.Prelude.{◌≡◌, IfOk};
+ghost use Rattle.std.specs.Prelude.{◌≡◌, ◌+◌, ◌==◌, IfOk, IfSome, count_by};
 ghost use Rattle.std.specs.String.{string_bytes};
 ghost use Rattle.msr_walk.specs.Paths.{joined, below, channel_of};
 
@@ -29,6 +29,31 @@ pub fn entry_path(alloc: Global, folder: &str, name: &str) -> Result<String, All
         return String::from_str(alloc, name);
     }
     format!(in alloc; "{folder}/{name}")
+}
+
+/// How many folders a path of a day file has.
+pub const FOLDERS: u8 = 4;
+
+// `.` and `..` are other names of folders that have names of their own.
+fn is_name(name: &str) -> bool {
+    !matches!(name, "" | "." | "..")
+}
+
+/// How many levels of folders a walk goes below the folder with this path from the archive's own. `None` where it is no
+/// path of names with `/` between them, or has more names than the folders of a day file's path.
+pub fn levels_below(folder: &str) -> Option<u8>
+    ensures { IfSome result (λ levels. levels + count_by (λ byte. byte == 47) folder.now + 1 ≡ 4) }
+{
+    let slashes = folder
+        .as_bytes()
+        .iter()
+        .filter(|byte| **byte == b'/')
+        .count();
+    if slashes < FOLDERS as usize && folder.split('/').all(is_name) {
+        Some(FOLDERS - 1 - slashes as u8)
+    } else {
+        None
+    }
 }
 
 /// NET.STA.LOC.CHAN

@@ -1,12 +1,14 @@
 //! The part of a day file that is under contract: from a source to two sinks.
-ghost use Rattle.std.specs.Prelude.{◌≡◌, ◌+◌};
+ghost use Rattle.std.specs.Prelude.{◌≡◌, ◌+◌, IfSome};
 ghost use Rattle.msr_devices.specs.Device.{CanCountCall};
 ghost use Rattle.msr_report.specs.Proper.{IsProper, records_of};
-ghost use Rattle.msr_walk.specs.Day.{RepacksDay};
+ghost use Rattle.msr_walk.specs.Day.{IsKept, IsShown, RepacksDay};
 
-use crate::outcome::Repacked;
+use crate::outcome::{Refusal, Repacked};
 use msr_report::Report;
-use msr_tool::{Options, Sink, Source, ToolFault, repack_and_report};
+use msr_tool::{
+    Options, Sink, Source, ToolFault, Verdict, check_packed, read_report, repack_and_report,
+};
 use std::alloc::Global;
 
 fn records_written(report: &Report) -> u64
@@ -39,4 +41,42 @@ pub fn repack_day_of<S: Source, W: Sink, T: Sink>(
         read: report.counts.read,
         written: records_written(&report),
     })
+}
+
+/// The counts of the report that the source has, where it is one of these options.
+pub fn counts_kept<S: Source>(alloc: Global, source: &mut S, options: Options) -> Option<Repacked>
+    requires { CanCountCall (S.device source.old) }
+    ensures { IfSome result (IsKept options) }
+{
+    let Ok(report) = read_report(alloc, source) else {
+        return None;
+    };
+    if report.length.bytes() != options.length().bytes()
+        || report.tolerance != options.tolerance()
+    {
+        return None;
+    }
+    let written = records_written(&report);
+    Some(Repacked {
+        read: report.counts.read,
+        written,
+    })
+}
+
+/// Holds packed records against their report.
+pub fn require_shown<P: Source, Q: Source>(
+    alloc: Global,
+    packed: &mut P,
+    report: &mut Q,
+) -> Result<(), Refusal>
+    requires packed { CanCountCall (P.device packed.old) }
+    requires report { CanCountCall (Q.device report.old) }
+    ensures { IsShown result }
+{
+    match check_packed(alloc, packed, report) {
+        Ok(Verdict::Least) => Ok(()),
+        Ok(Verdict::NotShown) => Err(Refusal::NotShown),
+        Err(ToolFault::Memory) => Err(Refusal::Tool(ToolFault::Memory)),
+        Err(_) => Err(Refusal::NotShown),
+    }
 }

@@ -6,7 +6,8 @@ use crate::outcome::{Outcome, Repacked};
 use msr_totals::Totals;
 use std::alloc::{AllocError, Global};
 
-/// How many entries had each outcome, and the totals of the channels with a file that was done.
+/// How many entries had each outcome, and the totals of the channels with a file that was done, in this walk or an
+/// earlier one.
 #[derive(Drop)]
 pub struct Tally {
     pub done: u64,
@@ -34,11 +35,13 @@ impl Tally {
             → entry.outcome ≡ outcome → OnOk result (IsTally (before ++ entry ∷ []) self.new) }
     {
         match outcome {
-            Outcome::Done(Repacked { read, written }) => {
-                self.channels.add(channel, read, written)?;
-                self.done = self.done.saturating_add(1);
-            }
+            Outcome::Done(Repacked { read, written }) | Outcome::Same(Repacked { read, written }) =>
+                {
+                    self.channels.add(channel, read, written)?;
+                    self.done = self.done.saturating_add(1);
+                }
             Outcome::Skipped(_) => self.skipped = self.skipped.saturating_add(1),
+            Outcome::NotShown => self.refused = self.refused.saturating_add(1),
             Outcome::Refused(_) => self.refused = self.refused.saturating_add(1),
         }
         Ok(())

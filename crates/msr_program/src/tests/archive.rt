@@ -221,6 +221,180 @@ files 1 skipped 12 refused 2
     tree.remove(&rt)
 }
 
+// Only the folders that are asked for, in the order in which they are: of any depth, one that is missing, one that is a
+// file. Paths are those of the whole walk.
+#[test]
+fn folders_that_are_asked_for(rt: HostRuntime) -> Result<(), Fail> {
+    let tree = Tree::new(&rt)?;
+    let day = zeros(rt.alloc())?;
+    let other = "2020/XX/TEST/BHN.D/XX.TEST.00.BHN.D.2020.001";
+    let early = "2019/XX/TEST/BHZ.D/XX.TEST.00.BHZ.D.2019.001";
+    for path in [
+        DAY_1,
+        other,
+        early,
+        "2020/readme",
+        "2018/YY/S/BHZ.D/deep/file",
+    ] {
+        tree.write(&rt, "sds", path, day.as_slice())?;
+    }
+    let mut words = Vec::new(rt.alloc());
+    words.extend_from_slice(&tree.words())?;
+    words.extend_from_slice(&[
+        "--below=2020/XX/TEST/BHZ.D",
+        "--below=2020/YY",
+        "--below=2020/readme",
+        "--below=2018",
+        "--below=2019/XX",
+    ])?;
+    let lines = "done 2020/XX/TEST/BHZ.D/XX.TEST.00.BHZ.D.2020.001 read 1 written 2
+refused 2020/YY: listing
+refused 2020/readme: listing
+skipped 2018/YY/S/BHZ.D/deep: not an SDS path
+done 2019/XX/TEST/BHZ.D/XX.TEST.00.BHZ.D.2019.001 read 1 written 2
+channel XX.TEST.00.BHZ files 2 read 2 written 4
+files 2 skipped 1 refused 2
+";
+    let ran = run_on(&rt, words.as_slice(), &[])?;
+    shows(&rt, &ran, 1, lines);
+    assert!(&rt; tree.has(&rt, "out", DAY_1)? && tree.has(&rt, "out", early)?);
+    assert!(&rt; !tree.has(&rt, "out", other)?);
+    drop(words);
+    tree.remove(&rt)
+}
+
+// The words of the tree with an option more.
+fn words_of<'a>(tree: &'a Tree, option: &'static str) -> [&'a str; 7] {
+    let [archive, length, bytes, root, out, reports] = tree.words();
+    [archive, length, bytes, option, root, out, reports]
+}
+
+fn resumes<R: Files + AllocGlobal + Abort>(rt: &R, tree: &Tree, printed: &str) -> Result<(), Fail> {
+    let ran = run_on(rt, &words_of(tree, "--resume"), &[])?;
+    shows(rt, &ran, 0, printed);
+    Ok(())
+}
+
+const DONE: &str = "done 2020/XX/TEST/BHZ.D/XX.TEST.00.BHZ.D.2020.001 read 1 written 2
+channel XX.TEST.00.BHZ files 1 read 1 written 2
+files 1 skipped 0 refused 0
+";
+
+const SAME: &str = "same 2020/XX/TEST/BHZ.D/XX.TEST.00.BHZ.D.2020.001 read 1 written 2
+channel XX.TEST.00.BHZ files 1 read 1 written 2
+files 1 skipped 0 refused 0
+";
+
+// A day is left alone exactly where an earlier walk with that option did it, and input, records and report are as it
+// left them.
+#[test]
+fn days_that_are_left_alone(rt: HostRuntime) -> Result<(), Fail> {
+    let tree = Tree::new(&rt)?;
+    let day = zeros(rt.alloc())?;
+    let report = "2020/XX/TEST/BHZ.D/XX.TEST.00.BHZ.D.2020.001.txt";
+    let stamp = "2020/XX/TEST/BHZ.D/XX.TEST.00.BHZ.D.2020.001.from";
+    tree.write(&rt, "sds", DAY_1, day.as_slice())?;
+    walks(&rt, &tree, 0, DONE)?;
+    assert!(&rt; !tree.has(&rt, "reports", stamp)?);
+    resumes(&rt, &tree, DONE)?;
+    assert!(&rt; tree.has(&rt, "reports", stamp)?);
+    let records = tree.read(&rt, "out", DAY_1)?;
+    let lost: [(&'static str, &'static str); 3] = [
+        ("out", DAY_1),
+        ("reports", report),
+        ("reports", stamp),
+    ];
+    for (top, path) in lost {
+        resumes(&rt, &tree, SAME)?;
+        let whole = tree.read(&rt, top, path)?;
+        // A byte less, and then none of it.
+        tree.write(&rt, top, path, &whole.as_slice()[1..])?;
+        resumes(&rt, &tree, DONE)?;
+        resumes(&rt, &tree, SAME)?;
+        fs::remove_file(&rt, tree.path(top, path)?.as_str())?;
+        resumes(&rt, &tree, DONE)?;
+    }
+    // Another time, another size.
+    resumes(&rt, &tree, SAME)?;
+    fs::remove_file(&rt, tree.path("sds", DAY_1)?.as_str())?;
+    tree.write(&rt, "sds", DAY_1, day.as_slice())?;
+    resumes(&rt, &tree, DONE)?;
+    assert_eq!(&rt;
+        tree.read(&rt, "out", DAY_1)?.as_slice(),
+        records.as_slice()
+    );
+    tree.remove(&rt)
+}
+
+// Other options, and a walk without that option, which leaves no stamp: what it made is made again.
+#[test]
+fn days_that_are_done_otherwise(rt: HostRuntime) -> Result<(), Fail> {
+    let tree = Tree::new(&rt)?;
+    let day = zeros(rt.alloc())?;
+    tree.write(&rt, "sds", DAY_1, day.as_slice())?;
+    resumes(&rt, &tree, DONE)?;
+    for option in ["--length=512", "--tolerance=7"] {
+        let [archive, _, _, resume, root, out, reports] = words_of(&tree, "--resume");
+        let ran = run_on(&rt, &[archive, option, resume, root, out, reports], &[])?;
+        assert!(&rt; ran.printed.as_slice().starts_with(b"done "), "at {option}");
+        resumes(&rt, &tree, DONE)?;
+        resumes(&rt, &tree, SAME)?;
+    }
+    walks(&rt, &tree, 0, DONE)?;
+    resumes(&rt, &tree, DONE)?;
+    // A refused day leaves nothing to go by.
+    tree.write(&rt, "sds", DAY_1, b"no record")?;
+    let ran = run_on(&rt, &words_of(&tree, "--resume"), &[])?;
+    assert_eq!(&rt; ran.status, 1);
+    let stamp = "2020/XX/TEST/BHZ.D/XX.TEST.00.BHZ.D.2020.001.from";
+    assert!(&rt; !tree.has(&rt, "reports", stamp)?);
+    tree.remove(&rt)
+}
+
+// What is held against its report is kept as without that.
+#[test]
+fn days_that_are_held_against_their_reports(rt: HostRuntime) -> Result<(), Fail> {
+    let tree = tree_of_three(&rt)?;
+    let ran = run_on(&rt, &words_of(&tree, "--check"), &[])?;
+    shows(&rt, &ran, 1, LINES_OF_THREE);
+    assert!(&rt; tree.has(&rt, "out", DAY_1)? && !tree.has(&rt, "out", DAY_2)?);
+    tree.remove(&rt)
+}
+
+// Where other records are read than those that were written, the report does not show them: neither is kept, nor what an
+// earlier walk left.
+#[test]
+fn a_day_that_is_not_shown(rt: HostRuntime) -> Result<(), Fail> {
+    let tree = Tree::new(&rt)?;
+    let report = "2020/XX/TEST/BHZ.D/XX.TEST.00.BHZ.D.2020.001.txt";
+    tree.write(&rt, "sds", DAY_1, zeros(rt.alloc())?.as_slice())?;
+    walks(&rt, &tree, 0, DONE)?;
+    let day = tree.path("sds", DAY_1)?;
+    let part = tree.path("out", "2020/XX/TEST/BHZ.D/XX.TEST.00.BHZ.D.2020.001.part")?;
+    let odd = OddFolder {
+        rt: &rt,
+        path: "",
+        names: None,
+        earlier: "",
+        later: "",
+        swapped: (part.as_str(), day.as_str()),
+    };
+    let ran = run_on(&odd, &words_of(&tree, "--check"), &[])?;
+    let lines = "notshown 2020/XX/TEST/BHZ.D/XX.TEST.00.BHZ.D.2020.001
+files 0 skipped 0 refused 1
+";
+    shows(&rt, &ran, 1, lines);
+    assert!(&rt; !tree.has(&rt, "out", DAY_1)? && !tree.has(&rt, "reports", report)?);
+    assert!(&rt;
+        !tree.has(
+            &rt,
+            "out",
+            "2020/XX/TEST/BHZ.D/XX.TEST.00.BHZ.D.2020.001.part"
+        )?
+    );
+    tree.remove(&rt)
+}
+
 // Channels in the order of their first days that were done, each with its sums.
 #[test]
 fn totals_of_channels(rt: HostRuntime) -> Result<(), Fail> {
@@ -356,6 +530,7 @@ files 1 skipped 0 refused 1
             names,
             earlier: "",
             later: "",
+            swapped: ("", ""),
         };
         let ran = run_on(&odd, &tree.words(), &[])?;
         shows(&rt, &ran, 1, lines);
@@ -385,6 +560,7 @@ fn the_report_gets_its_name_first(rt: HostRuntime) -> Result<(), Fail> {
             names: None,
             earlier,
             later,
+            swapped: ("", ""),
         };
         let ran = run_on(&odd, &tree.words(), &[])?;
         assert_eq!(&rt; ran.status, status);

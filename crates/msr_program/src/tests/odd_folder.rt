@@ -1,4 +1,4 @@
-//! The system's files, but for one folder, and one name.
+//! The system's files, but for one folder, and two names.
 use std::alloc::{Allocator, Global};
 use std::fs::{Metadata, OpenOptions};
 use std::io;
@@ -6,7 +6,8 @@ use std::io::{ErrorKind, Read};
 use std::rt::Files;
 
 /// The folder with the path, which ends in a slash, has these names, each ended by a NUL, or cannot be opened. Where the
-/// last name is cut short, reading fails there. A file gets the later name only where the earlier one is there.
+/// last name is cut short, reading fails there. A file gets the later name only where the earlier one is there. Once the
+/// file with the first name of `swapped` was made, the other one is opened in its place.
 #[derive(Clone, Copy)]
 pub struct OddFolder<'a> {
     pub rt: &'a HostRuntime,
@@ -14,6 +15,7 @@ pub struct OddFolder<'a> {
     pub names: Option<&'static [u8]>,
     pub earlier: &'a str,
     pub later: &'a str,
+    pub swapped: (&'a str, &'a str),
 }
 
 /// The names of a folder.
@@ -51,6 +53,10 @@ impl<'a> Files for OddFolder<'a> {
     type Dir = Names;
 
     fn open_file(&self, how: &OpenOptions, path: &str) -> io::Result<Self::File> {
+        let (made, other) = self.swapped;
+        if path == made && self.rt.metadata(path).is_ok() {
+            return self.rt.open_file(how, other);
+        }
         self.rt.open_file(how, path)
     }
 

@@ -1,7 +1,7 @@
 //! What command lines are read as, and the text and status that the others end with.
 use crate::words::{
-    Archiving, Checking, Ending, Folders, Listing, NoTask, Repacking, Task, default_length,
-    read_words,
+    Archiving, Checking, Ending, Folders, Listing, NoTask, Repacking, Task, Walking,
+    default_length, read_words,
 };
 use msr_words::Length;
 use std::alloc::{AllocError, Global};
@@ -102,34 +102,86 @@ fn reads_check(rt: HostRuntime) -> Result<(), Fail> {
 
 #[test]
 fn reads_archive(rt: HostRuntime) -> Result<(), Fail> {
-    let rows: [(&'static [&'static str], u32, [&'static str; 3]); 4] = [
+    let rows: [(
+        &'static [&'static str],
+        u32,
+        [&'static str; 3],
+        &'static [&'static str],
+        (bool, bool),
+    ); 7] = [
         (
             &["msrepack", "archive", "a", "b", "c"],
             1000,
             ["a", "b", "c"],
+            &[],
+            (false, false),
         ),
         (
             &["msrepack", "archive", "--tolerance=7", "a/b", "a/c", "a/bb"],
             7,
             ["a/b", "a/c", "a/bb"],
+            &[],
+            (false, false),
         ),
         // Names are compared as they are written.
         (
             &["msrepack", "archive", "a/", "a/b", "a/./b"],
             1000,
             ["a/", "a/b", "a/./b"],
+            &[],
+            (false, false),
         ),
         (
             &["msrepack", "archive", "-", "--", "-a", "b"],
             1000,
             ["-", "-a", "b"],
+            &[],
+            (false, false),
+        ),
+        (
+            &["msrepack", "archive", "--below", "2020", "a", "b", "c"],
+            1000,
+            ["a", "b", "c"],
+            &["2020"],
+            (false, false),
+        ),
+        (
+            &["msrepack", "archive", "a", "b", "c", "--resume"],
+            1000,
+            ["a", "b", "c"],
+            &[],
+            (true, false),
+        ),
+        // One that begins as another does is beside it.
+        (
+            &[
+                "msrepack",
+                "archive",
+                "--below=2021/XX/S/Z.D",
+                "--below=2020/a..b",
+                "--below=2020/a",
+                "--check",
+                "--resume",
+                "a",
+                "b",
+                "c",
+            ],
+            1000,
+            ["a", "b", "c"],
+            &["2021/XX/S/Z.D", "2020/a..b", "2020/a"],
+            (true, true),
         ),
     ];
-    for (words, tolerance, [root, out, reports]) in rows {
+    for (words, tolerance, [root, out, reports], below, (resume, check)) in rows {
         let want = Some(Task::Archive(Archiving {
             length: default_length(),
             tolerance,
             folders: Folders { root, out, reports },
+            walking: Walking {
+                below: below.to_vec(rt.alloc())?,
+                resume,
+                check,
+            },
         }));
         assert_eq!(&rt; read_words(rt.alloc(), words).ok(), want, "at {words:?}");
     }
@@ -170,6 +222,45 @@ fn refuses_with_a_text_of_its_own(rt: HostRuntime) -> Result<(), Fail> {
         let ending = ending(rt.alloc(), words)?;
         assert_eq!(&rt; ending.status, 2, "at {words:?}");
         assert_eq!(&rt; ending.text.as_str(), want, "at {words:?}");
+    }
+    Ok(())
+}
+
+// Folders of an archive are paths of one to four names, of which none is another or stands below it.
+#[test]
+fn refuses_folders(rt: HostRuntime) -> Result<(), Fail> {
+    let not_below = "msrepack: not a folder of an archive\n";
+    let overlap = "msrepack: the folders overlap\n";
+    let rows: [(&'static [&'static str], &'static str); 13] = [
+        (&["--below="], not_below),
+        (&["--below=/"], not_below),
+        (&["--below=/2020"], not_below),
+        (&["--below=2020/"], not_below),
+        (&["--below=2020//XX"], not_below),
+        (&["--below=."], not_below),
+        (&["--below=2020/.."], not_below),
+        (&["--below=2020/./XX"], not_below),
+        (&["--below=a/b/c/d/e"], not_below),
+        (&["--below=2020", "--below=/"], not_below),
+        (&["--below=2020", "--below=2020"], overlap),
+        (
+            &["--below=2020/XX", "--below=2019", "--below=2020"],
+            overlap,
+        ),
+        (
+            &["--below=2019", "--below=2020", "--below=2020/XX/S"],
+            overlap,
+        ),
+    ];
+    for (options, want) in rows {
+        let mut words = vec![in rt.alloc(); "msrepack", "archive", "a", "b", "c"]?;
+        words.extend_from_slice(options)?;
+        let ending = match read_words(rt.alloc(), words.as_slice()) {
+            Err(NoTask::Ending(ending)) => ending,
+            _ => panic!(&rt; "at {options:?}"),
+        };
+        assert_eq!(&rt; ending.status, 2, "at {options:?}");
+        assert_eq!(&rt; ending.text.as_str(), want, "at {options:?}");
     }
     Ok(())
 }

@@ -1,6 +1,8 @@
 use Rattle.std.proofs.Common.{rules}
 use Rattle.std.proofs.lemmas.Result.{err_from_is_err_and}
 use Rattle.msr_devices.proofs.Chaining.{calm-same}
+use Rattle.msr_walk.specs.Entries.{IsDayOf}
+use Rattle.msr_walk.proofs.Days.{outcome-of}
 use Rattle.msr_walk.proofs.Told.{part-none}
 use Rattle.msr_walk.proofs.folders.tell_day.Goals as goal
 
@@ -16,5 +18,12 @@ returns-in_err-day-clause-stops g c =
     let out = g.O.Sink.device c.args.out.now in
     rw (p.1, p.2) (part-none c.args.archive.now.options out, (calm-same out).steady)
 
+pub returns-clause-told : goal.returns-clause-told
+returns-clause-told g c =
+    let day : IsDayOf c.args.path.now c.as_str.result.now = search rules in
+    c.tell.ensures.told c.args.archive.now.options (outcome-of _ _ _ _ day c.handle-outcome.ensures)
+
 pub returns-clause-stops : goal.returns-clause-stops
-returns-clause-stops g c = c.tell.ensures.stops c.args.archive.now.options (search rules)
+returns-clause-stops g c =
+    let day : IsDayOf c.args.path.now c.as_str.result.now = search rules in
+    c.tell.ensures.stops c.args.archive.now.options (outcome-of _ _ _ _ day c.handle-outcome.ensures)

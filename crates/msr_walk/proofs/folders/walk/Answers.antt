@@ -5,54 +5,54 @@ use Rattle.msr_tool.proofs.Stops.{ok-tells, write-tells_sink}
 use Rattle.msr_walk.proofs.Told.{refusals-told, stops-entries, stops-summary, walk-ends, walk-stops}
 use Rattle.msr_walk.proofs.folders.walk.Goals as goal
 
-pub returns-in_err-walk_folder-clause-answer : goal.returns-in_err-walk_folder-clause-answer
-returns-in_err-walk_folder-clause-answer g c =
+pub returns-in_err-walk_folders-clause-answer : goal.returns-in_err-walk_folders-clause-answer
+returns-in_err-walk_folders-clause-answer g c =
     let p = err_from_is_err_and c.from_residual.result c.from_residual.ensures.1 in
     let out0 = g.O.Sink.device c.args.out.now in
-    let out = g.O.Sink.device c.walk_folder.new.out in
+    let out = g.O.Sink.device c.walk_folders.new.out in
     let choice = c.args.archive.now.options in
-    let fault = c.in_err-walk_folder.field-0.0 in
-    rw (p.1, p.2) (walk-stops choice out0 out fault (stops-entries choice out0 out fault c.in_err-walk_folder.ensures.stops))
+    let fault = c.in_err-walk_folders.field-0.0 in
+    rw (p.1, p.2) (walk-stops choice out0 out fault (stops-entries choice out0 out fault c.in_err-walk_folders.ensures.stops))
 
-pub returns-in_err-walk_folder-clause-write : goal.returns-in_err-walk_folder-clause-write
-returns-in_err-walk_folder-clause-write g c =
+pub returns-in_err-walk_folders-clause-write : goal.returns-in_err-walk_folders-clause-write
+returns-in_err-walk_folders-clause-write g c =
     let p = err_from_is_err_and c.from_residual.result c.from_residual.ensures.1 in
     let out0 = g.O.Sink.device c.args.out.now in
-    let out = g.O.Sink.device c.walk_folder.new.out in
-    rw (p.1, p.2) (write-tells_sink _ _ out0 out c.in_err-walk_folder.field-0.0 c.in_err-walk_folder.ensures.stops)
+    let out = g.O.Sink.device c.walk_folders.new.out in
+    rw (p.1, p.2) (write-tells_sink _ _ out0 out c.in_err-walk_folders.field-0.0 c.in_err-walk_folders.ensures.stops)
 
 pub returns-in_err-write_summary-clause-answer : goal.returns-in_err-write_summary-clause-answer
 returns-in_err-write_summary-clause-answer g c =
     let p = err_from_is_err_and c.from_residual-in_err-write_summary.result c.from_residual-in_err-write_summary.ensures.1 in
     let out0 = g.O.Sink.device c.args.out.now in
-    let out1 = g.O.Sink.device c.walk_folder.new.out in
+    let out1 = g.O.Sink.device c.walk_folders.new.out in
     let out = g.O.Sink.device c.write_summary.new.out in
     let choice = c.args.archive.now.options in
     let fault = c.in_err-write_summary.field-0.0 in
-    let told = c.in_ok-walk_folder.ensures.told in
+    let told = c.in_ok-walk_folders.ensures.told in
     let front = c.in_err-write_summary.ensures.stops told.entries (told.counts [] c.new-tally.ensures) in
-    rw (p.1, p.2) (walk-stops choice out0 out fault (stops-summary choice out0 out1 out c.new-tally.result c.walk_folder.new.tally fault told front))
+    rw (p.1, p.2) (walk-stops choice out0 out fault (stops-summary choice out0 out1 out c.new-tally.result c.walk_folders.new.tally fault told front))
 
 pub returns-in_err-write_summary-clause-write : goal.returns-in_err-write_summary-clause-write
 returns-in_err-write_summary-clause-write g c =
     let p = err_from_is_err_and c.from_residual-in_err-write_summary.result c.from_residual-in_err-write_summary.ensures.1 in
     let out0 = g.O.Sink.device c.args.out.now in
-    let out1 = g.O.Sink.device c.walk_folder.new.out in
+    let out1 = g.O.Sink.device c.walk_folders.new.out in
     let out = g.O.Sink.device c.write_summary.new.out in
     let fault = c.in_err-write_summary.field-0.0 in
-    let told = c.in_ok-walk_folder.ensures.told in
+    let told = c.in_ok-walk_folders.ensures.told in
     let front = c.in_err-write_summary.ensures.stops told.entries (told.counts [] c.new-tally.ensures) in
-    rw (p.1, p.2) (write-tells_sink _ _ out0 out fault (stops-summary c.args.archive.now.options out0 out1 out c.new-tally.result c.walk_folder.new.tally fault told front))
+    rw (p.1, p.2) (write-tells_sink _ _ out0 out fault (stops-summary c.args.archive.now.options out0 out1 out c.new-tally.result c.walk_folders.new.tally fault told front))
 
 pub returns-clause-answer : goal.returns-clause-answer
 returns-clause-answer g c =
-    let told = c.in_ok-walk_folder.ensures.told in
+    let told = c.in_ok-walk_folders.ensures.told in
     let counts = told.counts [] c.new-tally.ensures in
-    walk-ends c.args.archive.now.options (g.O.Sink.device c.args.out.now) (g.O.Sink.device c.walk_folder.new.out) (g.O.Sink.device c.write_summary.new.out) c.new-tally.result c.walk_folder.new.tally _ told (c.in_ok-write_summary.ensures.all told.entries counts) (refusals-told told.entries c.walk_folder.new.tally.refused counts.refused)
+    walk-ends c.args.archive.now.options (g.O.Sink.device c.args.out.now) (g.O.Sink.device c.walk_folders.new.out) (g.O.Sink.device c.write_summary.new.out) c.new-tally.result c.walk_folders.new.tally _ told (c.in_ok-write_summary.ensures.all told.entries counts) (refusals-told told.entries c.walk_folders.new.tally.refused counts.refused)
 
 pub returns-clause-write : goal.returns-clause-write
 returns-clause-write g c =
     let out0 = g.O.Sink.device c.args.out.now in
-    let out1 = g.O.Sink.device c.walk_folder.new.out in
+    let out1 = g.O.Sink.device c.walk_folders.new.out in
     let out = g.O.Sink.device c.write_summary.new.out in
-    ok-tells out0 out _ _ (calm-calm out0 out1 out c.in_ok-walk_folder.ensures.told.calm c.in_ok-write_summary.ensures.calm).steady
+    ok-tells out0 out _ _ (calm-calm out0 out1 out c.in_ok-walk_folders.ensures.told.calm c.in_ok-write_summary.ensures.calm).steady

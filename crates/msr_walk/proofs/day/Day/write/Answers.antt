@@ -1,5 +1,5 @@
 use Rattle.std.proofs.lemmas.Result.{err_from_is_err_and}
-use Rattle.msr_walk.proofs.Days.{day-answer, day-unsettled}
+use Rattle.msr_walk.proofs.Days.{day-answer, day-unkept, day-unsettled}
 use Rattle.msr_walk.proofs.day.Day.write.Goals as goal
 
 pub returns-in_err-records : goal.returns-in_err-records
@@ -26,6 +26,16 @@ pub returns-in_err-settle-2 : goal.returns-in_err-settle-2
 returns-in_err-settle-2 g c =
     let p = err_from_is_err_and c.from_residual-in_err-settle-2.result c.from_residual-in_err-settle-2.ensures.1 in
     rw (p.1, p.2, c.in_err-settle-2.ensures) (day-unsettled _ _ _ _ _ _ _ c.in_ok-repacked.ensures)
+
+pub returns-in_err-hold : goal.returns-in_err-hold
+returns-in_err-hold g c =
+    let p = err_from_is_err_and c.from_residual-in_err-hold.result c.from_residual-in_err-hold.ensures.1 in
+    rw (p.1, p.2) (day-unkept _ _ _ _ _ _ _ c.in_err-hold.field-0.0 c.in_ok-repacked.ensures c.in_err-hold.ensures)
+
+pub returns-in_err-clear : goal.returns-in_err-clear
+returns-in_err-clear g c =
+    let p = err_from_is_err_and c.from_residual-in_err-clear.result c.from_residual-in_err-clear.ensures.1 in
+    rw (p.1, p.2, c.in_err-clear.ensures) tt
 
 pub returns-in_err-keep : goal.returns-in_err-keep
 returns-in_err-keep g c =

@@ -1,0 +1,79 @@
+//! What an input was when it was repacked: kept beside its report, so that a later walk can leave the day alone.
+use crate::files::{NewFile, settle};
+use crate::outcome::Refusal;
+use msr_devices::write_all;
+use msr_tool::{FromWrite, ToolFault};
+use std::alloc::{AllocError, Global};
+use std::fs;
+use std::os::unix::fs::MetadataExt;
+use std::rt::Files;
+
+/// The size of a regular file, and the time at which it was last changed.
+#[derive(Clone, Copy, PartialEq, Eq)]
+pub struct Stamp {
+    bytes: u64,
+    seconds: i64,
+    nanoseconds: i64,
+}
+
+impl Stamp {
+    /// `None` where the system does not tell it of the file with this name, or it is no regular file.
+    pub fn of<R: Files>(rt: &R, path: &str) -> Option<Stamp> {
+        let Ok(metadata) = fs::metadata(rt, path) else {
+            return None;
+        };
+        if !metadata.is_file() {
+            return None;
+        }
+        Some(Stamp {
+            bytes: metadata.len(),
+            seconds: metadata.mtime(),
+            nanoseconds: metadata.mtime_nsec(),
+        })
+    }
+
+    fn text(self, alloc: Global) -> Result<String, AllocError> {
+        let Stamp {
+            bytes,
+            seconds,
+            nanoseconds,
+        } = self;
+        format!(in alloc; "input {bytes} bytes, changed at {seconds} s {nanoseconds} ns\n")
+    }
+
+    /// Whether that file has this stamp, and nothing else.
+    pub fn stands_in<R: Files>(
+        self,
+        rt: &R,
+        alloc: Global,
+        path: &str,
+    ) -> Result<bool, AllocError> {
+        let text = self.text(alloc)?;
+        let size = text.len() as u64;
+        match fs::metadata(rt, path) {
+            Ok(metadata) => {
+                if metadata.len() != size {
+                    return Ok(false);
+                }
+            }
+            Err(_) => return Ok(false),
+        }
+        match fs::read(&(rt, alloc), path) {
+            Ok(bytes) => Ok(bytes.as_slice() == text.as_bytes()),
+            Err(_) => Ok(false),
+        }
+    }
+
+    /// Makes that file with this stamp.
+    pub fn put<R: Files>(self, rt: &R, alloc: Global, file: &NewFile) -> Result<(), Refusal> {
+        let Ok(text) = self.text(alloc) else {
+            return Err(Refusal::Tool(ToolFault::Memory));
+        };
+        let mut open = file.create(rt)?;
+        if write_all(&mut FromWrite::new(&mut open), text.as_bytes()).is_err() {
+            return Err(Refusal::Tool(ToolFault::Write));
+        }
+        settle(&open)?;
+        file.keep(rt)
+    }
+}
