@@ -15,7 +15,7 @@ use Rattle.msr_header.proofs.FoundLemmas.{header_sound}
 use Rattle.msr_header.proofs.ShownLemmas.{AreBytes, AllWithin, Covers, SameFirst, header_alike}
 use Rattle.msr_record.specs.Records.{IsRefused, TakesMemory}
 use Rattle.msr_record.specs.declared.fault.FaultKind.{FaultKind}
-use Rattle.msr_record.specs.declared.fault.FaultKind.TheVariants.{Header, NoRate, OtherEncoding, BadDataOffset, DataShort, BadCode, TimeRange, Memory}
+use Rattle.msr_record.specs.declared.fault.FaultKind.TheVariants.{Header, NoRate, OtherEncoding, BadDataOffset, DataShort, BadCode, TimeRange, ReverseMismatch, Memory}
 use Rattle.msr_header.specs.declared.fault.HeaderFault.{HeaderFault}
 use Rattle.msr_devices.specs.ReadBuffer.{Window}
 use Rattle.msr_input.specs.Reading.{HoldsRecord}
@@ -70,6 +70,7 @@ behind bytes BadDataOffset other refused = (refused.header, refused.has_samples.
 behind bytes DataShort other refused = (refused.header, refused.has_area.has_samples.read)
 behind bytes (BadCode word) other refused = (refused.header, refused.has_area.has_samples.read)
 behind bytes TimeRange other refused = (refused.is_row.header, refused.is_row.has_area.has_samples.read)
+behind bytes ReverseMismatch other refused = absurd refused
 behind bytes Memory other refused = absurd refused
 
 -- a record that is there has some bytes, and they decide
