@@ -20,12 +20,14 @@ use Rattle.msr_steim.proofs.Shifts.{code_shifted}
 
 -- ---- what a word holds is what it has in order
 
-numbers_hold : (o : Option Division) (word : ℕ) (group : List ℤ) → IfSome o HasBits → IsSomeAnd o (AreFields word group) → IsSomeAnd o (AreFields word (numbers_of o word))
+numbers_hold : (o : Option Division) (word : ℕ) (group : List ℤ) → IfSome o HasBits
+    → IsSomeAnd o (AreFields word group) → IsSomeAnd o (AreFields word (numbers_of o word))
 unfolding HasBits
 numbers_hold None word group bits holds = holds
 numbers_hold (Some d) word group bits holds = numbers_are_fields word d.width d.count bits
 
-held_differences : (version : Version) (order : Order) (area : List ℕ) (number : ℕ) (group : List ℤ) → WordHolds version order area number group → word_differences version order area number ≡ group
+held_differences : (version : Version) (order : Order) (area : List ℕ) (number : ℕ) (group : List ℤ)
+    → WordHolds version order area number group → word_differences version order area number ≡ group
 unfolding word_differences
 held_differences version order area number group holds =
     let code = code_of order area number in
@@ -33,13 +35,15 @@ held_differences version order area number group holds =
     let division = division_of version code (word / 2 ^ 30) in
     holds_one version code word (numbers_of division word) group (numbers_hold division word group (has_bits version code (word / 2 ^ 30)) holds) holds
 
-one_group : (version : Version) (order : Order) (area : List ℕ) (number : ℕ) (group : List ℤ) → number < word_count area → WordHolds version order area number group
+one_group : (version : Version) (order : Order) (area : List ℕ) (number : ℕ) (group : List ℤ)
+    → number < word_count area → WordHolds version order area number group
     → differences_from version order area number ≡ group ++ differences_from version order area (number + 1)
 one_group version order area number group within holds =
     one_word version order area number within ∙ ap (λ ds. ds ++ differences_from version order area (number + 1)) (held_differences version order area number group holds)
 
 -- the groups of the first words are the first differences
-held_in_order : (version : Version) (order : Order) (area : List ℕ) (groups : List (List ℤ)) (words : ℕ) → FirstWordsHold version order area groups → words ≤ length groups
+held_in_order : (version : Version) (order : Order) (area : List ℕ) (groups : List (List ℤ)) (words : ℕ)
+    → FirstWordsHold version order area groups → words ≤ length groups
     → differences_from version order area 0 ≡ differences (take words groups) ++ differences_from version order area words
 held_in_order version order area groups zero held within = refl
 held_in_order version order area groups (suc words) held within =
@@ -58,7 +62,9 @@ held_in_order version order area groups (suc words) held within =
 
 -- ---- what the first difference is added to
 
-first_part : (first before : ℤ) (group rest all : List ℤ) → all ≡ group ++ rest → samples_of first all ≡ sums_after before all → samples_of first group ≡ sums_after before group
+first_part : (first before : ℤ) (group rest all : List ℤ) → all ≡ group ++ rest
+    → samples_of first all ≡ sums_after before all
+    → samples_of first group ≡ sums_after before group
 first_part first before [] rest all same begins = refl
 first_part first before (d ∷ ds) rest all same begins =
     let so : samples_of first (d ∷ (ds ++ rest)) ≡ sums_after before (d ∷ (ds ++ rest)) = subst (λ s. samples_of first s ≡ sums_after before s) same begins in
@@ -66,11 +72,16 @@ first_part first before (d ∷ ds) rest all same begins =
     ap (λ x. x ∷ sums_after x ds) head
 
 -- the first samples begin after it, the others after the one before
-pub starts_here : (version : Version) (order : Order) (area : List ℕ) (number code word : ℕ) (at : Place) (out : List ℤ) → IsReached version order area number at out → (at.place ≡ 0 → BeginsAfter version order area at.last)
-    → number < word_count area → code ≡ code_of order area number → word ≡ arranged_word version order code area number → IsStart version code word (constant order area 1) at at
+pub starts_here : (version : Version) (order : Order) (area : List ℕ) (number code word : ℕ) (at : Place) (out : List ℤ)
+    → IsReached version order area number at out
+    → (at.place ≡ 0 → BeginsAfter version order area at.last)
+    → number < word_count area → code ≡ code_of order area number
+    → word ≡ arranged_word version order code area number
+    → IsStart version code word (constant order area 1) at at
 starts_here version order area number code word at out reached begins within code_is word_is = record { place = refl; kept = λ some. refl; first = first }
   where
-    first : at.place ≡ 0 → (group : List ℤ) → Holds version code word group → samples_of (constant order area 1) group ≡ sums_after at.last group
+    first : at.place ≡ 0 → (group : List ℤ) → Holds version code word group
+        → samples_of (constant order area 1) group ≡ sums_after at.last group
     first none group holds =
         let read = reached.read in
         let rest = differences_from version order area (number + 1) in
@@ -84,7 +95,9 @@ starts_here version order area number code word at out reached begins within cod
         first_part (constant order area 1) at.last group rest (differences_from version order area 0) (before ∙ one_group version order area number group within here) (begins none).sums
 
 -- and so on, until there are samples
-pub begins_on : (version : Version) (order : Order) (area : List ℕ) (at next : Place) → (next ≡ at) ⊎ (at.place < next.place) → (at.place ≡ 0 → BeginsAfter version order area at.last)
+pub begins_on : (version : Version) (order : Order) (area : List ℕ) (at next : Place)
+    → (next ≡ at) ⊎ (at.place < next.place)
+    → (at.place ≡ 0 → BeginsAfter version order area at.last)
     → next.place ≡ 0 → BeginsAfter version order area next.last
 begins_on version order area at next on begins none =
     ⊎_elim
@@ -95,7 +108,9 @@ begins_on version order area at next on begins none =
 -- ---- where the samples end
 
 -- a word that reaches the end was written up to the end
-pub end_reached : (version : Version) (code word : ℕ) (at next : Place) (old new : List ℤ) → ReachesEnd version code word at.place (length old) → IsWritten version code word at old new next
+pub end_reached : (version : Version) (code word : ℕ) (at next : Place) (old new : List ℤ)
+    → ReachesEnd version code word at.place (length old)
+    → IsWritten version code word at old new next
     → at.place < length old → length new ≡ length old → next.place ≡ length new
 end_reached version code word at next old new ends written room same =
     let reaches : length old ≤ at.place + length written.group = ends.reaches written.group written.holds in
@@ -111,14 +126,17 @@ end_reached version code word at next old new ends written room same =
 -- ---- the codes of a frame
 
 -- the highest bits are the code of the next word
-pub code_here : (order : Order) (area : List ℕ) (frame slot codes : ℕ) → 1 ≤ slot → slot < 16 → 3 ≤ 16 * frame + slot → codes ≡ whole_word order area (16 * frame) * 2 ^ (2 * slot) % 4294967296
+pub code_here : (order : Order) (area : List ℕ) (frame slot codes : ℕ) → 1 ≤ slot → slot < 16
+    → 3 ≤ 16 * frame + slot
+    → codes ≡ whole_word order area (16 * frame) * 2 ^ (2 * slot) % 4294967296
     → codes / 1073741824 ≡ code_of order area (16 * frame + slot)
 code_here order area frame slot codes some small late same =
     let word = whole_word order area (16 * frame) in
     code_data order area frame slot word (codes / 1073741824) some small late refl (ap (λ n. n / 1073741824) same ∙ code_shifted word slot small)
 
 -- shifted by two more
-pub codes_on : (codes word slot : ℕ) → codes ≡ word * 2 ^ (2 * slot) % 4294967296 → codes * 4 % 4294967296 ≡ word * 2 ^ (2 * (slot + 1)) % 4294967296
+pub codes_on : (codes word slot : ℕ) → codes ≡ word * 2 ^ (2 * slot) % 4294967296
+    → codes * 4 % 4294967296 ≡ word * 2 ^ (2 * (slot + 1)) % 4294967296
 codes_on codes word slot same =
     let more : 2 * (slot + 1) ≡ 2 * slot + 2 = omega arith in
     let power : 2 ^ (2 * (slot + 1)) ≡ 2 ^ (2 * slot) * 4 = ap (λ n. 2 ^ n) more ∙ pow-add 2 (2 * slot) 2 in
