@@ -25,19 +25,19 @@ pub record HasReadRows (start now : Device) (reading : RowReading) (records : Li
   pub in_range : NoneOverruns reading.following.tolerance records
   pub followed : HasFollowed reading.following (rows_of_records records) answers
 
--- Records came behind these, of which the last alone has a row: this one, and what it does.
+-- Further records came, and with them one row: this one, which does what is told.
 pub record ReadsRow (start now : Device) (reading : RowReading) (records : List Record) (answers : List Step) (next : NextRow) : Type 0 where
   pub after : List Record
   pub rows : rows_of_records after ≡ rows_of_records records ++ next.row ∷ []
   pub read : HasReadRows start now reading after (answers ++ next.step ∷ [])
 
--- Records came behind these, none of which has a row.
+-- Further records came, and no row with them.
 pub record ReadsNoRow (start now : Device) (reading : RowReading) (records : List Record) (answers : List Step) : Type 0 where
   pub after : List Record
   pub rows : rows_of_records after ≡ rows_of_records records
   pub read : HasReadRows start now reading after answers
 
--- And none are left: the input has ended.
+-- The same, and no record is left: the input has ended.
 pub record ReadsToEnd (start now : Device) (reading : RowReading) (records : List Record) (answers : List Step) : Type 0 where
   pub none : ReadsNoRow start now reading records answers
   pub none_wait : reading.position.waiting ≡ []

@@ -7,8 +7,8 @@ use msr_report::Counts;
 use std::alloc::Global;
 use std::marker::Model;
 
-/// Reads records from a source, each judged by itself, and counts those that were passed. All calls take the same
-/// source.
+/// Reads records from a source, each judged by itself, and counts those that were passed. All calls take
+/// the same source.
 #[derive(Drop)]
 pub(crate) struct RecordReader {
     alloc: Global,
@@ -51,10 +51,10 @@ impl RecordReader {
         }
     }
 
-    /// The next record, which [`pass`](Self::pass) then passes; `None` where the input has ended. A further call
-    /// gives the same record again. A record is given as soon as its own bytes have come, before a further read; so
-    /// is a refusal of what stands behind its header. One of the header waits for the input's end or for as many
-    /// bytes as the longest record has, since more could change it.
+    /// The next record, which [`pass`](Self::pass) then passes; `None` where the input has ended. A further
+    /// call gives the same record again. A record is given as soon as its own bytes have come, before a further
+    /// read; so is a refusal of what stands behind its header. One of the header waits for the input's end or for
+    /// as many bytes as the longest record has, since more could change it.
     pub fn next<R: Source>(&mut self, source: &mut R) -> Result<Option<Record>, ReadFault>
         requires { CanCountCall (R.device source.old) }
         ensures came { (start : Device) (records : List Found) → HaveCome start (R.device source.old) self.old records
@@ -65,10 +65,12 @@ impl RecordReader {
             ((self.new.waiting ≡ []) × (self.new.ended ≡ true))
             (λ found. IsRecordOf self.new.waiting found × IfSome found.row CanJoin)) }
         ensures kept { (start : Device) (records : List Found) → HaveCome start (R.device source.old) self.old records
-            → IfErr result (λ fault. fault ≢ ReadFault.Read → HaveCome start (R.device source.new) self.new records) }
+            → IfErr result (λ fault. fault ≢ ReadFault.Read
+            → HaveCome start (R.device source.new) self.new records) }
         ensures memory { IsErrOf result ReadFault.Memory → TakesMemoryFor self.new.waiting self.new.room }
         ensures awaited { IsErrOf result ReadFault.Read → HoldsRecord self.new.waiting → ⊥ }
-        ensures room { IfOk result (λ next. IfSome next (λ found. self.new.room ≤ room_with found.length self.old.room)) }
+        ensures room { IfOk result (λ next. IfSome next (λ found.
+            self.new.room ≤ room_with found.length self.old.room)) }
         ensures steady { OnOk result (IsSteady (R.device source.old) (R.device source.new)) }
         ensures few { CountsFew (R.device source.old) (R.device source.new) }
         ensures left { OnOk result (left_with (R.device source.new) self.new.waiting

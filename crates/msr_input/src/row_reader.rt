@@ -17,8 +17,8 @@ pub struct NextRow {
     pub row: Row,
 }
 
-/// Reads records from a source, and says of each row whether it begins a segment. It holds no samples. All calls
-/// take the same source.
+/// Reads records from a source, and says of each row whether it begins a segment. It holds no samples.
+/// All calls take the same source.
 #[derive(Drop)]
 pub struct RowReader {
     records: RecordReader,
@@ -58,9 +58,9 @@ impl RowReader {
         }
     }
 
-    /// The next row, behind records that have none; `None` where the input has ended, and with it the last segment.
-    /// At an `Err` but `Read` the reader stands before the record that it did not take: a further call gives the
-    /// same fault again, or tries again to get memory.
+    /// The next row, behind records that have none; `None` where the input has ended, and with it the last
+    /// segment. At an `Err` but `Read` the reader stands before the record that it did not take: a further call
+    /// gives the same fault again, or tries again to get memory.
     pub fn next_row<R: Source>(&mut self, source: &mut R) -> Result<Option<NextRow>, ReadFault>
         requires { CanCountCall (R.device source.old) }
         ensures read { (start : Device) (records : List Found) (answers : List Answer)
@@ -72,18 +72,20 @@ impl RowReader {
             (StopsRows self.old.following.tolerance start (R.device source.new) records) }
         ensures kept { (start : Device) (records : List Found) (answers : List Answer)
             → HasReadRows start (R.device source.old) self.old records answers
-            → IfErr result (λ fault. fault ≢ ReadFault.Read → ReadsNoRow start (R.device source.new) self.new records answers) }
+            → IfErr result (λ fault. fault ≢ ReadFault.Read
+            → ReadsNoRow start (R.device source.new) self.new records answers) }
 
         // What the row does, and what rows are given.
         ensures step { IfOk result (λ next. IfSome next (λ given.
             IsStep self.old.following (row_span given.row) given.step self.new.following)) }
-        ensures row { IfOk result (λ next. IfSome next (λ given. CanJoin given.row × IsWritable (row_segment given.row))) }
+        ensures row { IfOk result (λ next. IfSome next (λ given.
+            CanJoin given.row × IsWritable (row_segment given.row))) }
         ensures in_bounds { IfOk result (λ next. IfSome next (λ _. IsInBounds self.new.following.current)) }
-
         ensures tolerance { self.new.following.tolerance ≡ self.old.following.tolerance }
 
         // Want of memory comes only where memory is taken.
-        ensures memory { IsErrOf result ReadFault.Memory → TakesMemoryFor self.new.position.waiting self.new.position.room }
+        ensures memory { IsErrOf result ReadFault.Memory
+            → TakesMemoryFor self.new.position.waiting self.new.position.room }
 
         // Of a record whose bytes have come none are awaited.
         ensures awaited { IsErrOf result ReadFault.Read → HoldsRecord self.new.position.waiting → ⊥ }
@@ -112,7 +114,8 @@ impl RowReader {
             (ReadsRow start now self.new records answers))
             (StopsRows self.old.following.tolerance start now records) }
         ensures step { IfOk result (λ next. FollowsRecord self.old.following found.row next self.new.following) }
-        ensures row { IfOk result (λ next. IfSome next (λ given. CanJoin given.row × IsWritable (row_segment given.row))) }
+        ensures row { IfOk result (λ next. IfSome next (λ given.
+            CanJoin given.row × IsWritable (row_segment given.row))) }
         ensures in_bounds { IfOk result (λ next. IfSome next (λ _. IsInBounds self.new.following.current)) }
         ensures no_memory { IsErrOf result ReadFault.Memory → ⊥ }
         ensures unread { IsErrOf result ReadFault.Read → ⊥ }

@@ -11,8 +11,9 @@ use msr_input::RowReader;
 use msr_report::Counts;
 use std::alloc::Global;
 
-/// Reads all records of the source, and writes a line for each segment of their rows and a last line with the counts
-/// of the records. Of the options it takes the tolerance alone. It holds no samples but those of the record at hand.
+/// Reads all records of the source, and writes a line for each segment of their rows and a last line with the
+/// counts of the records. Of the options it takes the tolerance alone. It holds no samples but those of the
+/// record at hand.
 pub fn list_segments<R: Source, W: Sink>(
     alloc: Global,
     source: &mut R,

@@ -12,8 +12,8 @@ use msr_segments::Step;
 use std::alloc::{AllocError, Global};
 use std::marker::Model;
 
-/// Writes a line for each segment of the rows that it takes, and one for the counts. It holds no samples. All calls
-/// take the same sink.
+/// Writes a line for each segment of the rows that it takes, and one for the counts. It holds no samples.
+/// All calls take the same sink.
 #[derive(Drop)]
 pub struct ListWriter {
     alloc: Global,
@@ -32,7 +32,8 @@ impl Model for ListWriter {
 // Appends the line of the segment that was begun last, if one was.
 fn push_last(alloc: Global, out: &mut Vec<u8>, last: Option<OpenSegment>) -> Result<(), AllocError>
     requires { IfSome last (λ segment. IsInstant segment.start) }
-    ensures pushed { OnOk result ((line : List ℕ) × (IsLastLine last line × (out.new.items ≡ out.old.items ++ line))) }
+    ensures pushed { OnOk result ((line : List ℕ)
+        × (IsLastLine last line × (out.new.items ≡ out.old.items ++ line))) }
     ensures refused { OnErr result (out.new.items ≡ out.old.items) }
 {
     match last {
@@ -72,8 +73,10 @@ impl ListWriter {
             → HasListed start (W.device sink.old) self.old.waiting segments
             → self.old.last ≡ option_map open_of current
             → MatchResult result
-            (λ _. HasListed start (W.device sink.new) self.new.waiting (segments ++ option_to_list (ended_by next.now.step current)))
-            (StopsListing start (W.device sink.new) (segments ++ option_to_list (ended_by next.now.step current))) }
+            (λ _. HasListed start (W.device sink.new) self.new.waiting
+            (segments ++ option_to_list (ended_by next.now.step current)))
+            (StopsListing start (W.device sink.new)
+            (segments ++ option_to_list (ended_by next.now.step current))) }
         ensures last { OnOk result (self.new.last ≡ open_after next.now.step self.old.last next.now.row) }
         ensures few_wait { OnOk result (length self.new.waiting < 65536) }
         ensures few { CountsFew (W.device sink.old) (W.device sink.new) }
