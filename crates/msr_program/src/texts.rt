@@ -102,13 +102,13 @@ REPORTS. Folders are made where a file needs them. Prints one line for each entr
 soon as it is done:
 
 done PATH read N written M            repacked, from N records to M
+same PATH read N written M            done by an earlier walk, with --resume
 skipped PATH: not an SDS path         left alone, as also where it says
                                       `not waveform data` or `bad day`
-same PATH read N written M            done by an earlier walk, with --resume
-notshown PATH                         not kept, with --check
 refused PATH: TEXT                    a fault, as repack tells it, or `cannot open`
 refused PATH: listing                 a folder that cannot be listed, or has a name that
                                       is not UTF-8: nothing in it is handled
+notshown PATH                         its report did not show it, with --check: not kept
 
 and at the end, of the files that are done, one line for each channel, and the counts:
 
