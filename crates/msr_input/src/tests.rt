@@ -1,5 +1,5 @@
 //! What readers do, which no clause says: printed faults, sources that play, and each call once.
-use crate::{Fault, ReadFault, RowReader, SegmentReader};
+use crate::{Fault, NextRow, ReadFault, RowReader, SegmentReader};
 use msr_devices::{Behavior, FillFault, TestSource};
 use msr_header::HeaderFault;
 use msr_record::FaultKind;
@@ -169,7 +169,15 @@ fn segments_end_at_a_gap(rt: HostRuntime) {
     assert_eq!(rt; segments_of(&rt, rt.alloc(), &bytes, WHOLE), want);
 }
 
-// Each row with what it does; a record without one is passed.
+// What the next row does, and how many samples it has, where there is one.
+fn told(rt: &impl Abort, next: Result<Option<NextRow>, ReadFault>) -> Option<(Step, usize)> {
+    match next {
+        Ok(Some(next)) => Some((next.step, next.row.samples.len())),
+        Ok(None) => None,
+        Err(fault) => panic!(rt; "{fault}"),
+    }
+}
+
 #[test]
 fn rows_begin_and_join(rt: HostRuntime) {
     let bytes = three(
@@ -177,33 +185,17 @@ fn rows_begin_and_join(rt: HostRuntime) {
         &record(&rt, NEXT),
         &record(&rt, MISMATCHED),
     );
-    let empty = three(&record(&rt, EMPTY), &record(&rt, &[]), &record(&rt, LATER));
-    let rows: [(&[u8], &[(Step, usize)], u64); 2] = [
-        (
-            &bytes,
-            &[(Step::Begins, 48), (Step::Joins, 48), (Step::Begins, 1)],
-            0,
-        ),
-        (&empty, &[(Step::Begins, 48), (Step::Begins, 48)], 1),
-    ];
-    for (bytes, wants, empty) in rows {
-        let mut source = TestSource::new(bytes, WHOLE);
-        let mut reader = RowReader::new(rt.alloc(), 10_000);
-        for want in wants {
-            match reader.next_row(&mut source) {
-                Ok(Some(next)) => assert_eq!(rt; (next.step, next.row.samples.len()), *want),
-                _ => panic!(rt; "no row"),
-            }
-        }
-        assert_eq!(rt;
-            reader
-                .next_row(&mut source)
-                .is_ok_and(|next| next.is_none()),
-            true
-        );
-        assert_eq!(rt; reader.counts().read, 3);
-        assert_eq!(rt; reader.counts().empty, empty);
-    }
+    let mut source = TestSource::new(&bytes, WHOLE);
+    let mut reader = RowReader::new(rt.alloc(), 10_000);
+    let first = told(&rt, reader.next_row(&mut source));
+    let second = told(&rt, reader.next_row(&mut source));
+    let third = told(&rt, reader.next_row(&mut source));
+    let end = told(&rt, reader.next_row(&mut source));
+    assert_eq!(rt; first, Some((Step::Begins, 48)));
+    assert_eq!(rt; second, Some((Step::Joins, 48)));
+    assert_eq!(rt; third, Some((Step::Begins, 1)));
+    assert_eq!(rt; end, None);
+    assert_eq!(rt; reader.counts().read, 3);
 }
 
 #[test]
