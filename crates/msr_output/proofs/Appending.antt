@@ -51,7 +51,7 @@ appends-more size first number segment runs run old mid new so_far one =
       after = rw cuts (ap next_number so_far.after ∙ sym (number_after-append first (cuts_at segment runs) (cut ∷ [])));
     }
 
-cuts-more : (packed : List Packed) (one : Packed) → flat_map cuts_of (packed ++ one ∷ []) ≡ flat_map cuts_of packed ++ cuts_of one
+pub cuts-more : (packed : List Packed) (one : Packed) → flat_map cuts_of (packed ++ one ∷ []) ≡ flat_map cuts_of packed ++ cuts_of one
 cuts-more packed one = flat_map-append cuts_of packed (one ∷ []) ∙ ap (λ (l : List Cut). flat_map cuts_of packed ++ l) (append-nil (cuts_of one))
 
 -- one more segment's records

@@ -5,3 +5,5 @@ pub mod Progress
 pub mod Sizes
 pub mod Once
 pub mod Cutting
+pub mod Existing
+pub mod Begun

@@ -13,7 +13,7 @@ use Rattle.msr_output.specs.Writing.{Writing, AppendsRecords, HasWritten, HasWri
 use Rattle.msr_output.specs.declared.fault.WriteFault.TheVariants.{Write, Memory}
 use Rattle.msr_output.proofs.Appending.{written-more, number-more}
 
-all-one : {X : Type 0} (P : X → Type 0) (x : X) → P x → All P (x ∷ [])
+pub all-one : {X : Type 0} (P : X → Type 0) (x : X) → P x → All P (x ∷ [])
 all-one {X} P x p k d h = let e : k ≡ 0 = omega arith in subst (λ (m : ℕ). P (get_or (x ∷ []) m d)) (sym e) p
 
 -- before the first record
@@ -40,14 +40,14 @@ more-output start old w packed rows one filled next h is_packed a = record {
 }
 
 -- its bytes went through the sink or wait
-more-whole : (old now : Device) (bytes taken waiting more filled left : List ℕ) → bytes ≡ taken ++ waiting → filled ≡ waiting ++ more → (p : Passes old now filled [] left) → bytes ++ more ≡ (taken ++ p.taken) ++ left
+pub more-whole : (old now : Device) (bytes taken waiting more filled left : List ℕ) → bytes ≡ taken ++ waiting → filled ≡ waiting ++ more → (p : Passes old now filled [] left) → bytes ++ more ≡ (taken ++ p.taken) ++ left
 more-whole old now bytes taken waiting more filled left whole joined p =
     ap (λ (l : List ℕ). l ++ more) whole
     ∙ append_assoc taken waiting more
     ∙ ap (λ (l : List ℕ). taken ++ l) (sym joined ∙ sym (append-nil filled) ∙ p.whole)
     ∙ sym (append_assoc taken p.taken left)
 
-short-sum : (old now limit x y : ℕ) → now ≡ old + y → (0 < x → old < limit) → (0 < y → now < limit) → 0 < x + y → now < limit
+pub short-sum : (old now limit x y : ℕ) → now ≡ old + y → (0 < x → old < limit) → (0 < y → now < limit) → 0 < x + y → now < limit
 short-sum old now limit x y sum first second some = grind arith
 
 -- after one more segment

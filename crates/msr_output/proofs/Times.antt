@@ -9,7 +9,7 @@ use Rattle.msr_time.proofs.RateLemmas.{scaled, nominal_is, quotient_bounds}
 use borrow.Author.Differences.{up, down}
 
 -- the parts of a rounded instant, over naturals: times the denominator
-rounded_parts : (rate : SampleRate) (t0 : ℤ) (n : ℕ) (r : ℤ) → IsRoundedNominal rate t0 n r → (let den = (period_of rate).1 in let span = n * (period_of rate).0 in (2 * (up r * den) + 2 * (down t0 * den) ≤ 2 * (down r * den) + 2 * (up t0 * den) + 2 * span + den) × (2 * (up t0 * den) + 2 * span + 2 * (down r * den) < 2 * (up r * den) + den + 2 * (down t0 * den)))
+pub rounded_parts : (rate : SampleRate) (t0 : ℤ) (n : ℕ) (r : ℤ) → IsRoundedNominal rate t0 n r → (let den = (period_of rate).1 in let span = n * (period_of rate).0 in (2 * (up r * den) + 2 * (down t0 * den) ≤ 2 * (down r * den) + 2 * (up t0 * den) + 2 * span + den) × (2 * (up t0 * den) + 2 * span + 2 * (down r * den) < 2 * (up r * den) + den + 2 * (down t0 * den)))
 rounded_parts rate t0 n r h =
     let den = (period_of rate).1 in
     let base = scaled t0 (up t0) (down t0) den (omega arith) in

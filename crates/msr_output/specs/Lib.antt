@@ -1,2 +1,3 @@
+pub mod Opened
 pub mod Output
 pub mod Writing

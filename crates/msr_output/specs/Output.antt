@@ -1,14 +1,16 @@
 -- The output: the written records of segments, one after another (SEED Reference Manual 2.4, data record). Each
 -- segment is cut into the runs of its one canonical packing; each run is a record.
-use Rattle.std.specs.Prelude.{◌≡◌, ℕ, zero, suc, ◌+◌, ◌*◌, ◌≤◌, ◌==◌, if◌then◌else◌, ℤ, List, [], ◌∷◌, ◌++◌, length, All, map, slice_range, slice_get, Option, Some, None, true}
+use Rattle.std.specs.Prelude.{◌≡◌, ℕ, zero, suc, ◌+◌, ◌*◌, ◌≤◌, ◌==◌, if◌then◌else◌, ℤ, List, [], ◌∷◌, ◌++◌, length, All, map, slice_range, slice_get, Option, Some, None, true, FitsSigned}
+use Rattle.std.specs.Int.{w32}
 use Rattle.std.specs.List.{flat_map}
 use Rattle.msr_time.specs.SampleRate.{IsRoundedNominal}
 use Rattle.msr_words.specs.Packing.{IsPacking, IsLeast, IsSeparating, IsCanonical}
+use Rattle.msr_words.specs.RecordLength.{IsRecordLength}
 use Rattle.msr_words.specs.declared.kinds.Run.{Run}
 use Rattle.msr_record.specs.Records.{IsRowOf, IsRecordOf, RowIsInTime}
-use Rattle.msr_record.specs.Written.{IsWritten}
+use Rattle.msr_record.specs.Written.{IsWritten, IsWritableKey}
 use Rattle.msr_record.specs.declared.row.Row.{Row}
-use Rattle.msr_segments.specs.Segments.{AreSegments}
+use Rattle.msr_segments.specs.Segments.{AreSegments, SegmentIsInTime}
 use Rattle.msr_segments.specs.declared.joiner.Segment.{Segment}
 
 -- a segment, the runs that it is cut into, and the samples that show that fewer do not suffice
@@ -128,3 +130,35 @@ abbrev pub OutputHasSize : Type 0
 OutputHasSize =
     (size : ℕ) (packed : List Packed) (rows : List Row) (bytes : List ℕ) → IsOutput size packed rows bytes
     → length bytes ≡ size * count_of_runs packed
+
+-- a segment that can be written: a key that can, samples of 32 bits, and times of the supported years
+pub record IsWritableSegment (segment : Segment) : Type 0 where
+  pub key : IsWritableKey segment.key
+  pub samples : All (FitsSigned w32) segment.samples
+  pub in_time : SegmentIsInTime segment
+
+-- segments that can be written have an output in records of each length
+abbrev pub SegmentsHaveOutput : Type 0
+SegmentsHaveOutput =
+    (size : ℕ) (segments : List Segment) → IsRecordLength size → All IsWritableSegment segments
+    → (packed : List Packed) × (rows : List Row) × (bytes : List ℕ)
+    × (map segment_of_packed packed ≡ segments) × IsOutput size packed rows bytes
+
+-- The records of whole segments, and then of the first runs of one segment's packing, are the front of an output,
+-- whatever segments follow.
+abbrev pub FirstRecordsAreFront : Type 0
+FirstRecordsAreFront =
+    (size : ℕ) (packed : List Packed) (segment : Segment) (runs others : List Run) (separators : List ℕ)
+    (more : List Segment) (rows : List Row) (bytes : List ℕ)
+    → IsRecordLength size → All (IsPacked size) packed → IsWritableSegment segment
+    → IsCanonical size segment.samples (runs ++ others) separators
+    → AreWritten size 1 (flat_map cuts_of packed ++ cuts_at segment runs) rows bytes
+    → IsFrontOfOutput size (map segment_of_packed packed ++ segment ∷ more) bytes
+
+-- the records of runs of a segment stay the records of its runs when samples follow
+abbrev pub RecordsStay : Type 0
+RecordsStay =
+    (size number : ℕ) (segment : Segment) (more : List ℤ) (runs : List Run) (rows : List Row) (bytes : List ℕ)
+    → All (λ run. (run.start ≤ run.end) × (run.end ≤ length segment.samples)) runs
+    → AreWritten size number (cuts_at segment runs) rows bytes
+    → AreWritten size number (cuts_at (record { key = segment.key; start = segment.start; samples = segment.samples ++ more }) runs) rows bytes

@@ -1,5 +1,5 @@
 //! Laws of outputs, each the contract of a function that does nothing.
-ghost use Rattle.msr_output.specs.Output.{OneOutput, OutputKeepsSegments, OutputHasSize};
+ghost use Rattle.msr_output.specs.Output.{OneOutput, OutputKeepsSegments, OutputHasSize, SegmentsHaveOutput, FirstRecordsAreFront, RecordsStay};
 
 /// Segments have at most one output in records of one length.
 pub fn one_output()
@@ -14,4 +14,12 @@ pub fn output_keeps_segments()
 /// An output has as many bytes as its records have in all.
 pub fn output_has_size()
     ensures { OutputHasSize }
+{}
+
+/// Segments that can be written have an output, and the records of some first runs are the front of one; these stay
+/// when their segment grows.
+pub fn segments_have_output()
+    ensures whole { SegmentsHaveOutput }
+    ensures front { FirstRecordsAreFront }
+    ensures stay { RecordsStay }
 {}

@@ -3,11 +3,13 @@
 
 mod fault;
 mod laws;
+mod opened;
 mod records;
 mod writer;
 
 pub use fault::WriteFault;
-pub use laws::{one_output, output_has_size, output_keeps_segments};
+pub use laws::{one_output, output_has_size, output_keeps_segments, segments_have_output};
+pub use opened::OpenSegment;
 pub use writer::SegmentWriter;
 
 #[cfg(test)]

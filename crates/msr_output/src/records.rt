@@ -15,7 +15,7 @@ use msr_words::{Length, Run};
 use std::alloc::{AllocError, Global};
 
 /// The sequence number behind this one: from 1 to 999999, and then again from 1.
-fn number_after_this(number: u32) -> u32
+pub(crate) fn number_after_this(number: u32) -> u32
     requires { number ≤ 999_999 }
     ensures next { result ≡ next_number number }
     ensures least { 1 ≤ result }

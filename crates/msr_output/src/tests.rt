@@ -272,6 +272,42 @@ fn failing_sinks_hold_a_front(rt: HostRuntime) -> Result<(), Fail> {
     Ok(())
 }
 
+// What the sink holds of a segment whose samples are pushed at once, behind the same segment in one piece.
+#[test]
+fn a_segment_in_blocks(rt: HostRuntime) -> Result<(), Fail> {
+    let segment = zeros(&rt, rt.alloc(), 80_000)?;
+    assert!(rt; is_writable(&segment));
+    let mut sink = TestSink::accepting_nothing(Vec::new(rt.alloc()), behavior(30_000, None));
+    let mut writer = SegmentWriter::new(rt.alloc(), short_length(&rt));
+    let Ok(whole) = writer.write_segment(&mut sink, &segment) else {
+        panic!(rt; "not written")
+    };
+    let mut opened = writer.begin(segment.key, segment.start);
+    let Ok(()) = writer.push(&mut sink, &mut opened, segment.samples.as_slice()) else {
+        panic!(rt; "not pushed")
+    };
+    let Ok(line) = writer.end(&mut sink, opened) else {
+        panic!(rt; "not ended")
+    };
+    assert_eq!(rt; line.key, whole.key);
+    assert_eq!(rt;
+        (line.start, line.samples, line.records),
+        (whole.start, whole.samples, whole.records)
+    );
+    assert!(rt; line.separators == whole.separators);
+    assert_eq!(rt; writer.finish(&mut sink), Ok(()));
+    // 266 records, and the same again but for their numbers
+    assert_eq!(rt; sink.bytes().len(), 136_192);
+    for (one, other) in sink
+        .bytes()
+        .chunks(256)
+        .zip(sink.bytes().chunks(256).skip(266))
+    {
+        assert!(rt; one.get(6..) == other.get(6..));
+    }
+    Ok(())
+}
+
 #[test]
 fn texts_of_faults(rt: HostRuntime) -> Result<(), Fail> {
     for (fault, text) in [

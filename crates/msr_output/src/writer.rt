@@ -1,8 +1,10 @@
 // A writer of segments.
 use crate::fault::WriteFault;
+use crate::opened::OpenSegment;
 use crate::records::encode_runs;
 use msr_devices::{Sink, WriteBuffer};
 use msr_packer::{Packing, pack};
+use msr_record::{Key, are_32_bit};
 use msr_report::SegmentLine;
 use msr_segments::Segment;
 use msr_words::Length;
@@ -32,7 +34,7 @@ impl Model for SegmentWriter {
 }
 
 impl SegmentWriter {
-    ghost use Rattle.std.specs.Prelude.{◌≡◌, ◌≤◌, List, [], ◌∷◌, ◌++◌, length, map, MatchResult, false, IsTrue};
+    ghost use Rattle.std.specs.Prelude.{◌≡◌, ◌+◌, ◌<◌, ◌≤◌, ◌^◌, List, [], ◌∷◌, ◌++◌, length, map, MatchResult, OnOk, false, IsTrue};
     ghost use Rattle.msr_words.specs.Lengths.{bytes_of};
     ghost use Rattle.msr_header.specs.Reading.{is_quality};
     ghost use Rattle.msr_record.specs.Correction.{is_pending};
@@ -41,6 +43,11 @@ impl SegmentWriter {
     ghost use Rattle.msr_segments.specs.Segments.{SegmentIsInTime};
     ghost use Rattle.msr_output.specs.Output.{Packed, segment_of_packed};
     ghost use Rattle.msr_output.specs.Writing.{HasWritten, HasWrittenAll, WritesSegment, StopsWriting};
+    ghost use Rattle.msr_time.specs.Instant.{IsInstant};
+    ghost use Rattle.msr_packer.specs.Blocks.{HoldsFew, pushed};
+    ghost use Rattle.msr_segments.specs.Spans.{SpanIsInTime, span_of};
+    ghost use Rattle.msr_segments.specs.declared.joiner.Segment.{Segment as Whole};
+    ghost use Rattle.msr_output.specs.Opened.{CanGoOn, HasBegun, empty_segment, longer_by};
 
     /// A writer before the first record. It takes no memory yet.
     pub fn new(alloc: Global, record_length: Length) -> SegmentWriter
@@ -94,6 +101,78 @@ impl SegmentWriter {
             records: runs.len() as u64,
             separators,
         })
+    }
+
+    /// Begins a segment of that key, whose first sample has that instant. Its samples are pushed by `push`, and no other
+    /// segment is written before its `end`.
+    pub fn begin(&self, key: Key, start: i64) -> OpenSegment
+        requires quality { IsTrue (is_quality key.quality) }
+        requires normal { is_pending key.activity key.correction ≡ false }
+        requires start { IsInstant start }
+        ensures begun { (first now : Device) (packed : List Packed) (rows : List Row) → HasWritten first now self.now packed rows
+            → HasBegun first now self.now packed (empty_segment key start) result }
+        ensures can { CanGoOn false result }
+        ensures size { result.size ≡ self.now.size }
+        ensures key { result.key ≡ key }
+        ensures start { result.start ≡ start }
+        ensures count { pushed result.packer ≡ 0 }
+    {
+        OpenSegment::begin(self.alloc, self.record_length, key, start)
+    }
+
+    /// Takes more samples of the segment, and puts the records that they decide behind those that wait; then writes
+    /// these where they are 64 KiB or more.
+    pub fn push<W: Sink>(
+        &mut self,
+        sink: &mut W,
+        segment: &mut OpenSegment,
+        samples: &[i32],
+    ) -> Result<(), WriteFault>
+        requires count { CanCountCall (W.device sink.old) }
+        requires can { CanGoOn false segment.old }
+        requires size { segment.old.size ≡ self.old.size }
+        requires number { pushed segment.old.packer + length samples.now < 2 ^ 64 }
+        requires in_time { SpanIsInTime (span_of segment.old.key segment.old.start (pushed segment.old.packer + length samples.now)) }
+        ensures written { (start : Device) (packed : List Packed) (before : Whole) → HasBegun start (W.device sink.old) self.old packed before segment.old
+            → MatchResult result
+            (λ _. HasBegun start (W.device sink.new) self.new packed (longer_by before samples.now) segment.new)
+            (StopsWriting self.old.size start (W.device sink.new) (map segment_of_packed packed ++ longer_by before samples.now ∷ [])) }
+        ensures can { OnOk result (CanGoOn false segment.new) }
+        ensures size { self.new.size ≡ self.old.size }
+        ensures same { (segment.new.size ≡ segment.old.size) × (segment.new.key ≡ segment.old.key) × (segment.new.start ≡ segment.old.start) }
+        ensures few_held { OnOk result (HoldsFew segment.new.packer) }
+        ensures few_wait { OnOk result (length self.new.waiting < 65536) }
+        ensures number { OnOk result (pushed segment.new.packer ≡ pushed segment.old.packer + length samples.now) }
+        ensures few { CountsFew (W.device sink.old) (W.device sink.new) }
+    {
+        are_32_bit(samples);
+        segment.push(samples)?;
+        self.number = segment.encode_runs(self.alloc, false, self.number, &mut self.buffer.bytes)?;
+        self.buffer.flush_full(sink)?;
+        Ok(())
+    }
+
+    /// Ends the segment: puts the records that are left behind those that wait, and then writes these where they are
+    /// 64 KiB or more.
+    pub fn end<W: Sink>(
+        &mut self,
+        sink: &mut W,
+        segment: OpenSegment,
+    ) -> Result<SegmentLine, WriteFault>
+        requires count { CanCountCall (W.device sink.old) }
+        requires can { CanGoOn false segment }
+        requires size { segment.size ≡ self.old.size }
+        ensures written { (start : Device) (packed : List Packed) (all : Whole) → HasBegun start (W.device sink.old) self.old packed all segment
+            → MatchResult result
+            (WritesSegment start (W.device sink.new) self.new packed all)
+            (StopsWriting self.old.size start (W.device sink.new) (map segment_of_packed packed ++ all ∷ [])) }
+        ensures size { self.new.size ≡ self.old.size }
+        ensures few { CountsFew (W.device sink.old) (W.device sink.new) }
+    {
+        let mut segment = segment;
+        self.number = segment.encode_runs(self.alloc, true, self.number, &mut self.buffer.bytes)?;
+        self.buffer.flush_full(sink)?;
+        Ok(segment.line())
     }
 
     /// Writes all that waits.

@@ -1,0 +1,21 @@
+use Rattle.std.proofs.Common.{rules, [], FitsSigned, refl, w64, to_z-of_z}
+use Rattle.msr_output.specs.Opened.{empty_segment}
+use Rattle.msr_output.proofs.opened.OpenSegment.begin.Goals as goal
+
+pub returns-clause-begun : goal.returns-clause-begun
+returns-clause-begun c =
+    let fits : FitsSigned w64 c.args.start = search rules in
+    record { key = refl; start = to_z-of_z fits; gives = rw c.new-2.ensures.items c.new.ensures.none }
+
+pub returns-clause-can : goal.returns-clause-can
+returns-clause-can c =
+    let fits : FitsSigned w64 c.args.start = search rules in
+    let size = c.args.record_length in
+    record {
+      segment = empty_segment c.args.key c.args.start;
+      runs = [];
+      is_open = record { key = refl; start = to_z-of_z fits; gives = rw c.new-2.ensures.items c.new.ensures.none };
+      writable = record { is_key = c.has_widths.ensures; quality = c.requires.quality; normal = c.requires.normal };
+      size = record { exponent = size.exponent; power = size.power; least = size.from; most = size.to };
+      in_time = rw (to_z-of_z fits) at c.begins_in_time.ensures;
+    }

@@ -1,0 +1,234 @@
+//! A segment that is written while its samples come.
+ghost use Rattle.std.specs.Prelude.{◌≡◌, ℕ, ℤ, List, [], ◌++◌, ◌+◌, ◌<◌, ◌≤◌, ◌^◌, length, map, IfOk, IfSome, IsNone, OnOk, IsTrue, MatchResult, true, false};
+ghost use Rattle.msr_header.specs.Reading.{is_quality};
+ghost use Rattle.msr_words.specs.declared.kinds.Run.{Run};
+ghost use Rattle.msr_words.specs.Lengths.{bytes_of};
+ghost use Rattle.msr_words.specs.Packing.{IsCanonical};
+ghost use Rattle.msr_packer.specs.Blocks.{HoldsFew, left_of, pushed};
+ghost use Rattle.msr_packer.specs.Held.{Shows, pieces_of, runs_of, separators_of};
+ghost use Rattle.msr_packer.specs.declared.held.Piece.{Piece};
+ghost use Rattle.msr_record.specs.Correction.{is_pending};
+ghost use Rattle.msr_record.specs.Written.{IsKey};
+ghost use Rattle.msr_time.specs.Instant.{IsInstant};
+ghost use Rattle.msr_segments.specs.Spans.{SpanIsInTime, span_of};
+ghost use Rattle.msr_segments.specs.declared.joiner.Segment.{Segment};
+ghost use Rattle.msr_output.specs.Opened.{AppendsMore, CanEncode, CanGoOn, EncodesNext, Gives, IsOpen, empty_segment, longer_by};
+ghost use Rattle.msr_output.specs.Writing.{AppendsRecordOfRun};
+
+use crate::records::number_after_this;
+use msr_packer::{BlockPacker, Piece};
+use msr_record::{Key, encode_record};
+use msr_report::SegmentLine;
+use msr_words::{Length, Run};
+use std::alloc::{AllocError, Global};
+use std::marker::Model;
+
+/// A segment whose samples still come. It holds no more of them than its packer does.
+#[derive(Drop)]
+pub struct OpenSegment {
+    key: Key,
+    start: i64,
+    record_length: Length,
+    packer: BlockPacker,
+    /// One for each record that was encoded.
+    separators: Vec<u64>,
+}
+
+impl Model for OpenSegment {
+    ghost use Rattle.msr_output.specs.Opened.{Opened, opened_of};
+
+    ghost Value = { Opened };
+
+    ghost view = { λ s. opened_of s.key s.start s.record_length s.packer s.separators.items };
+}
+
+/// A key has fields of the widths of a header's, and a rate of which neither part is 0.
+fn has_widths(key: Key)
+    ensures { IsKey key }
+{
+    let _factor = key.rate.factor();
+    let _multiplier = key.rate.multiplier();
+    let _names = (key.network, key.station, key.location, key.channel);
+    let _correction = key.correction;
+}
+
+/// Where no sample is there yet, the times are those of the start.
+fn begins_in_time(key: &Key, start: i64)
+    requires { IsInstant start }
+    ensures { SpanIsInTime (span_of key.now start 0) }
+{
+    let _first = key.rate.nominal(start, 0);
+}
+
+/// The next piece, of samples that others may follow, or of all.
+fn next_piece(packer: &mut BlockPacker, whole: bool) -> Option<Piece>
+    ensures given { (bytes : ℕ) (samples : List ℤ) (runs : List Run) (separators : List ℕ) → Gives whole bytes samples runs separators packer.old
+        → Gives whole bytes samples (runs ++ runs_of (pieces_of result)) (separators ++ separators_of (pieces_of result)) packer.new }
+    ensures shows { (bytes : ℕ) (samples : List ℤ) (runs : List Run) (separators : List ℕ) → Gives whole bytes samples runs separators packer.old
+        → IfSome result (Shows samples packer.new.shown packer.new.before) }
+    ensures all { (bytes : ℕ) (samples : List ℤ) (runs : List Run) (separators : List ℕ) → Gives whole bytes samples runs separators packer.old
+        → whole ≡ true → IsNone result → IsCanonical bytes samples runs separators }
+    ensures fewer { IfSome result (λ _. left_of packer.new < left_of packer.old) }
+    ensures count { pushed packer.new ≡ pushed packer.old }
+    ensures few { whole ≡ false → IsNone result → HoldsFew packer.new }
+{
+    if whole {
+        packer.last_piece()
+    } else {
+        packer.next_piece()
+    }
+}
+
+/// Appends the record of the run whose samples the packer shows.
+fn encode_shown(
+    alloc: Global,
+    key: &Key,
+    start: i64,
+    record_length: Length,
+    packer: &BlockPacker,
+    run: Run,
+    number: u32,
+    out: &mut Vec<u8>,
+) -> Result<(), AllocError>
+    requires can { CanEncode (bytes_of record_length) key.now start packer.now run }
+    requires least { 1 ≤ number }
+    requires most { number ≤ 999_999 }
+    ensures { (segment : Segment) (separator : ℕ) → key.now ≡ segment.key → start ≡ segment.start → Shows segment.samples packer.now.shown packer.now.before (record { run = run; separator = separator })
+        → OnOk result (AppendsRecordOfRun (bytes_of record_length) number segment run out.old.items out.new.items) }
+{
+    let first = key.rate.nominal(start, run.start).unwrap();
+    encode_record(
+        alloc,
+        key,
+        first,
+        number,
+        packer.sample_before(),
+        packer.run_samples(),
+        run.kind,
+        record_length,
+        out,
+    )
+}
+
+impl OpenSegment {
+    /// A segment of that key and start, without a sample yet. It takes no memory yet.
+    pub(crate) fn begin(alloc: Global, record_length: Length, key: Key, start: i64) -> OpenSegment
+        requires quality { IsTrue (is_quality key.quality) }
+        requires normal { is_pending key.activity key.correction ≡ false }
+        requires start { IsInstant start }
+        ensures size { result.size ≡ bytes_of record_length }
+        ensures begun { IsOpen false (empty_segment key start) [] result }
+        ensures can { CanGoOn false result }
+        ensures key { result.key ≡ key }
+        ensures start { result.start ≡ start }
+        ensures count { pushed result.packer ≡ 0 }
+    {
+        has_widths(key);
+        begins_in_time(&key, start);
+        OpenSegment {
+            key,
+            start,
+            record_length,
+            packer: BlockPacker::new(alloc, record_length),
+            separators: Vec::new(alloc),
+        }
+    }
+
+    /// Takes more samples. Where memory is refused, none was taken.
+    pub(crate) fn push(&mut self, samples: &[i32]) -> Result<(), AllocError>
+        requires { pushed self.old.packer + length samples.now < 2 ^ 64 }
+        ensures taken { (segment : Segment) (runs : List Run) → IsOpen false segment runs self.old
+            → MatchResult result (λ _. IsOpen false (longer_by segment samples.now) runs self.new) (λ _. IsOpen false segment runs self.new) }
+        ensures size { self.new.size ≡ self.old.size }
+        ensures key { self.new.key ≡ self.old.key }
+        ensures start { self.new.start ≡ self.old.start }
+        ensures count { MatchResult result (λ _. pushed self.new.packer ≡ pushed self.old.packer + length samples.now) (λ _. pushed self.new.packer ≡ pushed self.old.packer) }
+    {
+        self.packer.push_all(samples)
+    }
+
+    /// Appends the record of the next run, where there is one, and says whether there was.
+    fn encode_next(
+        &mut self,
+        alloc: Global,
+        whole: bool,
+        number: u32,
+        out: &mut Vec<u8>,
+    ) -> Result<bool, AllocError>
+        requires can { CanGoOn whole self.old }
+        requires least { 1 ≤ number }
+        requires most { number ≤ 999_999 }
+        ensures can { OnOk result (CanGoOn whole self.new) }
+        ensures appends { (segment : Segment) (runs : List Run) → IsOpen whole segment runs self.old
+            → IfOk result (λ more. EncodesNext whole segment runs self.new number out.old.items out.new.items more) }
+        ensures fewer { IfOk result (λ more. IsTrue more → left_of self.new.packer < left_of self.old.packer) }
+        ensures size { self.new.size ≡ self.old.size }
+        ensures count { pushed self.new.packer ≡ pushed self.old.packer }
+        ensures key { self.new.key ≡ self.old.key }
+        ensures start { self.new.start ≡ self.old.start }
+        ensures few { IfOk result (λ more. whole ≡ false → more ≡ false → HoldsFew self.new.packer) }
+    {
+        let Some(piece) = next_piece(&mut self.packer, whole) else {
+            return Ok(false);
+        };
+        encode_shown(
+            alloc,
+            &self.key,
+            self.start,
+            self.record_length,
+            &self.packer,
+            piece.run,
+            number,
+            out,
+        )?;
+        self.separators.push(piece.separator)?;
+        Ok(true)
+    }
+
+    /// Appends the records of the runs that are decided, of all that are left where the segment is whole, numbered from
+    /// `first_number` on, and gives the sequence number behind theirs.
+    pub(crate) fn encode_runs(
+        &mut self,
+        alloc: Global,
+        whole: bool,
+        first_number: u32,
+        out: &mut Vec<u8>,
+    ) -> Result<u32, AllocError>
+        requires can { CanGoOn whole self.old }
+        requires least { 1 ≤ first_number }
+        requires most { first_number ≤ 999_999 }
+        ensures can { OnOk result (CanGoOn whole self.new) }
+        ensures least { IfOk result (λ next. 1 ≤ next) }
+        ensures most { IfOk result (λ next. next ≤ 999_999) }
+        ensures appends { (segment : Segment) (runs : List Run) → IsOpen whole segment runs self.old
+            → IfOk result (AppendsMore whole segment runs self.new first_number out.old.items out.new.items) }
+        ensures size { self.new.size ≡ self.old.size }
+        ensures count { pushed self.new.packer ≡ pushed self.old.packer }
+        ensures key { self.new.key ≡ self.old.key }
+        ensures start { self.new.start ≡ self.old.start }
+        ensures few { OnOk result (whole ≡ false → HoldsFew self.new.packer) }
+    {
+        let mut number = first_number;
+        while self.encode_next(alloc, whole, number, out)? {
+            number = number_after_this(number);
+        }
+        Ok(number)
+    }
+
+    /// The line of the segment, whose runs were all given.
+    pub(crate) fn line(self) -> SegmentLine
+        ensures key { result.key ≡ self.key }
+        ensures start { result.start ≡ self.start }
+        ensures samples { result.samples ≡ pushed self.packer }
+        ensures records { result.records ≡ length self.separators }
+        ensures separators { result.separators.items ≡ self.separators }
+    {
+        SegmentLine {
+            key: self.key,
+            start: self.start,
+            samples: self.packer.pushed(),
+            records: self.separators.len() as u64,
+            separators: self.separators,
+        }
+    }
+}
