@@ -1,6 +1,6 @@
 -- A writer in the middle of a segment.
-use Rattle.std.proofs.Common.{◌≡◌, ℕ, zero, suc, ◌+◌, ◌-◌, ◌<◌, ◌≤◌, ◌^◌, Bool, true, false, ℤ, List, [], ◌∷◌, ◌++◌, ◌∙◌, length, map, take, drop, arith, refl, sym, ap, subst, append_assoc, append-nil, length-append, length-take, length-drop, FitsSigned, Result, Ok, Err, MatchResult}
-use Rattle.std.specs.Prelude.{All, slice_range}
+use Rattle.std.proofs.Common.{◌≡◌, ℕ, zero, suc, ◌+◌, ◌-◌, ◌<◌, ◌≤◌, ◌^◌, Bool, true, false, ℤ, List, [], ◌∷◌, ◌++◌, ◌∙◌, length, map, drop, arith, refl, sym, ap, subst, append_assoc, append-nil, length-append, length-take, length-drop, FitsSigned, Result, Ok, Err, MatchResult}
+use Rattle.std.specs.Prelude.{All}
 use Rattle.std.specs.Int.{w32}
 use Rattle.std.specs.List.{flat_map}
 use Rattle.std.proofs.lemmas.List.{map-append}

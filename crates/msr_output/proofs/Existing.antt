@@ -1,27 +1,24 @@
 -- Segments have an output, and the records of some first runs are the front of one.
-use Rattle.std.proofs.Common.{◌≡◌, ℕ, zero, suc, ◌+◌, ◌-◌, ◌*◌, ◌/◌, ◌^◌, ◌<◌, ◌≤◌, List, [], ◌∷◌, ◌++◌, ◌∙◌, length, map, take, drop, arith, refl, sym, ap, subst, append_assoc, append-nil, length-take, length-drop, Option, Some, None, ℤ, pos, ◌+ℤ◌, FitsSigned, IsTrue}
+use Rattle.std.proofs.Common.{◌≡◌, ℕ, zero, suc, ◌+◌, ◌-◌, ◌*◌, ◌/◌, ◌^◌, ◌<◌, ◌≤◌, List, [], ◌∷◌, ◌++◌, ◌∙◌, length, map, take, drop, arith, refl, sym, ap, subst, append_assoc, length-take, length-drop, ℤ, pos, ◌+ℤ◌, FitsSigned}
 use Rattle.std.specs.Prelude.{All, slice_range, slice_get}
 use Rattle.std.specs.Int.{w32}
 use Rattle.std.specs.List.{flat_map}
 use Rattle.std.proofs.Math.Pow.{pow_mono}
 use Rattle.std.proofs.lemmas.List.{map-append, take-append-le, drop-append-le}
 use Rattle.std.proofs.lemmas.List.Elements.{All-nil, All-cons, All-append, All-take, All-drop}
-use Rattle.std.proofs.lemmas.Grind.{flat_map-append}
 use Rattle.msr_time.specs.SampleRate.{SampleRate, period_of, IsRoundedNominal}
 use Rattle.msr_time.proofs.RateLemmas.{nominal_is, quotient_bounds}
 use Rattle.msr_words.specs.declared.kinds.Run.{Run}
-use Rattle.msr_words.specs.Fit.{Fits, IsRun}
+use Rattle.msr_words.specs.Fit.{Fits}
 use Rattle.msr_words.specs.Packing.{IsCanonical}
 use Rattle.msr_words.specs.RecordLength.{IsRecordLength}
 use Rattle.msr_words.specs.Segment.{points}
 use Rattle.msr_packer.proofs.Exist.{has_packing}
 use Rattle.msr_packer.proofs.Least.{found}
 use Rattle.msr_record.specs.declared.row.Row.{Row}
-use Rattle.msr_record.specs.Written.{IsWritableKey}
 use Rattle.msr_record.proofs.Existing.{has_record}
 use Rattle.msr_segments.specs.declared.joiner.Segment.{Segment}
 use Rattle.msr_output.specs.Output.{Packed, IsPacked, Cut, IsRecordOfRun, IsWritableSegment, AreWritten, IsOutput, IsFrontOfOutput, next_number, number_after, sample_before, cuts_at, cuts_of, segment_of_packed}
-use Rattle.msr_output.specs.Writing.{AppendsRecordOfRun}
 use Rattle.msr_output.proofs.Appending.{written-append, cuts-more}
 use Rattle.msr_output.proofs.Cutting.{IsFitting}
 use Rattle.msr_output.proofs.Once.{all-first, all-rest}

@@ -1,4 +1,4 @@
-use Rattle.std.proofs.Common.{rules, ◌≤◌, ◌-◌, ◌≡◌, arith, FitsSigned, w64, to_z-of_z, OnOk, ap, ◌∙◌}
+use Rattle.std.proofs.Common.{rules, ◌≤◌, ◌-◌, arith, FitsSigned, w64, to_z-of_z, OnOk, ◌∙◌}
 use Rattle.std.specs.Prelude.{slice_range}
 use Rattle.msr_record.specs.Written.{AppendsRecord}
 use Rattle.msr_output.specs.Output.{sample_before}

@@ -1,4 +1,3 @@
-use Rattle.std.proofs.Common.{refl}
 use Rattle.msr_words.specs.Lengths.{bytes_of}
 use Rattle.msr_output.proofs.Begun.{match_as}
 use Rattle.msr_output.proofs.opened.OpenSegment.push.Goals as goal
