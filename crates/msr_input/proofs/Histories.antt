@@ -180,7 +180,7 @@ all-last {X} P (y ∷ xs) x all = all-last P xs x (λ k d h. all (suc k) d (omeg
 all-one : {X : Type 0} (P : X → Type 0) (x : X) → P x → All P (x ∷ [])
 all-one {X} P x p k d h = let e : k ≡ 0 = omega (arith, h) in subst (λ (m : ℕ). P (get_or (x ∷ []) m d)) (sym e) p
 
-push-writable : (old new : Joining) (given : List Segment) (row : Row) (ended : Option Segment) → All IsWritable (given ++ option_to_list old.current) → IsWritable (row_segment row) → IsPush old row ended new → All IsWritable ((given ++ option_to_list ended) ++ option_to_list new.current)
+pub push-writable : (old new : Joining) (given : List Segment) (row : Row) (ended : Option Segment) → All IsWritable (given ++ option_to_list old.current) → IsWritable (row_segment row) → IsPush old row ended new → All IsWritable ((given ++ option_to_list ended) ++ option_to_list new.current)
 push-writable old new given row ended all writable (inl k) =
     let before = subst (λ (current : Option Segment). All IsWritable (given ++ option_to_list current)) k.current all in
     let first = all-last IsWritable given k.segment before in

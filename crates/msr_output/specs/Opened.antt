@@ -11,7 +11,7 @@ use Rattle.msr_words.specs.Lengths.{bytes_of}
 use Rattle.msr_words.specs.Packing.{IsCanonical}
 use Rattle.msr_words.specs.RecordLength.{IsRecordLength}
 use Rattle.msr_words.specs.Segment.{points}
-use Rattle.msr_packer.specs.Blocks.{Holding, Packs, PacksLast}
+use Rattle.msr_packer.specs.Blocks.{Holding, Packs, PacksLast, pushed}
 use Rattle.msr_record.specs.Correction.{is_pending}
 use Rattle.msr_record.specs.Written.{IsWritableKey}
 use Rattle.msr_record.specs.declared.row.Key.{Key}
@@ -39,6 +39,10 @@ opened_of key start record_length packer separators = record {
   packer = packer;
   separators = separators;
 }
+
+-- how many samples it has so far
+abbrev pub count_of : Opened → ℕ
+count_of opened = pushed opened.packer
 
 -- a segment that begins, without a sample yet
 abbrev pub empty_segment : Key → ℤ → Segment

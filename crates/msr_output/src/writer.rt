@@ -39,7 +39,7 @@ impl SegmentWriter {
     ghost use Rattle.msr_header.specs.Reading.{is_quality};
     ghost use Rattle.msr_record.specs.Correction.{is_pending};
     ghost use Rattle.msr_record.specs.declared.row.Row.{Row};
-    ghost use Rattle.msr_devices.specs.Device.{Device, CanCountCall, CountsFew};
+    ghost use Rattle.msr_devices.specs.Device.{Device, CanCountCall, CountsFew, IsCalm};
     ghost use Rattle.msr_segments.specs.Segments.{SegmentIsInTime};
     ghost use Rattle.msr_output.specs.Output.{Packed, segment_of_packed};
     ghost use Rattle.msr_output.specs.Writing.{HasWritten, HasWrittenAll, WritesSegment, StopsWriting};
@@ -167,6 +167,7 @@ impl SegmentWriter {
             (WritesSegment start (W.device sink.new) self.new packed all)
             (StopsWriting self.old.size start (W.device sink.new) (map segment_of_packed packed ++ all ∷ [])) }
         ensures size { self.new.size ≡ self.old.size }
+        ensures calm { OnOk result (IsCalm (W.device sink.old) (W.device sink.new)) }
         ensures few { CountsFew (W.device sink.old) (W.device sink.new) }
     {
         let mut segment = segment;

@@ -1,5 +1,6 @@
 pub mod Lines
 pub mod Stops
+pub mod RowsSoFar
 pub mod UnderWay
 pub mod Listed
 pub mod UnderList

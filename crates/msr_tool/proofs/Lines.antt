@@ -1,22 +1,33 @@
 -- Segments written one behind another, and their lines.
-use Rattle.std.proofs.Common.{◌≡◌, ℕ, List, [], ◌∷◌, ◌++◌, ◌∙◌, map, refl, sym, ap, arith, append_assoc, All}
+use Rattle.std.proofs.Common.{◌≡◌, ◌≤◌, ℕ, false, List, [], ◌∷◌, ◌++◌, ◌∙◌, map, length, refl, sym, ap, subst, arith, append_assoc, All, Option, Some, None, IfSome, Result, Ok, Err, MatchResult, ◌+◌}
+use Rattle.std.specs.Prelude.{option_map}
+use Rattle.std.specs.Option.{option_to_list}
 use Rattle.std.proofs.lemmas.List.{map-append, append-nil}
 use Rattle.msr_record.specs.declared.row.Row.{Row}
 use Rattle.msr_segments.specs.declared.joiner.Segment.{Segment}
-use Rattle.msr_devices.specs.Device.{Device}
+use Rattle.msr_segments.specs.declared.follow.Step.{Step}
+use Rattle.msr_segments.specs.declared.follow.Step.TheVariants.{Begins, Joins}
+use Rattle.msr_segments.specs.declared.span.Span.{Span}
+use Rattle.msr_segments.specs.Spans.{Following, IsInBounds, IsStep, SpanIsInTime, longer}
+use Rattle.msr_segments.specs.Segments.{row_segment, row_span, segment_span}
+use Rattle.msr_devices.specs.Device.{Device, IsCalm}
 use Rattle.msr_report.specs.declared.report.SegmentLine.{SegmentLine}
 use Rattle.msr_report.specs.Proper.{IsProperLine, records_of}
 use Rattle.msr_input.specs.Reading.{IsWritable}
 use Rattle.msr_certificate.specs.Form.{IsFormLine, form_line}
 use Rattle.msr_certificate.proofs.Going.{all_more}
+use Rattle.msr_output.specs.Opened.{Opened, CanGoOn, HasBegun, count_of}
 use Rattle.msr_output.specs.Output.{Packed, segment_of_packed, count_of_runs}
 use Rattle.msr_output.specs.Writing.{Writing, IsLineOf, HasWritten, HasWrittenFront, WritesSegment, StopsWriting}
 use Rattle.msr_output.specs.declared.fault.WriteFault.{WriteFault}
 use Rattle.msr_output.specs.declared.fault.WriteFault.TheVariants as write
 use Rattle.msr_tool.specs.Fault.{fault_of_writing}
-use Rattle.msr_tool.specs.Writing.{Lined, HasLined, LinesMore, StopsLining}
+use Rattle.msr_output.proofs.Begun.{packs_count, refused_now, writable_now}
+use Rattle.msr_tool.specs.Writing.{Lined, HasLined, LinesMore, StandsWritten, GoesOn, CanGrow, CanTake, StopsLining, current_after, ended_by, segments_with}
 use Rattle.msr_tool.specs.Answer.{AreLinesOf}
+use Rattle.msr_tool.specs.declared.fault.ToolFault.{ToolFault}
 use Rattle.msr_tool.specs.declared.fault.ToolFault.TheVariants.{Memory}
+use Rattle.msr_tool.specs.declared.fault.ToolFault.TheVariants as fault
 
 pub lines-snoc : (packed : List Packed) (lines : List SegmentLine) (more : Packed) (line : SegmentLine) → AreLinesOf packed lines → IsLineOf more line → AreLinesOf (packed ++ more ∷ []) (lines ++ line ∷ [])
 lines-snoc [] lines more line are is = rw are (is, refl)
@@ -73,28 +84,152 @@ stops-pushing start now writing packed segment line size same_size h = (
   h.written.calm.steady,
 )
 
--- what reading says of a segment is so of its line
-pub line-proper : (start now : Device) (writing : Writing) (packed : List Packed) (segment : Segment) (line : SegmentLine) → WritesSegment start now writing packed segment line → IsWritable segment → IsProperLine line
-line-proper start now writing packed segment line h writable =
-    let key : line.key ≡ segment.key = h.is_line.key ∙ ap (λ (s : Segment). s.key) h.same in
-    let at : line.start ≡ segment.start = h.is_line.start ∙ ap (λ (s : Segment). s.start) h.same in
-    record { quality = rw key writable.quality; start = rw at writable.in_time.first_in }
+-- what is so of a segment that goes on is so of its line
+pub line-proper : (start now : Device) (writing : Writing) (packed : List Packed) (segment : Segment) (line : SegmentLine) (opened : Opened) → WritesSegment start now writing packed segment line → CanGoOn false opened → opened.key ≡ segment.key → opened.start ≡ segment.start → IsProperLine line
+line-proper start now writing packed segment line opened h can same_key same_start =
+    let key : line.key ≡ opened.key = h.is_line.key ∙ ap (λ (s : Segment). s.key) h.same ∙ sym same_key in
+    let at : line.start ≡ can.segment.start = h.is_line.start ∙ ap (λ (s : Segment). s.start) h.same ∙ sym same_start ∙ can.is_open.start in
+    record { quality = rw key can.writable.quality; start = rw at can.in_time.first_in }
 
 forms-snoc : (lines : List SegmentLine) (line : SegmentLine) → All IsFormLine (map form_line lines) → IsFormLine (form_line line) → All IsFormLine (map form_line (lines ++ line ∷ []))
 forms-snoc lines line forms is = rw (map-append form_line lines (line ∷ [])) (all_more (map form_line lines) (form_line line) forms is)
 
+-- ---- a segment ends
+
 pub lines-more : (start now : Device) (writing : Writing) (old new : List SegmentLine) (packed : List Packed) (segment : Segment) (line : SegmentLine) → AreLinesOf packed old → All IsFormLine (map form_line old)
-    → WritesSegment start now writing packed segment line → IsFormLine (form_line line) → new ≡ old ++ line ∷ [] → LinesMore start now (record { writing = writing; lines = new }) packed (segment ∷ [])
+    → WritesSegment start now writing packed segment line → IsFormLine (form_line line) → new ≡ old ++ line ∷ [] → LinesMore start now (record { writing = writing; lines = new; last = None }) packed (segment ∷ []) None
 lines-more start now writing old new packed segment line are forms h is_form pushed = record {
   all = packed ++ h.more ∷ [];
   same = same-more packed h.more segment h.same;
   after = record {
-    rows = h.rows;
-    written = h.written;
+    written = (h.rows, h.written);
     are_lines = rw pushed (lines-snoc packed old h.more line are h.is_line);
     forms = rw pushed (forms-snoc old line forms is_form);
   };
 }
 
-pub no-more : (start now : Device) (lined : Lined) (packed : List Packed) → HasLined start now lined packed → LinesMore start now lined packed []
-no-more start now lined packed h = record { all = packed; same = sym (append-nil (map segment_of_packed packed)); after = h }
+-- the segment that was begun last
+pub record Last (start now : Device) (writing : Writing) (packed : List Packed) (current : Option Segment) (opened : Opened) : Type 0 where
+  pub segment : Segment
+  pub is : current ≡ Some segment
+  pub begun : HasBegun start now writing packed segment opened
+
+pub last-begun : (start now : Device) (writing : Writing) (packed : List Packed) (current : Option Segment) (opened : Opened) → StandsWritten start now writing packed current (Some opened) → Last start now writing packed current opened
+last-begun start now writing packed None opened h = absurd h
+last-begun start now writing packed (Some segment) opened h = record { segment = segment; is = refl; begun = h }
+
+pub none-begun : (start now : Device) (writing : Writing) (packed : List Packed) (current : Option Segment) → StandsWritten start now writing packed current None → current ≡ None
+none-begun start now writing packed None h = refl
+none-begun start now writing packed (Some segment) h = absurd h
+
+pub no-more : (start now : Device) (lined : Lined) (packed : List Packed) (current : Option Segment) → lined.last ≡ None → HasLined start now lined packed current → LinesMore start now lined packed (option_to_list current) None
+no-more start now lined packed current none h =
+    let is : current ≡ None = none-begun start now lined.writing packed current (subst (λ (last : Option Opened). StandsWritten start now lined.writing packed current last) none h.written) in
+    record {
+      all = packed;
+      same = rw (is, append-nil (map segment_of_packed packed)) refl;
+      after = subst (λ (c : Option Segment). HasLined start now lined packed c) is h;
+    }
+
+-- no row was taken for the segments that ended
+pub none-ended : (start now : Device) (lined : Lined) (packed : List Packed) (current : Option Segment) → HasLined start now lined packed current → LinesMore start now lined packed [] current
+none-ended start now lined packed current h = record { all = packed; same = sym (append-nil (map segment_of_packed packed)); after = h }
+
+pub last-of : (start now : Device) (lined : Lined) (packed : List Packed) (current : Option Segment) (opened : Opened) → lined.last ≡ Some opened → HasLined start now lined packed current → Last start now lined.writing packed current opened
+last-of start now lined packed current opened is h =
+    last-begun start now lined.writing packed current opened (subst (λ (last : Option Opened). StandsWritten start now lined.writing packed current last) is h.written)
+
+pub stops-at_last : (size : ℕ) (start now : Device) (packed : List Packed) (current : Option Segment) (segment : Segment) (fault : ToolFault) → current ≡ Some segment → StopsLining size start now (map segment_of_packed packed ++ segment ∷ []) fault → StopsLining size start now (map segment_of_packed packed ++ option_to_list current) fault
+stops-at_last size start now packed current segment fault is h = rw is h
+
+pub more-at_last : (start now : Device) (lined : Lined) (packed : List Packed) (current : Option Segment) (segment : Segment) → current ≡ Some segment → LinesMore start now lined packed (segment ∷ []) None → LinesMore start now lined packed (option_to_list current) None
+more-at_last start now lined packed current segment is h = rw is h
+
+-- ---- a segment begins
+
+pub lined-none : (start now : Device) (lined : Lined) (packed : List Packed) → lined.last ≡ None → HasLined start now lined packed None → (rows : List Row) × HasWritten start now lined.writing packed rows
+lined-none start now lined packed none h = subst (λ (last : Option Opened). StandsWritten start now lined.writing packed None last) none h.written
+
+pub lined-begun : (start now : Device) (old : Lined) (packed : List Packed) (opened : Opened) (segment : Segment) → old.last ≡ None → ((rows : List Row) → HasWritten start now old.writing packed rows → HasBegun start now old.writing packed segment opened) → HasLined start now old packed None
+    → HasLined start now (record { writing = old.writing; lines = old.lines; last = Some opened }) packed (Some segment)
+lined-begun start now old packed opened segment none begins h =
+    let wrote = lined-none start now old packed none h in
+    record { written = begins wrote.0 wrote.1; are_lines = h.are_lines; forms = h.forms }
+
+pub grows-new : (opened : Opened) (row : Row) → count_of opened ≡ 0 → opened.key ≡ row.key → opened.start ≡ row.start → IsWritable (row_segment row) → length row.samples ≤ 65_535 → CanGrow (length row.samples) opened
+grows-new opened row none key start writable few =
+    let count : count_of opened + length row.samples ≡ length row.samples = omega (arith, none) in
+    record { number = omega (arith, none, few); in_time = rw (key, start, count) writable.in_time }
+
+-- where it stops, a front of the output of more segments was written
+pub stops-wider : (size : ℕ) (start now : Device) (segments others all : List Segment) (found : ToolFault) → all ≡ segments ++ others → StopsLining size start now segments found → StopsLining size start now all found
+stops-wider size start now segments others all (fault.Input other) same h = absurd h
+stops-wider size start now segments others all (fault.Report line) same h = absurd h
+stops-wider size start now segments others all fault.Read same h = absurd h
+stops-wider size start now segments others all fault.Write same h = (front-more size start now segments others all h.0 same, h.1)
+stops-wider size start now segments others all fault.Memory same h = (front-more size start now segments others all h.0 same, h.1)
+
+-- the last segment does not end
+pub stops-ending : (size : ℕ) (start now : Device) (packed : List Packed) (current : Option Segment) (row : Row) (found : ToolFault) → StopsLining size start now (map segment_of_packed packed ++ option_to_list current) found
+    → StopsLining size start now (map segment_of_packed packed ++ segments_with Begins current row) found
+stops-ending size start now packed current row found h =
+    stops-wider size start now (map segment_of_packed packed ++ option_to_list current) (row_segment row ∷ []) (map segment_of_packed packed ++ segments_with Begins current row) found
+    (sym (append_assoc (map segment_of_packed packed) (option_to_list current) (row_segment row ∷ []))) h
+
+-- the samples of a row that begins a segment follow its beginning
+pub took-first : {T : Type 0} (size other : ℕ) (start now : Device) (lined : Lined) (packed all : List Packed) (current : Option Segment) (row : Row) (result : Result T ToolFault) → other ≡ size → map segment_of_packed all ≡ map segment_of_packed packed ++ option_to_list current
+    → MatchResult result (λ _. HasLined start now lined all (Some (row_segment row))) (StopsLining other start now (map segment_of_packed all ++ row_segment row ∷ []))
+    → MatchResult result (λ _. LinesMore start now lined packed (option_to_list (ended_by Begins current)) (current_after Begins current row)) (StopsLining size start now (map segment_of_packed packed ++ segments_with Begins current row))
+took-first size other start now lined packed all current row (Ok done) same_size same h = record { all = all; same = same; after = h }
+took-first size other start now lined packed all current row (Err found) same_size same h =
+    let joined : map segment_of_packed all ++ row_segment row ∷ [] ≡ map segment_of_packed packed ++ segments_with Begins current row =
+        ap (λ (s : List Segment). s ++ row_segment row ∷ []) same ∙ append_assoc (map segment_of_packed packed) (option_to_list current) (row_segment row ∷ []) in
+    subst (λ (n : ℕ). StopsLining n start now (map segment_of_packed packed ++ segments_with Begins current row) found) same_size
+    (subst (λ (s : List Segment). StopsLining other start now s found) joined h)
+
+-- what waits is not written
+pub stops-finishing : (size : ℕ) (start now : Device) (w : Writing) (all packed : List Packed) (current : Option Segment) (fault : WriteFault) → w.size ≡ size → map segment_of_packed all ≡ map segment_of_packed packed ++ option_to_list current → StopsWriting w.size start now (map segment_of_packed all) fault
+    → StopsLining size start now (map segment_of_packed packed ++ option_to_list current) (fault_of_writing fault)
+stops-finishing size start now w all packed current fault same_size same h = rw (← same, ← same_size) (stops-lining w.size start now (map segment_of_packed all) fault h)
+
+-- ---- where a segment goes on
+
+front-written : (start now : Device) (w : Writing) (packed : List Packed) (current : Option Segment) (last : Option Opened) → IfSome last (GoesOn w.size) → StandsWritten start now w packed current last → HasWrittenFront w.size start now (map segment_of_packed packed ++ option_to_list current)
+front-written start now w packed None None goes h = rw (append-nil (map segment_of_packed packed)) (front-of start now w packed h.0 h.1)
+front-written start now w packed None (Some opened) goes h = absurd h
+front-written start now w packed (Some segment) None goes h = absurd h
+front-written start now w packed (Some segment) (Some opened) goes h =
+    (refused_now start now w packed segment opened (rw goes.same_size at goes.can.size) (writable_now opened goes.can segment h.runs h.is_open h.samples) h).0
+
+-- what was written so far is a front of the output of all segments, with the one that has not ended
+pub front-lined : (start now : Device) (lined : Lined) (packed : List Packed) (current : Option Segment) → IfSome lined.last (GoesOn lined.writing.size) → HasLined start now lined packed current
+    → HasWrittenFront lined.writing.size start now (map segment_of_packed packed ++ option_to_list current)
+front-lined start now lined packed current goes h = front-written start now lined.writing packed current lined.last goes h.written
+
+calm-written : (start now : Device) (w : Writing) (packed : List Packed) (current : Option Segment) (last : Option Opened) → StandsWritten start now w packed current last → IsCalm start now
+calm-written start now w packed None None h = h.1.calm
+calm-written start now w packed None (Some opened) h = absurd h
+calm-written start now w packed (Some segment) None h = absurd h
+calm-written start now w packed (Some segment) (Some opened) h = h.calm
+
+pub calm-lined : (start now : Device) (lined : Lined) (packed : List Packed) (current : Option Segment) → HasLined start now lined packed current → IsCalm start now
+calm-lined start now lined packed current h = calm-written start now lined.writing packed current lined.last h.written
+
+grows-so : (start now : Device) (w : Writing) (packed : List Packed) (current : Option Segment) (last : Option Opened) (at : Option Span) (joined : Span) (row : Row) → at ≡ option_map segment_span current → IsInBounds at → StandsWritten start now w packed current last
+    → at ≡ Some joined → SpanIsInTime (longer joined (row_span row)) → length row.samples ≤ 65_535 → IfSome last (CanGrow (length row.samples))
+grows-so start now w packed None None at joined row is bounds h some in_time few = tt
+grows-so start now w packed None (Some opened) at joined row is bounds h some in_time few = absurd h
+grows-so start now w packed (Some segment) None at joined row is bounds h some in_time few = tt
+grows-so start now w packed (Some segment) (Some opened) at joined row is bounds h some in_time few =
+    let same : joined ≡ segment_span segment = (let both : ◌≡◌ {A = Option Span} (Some joined) (Some (segment_span segment)) = sym some ∙ is in cc) in
+    let count : count_of opened ≡ length segment.samples = packs_count opened.size segment.samples h.runs opened.separators opened.packer h.is_open.gives in
+    let most = (bounds (segment_span segment) is).1 in
+    let long : SpanIsInTime (longer (segment_span segment) (row_span row)) = rw same at in_time in
+    record { number = omega (arith, count, most, few); in_time = rw (h.is_open.key, h.is_open.start, count) long }
+
+-- a row that joins is in time
+pub can-take : (start now : Device) (lined : Lined) (packed : List Packed) (current : Option Segment) (old new : Following) (row : Row) (step : Step) → HasLined start now lined packed current → old.current ≡ option_map segment_span current → IsInBounds old.current → IsStep old (row_span row) step new → length row.samples ≤ 65_535 → CanTake step lined.last row
+can-take start now lined packed current old new row Begins h is bounds k few = record { joins = λ e. absurd cc }
+can-take start now lined packed current old new row Joins h is bounds k few = record {
+  joins = λ e. grows-so start now lined.writing packed current lined.last old.current k.segment row is bounds h.written k.current k.in_time few;
+}

@@ -1,13 +1,11 @@
 -- What is answered where repacking stops.
 use Rattle.std.proofs.Common.{◌≡◌, ◌↔◌, ℕ, List, ◌++◌, refl, Result, Ok, Err, IsErrOf}
-use Rattle.std.specs.Option.{option_to_list}
-use Rattle.msr_record.specs.declared.row.Record.{Record}
 use Rattle.msr_segments.specs.declared.joiner.Segment.{Segment}
 use Rattle.msr_devices.specs.Device.{Device, HasLeft, Takes, HasFailed, IsSteady}
-use Rattle.msr_devices.proofs.Chaining.{left-of, steady-sound}
+use Rattle.msr_devices.proofs.Chaining.{steady-sound}
 use Rattle.msr_report.specs.declared.report.Counts.{Counts}
 use Rattle.msr_report.specs.declared.report.Report.{Report}
-use Rattle.msr_input.specs.Reading.{Reading, HasRead, StopsAfter, StopsReading}
+use Rattle.msr_input.specs.Reading.{StopsAfter, StopsReading}
 use Rattle.msr_input.specs.declared.fault.ReadFault.{ReadFault}
 use Rattle.msr_input.specs.declared.fault.ReadFault.TheVariants as read
 use Rattle.msr_output.specs.Writing.{HasWrittenFront}
@@ -27,22 +25,6 @@ pub record IsAnswered (choice : Choice) (source0 sink0 sink : Device) (result : 
   pub left : HasLeft source0 input
   pub takes : Takes sink0 sink written
   pub answers : Answers choice input written result
-
--- some first segments of the records that were read
-pub stops-with : (start now : Device) (reading : Reading) (records : List Record) (given first others : List Segment) → HasRead start now reading records given → given ++ option_to_list reading.joining.current ≡ first ++ others → StopsAfter reading.joining.tolerance start first
-stops-with start now reading records given first others h same =
-    let p = h.came.begins (left-of now).0 (left-of now).1 in
-    record {
-      input = p.0;
-      records = records;
-      rest = reading.waiting ++ (left-of now).0;
-      left = p.1;
-      are_read = record { begins = p.2; in_range = h.in_range };
-      begun = record { others = others; are_segments = rw (← same) h.joined.segments };
-    }
-
-pub stops-after : (start now : Device) (reading : Reading) (records : List Record) (given : List Segment) → HasRead start now reading records given → StopsAfter reading.joining.tolerance start given
-stops-after start now reading records given h = stops-with start now reading records given given (option_to_list reading.joining.current) h refl
 
 record Stopped (choice : Choice) (source0 sink0 sink : Device) : Type 0 where
   pub input : List ℕ

@@ -28,7 +28,8 @@ use Rattle.msr_input.proofs.Histories.{joined-begun, stops-after}
 use Rattle.msr_input.proofs.Rows.{all_rows_are_readable, step-tolerance}
 use Rattle.msr_tool.specs.Fault.{fault_of_reading}
 use Rattle.msr_tool.specs.Listing.{IsListStopped, ListAnswers}
-use Rattle.msr_tool.specs.ListWriting.{Lister, HasListed, HasListedAll, HasListedFront, StopsListing, StopsListingAll, IsOpenInBounds, ended_by, open_after, open_longer, open_of}
+use Rattle.msr_tool.specs.ListWriting.{Lister, HasListed, HasListedAll, HasListedFront, StopsListing, StopsListingAll, IsOpenInBounds, open_after, open_longer, open_of}
+use Rattle.msr_tool.specs.Writing.{ended_by}
 use Rattle.msr_tool.specs.declared.fault.ToolFault.{ToolFault}
 use Rattle.msr_tool.specs.declared.fault.ToolFault.TheVariants as fault
 use Rattle.msr_tool.specs.declared.open_segment.OpenSegment.{OpenSegment}

@@ -1,45 +1,48 @@
--- The state of repacking between two segments.
-use Rattle.std.proofs.Common.{◌≡◌, ℕ, zero, suc, ◌*◌, ◌^◌, ◌<◌, ◌≤◌, List, [], ◌∷◌, ◌++◌, ◌∙◌, length, map, All, refl, Ok, Option, arith}
-use Rattle.std.proofs.lemmas.List.{append-nil}
+-- The state of repacking between two rows.
+use Rattle.std.proofs.Common.{◌≡◌, ℕ, zero, suc, ◌*◌, ◌^◌, ◌<◌, ◌≤◌, List, [], ◌∷◌, ◌++◌, ◌∙◌, length, map, All, refl, sym, subst, Ok, Option, None, IfSome, arith}
 use Rattle.std.proofs.Math.Nat.{mul-le-mul_right}
 use Rattle.std.specs.Option.{option_to_list}
 use Rattle.msr_words.specs.Lengths.{bytes_of}
-use Rattle.msr_record.specs.declared.row.Record.{Record}
 use Rattle.msr_segments.specs.declared.joiner.Segment.{Segment}
-use Rattle.msr_segments.specs.Segments.{AreSegments}
-use Rattle.msr_devices.specs.Device.{Device}
+use Rattle.msr_segments.specs.Joining.{Joining}
+use Rattle.msr_devices.specs.Device.{Device, IsCalm}
+use Rattle.msr_report.specs.declared.report.Counts.{Counts}
 use Rattle.msr_report.specs.declared.report.Report.{Report}
 use Rattle.msr_report.specs.declared.report.SegmentLine.{SegmentLine}
 use Rattle.msr_report.specs.Proper.{IsProperLine}
 use Rattle.msr_certificate.specs.Form.{IsFirst}
 use Rattle.msr_input.specs.Input.{rows_of_records}
-use Rattle.msr_input.specs.Reading.{Reading, IsWritable, HasRead, HasReadAll, StopsAfter}
+use Rattle.msr_input.specs.Reading.{GaveReadable, IsWritable}
+use Rattle.msr_input.specs.Rows.{RowReading}
+use Rattle.msr_input.specs.declared.row_reader.NextRow.{NextRow}
 use Rattle.msr_output.specs.Output.{Packed, OutputKeepsSegments, OutputHasSize, segment_of_packed, count_of_runs}
-use Rattle.msr_output.specs.Writing.{Writing}
 use Rattle.msr_tool.specs.Choice.{Choice, size_of}
-use Rattle.msr_tool.specs.Writing.{Lined, HasLined, LinesMore, LinesAll}
+use Rattle.msr_tool.specs.Writing.{Lined, GoesOn, HasLined, LinesMore, LinesAll, current_after, ended_by}
 use Rattle.msr_tool.specs.Answer.{AreLinesOf}
-use Rattle.msr_tool.proofs.Lines.{records-of_lines}
-use Rattle.msr_tool.proofs.Stops.{IsAnswered, stops-with}
+use Rattle.msr_tool.proofs.Lines.{calm-lined, records-of_lines}
+use Rattle.msr_tool.proofs.RowsSoFar.{RowsSoFar, RowMore}
+use Rattle.msr_tool.proofs.Stops.{IsAnswered}
 
-pub record UnderWay (choice : Choice) (source0 source sink0 sink : Device) (reading : Reading) (so_far : Lined) : Type 0 where
-  pub records : List Record
+pub record UnderWay (choice : Choice) (source0 source sink0 sink : Device) (reading : RowReading) (so_far : Lined) : Type 0 where
   pub packed : List Packed
-  pub read : HasRead source0 source reading records (map segment_of_packed packed)
-  pub lined : HasLined sink0 sink so_far packed
-  pub tolerance : reading.joining.tolerance ≡ choice.tolerance
+  pub joining : Joining
+  pub rows : RowsSoFar choice.tolerance source0 source reading (map segment_of_packed packed) joining
+  pub lined : HasLined sink0 sink so_far packed joining.current
+  pub goes_on : IfSome so_far.last (GoesOn so_far.writing.size)
   pub size : so_far.writing.size ≡ size_of choice
+  pub calm : IsCalm sink0 sink
 
--- one more segment is read and written
-pub more : (choice : Choice) (source0 source sink0 sink : Device) (reading : Reading) (so_far : Lined) (packed : List Packed) (records : List Record) (segment : Segment) →
-    HasRead source0 source reading records (map segment_of_packed packed ++ segment ∷ []) → LinesMore sink0 sink so_far packed (segment ∷ []) → reading.joining.tolerance ≡ choice.tolerance → so_far.writing.size ≡ size_of choice → UnderWay choice source0 source sink0 sink reading so_far
-more choice source0 source sink0 sink reading so_far packed records segment read wrote tolerance size = record {
-  records = records;
+-- one more row is read and written
+pub more : (choice : Choice) (source0 source' sink0 sink' : Device) (reading' : RowReading) (so_far' : Lined) (packed : List Packed) (joining : Joining) (next : NextRow) → RowMore choice.tolerance source0 source' reading' (map segment_of_packed packed) joining next
+    → LinesMore sink0 sink' so_far' packed (option_to_list (ended_by next.step joining.current)) (current_after next.step joining.current next.row) → IfSome so_far'.last (GoesOn so_far'.writing.size) → so_far'.writing.size ≡ size_of choice → UnderWay choice source0 source' sink0 sink' reading' so_far'
+more choice source0 source' sink0 sink' reading' so_far' packed joining next m wrote goes_on size = record {
   packed = wrote.all;
-  read = rw wrote.same read;
-  lined = wrote.after;
-  tolerance = tolerance;
+  joining = m.new;
+  rows = subst (λ (given : List Segment). RowsSoFar choice.tolerance source0 source' reading' given m.new) (sym wrote.same) m.rows;
+  lined = subst (λ (current : Option Segment). HasLined sink0 sink' so_far' wrote.all current) (sym m.current) wrote.after;
+  goes_on = goes_on;
   size = size;
+  calm = calm-lined sink0 sink' so_far' wrote.all (current_after next.step joining.current next.row) wrote.after;
 }
 
 all-head : {X : Type 0} (P : X → Type 0) (x : X) (xs : List X) → All P (x ∷ xs) → P x
@@ -75,60 +78,40 @@ few-runs size runs bytes some are short =
     omega arith
 
 -- all was read and written
-pub done : (choice : Choice) (source0 source sink0 sink : Device) (reading : Reading) (writing : Writing) (packed all : List Packed) (lines : List SegmentLine) (report : Report) →
-    HasReadAll source0 source reading (map segment_of_packed packed) → map segment_of_packed all ≡ map segment_of_packed packed ++ option_to_list reading.joining.current → LinesAll sink0 sink writing all lines →
-    reading.joining.tolerance ≡ choice.tolerance → writing.size ≡ size_of choice → 1 ≤ choice.tolerance → choice.tolerance ≤ 1_000_000 → 1 ≤ size_of choice → OutputKeepsSegments → OutputHasSize →
-    report.length ≡ choice.record_length → report.tolerance ≡ choice.tolerance → report.counts ≡ reading.counts → report.segments.items ≡ lines → IsFirst (bytes_of report.length) report.tolerance report.counts → IsAnswered choice source0 sink0 sink (Ok report)
-done choice source0 source sink0 sink reading writing packed all lines report end same wrote tolerance size least most some keeps has_size same_length same_tolerance same_counts same_lines is_first =
-    let came = end.read.came.begins [] (end.read.came.end end.ended) in
-    let writable : All IsWritable (map segment_of_packed all) = rw same end.read.writable in
-    let segments : AreSegments choice.tolerance (rows_of_records end.records) (map segment_of_packed all) = rw (same, ← tolerance) end.read.joined.segments in
-    let bytes : length wrote.written.bytes ≡ writing.size * count_of_runs all = has_size writing.size all wrote.rows wrote.written.bytes wrote.written.output in
+pub done : (choice : Choice) (source0 sink0 sink : Device) (segments : List Segment) (lines : List SegmentLine) (counts : Counts) (report : Report) →
+    GaveReadable source0 choice.tolerance segments counts → All IsWritable segments → LinesAll (size_of choice) sink0 sink segments lines →
+    1 ≤ choice.tolerance → choice.tolerance ≤ 1_000_000 → 1 ≤ size_of choice → OutputKeepsSegments → OutputHasSize →
+    report.length ≡ choice.record_length → report.tolerance ≡ choice.tolerance → report.counts ≡ counts → report.segments.items ≡ lines → IsFirst (bytes_of report.length) report.tolerance report.counts → IsAnswered choice source0 sink0 sink (Ok report)
+done choice source0 sink0 sink segments lines counts report gave can wrote least most some keeps has_size same_length same_tolerance same_counts same_lines is_first =
+    let size = wrote.writing.size in
+    let all = wrote.packed in
+    let bytes = wrote.written.bytes in
+    let writable : All IsWritable (map segment_of_packed all) = rw wrote.same can in
+    let count : length bytes ≡ size * count_of_runs all = has_size size all wrote.rows bytes wrote.written.output in
     record {
-      input = came.0;
-      written = wrote.written.bytes;
-      left = came.1;
+      input = gave.input;
+      written = bytes;
+      left = gave.left;
       takes = wrote.written.takes;
       answers = record {
-        records = end.records;
+        records = gave.records;
         packed = all;
         rows = wrote.rows;
-        readable = record {
-          are_read = record { begins = rw (end.none_wait) at came.2; in_range = rw tolerance at end.read.in_range };
-          are_segments = segments;
-        };
-        output = rw (← size) wrote.written.output;
-        same_segments = keeps writing.size choice.tolerance (rows_of_records end.records) wrote.rows all wrote.written.bytes least segments (some-samples all writable) wrote.written.output;
+        readable = rw wrote.same gave.readable;
+        output = rw (← wrote.same_size) wrote.written.output;
+        same_segments = keeps size choice.tolerance (rows_of_records gave.records) wrote.rows all bytes least (rw wrote.same gave.readable.are_segments) (some-samples all writable) wrote.written.output;
         is_report = record {
           size = rw same_length refl;
           tolerance = same_tolerance;
-          counts = same_counts ∙ end.read.came.counts;
+          counts = same_counts ∙ gave.counted;
           lines = rw same_lines wrote.are_lines;
           proper = record {
             least = rw same_tolerance least;
             most = rw same_tolerance most;
             lines = rw same_lines (proper-lines all lines writable wrote.are_lines);
-            records = rw (same_lines, records-of_lines all lines wrote.are_lines) (few-runs writing.size (count_of_runs all) (length wrote.written.bytes) (rw size some) bytes wrote.written.short);
+            records = rw (same_lines, records-of_lines all lines wrote.are_lines) (few-runs size (count_of_runs all) (length bytes) (rw wrote.same_size some) count wrote.written.short);
           };
           is_form = record { first = is_first; segments = rw same_lines wrote.forms };
         };
       };
     }
-
-all-right : {X : Type 0} (P : X → Type 0) (xs ys : List X) → All P (xs ++ ys) → All P ys
-all-right P [] ys all = all
-all-right P (x ∷ xs) ys all = all-right P xs ys (all-tail P x (xs ++ ys) all)
-
--- the segment that was given last can be written
-pub last-writable : (given others : List Segment) (segment : Segment) → All IsWritable ((given ++ segment ∷ []) ++ others) → IsWritable segment
-last-writable [] others segment all = all-head IsWritable segment others all
-last-writable (x ∷ given) others segment all = last-writable given others segment (all-tail IsWritable x ((given ++ segment ∷ []) ++ others) all)
-
--- and so can the one that is still with the reader
-pub rest-writable : (source0 source : Device) (reading : Reading) (given : List Segment) (last : Option Segment) → HasReadAll source0 source reading given → last ≡ reading.joining.current → All IsWritable (option_to_list last)
-rest-writable source0 source reading given last end same = rw same (all-right IsWritable given (option_to_list reading.joining.current) end.read.writable)
-
--- all records are read
-pub stops-at_end : (source0 source : Device) (reading : Reading) (given : List Segment) (last : Option Segment) → HasReadAll source0 source reading given → last ≡ reading.joining.current → StopsAfter reading.joining.tolerance source0 (given ++ option_to_list last)
-stops-at_end source0 source reading given last end same =
-    stops-with source0 source reading end.records given (given ++ option_to_list last) [] end.read (rw (same, append-nil) refl)

@@ -30,14 +30,10 @@ abbrev pub open_longer : Option OpenSegment → Row → Option OpenSegment
 open_longer None row = None
 open_longer (Some before) row = Some (record { key = before.key; start = before.start; count = before.count + length row.samples })
 
--- the segment that was begun last, after a row that does so, and the segment that the row ended
+-- the segment that was begun last, after a row
 abbrev pub open_after : Step → Option OpenSegment → Row → Option OpenSegment
 open_after Begins last row = Some (open_row row)
 open_after Joins last row = open_longer last row
-
-abbrev pub ended_by : Step → Option Segment → Option Segment
-ended_by Begins current = current
-ended_by Joins current = None
 
 -- the segment begins in the supported years, and its number of samples is bounded
 abbrev pub IsOpenInBounds : OpenSegment → Type 0

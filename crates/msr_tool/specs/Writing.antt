@@ -1,41 +1,89 @@
--- What writing the segments with their lines does.
-use Rattle.std.specs.Prelude.{◌≡◌, ℕ, List, ◌++◌, map, All}
+-- What writing the rows as segments with their lines does.
+use Rattle.std.specs.Prelude.{◌≡◌, ℕ, ◌+◌, ◌<◌, ◌^◌, false, ℤ, List, ◌++◌, length, map, All, Option, None, Some, IfSome}
+use Rattle.std.specs.Option.{option_to_list}
 use Rattle.msr_devices.specs.Device.{Device, HasFailed, IsSteady}
 use Rattle.msr_record.specs.declared.row.Row.{Row}
+use Rattle.msr_segments.specs.Spans.{SpanIsInTime, span_of}
+use Rattle.msr_segments.specs.Segments.{row_segment}
+use Rattle.msr_segments.specs.declared.follow.Step.{Step}
+use Rattle.msr_segments.specs.declared.follow.Step.TheVariants.{Begins, Joins}
 use Rattle.msr_segments.specs.declared.joiner.Segment.{Segment}
 use Rattle.msr_report.specs.declared.report.SegmentLine.{SegmentLine}
 use Rattle.msr_certificate.specs.Form.{IsFormLine, form_line}
+use Rattle.msr_output.specs.Opened.{Opened, CanGoOn, HasBegun, count_of, longer_by}
 use Rattle.msr_output.specs.Output.{Packed, segment_of_packed}
 use Rattle.msr_output.specs.Writing.{Writing, HasWritten, HasWrittenAll, HasWrittenFront}
 use Rattle.msr_tool.specs.Answer.{AreLinesOf}
 use Rattle.msr_tool.specs.declared.fault.ToolFault.{ToolFault}
 use Rattle.msr_tool.specs.declared.fault.ToolFault.TheVariants.{Input, Report, Read, Write, Memory}
 
--- what a writer with the lines so far shows
+-- what a writer with the lines so far shows, and the segment that was begun last and has not ended
 pub record Lined : Type 0 where
   pub writing : Writing
   pub lines : List SegmentLine
+  pub last : Option Opened
 
--- From the one state of the sink to the other a front of the output of these segments was written; the rest waits,
--- and each has its line, whose fields are in the ranges of their types.
-pub record HasLined (start now : Device) (lined : Lined) (packed : List Packed) : Type 0 where
-  pub rows : List Row
-  pub written : HasWritten start now lined.writing packed rows
+-- the segment that a row ends, and the one that has not ended after it
+abbrev pub ended_by : Step → Option Segment → Option Segment
+ended_by Begins current = current
+ended_by Joins current = None
+
+abbrev pub longer_current : Option Segment → List ℤ → Option Segment
+longer_current None more = None
+longer_current (Some segment) more = Some (longer_by segment more)
+
+abbrev pub current_after : Step → Option Segment → Row → Option Segment
+current_after Begins current row = Some (row_segment row)
+current_after Joins current row = longer_current current row.samples
+
+-- the segments that the row ends or makes longer
+abbrev pub segments_with : Step → Option Segment → Row → List Segment
+segments_with step current row = option_to_list (ended_by step current) ++ option_to_list (current_after step current row)
+
+-- The records of these segments were written, and the first ones of the segment that has not ended, where there is one.
+abbrev pub StandsWritten : Device → Device → Writing → List Packed → Option Segment → Option Opened → Type 0
+StandsWritten start now writing packed None None = (rows : List Row) × HasWritten start now writing packed rows
+StandsWritten start now writing packed None (Some opened) = ⊥
+StandsWritten start now writing packed (Some segment) None = ⊥
+StandsWritten start now writing packed (Some segment) (Some opened) = HasBegun start now writing packed segment opened
+
+-- From the one state of the sink to the other a front of the output of these segments and of the one that has not ended
+-- was written; the rest waits. Each that has ended has its line, whose fields are in the ranges of their types.
+pub record HasLined (start now : Device) (lined : Lined) (packed : List Packed) (current : Option Segment) : Type 0 where
+  pub written : StandsWritten start now lined.writing packed current lined.last
   pub are_lines : AreLinesOf packed lined.lines
   pub forms : All IsFormLine (map form_line lined.lines)
 
--- these segments stand behind the others, each with its line
-pub record LinesMore (start now : Device) (lined : Lined) (packed : List Packed) (more : List Segment) : Type 0 where
+-- these segments ended behind the others, each with its line, and this one has not ended
+pub record LinesMore (start now : Device) (lined : Lined) (packed : List Packed) (more : List Segment) (current : Option Segment) : Type 0 where
   pub all : List Packed
   pub same : map segment_of_packed all ≡ map segment_of_packed packed ++ more
-  pub after : HasLined start now lined all
+  pub after : HasLined start now lined all current
 
--- all of it was written, and each has its line
-pub record LinesAll (start now : Device) (writing : Writing) (packed : List Packed) (lines : List SegmentLine) : Type 0 where
+-- all of the output of these segments was written, and each has its line
+pub record LinesAll (size : ℕ) (start now : Device) (segments : List Segment) (lines : List SegmentLine) : Type 0 where
+  pub packed : List Packed
   pub rows : List Row
+  pub writing : Writing
+  pub same : map segment_of_packed packed ≡ segments
+  pub same_size : writing.size ≡ size
   pub written : HasWrittenAll start now writing packed rows
   pub are_lines : AreLinesOf packed lines
   pub forms : All IsFormLine (map form_line lines)
+
+-- a segment that has not ended takes samples, in records of so many bytes
+pub record GoesOn (size : ℕ) (opened : Opened) : Type 0 where
+  pub can : CanGoOn false opened
+  pub same_size : opened.size ≡ size
+
+-- with so many samples more its times are of the supported years
+pub record CanGrow (more : ℕ) (opened : Opened) : Type 0 where
+  pub number : count_of opened + more < 2 ^ 64
+  pub in_time : SpanIsInTime (span_of opened.key opened.start (count_of opened + more))
+
+-- so it is with the row's, where it joins
+pub record CanTake (step : Step) (last : Option Opened) (row : Row) : Type 0 where
+  pub joins : step ≡ Joins → IfSome last (CanGrow (length row.samples))
 
 -- The sink failed, and the first holds; or memory was refused, the sink did not fail, and the second holds.
 abbrev pub StopsSink : Type 0 → Type 0 → Device → Device → ToolFault → Type 0

@@ -7,13 +7,13 @@ use crate::fault::ToolFault;
 use crate::options::Options;
 use crate::output::LinedWriter;
 use msr_devices::{Sink, Source};
-use msr_input::SegmentReader;
+use msr_input::RowReader;
 use msr_output::{output_has_size, output_keeps_segments};
 use msr_report::Report;
 use std::alloc::Global;
 
 /// Reads all records of the source, joins their rows into segments, and writes each segment again in the fewest
-/// records of the length that is asked for. It holds the samples of one segment at a time, and a line for each.
+/// records of the length that is asked for, while its samples come. It holds no segment, and a line for each.
 pub fn repack<R: Source, W: Sink>(
     alloc: Global,
     source: &mut R,
@@ -32,13 +32,12 @@ pub fn repack<R: Source, W: Sink>(
     ensures few_source { CountsFew (R.device source.old) (R.device source.new) }
     ensures few_sink { CountsFew (W.device sink.old) (W.device sink.new) }
 {
-    let mut reader = SegmentReader::new(alloc, options.tolerance());
+    let mut reader = RowReader::new(alloc, options.tolerance());
     let mut writer = LinedWriter::new(alloc, options.length());
-    'segments: while let Some(segment) = reader.next_segment(source)? {
-        writer.write(sink, &segment)?;
+    'rows: while let Some(next) = reader.next_row(source)? {
+        writer.take(sink, &next)?;
     }
     let counts = reader.counts();
-    writer.write_last(sink, reader.finish())?;
     let segments = writer.finish(sink)?;
     output_keeps_segments();
     output_has_size();

@@ -48,7 +48,8 @@ impl ListWriter {
     ghost use Rattle.msr_time.specs.Instant.{IsInstant};
     ghost use Rattle.msr_devices.specs.Device.{Device, CanCountCall, CountsFew};
     ghost use Rattle.msr_segments.specs.declared.joiner.Segment.{Segment as Joined};
-    ghost use Rattle.msr_tool.specs.ListWriting.{HasListed, HasListedAll, StopsListing, StopsListingAll, IsOpenInBounds, ended_by, open_after, open_of};
+    ghost use Rattle.msr_tool.specs.ListWriting.{HasListed, HasListedAll, StopsListing, StopsListingAll, IsOpenInBounds, open_after, open_of};
+    ghost use Rattle.msr_tool.specs.Writing.{ended_by};
 
     /// A writer before the first row.
     pub fn new(alloc: Global) -> ListWriter

@@ -1,19 +1,23 @@
-// A writer of segments with their lines.
+// A writer of segments with their lines, which takes the rows.
 use crate::fault::ToolFault;
 use msr_certificate::line_has_form;
 use msr_devices::Sink;
-use msr_output::SegmentWriter;
+use msr_input::NextRow;
+use msr_output::{OpenSegment, SegmentWriter};
+use msr_record::Row;
 use msr_report::SegmentLine;
-use msr_segments::Segment;
+use msr_segments::Step;
 use msr_words::Length;
 use std::alloc::Global;
 use std::marker::Model;
 
-/// Writes segments, and keeps the line of each. All calls take the same sink.
+/// Writes the segments of the rows that it takes, and keeps the line of each that has ended. It holds no more samples
+/// than an open segment does. All calls take the same sink. After an `Err` it is not used again.
 #[derive(Drop)]
 pub struct LinedWriter {
     writer: SegmentWriter,
     lines: Vec<SegmentLine>,
+    last: Option<OpenSegment>,
 }
 
 impl Model for LinedWriter {
@@ -21,78 +25,140 @@ impl Model for LinedWriter {
 
     ghost Value = { Lined };
 
-    ghost view = { λ w. record { writing = w.writer; lines = w.lines.items } };
+    ghost view = { λ w. record { writing = w.writer; lines = w.lines.items; last = w.last } };
 }
 
 impl LinedWriter {
-    ghost use Rattle.std.specs.Prelude.{◌≡◌, ◌+◌, List, [], ◌∷◌, ◌++◌, All, map, length, MatchResult, OnOk};
+    ghost use Rattle.std.specs.Prelude.{◌≡◌, ◌≤◌, List, [], ◌++◌, length, map, Option, None, Some, IfSome, MatchResult, OnOk};
     ghost use Rattle.std.specs.Option.{option_to_list};
     ghost use Rattle.msr_words.specs.Lengths.{bytes_of};
-    ghost use Rattle.msr_devices.specs.Device.{Device, CanCountCall, CountsFew};
+    ghost use Rattle.msr_devices.specs.Device.{Device, CanCountCall, CountsFew, IsCalm};
+    ghost use Rattle.msr_segments.specs.Segments.{row_segment};
+    ghost use Rattle.msr_segments.specs.declared.joiner.Segment.{Segment};
     ghost use Rattle.msr_input.specs.Reading.{IsWritable};
+    ghost use Rattle.msr_output.specs.Opened.{empty_segment};
     ghost use Rattle.msr_output.specs.Output.{Packed, segment_of_packed};
-    ghost use Rattle.msr_tool.specs.Writing.{HasLined, LinesMore, LinesAll, StopsLining};
+    ghost use Rattle.msr_tool.specs.Writing.{CanGrow, CanTake, GoesOn, HasLined, LinesAll, LinesMore, StopsLining, current_after, ended_by, longer_current, segments_with};
 
-    /// A writer before the first segment.
+    /// A writer before the first row.
     pub fn new(alloc: Global, length: Length) -> LinedWriter
         ensures size { result.writing.size ≡ bytes_of length }
-        ensures none { (start : Device) → HasLined start start result [] }
+        ensures last { result.last ≡ None }
+        ensures none { (start : Device) → HasLined start start result [] None }
     {
         LinedWriter {
             writer: SegmentWriter::new(alloc, length),
             lines: Vec::new(alloc),
+            last: None,
         }
     }
 
-    /// Writes the segment behind those before it.
-    pub fn write<W: Sink>(&mut self, sink: &mut W, segment: &Segment) -> Result<(), ToolFault>
+    // Ends the segment that was begun last, if there is one, and keeps its line.
+    fn end_last<W: Sink>(&mut self, sink: &mut W) -> Result<(), ToolFault>
         requires count { CanCountCall (W.device sink.old) }
-        requires writable { IsWritable segment.now }
-        ensures written { (start : Device) (packed : List Packed) → HasLined start (W.device sink.old) self.old packed
+        requires last { IfSome self.old.last (GoesOn self.old.writing.size) }
+        ensures written { (start : Device) (packed : List Packed) (current : Option Segment)
+            → HasLined start (W.device sink.old) self.old packed current
             → MatchResult result
-            (λ _. LinesMore start (W.device sink.new) self.new packed (segment.now ∷ []))
-            (StopsLining self.old.writing.size start (W.device sink.new) (map segment_of_packed packed ++ segment.now ∷ [])) }
+            (λ _. LinesMore start (W.device sink.new) self.new packed (option_to_list current) None)
+            (StopsLining self.old.writing.size start (W.device sink.new)
+            (map segment_of_packed packed ++ option_to_list current)) }
+        ensures last { self.new.last ≡ None }
         ensures size { self.new.writing.size ≡ self.old.writing.size }
-        ensures one_more { OnOk result (length self.new.lines ≡ length self.old.lines + 1) }
+        ensures calm { OnOk result (IsCalm (W.device sink.old) (W.device sink.new)) }
         ensures few { CountsFew (W.device sink.old) (W.device sink.new) }
     {
-        let line = self.writer.write_segment(sink, segment)?;
+        let Some(segment) = self.last.take() else {
+            return Ok(());
+        };
+        let line = self.writer.end(sink, segment)?;
         line_has_form(&line);
         self.lines.push(line)?;
         Ok(())
     }
 
-    /// Writes the last segment, if there is one.
-    pub fn write_last<W: Sink>(
-        &mut self,
-        sink: &mut W,
-        last: Option<Segment>,
-    ) -> Result<(), ToolFault>
+    // Begins the segment of that row, whose samples are not yet taken. None is open.
+    fn begin(&mut self, row: &Row)
+        requires writable { IsWritable (row_segment row.now) }
+        requires row { length row.now.samples ≤ 65_535 }
+        requires last { self.old.last ≡ None }
+        ensures begun { (start now : Device) (packed : List Packed) → HasLined start now self.old packed None
+            → HasLined start now self.new packed (Some (empty_segment row.now.key row.now.start)) }
+        ensures last { IfSome self.new.last (GoesOn self.new.writing.size) }
+        ensures grows { IfSome self.new.last (CanGrow (length row.now.samples)) }
+        ensures size { self.new.writing.size ≡ self.old.writing.size }
+    {
+        self.last = Some(self.writer.begin(row.key, row.start));
+    }
+
+    // Writes the samples behind those of the segment that was begun last, where there is one.
+    fn push<W: Sink>(&mut self, sink: &mut W, samples: &[i32]) -> Result<(), ToolFault>
         requires count { CanCountCall (W.device sink.old) }
-        requires writable { All IsWritable (option_to_list last) }
-        ensures written { (start : Device) (packed : List Packed) → HasLined start (W.device sink.old) self.old packed
+        requires last { IfSome self.old.last (GoesOn self.old.writing.size) }
+        requires grows { IfSome self.old.last (CanGrow (length samples.now)) }
+        ensures written { (start : Device) (packed : List Packed) (current : Option Segment)
+            → HasLined start (W.device sink.old) self.old packed current
             → MatchResult result
-            (λ _. LinesMore start (W.device sink.new) self.new packed (option_to_list last))
-            (StopsLining self.old.writing.size start (W.device sink.new) (map segment_of_packed packed ++ option_to_list last)) }
+            (λ _. HasLined start (W.device sink.new) self.new packed (longer_current current samples.now))
+            (StopsLining self.old.writing.size start (W.device sink.new)
+            (map segment_of_packed packed ++ option_to_list (longer_current current samples.now))) }
+        ensures last { OnOk result (IfSome self.new.last (GoesOn self.new.writing.size)) }
         ensures size { self.new.writing.size ≡ self.old.writing.size }
         ensures few { CountsFew (W.device sink.old) (W.device sink.new) }
     {
-        match last {
-            Some(segment) => self.write(sink, &segment),
+        match &mut self.last {
+            Some(segment) => {
+                self.writer.push(sink, segment, samples)?;
+                Ok(())
+            }
             None => Ok(()),
         }
     }
 
-    /// Writes all that waits, and gives the lines.
-    pub fn finish<W: Sink>(self, sink: &mut W) -> Result<Vec<SegmentLine>, ToolFault>
+    /// Takes the next row. One that begins a segment ends the one before it, whose line is kept.
+    pub fn take<W: Sink>(&mut self, sink: &mut W, next: &NextRow) -> Result<(), ToolFault>
         requires count { CanCountCall (W.device sink.old) }
-        ensures written { (start : Device) (packed : List Packed) → HasLined start (W.device sink.old) self packed
+        requires last { IfSome self.old.last (GoesOn self.old.writing.size) }
+        requires joins { CanTake next.now.step self.old.last next.now.row }
+        requires writable { IsWritable (row_segment next.now.row) }
+        requires row { length next.now.row.samples ≤ 65_535 }
+        ensures written { (start : Device) (packed : List Packed) (current : Option Segment)
+            → HasLined start (W.device sink.old) self.old packed current
             → MatchResult result
-            (λ lines. LinesAll start (W.device sink.new) self.writing packed lines.items)
-            (StopsLining self.writing.size start (W.device sink.new) (map segment_of_packed packed)) }
+            (λ _. LinesMore start (W.device sink.new) self.new packed (option_to_list (ended_by next.now.step current))
+            (current_after next.now.step current next.now.row))
+            (StopsLining self.old.writing.size start (W.device sink.new)
+            (map segment_of_packed packed ++ segments_with next.now.step current next.now.row)) }
+        ensures last { OnOk result (IfSome self.new.last (GoesOn self.new.writing.size)) }
+        ensures size { self.new.writing.size ≡ self.old.writing.size }
         ensures few { CountsFew (W.device sink.old) (W.device sink.new) }
     {
-        self.writer.finish(sink)?;
-        Ok(self.lines)
+        match next.step {
+            Step::Begins => {
+                self.end_last(sink)?;
+                self.begin(&next.row);
+                self.push(sink, next.row.samples.as_slice())
+            }
+            Step::Joins => self.push(sink, next.row.samples.as_slice()),
+        }
+    }
+
+    /// Ends the last segment, writes all that waits, and gives the lines.
+    pub fn finish<W: Sink>(self, sink: &mut W) -> Result<Vec<SegmentLine>, ToolFault>
+        requires count { CanCountCall (W.device sink.old) }
+        requires last { IfSome self.last (GoesOn self.writing.size) }
+        ensures written { (start : Device) (packed : List Packed) (current : Option Segment)
+            → HasLined start (W.device sink.old) self packed current
+            → MatchResult result
+            (λ lines. LinesAll self.writing.size start (W.device sink.new)
+            (map segment_of_packed packed ++ option_to_list current) lines.items)
+            (StopsLining self.writing.size start (W.device sink.new)
+            (map segment_of_packed packed ++ option_to_list current)) }
+        ensures few { CountsFew (W.device sink.old) (W.device sink.new) }
+    {
+        let mut all = self;
+        all.end_last(sink)?;
+        all.writer.finish(sink)?;
+        Ok(all.lines)
     }
 }

@@ -2,7 +2,7 @@ use Rattle.std.proofs.lemmas.List.{append-nil}
 use Rattle.std.proofs.lemmas.Result.{err_from_is_err_and}
 use Rattle.std.specs.Option.{option_to_list}
 use Rattle.msr_devices.proofs.Chaining.{calm-failed}
-use Rattle.msr_tool.specs.ListWriting.{ended_by}
+use Rattle.msr_tool.specs.Writing.{ended_by}
 use Rattle.msr_tool.proofs.Listed.{front-listed, listed-cut, listed-passed, listed-pushed}
 use Rattle.msr_tool.proofs.list_writer.ListWriter.take.Goals as goal
 
