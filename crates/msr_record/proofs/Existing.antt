@@ -1,16 +1,16 @@
 -- Each run that fits has a written record.
-use Rattle.std.proofs.Common.{◌≡◌, ◌≢◌, ℕ, ◌+◌, ◌-◌, ◌*◌, ◌/◌, ◌%◌, ◌^◌, ◌<◌, ◌≤◌, false, ℤ, pos, List, [], ◌∷◌, ◌++◌, length, map, refl, sym, ap, ◌∙◌, arith, Option, Some, IsTrue, Ok, length-append, FitsSigned}
-use Rattle.std.specs.Prelude.{All, replicate, slice_index_or, unwrap_or}
-use Rattle.std.specs.Int.{w8, w16, w32}
+use Rattle.std.proofs.Common.{◌≡◌, ℕ, ◌-◌, ◌*◌, ◌/◌, ◌%◌, ◌^◌, ◌<◌, ◌≤◌, false, ℤ, pos, List, ◌++◌, length, refl, arith, Option, IsTrue, length-append, FitsSigned}
+use Rattle.std.specs.Prelude.{All, replicate, slice_index_or}
+use Rattle.std.specs.Int.{w32}
 use Rattle.std.proofs.lemmas.Int.{ints}
 use Rattle.std.proofs.lemmas.List.{length-replicate}
 use Rattle.std.proofs.lemmas.List.Elements.{All-get_or}
 use Rattle.std.proofs.Math.Pow.{pow_mono}
 use Rattle.msr_time.specs.declared.btime.BTime.{BTime}
-use Rattle.msr_time.specs.Instant.{IsInstant, IsSplit}
+use Rattle.msr_time.specs.Instant.{IsInstant}
 use Rattle.msr_time.proofs.Existing.{has_split}
 use Rattle.msr_header.specs.Reading.{is_quality}
-use Rattle.msr_header.specs.Writing.{header_bytes, no_timing}
+use Rattle.msr_header.specs.Writing.{header_bytes}
 use Rattle.msr_header.specs.declared.header.Header.{Header}
 use Rattle.msr_header.specs.declared.header.Order.TheVariants.{Big}
 use Rattle.msr_header.proofs.WrittenLemmas.{HasLengths, HasRanges, header_length, reads_back}
@@ -33,7 +33,7 @@ use Rattle.msr_words.specs.declared.kinds.Kind.TheVariants.{Int16, Int32, Steim1
 use Rattle.msr_words.proofs.Exist.{has_division}
 use Rattle.msr_record.specs.Area.{Carries, ReverseAgrees}
 use Rattle.msr_record.specs.Correction.{is_pending}
-use Rattle.msr_record.specs.Written.{AppendsRecord, AreFrames, AreNumbers, IsKey, IsWrittenArea, frame_count, header_for, sequence_digits}
+use Rattle.msr_record.specs.Written.{AppendsRecord, AreFrames, AreNumbers, IsKey, IsWrittenArea, frame_count, header_for}
 use Rattle.msr_record.specs.declared.row.Key.{Key}
 use Rattle.msr_record.proofs.AreaLemmas.{all_16, few_samples, frames_carry, frames_end, length-points, room_for, whole_frames}
 use Rattle.msr_record.proofs.WritingLemmas.{appends_record}
@@ -145,7 +145,7 @@ has_record old key start sequence before samples kind size power is_key quality 
     record {
       bytes = header_bytes h ++ a.area;
       appended = appends_record old (old ++ (header_bytes h ++ a.area)) (header_bytes h) a.area key start sequence before samples kind size power.exponent a.frames s.time s.micros (length samples)
-      refl refl refl (header_length h (lengths key s.time s.micros sequence (length samples) kind power.exponent a.frames is_key)) a.is_area a.long
-      (λ rest w room. reads_back h rest (lengths key s.time s.micros sequence (length samples) kind power.exponent a.frames is_key) (ranges key s.time s.micros sequence (length samples) kind power.exponent a.frames is_key few s.split.below) w room)
-      a.carries a.agrees s.split power.power power.least power.most quality normal some is_key.rate;
+          refl refl refl (header_length h (lengths key s.time s.micros sequence (length samples) kind power.exponent a.frames is_key)) a.is_area a.long
+          (λ rest w room. reads_back h rest (lengths key s.time s.micros sequence (length samples) kind power.exponent a.frames is_key) (ranges key s.time s.micros sequence (length samples) kind power.exponent a.frames is_key few s.split.below) w room)
+          a.carries a.agrees s.split power.power power.least power.most quality normal some is_key.rate;
     }

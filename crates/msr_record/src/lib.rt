@@ -24,5 +24,5 @@ pub use reverse::reverse_in;
 pub use row::{Key, Record, Row};
 pub use samples::Samples;
 pub use view::{RecordView, view_record};
-pub use written_area::are_32_bit;
 pub use writing::encode_record;
+pub use written_area::are_32_bit;
