@@ -17,5 +17,10 @@ pub fn add(rt: &HostRuntime) -> io::Result<()> {
     for name in ["XX.TEST.00.BHZ", "XX.TEST.00.BHN", "XX.TEST.00.BHZ"] {
         refused = refused || totals.add(name, 3, 2).is_err();
     }
-    println!(rt; "refused {refused}, {:?}, {:?}, {:?}", totals.get(0), totals.get(1), totals.get(2))
+    println!(rt;
+        "refused {refused}, {:?}, {:?}, {:?}",
+        totals.get(0),
+        totals.get(1),
+        totals.get(2)
+    )
 }
