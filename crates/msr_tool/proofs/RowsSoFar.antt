@@ -113,6 +113,21 @@ pub rows-read : (tolerance : ℕ) (source0 source : Device) (reading : RowReadin
 rows-read tolerance source0 source reading given joining u =
     stops-after tolerance source0 u.records (given ++ option_to_list joining.current) (come-given source0 source reading.position u.records u.has_read.came) (subst (λ (t : ℕ). NoneOverruns t u.records) u.same u.has_read.in_range) (begun-all tolerance source0 source reading given joining u)
 
+pub given-read : (tolerance : ℕ) (source0 source : Device) (reading : RowReading) (given : List Segment) (joining : Joining) → RowsSoFar tolerance source0 source reading given joining → StopsAfter tolerance source0 given
+given-read tolerance source0 source reading given joining u =
+    let all = rows-read tolerance source0 source reading given joining u in
+    record {
+      input = all.input;
+      records = all.records;
+      rest = all.rest;
+      left = all.left;
+      are_read = all.are_read;
+      begun = record {
+        others = option_to_list joining.current ++ all.begun.others;
+        are_segments = rw (← append_assoc given (option_to_list joining.current) all.begun.others) all.begun.are_segments;
+      };
+    }
+
 pub more-read : (tolerance : ℕ) (source0 source : Device) (reading : RowReading) (given : List Segment) (joining : Joining) (next : NextRow) → RowMore tolerance source0 source reading given joining next → StopsAfter tolerance source0 (given ++ segments_with next.step joining.current next.row)
 more-read tolerance source0 source reading given joining next m =
     let ended = option_to_list (ended_by next.step joining.current) in
