@@ -269,6 +269,12 @@ fn words_of<'a>(tree: &'a Tree, option: &'static str) -> [&'a str; 7] {
     [archive, length, bytes, option, root, out, reports]
 }
 
+// The words of a walk that leaves alone what was done, with another length or tolerance.
+fn resumed_with<'a>(tree: &'a Tree, option: &'static str) -> [&'a str; 6] {
+    let [archive, _, _, root, out, reports] = tree.words();
+    [archive, option, "--resume", root, out, reports]
+}
+
 fn resumes<R: Files + AllocGlobal + Abort>(rt: &R, tree: &Tree, printed: &str) -> Result<(), Fail> {
     let ran = run_on(rt, &words_of(tree, "--resume"), &[])?;
     shows(rt, &ran, 0, printed);
@@ -333,9 +339,9 @@ fn days_that_are_done_otherwise(rt: HostRuntime) -> Result<(), Fail> {
     let day = zeros(rt.alloc())?;
     tree.write(&rt, "sds", DAY_1, day.as_slice())?;
     resumes(&rt, &tree, DONE)?;
-    for option in ["--length=512", "--tolerance=7"] {
-        let [archive, _, _, resume, root, out, reports] = words_of(&tree, "--resume");
-        let ran = run_on(&rt, &[archive, option, resume, root, out, reports], &[])?;
+    let options: [&'static str; 2] = ["--length=512", "--tolerance=7"];
+    for option in options {
+        let ran = run_on(&rt, &resumed_with(&tree, option), &[])?;
         assert!(&rt; ran.printed.as_slice().starts_with(b"done "), "at {option}");
         resumes(&rt, &tree, DONE)?;
         resumes(&rt, &tree, SAME)?;
@@ -377,7 +383,8 @@ fn a_day_that_is_not_shown(rt: HostRuntime) -> Result<(), Fail> {
         names: None,
         earlier: "",
         later: "",
-        swapped: (part.as_str(), day.as_str()),
+        made: part.as_str(),
+        other: day.as_str(),
     };
     let ran = run_on(&odd, &words_of(&tree, "--check"), &[])?;
     let lines = "notshown 2020/XX/TEST/BHZ.D/XX.TEST.00.BHZ.D.2020.001
@@ -530,7 +537,8 @@ files 1 skipped 0 refused 1
             names,
             earlier: "",
             later: "",
-            swapped: ("", ""),
+            made: "",
+            other: "",
         };
         let ran = run_on(&odd, &tree.words(), &[])?;
         shows(&rt, &ran, 1, lines);
@@ -560,7 +568,8 @@ fn the_report_gets_its_name_first(rt: HostRuntime) -> Result<(), Fail> {
             names: None,
             earlier,
             later,
-            swapped: ("", ""),
+            made: "",
+            other: "",
         };
         let ran = run_on(&odd, &tree.words(), &[])?;
         assert_eq!(&rt; ran.status, status);

@@ -7,7 +7,7 @@ use std::rt::Files;
 
 /// The folder with the path, which ends in a slash, has these names, each ended by a NUL, or cannot be opened. Where the
 /// last name is cut short, reading fails there. A file gets the later name only where the earlier one is there. Once the
-/// file with the first name of `swapped` was made, the other one is opened in its place.
+/// file with the name `made` is there, the other one is opened in its place.
 #[derive(Clone, Copy)]
 pub struct OddFolder<'a> {
     pub rt: &'a HostRuntime,
@@ -15,7 +15,8 @@ pub struct OddFolder<'a> {
     pub names: Option<&'static [u8]>,
     pub earlier: &'a str,
     pub later: &'a str,
-    pub swapped: (&'a str, &'a str),
+    pub made: &'a str,
+    pub other: &'a str,
 }
 
 /// The names of a folder.
@@ -53,9 +54,8 @@ impl<'a> Files for OddFolder<'a> {
     type Dir = Names;
 
     fn open_file(&self, how: &OpenOptions, path: &str) -> io::Result<Self::File> {
-        let (made, other) = self.swapped;
-        if path == made && self.rt.metadata(path).is_ok() {
-            return self.rt.open_file(how, other);
+        if path == self.made && self.rt.metadata(path).is_ok() {
+            return self.rt.open_file(how, self.other);
         }
         self.rt.open_file(how, path)
     }
