@@ -183,7 +183,7 @@ pub took-first : {T : Type 0} (size other : ℕ) (start now : Device) (lined : L
 took-first size other start now lined packed all current row (Ok done) same_size same h = record { all = all; same = same; after = h }
 took-first size other start now lined packed all current row (Err found) same_size same h =
     let joined : map segment_of_packed all ++ row_segment row ∷ [] ≡ map segment_of_packed packed ++ segments_with Begins current row =
-        ap (λ (s : List Segment). s ++ row_segment row ∷ []) same ∙ append_assoc (map segment_of_packed packed) (option_to_list current) (row_segment row ∷ []) in
+    ap (λ (s : List Segment). s ++ row_segment row ∷ []) same ∙ append_assoc (map segment_of_packed packed) (option_to_list current) (row_segment row ∷ []) in
     subst (λ (n : ℕ). StopsLining n start now (map segment_of_packed packed ++ segments_with Begins current row) found) same_size
     (subst (λ (s : List Segment). StopsLining other start now s found) joined h)
 

@@ -139,4 +139,3 @@ returns-clause-write g c =
     let u = c.rows.invariant in
     let wrote = c.in_ok-segments.ensures.written (g.W.Sink.device c.args.sink.now) u.packed u.joining.current u.lined in
     ok-tells (g.W.Sink.device c.args.sink.now) (g.W.Sink.device c.finish.new.sink) _ _ wrote.written.calm.steady
-

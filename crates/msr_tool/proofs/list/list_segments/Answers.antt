@@ -115,4 +115,3 @@ returns-clause-write g c =
     let u = c.rows.invariant in
     let all = c.in_ok-finish.ensures.written (g.W.Sink.device c.args.sink.now) u.given u.joining.current u.listed u.last in
     ok-tells (g.W.Sink.device c.args.sink.now) (g.W.Sink.device c.finish.new.sink) _ _ all.calm.steady
-
