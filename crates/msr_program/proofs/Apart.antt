@@ -1,7 +1,7 @@
 -- Folders that do not overlap, found one after another.
-use Rattle.std.proofs.Common.{◌≡◌, ◌≢◌, ◌⊎◌, inl, inr, ℕ, ◌+◌, ◌<◌, ◌∙◌, sym, arith, List, [], ◌∷◌, map, length, take, refl, slice_index_or, subst}
+use Rattle.std.proofs.Common.{◌≡◌, ◌⊎◌, inl, inr, ℕ, ◌+◌, ◌<◌, ◌∙◌, sym, arith, List, [], ◌∷◌, map, length, take, refl, slice_index_or, subst}
 use Rattle.std.proofs.lemmas.List.{get_or-map, get_or-take, get_or_default, get_or_read_under, length-map, length-take}
-use Rattle.std.specs.List.{Any, AllPairs}
+use Rattle.std.specs.List.{Any}
 use Rattle.msr_program.specs.Tasks.{AreApart, Overlap}
 
 -- no two of the first n overlap

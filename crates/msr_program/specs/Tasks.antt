@@ -1,5 +1,5 @@
 -- What the words of a command line ask for.
-use Rattle.std.specs.Prelude.{◌≡◌, ◌≢◌, ◌⊎◌, ◌≤◌, ℕ, ⊤, List, ◌++◌, map, AllPairs, Option, None, Some, IfSome, codes, string_bytes}
+use Rattle.std.specs.Prelude.{◌≡◌, ◌≢◌, ◌⊎◌, ◌≤◌, ℕ, ⊤, List, ◌++◌, AllPairs, Option, None, Some, IfSome, codes, string_bytes}
 use Rattle.std.specs.Option.{option_map}
 use Rattle.msr_words.specs.Lengths.{bytes_of}
 use Rattle.msr_program.specs.declared.words.Folders.{Folders}

@@ -1,7 +1,7 @@
-use Rattle.std.proofs.Common.{◌≡◌, map, length, arith, rules, subst}
+use Rattle.std.proofs.Common.{◌≡◌, map, length, arith, rules}
 use Rattle.std.proofs.lemmas.List.{get_or_default}
 use Rattle.msr_verdict.proofs.Lines.{not-true}
-use Rattle.msr_program.proofs.Apart.{ApartBefore, apart-all, apart-more, apart-none}
+use Rattle.msr_program.proofs.Apart.{apart-all, apart-more, apart-none}
 use Rattle.msr_program.proofs.words.below_of.Goals as goal
 
 pub loop-place-init : goal.loop-place-init
