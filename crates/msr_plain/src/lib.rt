@@ -18,10 +18,11 @@ pub use samples::Samples;
 use std::alloc::{AllocError, Global};
 use thiserror::Error;
 
-/// How many bytes a number takes: SEED's encodings 1 (16-bit integers) and 3 (32-bit integers).
+/// How many bytes a number takes: SEED's encodings 1 (16-bit integers), 2 (24-bit integers) and 3 (32-bit integers).
 #[derive(Clone, Copy, Debug, PartialEq, Eq)]
 pub enum Width {
     Two,
+    Three,
     Four,
 }
 
@@ -31,6 +32,7 @@ impl Width {
     {
         match self {
             Width::Two => 2,
+            Width::Three => 3,
             Width::Four => 4,
         }
     }
@@ -65,6 +67,8 @@ fn read_number(width: Width, order: Order, bytes: &[u8]) -> i32
     match (width, order) {
         (Width::Two, Order::Big) => i32::from(BigEndian::read_i16(bytes)),
         (Width::Two, Order::Little) => i32::from(LittleEndian::read_i16(bytes)),
+        (Width::Three, Order::Big) => BigEndian::read_i24(bytes),
+        (Width::Three, Order::Little) => LittleEndian::read_i24(bytes),
         (Width::Four, Order::Big) => BigEndian::read_i32(bytes),
         (Width::Four, Order::Little) => LittleEndian::read_i32(bytes),
     }
@@ -101,6 +105,8 @@ pub fn decode_plain_into(
     match (width, order) {
         (Width::Two, Order::Big) => read_numbers(Width::Two, Order::Big, area, out),
         (Width::Two, Order::Little) => read_numbers(Width::Two, Order::Little, area, out),
+        (Width::Three, Order::Big) => read_numbers(Width::Three, Order::Big, area, out),
+        (Width::Three, Order::Little) => read_numbers(Width::Three, Order::Little, area, out),
         (Width::Four, Order::Big) => read_numbers(Width::Four, Order::Big, area, out),
         (Width::Four, Order::Little) => read_numbers(Width::Four, Order::Little, area, out),
     }
@@ -138,6 +144,7 @@ fn write_number(width: Width, sample: i32, bytes: &mut [u8])
 {
     match width {
         Width::Two => BigEndian::write_i16(bytes, sample as i16),
+        Width::Three => BigEndian::write_i24(bytes, sample),
         Width::Four => BigEndian::write_i32(bytes, sample),
     }
 }

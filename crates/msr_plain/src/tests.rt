@@ -7,7 +7,7 @@ use std::test::Fail;
 
 #[test]
 fn areas_carry_samples(rt: HostRuntime) -> Result<(), Fail> {
-    let rows: [(Width, Order, [u8; 8], u16, &[i32]); 5] = [
+    let rows: [(Width, Order, [u8; 8], u16, &[i32]); 7] = [
         (
             Width::Two,
             Order::Big,
@@ -21,6 +21,20 @@ fn areas_carry_samples(rt: HostRuntime) -> Result<(), Fail> {
             [0x00, 0x80, 0xff, 0x7f, 9, 9, 9, 9],
             2,
             &[-32768, 32767],
+        ),
+        (
+            Width::Three,
+            Order::Big,
+            [0x80, 0, 0, 0x7f, 0xff, 0xff, 9, 9],
+            2,
+            &[-8388608, 8388607],
+        ),
+        (
+            Width::Three,
+            Order::Little,
+            [0, 0, 0x80, 0xff, 0xff, 0x7f, 9, 9],
+            2,
+            &[-8388608, 8388607],
         ),
         (
             Width::Four,
@@ -66,15 +80,16 @@ fn numbers_in_places(rt: HostRuntime) -> Result<(), Fail> {
 
 #[test]
 fn short_areas(rt: HostRuntime) {
-    let rows: [(Width, [u8; 4], u16); 3] = [
-        (Width::Four, [0, 0, 0, 1], 2),
-        (Width::Two, [0, 0, 0, 1], 3),
-        (Width::Two, [0; 4], 65535),
+    let rows: [(Width, &[u8], u16); 4] = [
+        (Width::Four, &[0, 0, 0, 1], 2),
+        (Width::Three, &[0x80, 0, 0, 0x7f, 0xff], 2),
+        (Width::Two, &[0, 0, 0, 1], 3),
+        (Width::Two, &[0; 4], 65535),
     ];
     for (width, area, count) in rows {
-        let decoded = decode_plain(rt.alloc(), width, Order::Big, &area, count);
+        let decoded = decode_plain(rt.alloc(), width, Order::Big, area, count);
         assert_eq!(rt; decoded.err(), Some(PlainFault::DataShort));
-        assert!(rt; plain_samples(width, Order::Big, &area, count).is_none());
+        assert!(rt; plain_samples(width, Order::Big, area, count).is_none());
     }
 }
 
@@ -84,6 +99,9 @@ fn filled_areas(rt: HostRuntime) {
     fill_plain(Width::Four, &[-2147483648, 2147483647], &mut area);
     assert!(rt; area[..8] == [0x80, 0, 0, 0, 0x7f, 0xff, 0xff, 0xff]);
     assert!(rt; area[8..].iter().all(|byte| *byte == 0));
+    let mut area = [9; 7];
+    fill_plain(Width::Three, &[-8388608, 8388607], &mut area);
+    assert!(rt; area[..] == [0x80, 0, 0, 0x7f, 0xff, 0xff, 0]);
     let mut area = [9; 6];
     fill_plain(Width::Two, &[-32768, 32767], &mut area);
     assert!(rt; area[..] == [0x80, 0, 0x7f, 0xff, 0, 0]);

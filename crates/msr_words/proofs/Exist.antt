@@ -9,12 +9,12 @@ use Rattle.msr_steim.specs.declared.word.Version.TheVariants.{One, Two}
 use Rattle.msr_steim.specs.Area.{differences}
 use Rattle.msr_steim.specs.Word.{AreGroups, FitsBits, IsGroup, IsGroupAt, group_width}
 use Rattle.msr_words.specs.declared.kinds.Kind.{Kind}
-use Rattle.msr_words.specs.declared.kinds.Kind.TheVariants.{Int16, Int32, Steim1, Steim2}
+use Rattle.msr_words.specs.declared.kinds.Kind.TheVariants.{Int16, Int24, Int32, Steim1, Steim2}
 use Rattle.msr_words.specs.Division.{CanDivide}
 use Rattle.msr_words.specs.Canonical.{DividesFrom, IsCanonicalDivision}
 use Rattle.msr_words.specs.Existence.{Decided}
 use Rattle.msr_words.specs.RecordLength.{words_of}
-use Rattle.msr_words.specs.Fit.{Fits, FitsAny, IsFirstKind, rank}
+use Rattle.msr_words.specs.Fit.{Fits, FitsAny, FitsIntegers, IsFirstKind, rank}
 use Rattle.msr_words.specs.Lemmas.LeastCounts.{a_group_has_few}
 use Rattle.msr_words.specs.Lemmas.SteimLaws.{head_group, none_divides}
 use Rattle.msr_words.proofs.Choosing.{divides_can, starts_with, with_first}
@@ -160,8 +160,12 @@ module _ (version : Version) where
 
 -- ---- the kinds
 
+integers_decided : (bits size bytes : ℕ) (run : List (ℤ × ℤ)) → Decided (FitsIntegers bits size bytes run)
+integers_decided bits size bytes run = both_decided (All (λ p. FitsBits bits p.0) run) (size * length run + 64 ≤ bytes) (all_decided (λ p. FitsBits bits p.0) (λ p. bits_decided bits p.0) run) (most_decided (size * length run + 64) bytes)
+
 pub fits_decided : (kind : Kind) (bytes : ℕ) (run : List (ℤ × ℤ)) → Decided (Fits kind bytes run)
-fits_decided Int16 bytes run = both_decided (All (λ p. FitsBits 16 p.0) run) (2 * length run + 64 ≤ bytes) (all_decided (λ p. FitsBits 16 p.0) (λ p. bits_decided 16 p.0) run) (most_decided (2 * length run + 64) bytes)
+fits_decided Int16 bytes run = integers_decided 16 2 bytes run
+fits_decided Int24 bytes run = integers_decided 24 3 bytes run
 fits_decided Int32 bytes run = most_decided (4 * length run + 64) bytes
 fits_decided Steim1 bytes run = divide_decided One (words_of bytes) (map (λ p. p.1) run)
 fits_decided Steim2 bytes run = divide_decided Two (words_of bytes) (map (λ p. p.1) run)
@@ -171,57 +175,68 @@ pub record HasFirstKind (bytes : ℕ) (run : List (ℤ × ℤ)) : Type 0 where
   pub kind : Kind
   pub first : IsFirstKind bytes run kind
 
+-- the kind of a rank
+of_rank : ℕ → Kind
+of_rank zero = Steim2
+of_rank (suc zero) = Steim1
+of_rank (suc (suc zero)) = Int16
+of_rank (suc (suc (suc zero))) = Int24
+of_rank (suc (suc (suc (suc n)))) = Int32
+
+of_its_rank : (kind : Kind) → of_rank (rank kind) ≡ kind
+unfolding of_rank
+of_its_rank Steim2 = refl
+of_its_rank Steim1 = refl
+of_its_rank Int16 = refl
+of_its_rank Int24 = refl
+of_its_rank Int32 = refl
+
+its_rank : (n : ℕ) → rank (of_rank n) ≤ n
+unfolding of_rank
+its_rank zero = omega arith
+its_rank (suc zero) = omega arith
+its_rank (suc (suc zero)) = omega arith
+its_rank (suc (suc (suc zero))) = omega arith
+its_rank (suc (suc (suc (suc n)))) = omega arith
+
+few_kinds : (kind : Kind) → rank kind < 5
+few_kinds Steim2 = omega arith
+few_kinds Steim1 = omega arith
+few_kinds Int16 = omega arith
+few_kinds Int24 = omega arith
+few_kinds Int32 = omega arith
+
+-- no two kinds are tried at the same time
+pub rank_same : (k l : Kind) → rank k ≡ rank l → k ≡ l
+rank_same k l e = sym (of_its_rank k) ∙ ap of_rank e ∙ of_its_rank l
+
 module _ (bytes : ℕ) (run : List (ℤ × ℤ)) where
-  steim2_first : Fits Steim2 bytes run → HasFirstKind bytes run
-  steim2_first fits = record { kind = Steim2; first = (fits, λ other lower h. omega arith) }
+  -- the run fits no kind that is tried before the n-th
+  abbrev NoneBefore : ℕ → Type 0
+  NoneBefore n = (kind : Kind) → rank kind < n → Fits kind bytes run → ⊥
 
-  steim1_first : (Fits Steim2 bytes run → ⊥) → Fits Steim1 bytes run → HasFirstKind bytes run
-  steim1_first no2 fits = record { kind = Steim1; first = (fits, none) }
-    where
-      none : (other : Kind) → rank other < 1 → Fits other bytes run → ⊥
-      none Int16 lower h = omega arith
-      none Int32 lower h = omega arith
-      none Steim1 lower h = omega arith
-      none Steim2 lower h = no2 h
+  none_at : (n : ℕ) → NoneBefore n → (Fits (of_rank n) bytes run → ⊥) → NoneBefore (suc n)
+  none_at n none not kind lower fits = elim (cases_lt (rank kind) n) [
+    | inl less ↦ none kind less fits
+    | inr here ↦ not (subst (λ k. Fits k bytes run) (sym (of_its_rank kind) ∙ ap of_rank (omega arith)) fits)
+  ]
 
-  int16_first : (Fits Steim2 bytes run → ⊥) → (Fits Steim1 bytes run → ⊥) → Fits Int16 bytes run → HasFirstKind bytes run
-  int16_first no2 no1 fits = record { kind = Int16; first = (fits, none) }
-    where
-      none : (other : Kind) → rank other < 2 → Fits other bytes run → ⊥
-      none Int16 lower h = omega arith
-      none Int32 lower h = omega arith
-      none Steim1 lower h = no1 h
-      none Steim2 lower h = no2 h
-
-  int32_first : (Fits Steim2 bytes run → ⊥) → (Fits Steim1 bytes run → ⊥) → (Fits Int16 bytes run → ⊥) → Fits Int32 bytes run → HasFirstKind bytes run
-  int32_first no2 no1 no16 fits = record { kind = Int32; first = (fits, none) }
-    where
-      none : (other : Kind) → rank other < 3 → Fits other bytes run → ⊥
-      none Int16 lower h = no16 h
-      none Int32 lower h = omega arith
-      none Steim1 lower h = no1 h
-      none Steim2 lower h = no2 h
-
-  no_kind : (Fits Steim2 bytes run → ⊥) → (Fits Steim1 bytes run → ⊥) → (Fits Int16 bytes run → ⊥) → (Fits Int32 bytes run → ⊥) → (kind : Kind) → Fits kind bytes run → ⊥
-  no_kind no2 no1 no16 no32 Int16 h = no16 h
-  no_kind no2 no1 no16 no32 Int32 h = no32 h
-  no_kind no2 no1 no16 no32 Steim1 h = no1 h
-  no_kind no2 no1 no16 no32 Steim2 h = no2 h
+  -- whether some of the kinds from the n-th on fits, and then which is tried first
+  first_from : (left n : ℕ) → NoneBefore n → HasFirstKind bytes run ⊎ NoneBefore (n + left)
+  first_from zero n none = inr (subst NoneBefore (omega arith) none)
+  first_from (suc left) n none = elim (fits_decided (of_rank n) bytes run) [
+    | inl fits ↦ inl (record { kind = of_rank n; first = (fits, λ other lower h. let low = its_rank n in none other (omega arith) h) })
+    | inr not ↦ elim (first_from left (suc n) (none_at n none not)) [
+      | inl found ↦ inl found
+      | inr never ↦ inr (subst NoneBefore (omega arith) never)
+    ]
+  ]
 
   -- whether some kind fits, and then which is tried first
   first_of_kinds : HasFirstKind bytes run ⊎ (FitsAny bytes run → ⊥)
-  first_of_kinds = elim (fits_decided Steim2 bytes run) [
-    | inl f ↦ inl (steim2_first f)
-    | inr no2 ↦ elim (fits_decided Steim1 bytes run) [
-      | inl f ↦ inl (steim1_first no2 f)
-      | inr no1 ↦ elim (fits_decided Int16 bytes run) [
-        | inl f ↦ inl (int16_first no2 no1 f)
-        | inr no16 ↦ elim (fits_decided Int32 bytes run) [
-          | inl f ↦ inl (int32_first no2 no1 no16 f)
-          | inr no32 ↦ inr (λ any. no_kind no2 no1 no16 no32 any.0 any.1)
-        ]
-      ]
-    ]
+  first_of_kinds = elim (first_from 5 0 (λ kind lower h. omega arith)) [
+    | inl found ↦ inl found
+    | inr never ↦ inr (λ any. never any.0 (few_kinds any.0) any.1)
   ]
 
   pub any_decided : Decided (FitsAny bytes run)

@@ -4,7 +4,7 @@ use Rattle.std.proofs.Common.{refl, arith, sym, ◌∙◌, ap, subst}
 use Rattle.std.proofs.lemmas.List.{take-append-drop, take-take, drop-take, drop-drop, take_more, get_or-drop, length-take, length-drop, take_all, drop_at, length-map}
 use Rattle.msr_words.specs.Segment.{points, points_after, run_points, difference_at, difference_from}
 use Rattle.msr_steim.specs.Word.{FitsBits}
-use Rattle.msr_words.specs.Fit.{IsRun, FitsInt16, FitsInt32}
+use Rattle.msr_words.specs.Fit.{IsRun, FitsIntegers, FitsInt32}
 use Rattle.std.proofs.lemmas.List.Elements.{All-map}
 use Rattle.msr_words.specs.Laws.{PrefixLaw, BackStepLaw}
 
@@ -123,17 +123,17 @@ get_or_first [] k d = refl
 get_or_first (p ∷ run) zero d = refl
 get_or_first (p ∷ run) (suc k) d = get_or_first run k d
 
-all_unmap : (run : List (ℤ × ℤ)) → All (FitsBits 16) (map (λ p. p.0) run) → All (λ p. FitsBits 16 p.0) run
-all_unmap run h k d in' =
+all_unmap : (bits : ℕ) (run : List (ℤ × ℤ)) → All (FitsBits bits) (map (λ p. p.0) run) → All (λ p. FitsBits bits p.0) run
+all_unmap bits run h k d in' =
     let e : get_or (map (λ (p : ℤ × ℤ). p.0) run) k d.0 ≡ (get_or run k d).0 = get_or_first run k d in
-    subst (FitsBits 16) e (h k d.0 (rw length-map in'))
+    subst (FitsBits bits) e (h k d.0 (rw length-map in'))
 
--- so it depends on the samples alone whether 16-bit or 32-bit integers fit
-pub fits_int16_points : (bytes : ℕ) (before : Option ℤ) (run : List ℤ) → (All (FitsBits 16) run × (2 * length run + 64 ≤ bytes)) ↔ FitsInt16 bytes (points before run)
-fits_int16_points bytes before run =
-    let long = length_points_before before run in (
-      λ h. (all_unmap (points before run) (subst (All (FitsBits 16)) (sym (samples_of_points before run)) h.0), omega (arith, h.1)),
-      λ h. (subst (All (FitsBits 16)) (samples_of_points before run) (All-map (FitsBits 16) (λ (p : ℤ × ℤ). p.0) (points before run) h.0), omega (arith, h.1)),
+-- so it depends on the samples alone whether integers fit
+pub fits_integers_points : (bits size bytes : ℕ) (before : Option ℤ) (run : List ℤ) → (All (FitsBits bits) run × (size * length run + 64 ≤ bytes)) ↔ FitsIntegers bits size bytes (points before run)
+fits_integers_points bits size bytes before run =
+    let long : size * length (points before run) ≡ size * length run = ap (λ n. size * n) (length_points_before before run) in (
+      λ h. (all_unmap bits (points before run) (subst (All (FitsBits bits)) (sym (samples_of_points before run)) h.0), omega (arith, h.1)),
+      λ h. (subst (All (FitsBits bits)) (samples_of_points before run) (All-map (FitsBits bits) (λ (p : ℤ × ℤ). p.0) (points before run) h.0), omega (arith, h.1)),
     )
 
 pub fits_int32_points : (bytes : ℕ) (before : Option ℤ) (run : List ℤ) → (4 * length run + 64 ≤ bytes) ↔ FitsInt32 bytes (points before run)

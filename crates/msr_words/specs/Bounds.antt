@@ -1,5 +1,5 @@
 -- What the differences of a run tell of the records that hold it.
-use Rattle.std.specs.Prelude.{◌≡◌, ℕ, zero, suc, ◌+◌, ◌-◌, ◌*◌, ◌^◌, ◌≤◌, ◌↔◌, ℤ, pos, negsuc, Bool, not, nat_lt, List, ◌∷◌, length, map, take, drop, count_by}
+use Rattle.std.specs.Prelude.{◌≡◌, ℕ, zero, suc, ◌+◌, ◌-◌, ◌*◌, ◌^◌, ◌≤◌, ◌↔◌, ℤ, pos, negsuc, Bool, not, nat_lt, List, ◌∷◌, length, map, take, drop, count_by, All}
 use Rattle.std.specs.List.{AllByRecursion}
 use Rattle.msr_steim.specs.declared.word.Version.{Version}
 use Rattle.msr_steim.specs.declared.word.Version.TheVariants.{One}
@@ -9,6 +9,7 @@ use Rattle.msr_words.specs.declared.kinds.Kind.TheVariants.{Steim2}
 use Rattle.msr_words.specs.Division.{CanDivide}
 use Rattle.msr_words.specs.Fit.{Fits, IsRun}
 use Rattle.msr_words.specs.Groups.{IsLongestGroup}
+use Rattle.msr_words.specs.Laws.{most_of}
 use Rattle.msr_words.specs.RecordLength.{words_of}
 use Rattle.msr_words.specs.Segment.{run_points}
 
@@ -53,6 +54,7 @@ abbrev pub GreedyLaw : Type 0
 GreedyLaw = (bytes : ℕ) (samples : List ℤ) (g reach : ℕ) → g ≤ length samples → IsGreedyReach (words_of bytes) (map (λ p. p.1) (run_points samples g (length samples))) reach →
     IsRun (Fits Steim2 bytes) samples g (g + reach) × ((s b : ℕ) → s ≤ g → IsRun (Fits Steim2 bytes) samples s b → b ≤ g + reach)
 
--- a sample of a record of 16-bit integers
-abbrev pub IsInt16 : ℤ → Type 0
-IsInt16 sample = FitsBits 16 sample
+-- The runs that fit this kind are those of numbers of so many bits that are no longer than its longest.
+pub record AreIntegers (kind : Kind) (bits bytes : ℕ) : Type 0 where
+  pub takes : (run : List (ℤ × ℤ)) → All (λ p. FitsBits bits p.0) run → length run ≤ most_of kind bytes → Fits kind bytes run
+  pub needs : (run : List (ℤ × ℤ)) → Fits kind bytes run → All (λ p. FitsBits bits p.0) run

@@ -1,17 +1,25 @@
--- Which runs fit a record of a kind (SEED 2.4, blockette 1000: encodings 1, 3, 10 and 11; appendix B).
+-- Which runs fit a record of a kind (SEED 2.4, blockette 1000: encodings 1, 2, 3, 10 and 11; appendix B).
 use Rattle.std.specs.Prelude.{ℕ, ◌+◌, ◌*◌, ◌<◌, ◌≤◌, ℤ, List, length, map, All}
 use Rattle.msr_steim.specs.declared.word.Version.{Version}
 use Rattle.msr_steim.specs.declared.word.Version.TheVariants.{One, Two}
 use Rattle.msr_steim.specs.Word.{FitsBits}
 use Rattle.msr_words.specs.declared.kinds.Kind.{Kind}
-use Rattle.msr_words.specs.declared.kinds.Kind.TheVariants.{Int16, Int32, Steim1, Steim2}
+use Rattle.msr_words.specs.declared.kinds.Kind.TheVariants.{Int16, Int24, Int32, Steim1, Steim2}
 use Rattle.msr_words.specs.Division.{CanDivide}
 use Rattle.msr_words.specs.RecordLength.{words_of}
 use Rattle.msr_words.specs.Segment.{run_points}
 
--- 16-bit integers (encoding 1): two bytes a sample, behind the 64 bytes of the header
+-- integers of so many bits, in so many bytes each, behind the 64 bytes of the header
+abbrev pub FitsIntegers : ℕ → ℕ → ℕ → List (ℤ × ℤ) → Type 0
+FitsIntegers bits size bytes run = All (λ p. FitsBits bits p.0) run × (size * length run + 64 ≤ bytes)
+
+-- 16-bit integers (encoding 1): two bytes a sample
 abbrev pub FitsInt16 : ℕ → List (ℤ × ℤ) → Type 0
-FitsInt16 bytes run = All (λ p. FitsBits 16 p.0) run × (2 * length run + 64 ≤ bytes)
+FitsInt16 bytes run = FitsIntegers 16 2 bytes run
+
+-- 24-bit integers (encoding 2): three bytes a sample
+abbrev pub FitsInt24 : ℕ → List (ℤ × ℤ) → Type 0
+FitsInt24 bytes run = FitsIntegers 24 3 bytes run
 
 -- 32-bit integers (encoding 3): four bytes a sample
 abbrev pub FitsInt32 : ℕ → List (ℤ × ℤ) → Type 0
@@ -24,6 +32,7 @@ FitsSteim version bytes run = CanDivide version (words_of bytes) (map (λ p. p.1
 -- the run fits a record of that many bytes and that kind
 abbrev pub Fits : Kind → ℕ → List (ℤ × ℤ) → Type 0
 Fits Int16 bytes run = FitsInt16 bytes run
+Fits Int24 bytes run = FitsInt24 bytes run
 Fits Int32 bytes run = FitsInt32 bytes run
 Fits Steim1 bytes run = FitsSteim One bytes run
 Fits Steim2 bytes run = FitsSteim Two bytes run
@@ -41,7 +50,8 @@ abbrev pub rank : Kind → ℕ
 rank Steim2 = 0
 rank Steim1 = 1
 rank Int16 = 2
-rank Int32 = 3
+rank Int24 = 3
+rank Int32 = 4
 
 -- of the kinds that the run fits, the one that is tried first
 abbrev pub IsFirstKind : ℕ → List (ℤ × ℤ) → Kind → Type 0
@@ -50,6 +60,7 @@ IsFirstKind bytes run kind = Fits kind bytes run × ((other : Kind) → rank oth
 -- the number of its encoding
 abbrev pub code_of : Kind → ℕ
 code_of Int16 = 1
+code_of Int24 = 2
 code_of Int32 = 3
 code_of Steim1 = 10
 code_of Steim2 = 11

@@ -2,7 +2,7 @@
 use Rattle.std.specs.Prelude.{ℕ, ◌+◌, ◌-◌, ◌*◌, ◌/◌, ◌≤◌, max, ℤ, List, [], ◌++◌, length, drop, All}
 use Rattle.msr_steim.specs.Word.{FitsBits}
 use Rattle.msr_words.specs.declared.kinds.Kind.{Kind}
-use Rattle.msr_words.specs.declared.kinds.Kind.TheVariants.{Int16, Int32, Steim1, Steim2}
+use Rattle.msr_words.specs.declared.kinds.Kind.TheVariants.{Int16, Int24, Int32, Steim1, Steim2}
 use Rattle.msr_words.specs.RecordLength.{words_of}
 
 -- what a run begins with fits where the run does
@@ -43,17 +43,19 @@ FitsShort fits = (run : List (ℤ × ℤ)) → length run ≤ 4 → fits run
 -- behind its first leaves three, which no group may follow
 abbrev pub look_back_of : Kind → ℕ
 look_back_of Int16 = 0
+look_back_of Int24 = 0
 look_back_of Int32 = 0
 look_back_of Steim1 = 1
 look_back_of Steim2 = 0
 
--- how many samples a record of each kind has at most: two bytes each, four, a quarter of a word, a seventh
+-- how many samples a record of each kind has at most: two bytes each, three, four, a quarter of a word, a seventh
 abbrev pub most_of : Kind → ℕ → ℕ
 most_of Int16 bytes = (bytes - 64) / 2
+most_of Int24 bytes = (bytes - 64) / 3
 most_of Int32 bytes = (bytes - 64) / 4
 most_of Steim1 bytes = 4 * words_of bytes
 most_of Steim2 bytes = 7 * words_of bytes
 
 -- as many as a record of some kind has at most
 abbrev pub most_any : ℕ → ℕ
-most_any bytes = max (max (most_of Steim2 bytes) (most_of Steim1 bytes)) (max (most_of Int16 bytes) (most_of Int32 bytes))
+most_any bytes = max (max (most_of Steim2 bytes) (most_of Steim1 bytes)) (max (most_of Int16 bytes) (max (most_of Int24 bytes) (most_of Int32 bytes)))

@@ -5,14 +5,23 @@ use Rattle.msr_steim.specs.declared.word.Version.TheVariants.{One, Two}
 use Rattle.msr_words.specs.declared.counts.LeastCounts.{LeastCounts}
 use Rattle.msr_words.specs.Division.{CanDivide}
 use Rattle.msr_words.specs.AreCounts.{AreCounts}
-use Rattle.msr_words.specs.Fit.{FitsInt16, FitsInt32}
+use Rattle.msr_words.specs.declared.kinds.Kind.{Kind}
+use Rattle.msr_words.specs.declared.kinds.Kind.TheVariants.{Int16, Int24}
+use Rattle.msr_words.specs.Fit.{Fits, FitsInt32}
+use Rattle.msr_words.specs.Laws.{most_of}
 
--- `left` more samples may come while the run fits
-pub record FollowsInt16 (bytes : ℕ) (run : List (ℤ × ℤ)) (left : ℕ) (fits : Bool) : Type 0 where
+-- `left` more samples, of so many bits, may come while the run fits
+pub record FollowsIntegers (kind : Kind) (bits bytes : ℕ) (run : List (ℤ × ℤ)) (left : ℕ) (fits : Bool) : Type 0 where
   pub has_header : 64 ≤ bytes
-  pub all_16_bit : IsTrue fits → All (λ p. FitsBits 16 p.0) run
-  pub room : IsTrue fits → length run + left ≡ (bytes - 64) / 2
-  pub past : IsFalse fits → FitsInt16 bytes run → ⊥
+  pub all_of_bits : IsTrue fits → All (λ p. FitsBits bits p.0) run
+  pub room : IsTrue fits → length run + left ≡ most_of kind bytes
+  pub past : IsFalse fits → Fits kind bytes run → ⊥
+
+abbrev pub FollowsInt16 : ℕ → List (ℤ × ℤ) → ℕ → Bool → Type 0
+FollowsInt16 bytes run left fits = FollowsIntegers Int16 16 bytes run left fits
+
+abbrev pub FollowsInt24 : ℕ → List (ℤ × ℤ) → ℕ → Bool → Type 0
+FollowsInt24 bytes run left fits = FollowsIntegers Int24 24 bytes run left fits
 
 pub record FollowsInt32 (bytes : ℕ) (run : List (ℤ × ℤ)) (left : ℕ) (fits : Bool) : Type 0 where
   pub has_header : 64 ≤ bytes

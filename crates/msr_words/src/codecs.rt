@@ -4,14 +4,14 @@ ghost use Rattle.std.specs.Prelude.{◌≡◌, ℕ, ◌+◌, ◌^◌, ◌<◌, �
 ghost use Rattle.msr_steim.specs.declared.word.Version.TheVariants.{One, Two};
 ghost use Rattle.msr_steim.specs.Word.{FitsBits};
 ghost use Rattle.msr_words.specs.declared.kinds.Kind.{Kind};
-ghost use Rattle.msr_words.specs.declared.kinds.Kind.TheVariants.{Int16, Int32, Steim1, Steim2};
+ghost use Rattle.msr_words.specs.declared.kinds.Kind.TheVariants.{Int16, Int24, Int32, Steim1, Steim2};
 ghost use Rattle.msr_words.specs.Lengths.{bytes_of};
 ghost use Rattle.msr_words.specs.RecordLength.{words_of};
-ghost use Rattle.msr_words.specs.Fit.{Fits, FitsInt16, FitsInt32, FitsSteim, code_of};
-ghost use Rattle.msr_words.specs.Trackers.{FollowsInt16, FollowsInt32, FollowsSteim1, FollowsSteim2};
+ghost use Rattle.msr_words.specs.Fit.{Fits, FitsInt32, FitsSteim, code_of};
+ghost use Rattle.msr_words.specs.Trackers.{FollowsInt16, FollowsInt24, FollowsInt32, FollowsSteim1, FollowsSteim2};
 ghost use Rattle.msr_words.specs.Laws.{PrefixLaw, BackStepLaw, SizeLaw, EmptyLaw, most_of};
 ghost use Rattle.std.proofs.Common.{lit≤};
-ghost use Rattle.msr_words.specs.Lemmas.KindLaws.{prefix_int32, back_step_int32, size_int32, empty_int32, prefix_int16, back_step_int16, size_int16, empty_int16, prefix_steim, back_step_steim, size_steim, empty_steim};
+ghost use Rattle.msr_words.specs.Lemmas.KindLaws.{prefix_kind, back_step_kind, size_kind, empty_kind, prefix_int32, back_step_int32, empty_int32, prefix_steim, back_step_steim, size_steim, empty_steim};
 
 use crate::counts::{LeastCounts, fits_bits, steim2_capacity};
 use crate::kinds::Kind;
@@ -101,7 +101,7 @@ impl Tracker for Int32 {
 
     ghost empty = { empty_int32 };
 
-    ghost size = { size_int32 };
+    ghost size = { size_kind Int32 };
 
     fn most(record_length: Length) -> usize {
         Kind::Int32.most(record_length)
@@ -134,23 +134,24 @@ impl Codec for Int32 {
     }
 }
 
+/// Whether a sample of `bits` bits at most is taken behind others that fit, where there is room for `left` more.
+fn is_taken(sample: i32, bits: u32, left: usize, fits: bool) -> bool
+    requires positive { 0 < bits }
+    requires small { bits ≤ 32 }
+    ensures { IsTrue result ↔ IsTrue fits × (0 < left) × FitsBits bits sample }
+{
+    fits && left > 0 && fits_bits(i64::from(sample), bits)
+}
+
 /// The tracker of 16-bit integers.
 #[derive(Clone, Copy, Debug, PartialEq, Eq)]
 pub struct Int16 {
-    left: u32,
+    left: usize,
     fits: bool,
 }
 
-impl Int16 {
-    fn takes(&self, sample: i32) -> bool
-        ensures { IsTrue result ↔ IsTrue self.now.fits × (0 < self.now.left) × FitsBits 16 sample }
-    {
-        self.fits && self.left > 0 && fits_bits(i64::from(sample), 16)
-    }
-}
-
 impl Tracker for Int16 {
-    ghost fits = { FitsInt16 };
+    ghost fits = { Fits Int16 };
 
     ghost follows = { λ bytes run it. FollowsInt16 bytes run it.left it.fits };
 
@@ -160,15 +161,15 @@ impl Tracker for Int16 {
 
     const LOOK_BACK: usize = 0;
 
-    ghost prefix = { prefix_int16 };
+    ghost prefix = { prefix_kind Int16 };
 
-    ghost back_step = { back_step_int16 };
+    ghost back_step = { back_step_kind Int16 };
 
     ghost near = { lit≤ tt };
 
-    ghost empty = { empty_int16 };
+    ghost empty = { empty_kind Int16 };
 
-    ghost size = { size_int16 };
+    ghost size = { size_kind Int16 };
 
     fn most(record_length: Length) -> usize {
         Kind::Int16.most(record_length)
@@ -176,13 +177,13 @@ impl Tracker for Int16 {
 
     fn start(record_length: Length) -> Self {
         Int16 {
-            left: (record_length.bytes() - 64) / 2,
+            left: Kind::Int16.most(record_length),
             fits: true,
         }
     }
 
     fn push(&mut self, sample: i32, _diff: i64) -> bool {
-        if !self.takes(sample) {
+        if !is_taken(sample, 16, self.left, self.fits) {
             self.fits = false;
             return false;
         }
@@ -198,6 +199,65 @@ impl Codec for Int16 {
 
     fn code(&self) -> u8 {
         Kind::Int16.code()
+    }
+}
+
+/// The tracker of 24-bit integers.
+#[derive(Clone, Copy, Debug, PartialEq, Eq)]
+pub struct Int24 {
+    left: usize,
+    fits: bool,
+}
+
+impl Tracker for Int24 {
+    ghost fits = { Fits Int24 };
+
+    ghost follows = { λ bytes run it. FollowsInt24 bytes run it.left it.fits };
+
+    ghost LOOK_BACK = { 0 };
+
+    ghost most = { most_of Int24 };
+
+    const LOOK_BACK: usize = 0;
+
+    ghost prefix = { prefix_kind Int24 };
+
+    ghost back_step = { back_step_kind Int24 };
+
+    ghost near = { lit≤ tt };
+
+    ghost empty = { empty_kind Int24 };
+
+    ghost size = { size_kind Int24 };
+
+    fn most(record_length: Length) -> usize {
+        Kind::Int24.most(record_length)
+    }
+
+    fn start(record_length: Length) -> Self {
+        Int24 {
+            left: Kind::Int24.most(record_length),
+            fits: true,
+        }
+    }
+
+    fn push(&mut self, sample: i32, _diff: i64) -> bool {
+        if !is_taken(sample, 24, self.left, self.fits) {
+            self.fits = false;
+            return false;
+        }
+        self.left -= 1;
+        true
+    }
+}
+
+impl Codec for Int24 {
+    ghost kind = { Int24 };
+
+    ghost same = { λ bytes run. (λ h. h, λ h. h) };
+
+    fn code(&self) -> u8 {
+        Kind::Int24.code()
     }
 }
 

@@ -11,7 +11,7 @@ ghost use Rattle.msr_words.specs.Laws.{DominanceLaw, look_back_of, most_of};
 ghost use Rattle.msr_words.specs.Fit.{Fits, FitsAny, FitsSteim, IsRun, IsFirstKind, code_of};
 ghost use Rattle.msr_words.specs.RecordLength.{words_of};
 
-use crate::counts::{LeastCounts, magnitude};
+use crate::counts::{LeastCounts, fits_bits, magnitude};
 use crate::lengths::Length;
 use crate::window::Window;
 
@@ -19,6 +19,7 @@ use crate::window::Window;
 #[derive(Clone, Copy, Debug, PartialEq, Eq)]
 pub enum Kind {
     Int16,
+    Int24,
     Int32,
     Steim1,
     Steim2,
@@ -33,6 +34,7 @@ impl Kind {
     {
         match self {
             Kind::Int16 => 1,
+            Kind::Int24 => 2,
             Kind::Int32 => 3,
             Kind::Steim1 => 10,
             Kind::Steim2 => 11,
@@ -45,6 +47,7 @@ impl Kind {
     {
         match code {
             1 => Some(Kind::Int16),
+            2 => Some(Kind::Int24),
             3 => Some(Kind::Int32),
             10 => Some(Kind::Steim1),
             11 => Some(Kind::Steim2),
@@ -58,7 +61,7 @@ impl Kind {
     {
         match self {
             Kind::Steim1 => 1,
-            Kind::Int16 | Kind::Int32 | Kind::Steim2 => 0,
+            Kind::Int16 | Kind::Int24 | Kind::Int32 | Kind::Steim2 => 0,
         }
     }
 
@@ -68,6 +71,7 @@ impl Kind {
     {
         match self {
             Kind::Int16 => ((record_length.bytes() - 64) / 2) as usize,
+            Kind::Int24 => ((record_length.bytes() - 64) / 3) as usize,
             Kind::Int32 => ((record_length.bytes() - 64) / 4) as usize,
             Kind::Steim1 => 4 * record_length.data_words() as usize,
             Kind::Steim2 => 7 * record_length.data_words() as usize,
@@ -82,7 +86,8 @@ impl Kind {
             return false;
         }
         match self {
-            Kind::Int16 => all_16_bit(run),
+            Kind::Int16 => all_of_bits(run, 16),
+            Kind::Int24 => all_of_bits(run, 24),
             Kind::Int32 => true,
             Kind::Steim1 => fits_steim1(before, run, record_length.data_words()),
             Kind::Steim2 => fits_steim2(before, run, record_length.data_words()),
@@ -169,10 +174,13 @@ pub(crate) fn difference_after(before: Option<i32>, run: &[i32], at: usize) -> i
     }
 }
 
-fn all_16_bit(run: &[i32]) -> bool
-    ensures { IsTrue result ↔ All (FitsBits 16) run.now }
+/// Each sample is of so many bits.
+fn all_of_bits(run: &[i32], bits: u32) -> bool
+    requires positive { 0 < bits }
+    requires small { bits ≤ 32 }
+    ensures { IsTrue result ↔ All (FitsBits bits) run.now }
 {
-    run.iter().all(|x| -32768 <= *x && *x <= 32767)
+    run.iter().all(|sample| fits_bits(i64::from(*sample), bits))
 }
 
 /// The samples `start` to `end - 1` of a segment fit one record of that kind.
@@ -209,6 +217,8 @@ pub fn first_kind(samples: &[i32], start: usize, end: usize, record_length: Leng
         Kind::Steim1
     } else if run_fits(Kind::Int16, samples, start, end, record_length) {
         Kind::Int16
+    } else if run_fits(Kind::Int24, samples, start, end, record_length) {
+        Kind::Int24
     } else {
         Kind::Int32
     }

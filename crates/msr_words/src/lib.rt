@@ -22,7 +22,7 @@ pub use bounds::{
     fits_up_to_its_end, steim1_look_back, steim1_word_by_word, steim2_greedy_reach,
     two_wide_in_a_word,
 };
-pub use codecs::{Codec, Int16, Int32, Steim1, Steim2, Tracker};
+pub use codecs::{Codec, Int16, Int24, Int32, Steim1, Steim2, Tracker};
 pub use counts::{fits_bits, is_narrow, magnitude, wide_one};
 pub use division::{groups, one_division};
 pub use existence::{division_exists, fitting_is_decided};

@@ -3,8 +3,8 @@
 ghost use Rattle.std.specs.Prelude.{◌≤◌, length};
 
 use crate::{
-    AnyKind, Codec, Int16, Int32, Kind, Length, Run, Steim1, Steim2, Tracker, Window, difference,
-    fill_steim1, fill_steim2, first_kind, groups, one_division, run_fits,
+    AnyKind, Codec, Int16, Int24, Int32, Kind, Length, Run, Steim1, Steim2, Tracker, Window,
+    difference, fill_steim1, fill_steim2, first_kind, groups, one_division, run_fits,
 };
 use msr_steim::Version;
 use std::alloc::{AllocError, Global};
@@ -28,14 +28,19 @@ fn taken<T: Tracker + Drop>(record_length: Length, sample: i32, difference: i64)
 #[test]
 fn how_many_samples_a_record_holds(rt: HostRuntime) -> Result<(), Fail> {
     let length = shortest()?;
-    for (sample, int16) in [
-        (0, 96),
-        (32_767, 96),
-        (-32_768, 96),
-        (32_768, 0),
-        (-32_769, 0),
+    for (sample, int16, int24) in [
+        (0, 96, 64),
+        (32_767, 96, 64),
+        (-32_768, 96, 64),
+        (32_768, 0, 64),
+        (-32_769, 0, 64),
+        (8_388_607, 0, 64),
+        (-8_388_608, 0, 64),
+        (8_388_608, 0, 0),
+        (-8_388_609, 0, 0),
     ] {
         assert_eq!(rt; taken::<Int16>(length, sample, 0), int16);
+        assert_eq!(rt; taken::<Int24>(length, sample, 0), int24);
     }
     for (difference, steim1, steim2) in [
         (0, 172, 301),
@@ -89,12 +94,15 @@ fn steim1_takes_the_least_number_of_words(rt: HostRuntime) -> Result<(), Fail> {
 fn false_for_ever(rt: HostRuntime) -> Result<(), Fail> {
     let length = shortest()?;
     let mut int16 = Int16::start(length);
+    let mut int24 = Int24::start(length);
     let mut steim1 = Steim1::start(length);
     let mut steim2 = Steim2::start(length);
     assert!(rt; !int16.push(40_000, 0));
+    assert!(rt; !int24.push(8_388_608, 0));
     assert!(rt; !steim1.push(0, 4_294_967_295));
     assert!(rt; !steim2.push(0, 536_870_912));
     assert!(rt; !int16.push(0, 0));
+    assert!(rt; !int24.push(0, 0));
     assert!(rt; !steim1.push(0, 0));
     assert!(rt; !steim2.push(0, 0));
     Ok(())
@@ -113,6 +121,7 @@ fn the_kinds(rt: HostRuntime) -> Result<(), Fail> {
     let length = shortest()?;
     for (kind, code, back, most, found) in [
         (Kind::Int16, 1, 0, 96, codec::<Int16>(length)),
+        (Kind::Int24, 2, 0, 64, codec::<Int24>(length)),
         (Kind::Int32, 3, 0, 48, codec::<Int32>(length)),
         (Kind::Steim1, 10, 1, 172, codec::<Steim1>(length)),
         (Kind::Steim2, 11, 0, 301, codec::<Steim2>(length)),
@@ -123,7 +132,7 @@ fn the_kinds(rt: HostRuntime) -> Result<(), Fail> {
         assert_eq!(rt; kind.most(length), most);
         assert_eq!(rt; found, (code, back, most));
     }
-    for code in [0, 2, 4, 12, 255] {
+    for code in [0, 4, 5, 12, 255] {
         assert_eq!(rt; Kind::of_code(code), None);
     }
     assert_eq!(rt; AnyKind::LOOK_BACK, 1);
@@ -163,6 +172,7 @@ fn which_kinds_a_run_fits(rt: HostRuntime) -> Result<(), Fail> {
     let wide = [30_000, -30_000, 30_000];
     for (kind, whole, after_zero, after_less, far, none) in [
         (Kind::Int16, false, false, false, true, true),
+        (Kind::Int24, false, false, false, true, true),
         (Kind::Int32, true, true, true, true, true),
         (Kind::Steim1, false, true, false, true, true),
         (Kind::Steim2, false, false, false, true, true),
@@ -203,6 +213,8 @@ fn runs_of_a_segment(rt: HostRuntime) -> Result<(), Fail> {
         (Kind::Steim2, 0, 43, true),
         (Kind::Steim2, 0, 44, false),
         (Kind::Steim2, 48, 87, true),
+        (Kind::Int24, 0, 64, true),
+        (Kind::Int24, 0, 65, false),
         (Kind::Int32, 0, 48, true),
         (Kind::Int32, 0, 49, false),
         (Kind::Int16, 0, 1, false),
@@ -226,6 +238,28 @@ fn the_first_kind_of_a_run(rt: HostRuntime) -> Result<(), Fail> {
         kind: Kind::Steim2,
     };
     assert_eq!(rt; run.end - run.start, 3);
+    Ok(())
+}
+
+/// Differences of 25 bits take a word each.
+#[test]
+fn a_swing_of_24_bits(rt: HostRuntime) -> Result<(), Fail> {
+    let length = shortest()?;
+    let mut swing = Vec::new(rt.alloc());
+    for i in 0..65 {
+        swing.push(if i % 2 == 0 { 8_388_607 } else { -8_388_608 })?;
+    }
+    for (kind, end, expected) in [
+        (Kind::Steim2, 43, true),
+        (Kind::Steim2, 44, false),
+        (Kind::Steim1, 44, false),
+        (Kind::Int16, 44, false),
+        (Kind::Int24, 64, true),
+        (Kind::Int24, 65, false),
+    ] {
+        assert!(rt; end <= swing.len());
+        assert_eq!(rt; run_fits(kind, &swing, 0, end, length), expected);
+    }
     Ok(())
 }
 

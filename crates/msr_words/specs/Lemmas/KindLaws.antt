@@ -1,17 +1,20 @@
 -- The laws of each kind: what a run begins with fits, and a part behind a cut fits with a few of the samples before it.
-use Rattle.std.specs.Prelude.{◌≡◌, ℕ, ◌+◌, ◌*◌, ◌≤◌, ◌⊎◌, ℤ, List, [], ◌∷◌, ◌++◌, length, drop, map, All}
+use Rattle.std.specs.Prelude.{◌≡◌, ℕ, ◌+◌, ◌-◌, ◌*◌, ◌/◌, ◌<◌, ◌≤◌, ◌⊎◌, ℤ, List, [], ◌∷◌, ◌++◌, length, drop, map, All}
 use Rattle.std.proofs.Common.{arith, length-append, subst, refl, sym, ap, ◌∙◌, inl, inr}
 use Rattle.std.proofs.lemmas.List.{take_at, drop_at, drop_all, map-append, length-map, drop-map}
 use Rattle.std.proofs.lemmas.List.Elements.{All-nil, All-take, All-drop}
+use Rattle.std.proofs.lemmas.Nat.{le-div}
+use Rattle.std.proofs.Math.Nat.{mul-div-le, mul-le-mul_left, mul_comm}
 use Rattle.msr_words.specs.declared.kinds.Kind.{Kind}
-use Rattle.msr_words.specs.declared.kinds.Kind.TheVariants.{Int16, Int32, Steim1, Steim2}
+use Rattle.msr_words.specs.declared.kinds.Kind.TheVariants.{Int16, Int24, Int32, Steim1, Steim2}
 use Rattle.msr_steim.specs.declared.word.Version.{Version}
 use Rattle.msr_steim.specs.declared.word.Version.TheVariants.{One, Two}
 use Rattle.msr_steim.specs.Word.{FitsBits}
 use Rattle.msr_words.specs.Division.{CanDivide}
 use Rattle.msr_words.specs.Laws.{PrefixLaw, BackStepLaw, SuffixLaw, SizeLaw, EmptyLaw, FitsShort, look_back_of, most_of, most_any}
 use Rattle.msr_words.specs.Lemmas.SteimLaws.{places_of, largest_of, prefix_law, back_step_law, size_law, none_divides}
-use Rattle.msr_words.specs.Fit.{FitsInt16, FitsInt32, FitsSteim, Fits, FitsAny}
+use Rattle.msr_words.specs.Bounds.{AreIntegers}
+use Rattle.msr_words.specs.Fit.{FitsIntegers, FitsInt32, FitsSteim, Fits, FitsAny}
 use Rattle.msr_words.specs.RecordLength.{words_of}
 
 -- where each part behind a cut fits by itself, none of the samples before it is needed; and the other way round
@@ -39,16 +42,20 @@ prefix_int32 bytes front back h = omega (arith, length-append front back)
 pub back_step_int32 : (bytes : ℕ) → BackStepLaw 0 (FitsInt32 bytes)
 back_step_int32 bytes = back_step_by_suffix (FitsInt32 bytes) (λ front back h. omega (arith, length-append front back))
 
-pub prefix_int16 : (bytes : ℕ) → PrefixLaw (FitsInt16 bytes)
-prefix_int16 bytes front back h = (
-  subst (All (λ p. FitsBits 16 p.0)) (take_at front back (length front) refl) (All-take (λ p. FitsBits 16 p.0) (length front) (front ++ back) h.0),
-  omega (arith, length-append front back),
+-- where many samples of so many bytes have room, fewer do
+fewer_have_room : (size bytes few many : ℕ) → few ≤ many → size * many + 64 ≤ bytes → size * few + 64 ≤ bytes
+fewer_have_room size bytes few many less room = let bytes_less = mul-le-mul_left size less in omega arith
+
+prefix_integers : (bits size bytes : ℕ) → PrefixLaw (FitsIntegers bits size bytes)
+prefix_integers bits size bytes front back h = (
+  subst (All (λ p. FitsBits bits p.0)) (take_at front back (length front) refl) (All-take (λ p. FitsBits bits p.0) (length front) (front ++ back) h.0),
+  fewer_have_room size bytes (length front) (length (front ++ back)) (omega (arith, length-append front back)) h.1,
 )
 
-pub back_step_int16 : (bytes : ℕ) → BackStepLaw 0 (FitsInt16 bytes)
-back_step_int16 bytes = back_step_by_suffix (FitsInt16 bytes) (λ front back h. (
-  subst (All (λ p. FitsBits 16 p.0)) (drop_at front back (length front) refl) (All-drop (λ p. FitsBits 16 p.0) (length front) (front ++ back) h.0),
-  omega (arith, length-append front back),
+back_step_integers : (bits size bytes : ℕ) → BackStepLaw 0 (FitsIntegers bits size bytes)
+back_step_integers bits size bytes = back_step_by_suffix (FitsIntegers bits size bytes) (λ front back h. (
+  subst (All (λ p. FitsBits bits p.0)) (drop_at front back (length front) refl) (All-drop (λ p. FitsBits bits p.0) (length front) (front ++ back) h.0),
+  fewer_have_room size bytes (length back) (length (front ++ back)) (omega (arith, length-append front back)) h.1,
 ))
 
 -- a list is empty or has a last member
@@ -101,11 +108,9 @@ back_step_steim version bytes front back h =
     let high = r.2 in
     (r.0, omega arith, omega arith, subst (CanDivide version (words_of bytes)) same r.3)
 
-pub size_int16 : (bytes : ℕ) → SizeLaw (most_of Int16 bytes) (FitsInt16 bytes)
-size_int16 bytes run h = omega (arith, h.1)
-
-pub size_int32 : (bytes : ℕ) → SizeLaw (most_of Int32 bytes) (FitsInt32 bytes)
-size_int32 bytes run h = omega (arith, h)
+-- as many samples of so many bytes as have room
+size_integers : (size bytes count : ℕ) → 0 < size → size * count + 64 ≤ bytes → count ≤ (bytes - 64) / size
+size_integers size bytes count some room = le-div count (bytes - 64) size some (omega (arith, mul_comm count size, room))
 
 pub size_steim : (version : Version) (bytes : ℕ) → SizeLaw (largest_of version * words_of bytes) (FitsSteim version bytes)
 size_steim version bytes run h =
@@ -113,8 +118,8 @@ size_steim version bytes run h =
     let same = length-map run (λ (p : ℤ × ℤ). p.1) in
     subst (λ l. l ≤ largest_of version * words_of bytes) same size
 
-pub empty_int16 : EmptyLaw FitsInt16
-empty_int16 bytes h = (All-nil (λ p. FitsBits 16 p.0), omega arith)
+empty_integers : (bits size : ℕ) → EmptyLaw (FitsIntegers bits size)
+empty_integers bits size bytes h = (All-nil (λ p. FitsBits bits p.0), omega arith)
 
 pub empty_int32 : EmptyLaw FitsInt32
 empty_int32 bytes h = omega arith
@@ -124,25 +129,49 @@ empty_steim version bytes h = none_divides version (words_of bytes)
 
 -- the laws, for each kind
 pub prefix_kind : (kind : Kind) (bytes : ℕ) → PrefixLaw (Fits kind bytes)
-prefix_kind Int16 bytes = prefix_int16 bytes
+prefix_kind Int16 bytes = prefix_integers 16 2 bytes
+prefix_kind Int24 bytes = prefix_integers 24 3 bytes
 prefix_kind Int32 bytes = prefix_int32 bytes
 prefix_kind Steim1 bytes = prefix_steim One bytes
 prefix_kind Steim2 bytes = prefix_steim Two bytes
 
 pub back_step_kind : (kind : Kind) (bytes : ℕ) → BackStepLaw (look_back_of kind) (Fits kind bytes)
-back_step_kind Int16 bytes = back_step_int16 bytes
+back_step_kind Int16 bytes = back_step_integers 16 2 bytes
+back_step_kind Int24 bytes = back_step_integers 24 3 bytes
 back_step_kind Int32 bytes = back_step_int32 bytes
 back_step_kind Steim1 bytes = back_step_steim One bytes
 back_step_kind Steim2 bytes = back_step_steim Two bytes
 
 pub size_kind : (kind : Kind) (bytes : ℕ) → SizeLaw (most_of kind bytes) (Fits kind bytes)
-size_kind Int16 bytes = size_int16 bytes
-size_kind Int32 bytes = size_int32 bytes
-size_kind Steim1 bytes = size_steim One bytes
-size_kind Steim2 bytes = size_steim Two bytes
+size_kind Int16 bytes run h = size_integers 2 bytes (length run) (omega arith) h.1
+size_kind Int24 bytes run h = size_integers 3 bytes (length run) (omega arith) h.1
+size_kind Int32 bytes run h = size_integers 4 bytes (length run) (omega arith) h
+size_kind Steim1 bytes run h = size_steim One bytes run h
+size_kind Steim2 bytes run h = size_steim Two bytes run h
+
+pub empty_kind : (kind : Kind) → EmptyLaw (Fits kind)
+empty_kind Int16 = empty_integers 16 2
+empty_kind Int24 = empty_integers 24 3
+empty_kind Int32 = empty_int32
+empty_kind Steim1 = empty_steim One
+empty_kind Steim2 = empty_steim Two
+
+-- integers of fewer bits than a sample has fit by their bits and their number
+by_bits : (bits size bytes : ℕ) → 64 ≤ bytes → (run : List (ℤ × ℤ)) → All (λ p. FitsBits bits p.0) run → length run ≤ (bytes - 64) / size → FitsIntegers bits size bytes run
+by_bits bits size bytes header run all few =
+    let room = mul-le-mul_left size few in
+    let most = mul-div-le (bytes - 64) size in
+    (all, omega arith)
+
+pub int16_by_bits : (bytes : ℕ) → 64 ≤ bytes → AreIntegers Int16 16 bytes
+int16_by_bits bytes header = record { takes = by_bits 16 2 bytes header; needs = λ run h. h.0 }
+
+pub int24_by_bits : (bytes : ℕ) → 64 ≤ bytes → AreIntegers Int24 24 bytes
+int24_by_bits bytes header = record { takes = by_bits 24 3 bytes header; needs = λ run h. h.0 }
 
 few_places : (kind : Kind) → look_back_of kind ≤ 1
 few_places Int16 = omega arith
+few_places Int24 = omega arith
 few_places Int32 = omega arith
 few_places Steim1 = omega arith
 few_places Steim2 = omega arith
@@ -161,6 +190,7 @@ empty_any bytes h = (Int32, empty_int32 bytes h)
 
 within_any : (kind : Kind) (bytes : ℕ) → most_of kind bytes ≤ most_any bytes
 within_any Int16 bytes = omega arith
+within_any Int24 bytes = omega arith
 within_any Int32 bytes = omega arith
 within_any Steim1 bytes = omega arith
 within_any Steim2 bytes = omega arith

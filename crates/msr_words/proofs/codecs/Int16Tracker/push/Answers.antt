@@ -1,16 +1,17 @@
 use Rattle.std.proofs.lemmas.Int.{to_z-of_z}
-use Rattle.msr_words.proofs.Pushes.{push_int16_no, push_int16_yes}
+use Rattle.msr_words.specs.Lemmas.KindLaws.{int16_by_bits}
+use Rattle.msr_words.proofs.Pushes.{push_no, push_yes}
 use Rattle.msr_words.proofs.codecs.Int16Tracker.push.Goals as goal
 
-pub returns-then-not-takes : goal.returns-then-not-takes
-returns-then-not-takes c bytes run h =
+pub returns-then-not-is_taken : goal.returns-then-not-is_taken
+returns-then-not-is_taken c bytes run h =
     let fits = c.ranges.sample in
-    let takes = simp to_z-of_z at c.takes.ensures in
-    push_int16_no bytes run c.args.sample c.args._diff c.args.self.now.left c.args.self.now.fits h
-    (λ t. let e = takes.1 t in cc)
+    let taken = simp to_z-of_z at c.is_taken.ensures in
+    push_no _ 16 bytes (int16_by_bits bytes h.has_header) run c.args.sample c.args._diff c.args.self.now.left c.args.self.now.fits h
+    (λ t. let e = taken.1 t in cc)
 
 pub returns : goal.returns
 returns c bytes run h =
     let fits = c.ranges.sample in
-    let takes = simp to_z-of_z at c.takes.ensures in
-    push_int16_yes bytes run c.args.sample c.args._diff c.args.self.now.left c.args.self.now.fits h (takes.0 c.if-not-takes.false)
+    let taken = simp to_z-of_z at c.is_taken.ensures in
+    push_yes _ 16 bytes (int16_by_bits bytes h.has_header) run c.args.sample c.args._diff c.args.self.now.left c.args.self.now.fits h (taken.0 c.if-not-is_taken.false)

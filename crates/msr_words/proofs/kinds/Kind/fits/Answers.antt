@@ -3,18 +3,28 @@ use Rattle.msr_words.specs.Lengths.{bytes_of}
 use Rattle.msr_words.specs.Laws.{most_of}
 use Rattle.msr_words.specs.Segment.{points}
 use Rattle.msr_words.specs.Lemmas.KindLaws.{size_kind}
-use Rattle.msr_words.proofs.Runs.{fits_int16_points, fits_int32_points, length_points_before}
+use Rattle.msr_words.proofs.Runs.{fits_int32_points, fits_integers_points, length_points_before}
 use Rattle.msr_words.proofs.kinds.Kind.fits.Goals as goal
 
 pub returns-in-Int16 : goal.returns-in-Int16
 returns-in-Int16 c =
-    let says = c.all_16_bit.ensures in
+    let says = c.all_of_bits.ensures in
     let bytes = bytes_of c.args.record_length in
-    let points = fits_int16_points bytes c.args.before c.args.run.now in
+    let points = fits_integers_points 16 2 bytes c.args.before c.args.run.now in
     let most : c.most.result ≡ (bytes - 64) / 2 = subst (λ kind. c.most.result ≡ most_of kind bytes) c.in-Int16.is c.most.ensures in
     let header = c.args.record_length.least in
     let room : 2 * length c.args.run.now + 64 ≤ bytes = omega arith in
     rw c.in-Int16.is (λ t. points.0 (says.0 t, room), λ f. says.1 (points.1 f).0)
+
+pub returns-in-Int24 : goal.returns-in-Int24
+returns-in-Int24 c =
+    let says = c.all_of_bits-in-Int24.ensures in
+    let bytes = bytes_of c.args.record_length in
+    let points = fits_integers_points 24 3 bytes c.args.before c.args.run.now in
+    let most : c.most.result ≡ (bytes - 64) / 3 = subst (λ kind. c.most.result ≡ most_of kind bytes) c.in-Int24.is c.most.ensures in
+    let header = c.args.record_length.least in
+    let room : 3 * length c.args.run.now + 64 ≤ bytes = omega arith in
+    rw c.in-Int24.is (λ t. points.0 (says.0 t, room), λ f. says.1 (points.1 f).0)
 
 pub returns-in-Int32 : goal.returns-in-Int32
 returns-in-Int32 c =
