@@ -13,11 +13,9 @@ use Rattle.msr_words.specs.Division.{CanDivide}
 use Rattle.msr_words.specs.Fit.{Fits}
 use Rattle.msr_words.specs.Groups.{IsOneBelow}
 use Rattle.msr_words.specs.Segment.{difference_at, points, run_points}
-use Rattle.msr_words.specs.declared.kinds.Kind.{Kind}
-use Rattle.msr_words.specs.declared.kinds.Kind.TheVariants.{Int16, Int32, Steim1, Steim2}
-use Rattle.msr_words.specs.Laws.{EmptyLaw}
+use Rattle.msr_words.specs.declared.kinds.Kind.TheVariants.{Steim1, Steim2}
 use Rattle.msr_words.specs.RecordLength.{words_of}
-use Rattle.msr_words.specs.Lemmas.KindLaws.{empty_int16, empty_int32, empty_steim, prefix_kind}
+use Rattle.msr_words.specs.Lemmas.KindLaws.{prefix_kind}
 use Rattle.msr_words.specs.Lemmas.LeastCounts.{a_group_has_few}
 use Rattle.msr_words.specs.Lemmas.SteimLaws.{all_more, head_group, one_has_few, tail_groups}
 use Rattle.msr_words.proofs.Choosing.{inner_first}
@@ -150,16 +148,10 @@ four_begin samples a b at le less order within four =
 -- ---- for the runs of a record
 
 pub wide_of_steim2 : (bytes : ℕ) (run : List (ℤ × ℤ)) → Fits Steim2 bytes run → count_by is_wide (map (λ p. p.1) run) ≤ 2 * words_of bytes
-wide_of_steim2 bytes run fits = wide_law Two (words_of bytes) (map (λ p. p.1) run) fits
+wide_of_steim2 bytes run fits = wide_law Two (words_of bytes) (map (λ p. p.1) run) fits.1
 
 pub wide_of_steim1 : (bytes : ℕ) (run : List (ℤ × ℤ)) → Fits Steim1 bytes run → count_by is_wide (map (λ p. p.1) run) ≤ 2 * words_of bytes
-wide_of_steim1 bytes run fits = wide_law One (words_of bytes) (map (λ p. p.1) run) fits
+wide_of_steim1 bytes run fits = wide_law One (words_of bytes) (map (λ p. p.1) run) fits.1
 
 pub rest_of_run : (bytes : ℕ) (p : ℤ × ℤ) (run : List (ℤ × ℤ)) → (BeginsWithFour (map (λ q. q.1) (p ∷ run)) → ⊥) → Fits Steim1 bytes (p ∷ run) → Fits Steim1 bytes run
-rest_of_run bytes p run apart fits = look_back_law (words_of bytes) p.1 (map (λ q. q.1) run) apart fits
-
-pub empty_kind : (kind : Kind) → EmptyLaw (Fits kind)
-empty_kind Int16 = empty_int16
-empty_kind Int32 = empty_int32
-empty_kind Steim1 = empty_steim One
-empty_kind Steim2 = empty_steim Two
+rest_of_run bytes p run apart fits = (omega (arith, fits.0), look_back_law (words_of bytes) p.1 (map (λ q. q.1) run) apart fits.1)

@@ -1,5 +1,5 @@
 -- What the differences of a run tell of the records that hold it.
-use Rattle.std.specs.Prelude.{◌≡◌, ℕ, zero, suc, ◌+◌, ◌-◌, ◌*◌, ◌^◌, ◌≤◌, ◌↔◌, ℤ, pos, negsuc, Bool, not, nat_lt, List, ◌∷◌, length, map, take, drop, count_by}
+use Rattle.std.specs.Prelude.{◌≡◌, ℕ, zero, suc, ◌+◌, ◌-◌, ◌*◌, ◌^◌, ◌≤◌, ◌↔◌, min, ℤ, pos, negsuc, Bool, not, nat_lt, List, ◌∷◌, length, map, take, drop, count_by}
 use Rattle.std.specs.List.{AllByRecursion}
 use Rattle.msr_steim.specs.declared.word.Version.{Version}
 use Rattle.msr_steim.specs.declared.word.Version.TheVariants.{One}
@@ -9,6 +9,7 @@ use Rattle.msr_words.specs.declared.kinds.Kind.TheVariants.{Steim2}
 use Rattle.msr_words.specs.Division.{CanDivide}
 use Rattle.msr_words.specs.Fit.{Fits, IsRun}
 use Rattle.msr_words.specs.Groups.{IsLongestGroup}
+use Rattle.msr_words.specs.Laws.{most_of}
 use Rattle.msr_words.specs.RecordLength.{words_of}
 use Rattle.msr_words.specs.Segment.{run_points}
 
@@ -48,9 +49,14 @@ abbrev pub IsGreedyReach : ℕ → List ℤ → ℕ → Type 0
 IsGreedyReach zero ds reach = reach ≡ 0
 IsGreedyReach (suc words) ds reach = (count : ℕ) × (rest : ℕ) × IsLongestGroup ds count × IsGreedyReach words (drop count ds) rest × (reach ≡ count + rest)
 
--- no Steim-2 record that starts at or before g reaches further than the longest groups from g on
+-- where a record ends at the latest that starts at g
+abbrev pub latest_end : Kind → ℕ → List ℤ → ℕ → ℕ
+latest_end kind bytes samples g = min (length samples) (g + most_of kind bytes)
+
+-- no Steim-2 record that starts at or before g reaches further than the longest groups from g on, of no more differences
+-- than a record has
 abbrev pub GreedyLaw : Type 0
-GreedyLaw = (bytes : ℕ) (samples : List ℤ) (g reach : ℕ) → g ≤ length samples → IsGreedyReach (words_of bytes) (map (λ p. p.1) (run_points samples g (length samples))) reach →
+GreedyLaw = (bytes : ℕ) (samples : List ℤ) (g reach : ℕ) → g ≤ length samples → IsGreedyReach (words_of bytes) (map (λ p. p.1) (run_points samples g (latest_end Steim2 bytes samples g))) reach →
     IsRun (Fits Steim2 bytes) samples g (g + reach) × ((s b : ℕ) → s ≤ g → IsRun (Fits Steim2 bytes) samples s b → b ≤ g + reach)
 
 -- a sample of a record of 16-bit integers

@@ -1,7 +1,7 @@
 -- The laws of each kind: what a run begins with fits, and a part behind a cut fits with a few of the samples before it.
 use Rattle.std.specs.Prelude.{◌≡◌, ℕ, ◌+◌, ◌*◌, ◌≤◌, ◌⊎◌, ℤ, List, [], ◌∷◌, ◌++◌, length, drop, map, All}
 use Rattle.std.proofs.Common.{arith, length-append, subst, refl, sym, ap, ◌∙◌, inl, inr}
-use Rattle.std.proofs.lemmas.List.{take_at, drop_at, drop_all, map-append, length-map, drop-map}
+use Rattle.std.proofs.lemmas.List.{take_at, drop_at, drop_all, map-append, length-drop, length-map, drop-map}
 use Rattle.std.proofs.lemmas.List.Elements.{All-nil, All-take, All-drop}
 use Rattle.msr_words.specs.declared.kinds.Kind.{Kind}
 use Rattle.msr_words.specs.declared.kinds.Kind.TheVariants.{Int16, Int32, Steim1, Steim2}
@@ -9,9 +9,9 @@ use Rattle.msr_steim.specs.declared.word.Version.{Version}
 use Rattle.msr_steim.specs.declared.word.Version.TheVariants.{One, Two}
 use Rattle.msr_steim.specs.Word.{FitsBits}
 use Rattle.msr_words.specs.Division.{CanDivide}
-use Rattle.msr_words.specs.Laws.{PrefixLaw, BackStepLaw, SuffixLaw, SizeLaw, EmptyLaw, FitsShort, look_back_of, most_of, most_any}
+use Rattle.msr_words.specs.Laws.{PrefixLaw, BackStepLaw, SuffixLaw, SizeLaw, EmptyLaw, FitsShort, look_back_of, room_of, most_of, most_any}
 use Rattle.msr_words.specs.Lemmas.SteimLaws.{places_of, largest_of, prefix_law, back_step_law, size_law, none_divides}
-use Rattle.msr_words.specs.Fit.{FitsInt16, FitsInt32, FitsSteim, Fits, FitsAny}
+use Rattle.msr_words.specs.Fit.{FitsInt16, FitsInt32, FitsSteim, HasRoom, Fits, FitsAny}
 use Rattle.msr_words.specs.RecordLength.{words_of}
 
 -- where each part behind a cut fits by itself, none of the samples before it is needed; and the other way round
@@ -101,10 +101,10 @@ back_step_steim version bytes front back h =
     let high = r.2 in
     (r.0, omega arith, omega arith, subst (CanDivide version (words_of bytes)) same r.3)
 
-pub size_int16 : (bytes : ℕ) → SizeLaw (most_of Int16 bytes) (FitsInt16 bytes)
+pub size_int16 : (bytes : ℕ) → SizeLaw (room_of Int16 bytes) (FitsInt16 bytes)
 size_int16 bytes run h = omega (arith, h.1)
 
-pub size_int32 : (bytes : ℕ) → SizeLaw (most_of Int32 bytes) (FitsInt32 bytes)
+pub size_int32 : (bytes : ℕ) → SizeLaw (room_of Int32 bytes) (FitsInt32 bytes)
 size_int32 bytes run h = omega (arith, h)
 
 pub size_steim : (version : Version) (bytes : ℕ) → SizeLaw (largest_of version * words_of bytes) (FitsSteim version bytes)
@@ -122,24 +122,46 @@ empty_int32 bytes h = omega arith
 pub empty_steim : (version : Version) → EmptyLaw (FitsSteim version)
 empty_steim version bytes h = none_divides version (words_of bytes)
 
--- the laws, for each kind
+-- the laws of the room, for each kind
+prefix_room : (kind : Kind) (bytes : ℕ) → PrefixLaw (HasRoom kind bytes)
+prefix_room Int16 bytes = prefix_int16 bytes
+prefix_room Int32 bytes = prefix_int32 bytes
+prefix_room Steim1 bytes = prefix_steim One bytes
+prefix_room Steim2 bytes = prefix_steim Two bytes
+
+back_step_room : (kind : Kind) (bytes : ℕ) → BackStepLaw (look_back_of kind) (HasRoom kind bytes)
+back_step_room Int16 bytes = back_step_int16 bytes
+back_step_room Int32 bytes = back_step_int32 bytes
+back_step_room Steim1 bytes = back_step_steim One bytes
+back_step_room Steim2 bytes = back_step_steim Two bytes
+
+size_room : (kind : Kind) (bytes : ℕ) → SizeLaw (room_of kind bytes) (HasRoom kind bytes)
+size_room Int16 bytes = size_int16 bytes
+size_room Int32 bytes = size_int32 bytes
+size_room Steim1 bytes = size_steim One bytes
+size_room Steim2 bytes = size_steim Two bytes
+
+empty_room : (kind : Kind) → EmptyLaw (HasRoom kind)
+empty_room Int16 = empty_int16
+empty_room Int32 = empty_int32
+empty_room Steim1 = empty_steim One
+empty_room Steim2 = empty_steim Two
+
+-- the laws, for each kind: where a run is cut, each part has no more samples to count
 pub prefix_kind : (kind : Kind) (bytes : ℕ) → PrefixLaw (Fits kind bytes)
-prefix_kind Int16 bytes = prefix_int16 bytes
-prefix_kind Int32 bytes = prefix_int32 bytes
-prefix_kind Steim1 bytes = prefix_steim One bytes
-prefix_kind Steim2 bytes = prefix_steim Two bytes
+prefix_kind kind bytes front back h = (omega (arith, length-append front back, h.0), prefix_room kind bytes front back h.1)
 
 pub back_step_kind : (kind : Kind) (bytes : ℕ) → BackStepLaw (look_back_of kind) (Fits kind bytes)
-back_step_kind Int16 bytes = back_step_int16 bytes
-back_step_kind Int32 bytes = back_step_int32 bytes
-back_step_kind Steim1 bytes = back_step_steim One bytes
-back_step_kind Steim2 bytes = back_step_steim Two bytes
+back_step_kind kind bytes front back h =
+    let r = back_step_room kind bytes front back h.1 in
+    let fewer = length-drop r.0 front in
+    (r.0, r.1, r.2, (omega (arith, length-append front back, length-append (drop r.0 front) back, fewer, h.0), r.3))
 
 pub size_kind : (kind : Kind) (bytes : ℕ) → SizeLaw (most_of kind bytes) (Fits kind bytes)
-size_kind Int16 bytes = size_int16 bytes
-size_kind Int32 bytes = size_int32 bytes
-size_kind Steim1 bytes = size_steim One bytes
-size_kind Steim2 bytes = size_steim Two bytes
+size_kind kind bytes run h = let room = size_room kind bytes run h.1 in omega (arith, h.0, room)
+
+pub empty_kind : (kind : Kind) → EmptyLaw (Fits kind)
+empty_kind kind bytes header = (omega arith, empty_room kind bytes header)
 
 few_places : (kind : Kind) → look_back_of kind ≤ 1
 few_places Int16 = omega arith
@@ -157,7 +179,7 @@ back_step_any bytes front back h =
     (r.0, r.1, r.2, (h.0, r.3))
 
 pub empty_any : EmptyLaw FitsAny
-empty_any bytes h = (Int32, empty_int32 bytes h)
+empty_any bytes h = (Int32, empty_kind Int32 bytes h)
 
 within_any : (kind : Kind) (bytes : ℕ) → most_of kind bytes ≤ most_any bytes
 within_any Int16 bytes = omega arith
@@ -173,4 +195,4 @@ size_any bytes run h =
 
 -- a few samples fit a record of any length, as 32-bit integers
 pub short_any : (bytes : ℕ) → 256 ≤ bytes → FitsShort (FitsAny bytes)
-short_any bytes h run short = (Int32, omega arith)
+short_any bytes h run short = (Int32, (omega arith, omega arith))
