@@ -158,3 +158,31 @@ fn a_long_way_between_separators(rt: HostRuntime) -> Result<(), Fail> {
     assert!(rt; separates(samples.as_slice(), record_length, &[0, 721]));
     Ok(())
 }
+
+/// A run of the longest record ends where its header cannot count one sample more.
+#[test]
+fn as_far_as_a_header_counts(rt: HostRuntime) -> Result<(), Fail> {
+    let record_length = Length::new(65_536).ok_or("a length")?;
+    let zeros = vec![in rt.alloc(); 0; 65_536]?;
+    let kind = Kind::Steim2;
+    let first = Run {
+        start: 0,
+        end: 65_535,
+        kind,
+    };
+    let second = Run {
+        start: 65_535,
+        end: 65_536,
+        kind,
+    };
+    let whole = Run {
+        start: 0,
+        end: 65_536,
+        kind,
+    };
+    assert!(rt; shows_least(&zeros, record_length, &[first, second], &[0, 65_535]));
+    assert!(rt; !shows_least(&zeros, record_length, &[first, second], &[0, 65_534]));
+    assert!(rt; !shows_least(&zeros, record_length, &[whole], &[0]));
+    assert!(rt; shows_least(&zeros[..65_535], record_length, &[first], &[0]));
+    Ok(())
+}

@@ -11,9 +11,9 @@ use Rattle.msr_words.specs.Fit.{Fits, IsRun, IsFirstKind, rank}
 use Rattle.msr_words.specs.Laws.{BackStepLaw, most_of}
 use Rattle.msr_words.specs.RecordLength.{words_of}
 use Rattle.msr_words.specs.Segment.{difference_at, run_points}
-use Rattle.msr_words.specs.Lemmas.KindLaws.{back_step_kind, prefix_kind, size_kind}
+use Rattle.msr_words.specs.Lemmas.KindLaws.{back_step_kind, empty_kind, prefix_kind, size_kind}
 use Rattle.msr_words.proofs.Runs.{back_step_run, length_run_points, prefix_run, run_points_cut, run_points_more, run_points_none}
-use Rattle.msr_words.proofs.WordRoom.{empty_kind, rest_of_run}
+use Rattle.msr_words.proofs.WordRoom.{rest_of_run}
 use Rattle.msr_packer.specs.declared.step.Ends.{Ends}
 use Rattle.msr_packer.specs.Steps.{AreEnds, IsStepAmong, NonePast}
 use Rattle.msr_packer.proofs.Better.{one_kind}
@@ -58,7 +58,7 @@ module _ (bytes : ℕ) (samples : List ℤ) (g : ℕ) where
   pub longest_int32 : (left : ℕ) → 64 ≤ bytes → g ≤ length samples → left ≡ min (length samples - g) (most_of Int32 bytes) → IsStepAmong (Int32 ∷ []) bytes samples g (record { start = g; end = g + left; kind = Int32 })
   longest_int32 left header within is =
       let l = length_run_points samples g (g + left) (omega arith) (omega arith) in
-      let run : IsRun (Fits Int32 bytes) samples g (g + left) = (omega arith, omega arith, omega arith) in
+      let run : IsRun (Fits Int32 bytes) samples g (g + left) = (omega arith, omega arith, (omega arith, omega arith)) in
       one_kind bytes samples g (Fits Int32 bytes) Int32 Int32 (λ r. (λ f. f, λ f. f)) refl (g + left) g (omega arith)
       (step_found (Fits Int32 bytes) samples g 0 (back_step_kind Int32 bytes) 1 (g + left) g (omega arith) (best_first (Fits Int32 bytes) samples g (g + left) run (λ b r.
       let size = size_kind Int32 bytes (run_points samples g b) r.2 in

@@ -1,18 +1,20 @@
 -- A walk of the longest Steim-2 groups from a frontier.
-use Rattle.std.proofs.Common.{◌≡◌, ℕ, zero, suc, ◌+◌, ◌-◌, ◌<◌, ◌≤◌, min, ℤ, List, length, drop, None, arith, refl, sym, subst, inl, inr}
+use Rattle.std.proofs.Common.{◌≡◌, ℕ, zero, suc, ◌+◌, ◌-◌, ◌<◌, ◌≤◌, min, ℤ, List, length, map, take, drop, None, arith, refl, sym, ap, ◌∙◌, subst, inl, inr}
+use Rattle.std.specs.Prelude.{All}
 use Rattle.std.proofs.lemmas.Bool.{cases_lt}
-use Rattle.std.proofs.lemmas.List.{drop-drop, length-drop}
+use Rattle.std.proofs.lemmas.List.{drop-drop, drop-map, length-drop, length-take-le, take-append-drop}
 use Rattle.msr_words.specs.declared.kinds.Kind.TheVariants.{Steim2}
-use Rattle.msr_words.specs.Bounds.{GreedyLaw, IsGreedyReach}
+use Rattle.msr_words.specs.Bounds.{GreedyLaw, IsGreedyReach, latest_end}
 use Rattle.msr_words.specs.Fit.{Fits, IsRun}
 use Rattle.msr_words.specs.Groups.{IsLongestGroup}
 use Rattle.msr_words.specs.Laws.{IsNarrow}
 use Rattle.msr_words.specs.RecordLength.{words_of}
-use Rattle.msr_words.specs.Segment.{difference_at, differences}
-use Rattle.msr_words.proofs.GreedyReach.{differences_from, narrow_in_group}
+use Rattle.msr_words.specs.Segment.{difference_at, differences, points, run_points}
+use Rattle.msr_words.proofs.GreedyReach.{narrow_in_group}
 use Rattle.msr_words.proofs.Plain.{length_differences}
 use Rattle.msr_packer.specs.Steps.{AreNarrow, AreNarrowThrough}
 use Rattle.msr_packer.proofs.Narrow.{one_narrow}
+use Rattle.msr_packer.proofs.Windows.{by_front, run_points_stay}
 
 -- all but `left` of the words were filled from `start` to `at`: how far the others reach, all of them reach
 pub record IsWalked (words left : ℕ) (samples : List ℤ) (start at : ℕ) : Type 0 where
@@ -47,17 +49,21 @@ walk_more words left samples start at size longest is =
           subst (IsGreedyReach words (drop start (differences None samples))) sum (is.reach (size + rest) here);
     }
 
--- where no more is reached, the walk ends at the greatest end of a run
-module _ (bytes left : ℕ) (samples : List ℤ) (start at end : ℕ) (law : GreedyLaw) (is : IsWalked (words_of bytes) left samples start at) (none : IsGreedyReach left (drop at (differences None samples)) 0) (same : end ≡ at) where
+-- the differences from g up to an end
+differences_up_to : (samples : List ℤ) (g end : ℕ) → g ≤ end → map (λ p. p.1) (run_points samples g end) ≡ drop g (differences None (take end samples))
+differences_up_to samples g end order = ap (map (λ (p : ℤ × ℤ). p.1)) (by_front samples g end order) ∙ sym (drop-map (λ (p : ℤ × ℤ). p.1) g (points None (take end samples)))
+
+-- Where no more is reached of the samples up to the latest end of a record, the walk ends at the greatest end of a run.
+module _ (bytes left : ℕ) (samples : List ℤ) (start latest at end : ℕ) (le : start ≤ length samples) (law : GreedyLaw) (latest_is : latest ≡ latest_end Steim2 bytes samples start)
+    (is : IsWalked (words_of bytes) left (take latest samples) start at) (none : IsGreedyReach left (drop at (differences None (take latest samples))) 0) (same : end ≡ at) where
   reached : IsRun (Fits Steim2 bytes) samples start (start + (end - start)) × ((s b : ℕ) → s ≤ start → IsRun (Fits Steim2 bytes) samples s b → b ≤ start + (end - start))
   reached =
       let from' = is.from in
-      let within' = is.within in
       let sum : at - start + 0 ≡ end - start = omega arith in
-      let le : start ≤ length samples = omega arith in
       law bytes samples start (end - start) le
-      (subst (λ xs. IsGreedyReach (words_of bytes) xs (end - start)) (sym (differences_from samples start le))
-      (subst (IsGreedyReach (words_of bytes) (drop start (differences None samples))) sum (is.reach 0 none)))
+      (subst (λ n. IsGreedyReach (words_of bytes) (map (λ p. p.1) (run_points samples start n)) (end - start)) latest_is
+      (subst (λ xs. IsGreedyReach (words_of bytes) xs (end - start)) (sym (differences_up_to samples start latest (omega arith)))
+      (subst (IsGreedyReach (words_of bytes) (drop start (differences None (take latest samples)))) sum (is.reach 0 none))))
 
   whole : start + (end - start) ≡ end
   whole = let from' = is.from in omega arith
@@ -85,6 +91,14 @@ group_narrow samples start at size le within longest some all =
     let n = length_differences None samples in
     let w = longest.within in
     narrow_more samples start at size le (omega arith) (λ k less. narrow_in_group samples at size k longest some less) all
+
+-- those of the first samples are those of all
+pub narrow_seen : (samples : List ℤ) (start at latest : ℕ) → start ≤ at → at ≤ latest → latest ≤ length samples → AreNarrow (take latest samples) start at → AreNarrow samples start at
+narrow_seen samples start at latest order within inside all =
+    let long = length-take-le latest samples inside in
+    let same : run_points samples start at ≡ run_points (take latest samples) start at =
+    ap (λ xs. run_points xs start at) (sym (take-append-drop latest samples)) ∙ run_points_stay (take latest samples) (drop latest samples) start at order (omega arith) in
+    subst (λ run. All (λ (p : ℤ × ℤ). IsNarrow p.1) run) (sym same) all
 
 pub narrow_through : (samples : List ℤ) (start at : ℕ) → start ≤ at → at ≤ length samples → AreNarrow samples start at
     → (at < length samples → IsNarrow (difference_at samples at)) → AreNarrowThrough samples start at

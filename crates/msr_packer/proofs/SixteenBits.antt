@@ -27,7 +27,7 @@ both_int16 samples a b c le less first second =
 
 module _ (bytes : ℕ) (samples : List ℤ) (a end : ℕ) where
   pub run_int16 : (b : ℕ) → 64 ≤ bytes → a ≤ b → b ≤ length samples → b ≤ a + most_of Int16 bytes → AreInt16 samples a b → IsRun (Fits Int16 bytes) samples a b
-  run_int16 b header le within few all = (le, within, (all, let l = length_run_points samples a b le within in omega arith))
+  run_int16 b header le within few all = let l = length_run_points samples a b le within in (le, within, (omega arith, (all, omega arith)))
 
   pub no_longer : (b : ℕ) → end ≡ a + min (most_of Int16 bytes) (length samples - a) → IsRun (Fits Int16 bytes) samples a b → b ≤ end
   no_longer b is run =
@@ -42,7 +42,7 @@ module _ (bytes : ℕ) (samples : List ℤ) (a end : ℕ) where
     | inl past ↦
         let shorter = prefix_run (Fits Int16 bytes) (prefix_kind Int16 bytes) samples a (at + 1) b (omega arith) (omega arith) run in
         let p : ℤ × ℤ = (slice_index_or samples at (pos 0), difference_at samples at) in
-        let all = subst (λ run. (k : ℕ) (d : ℤ × ℤ) → k < length run → IsInt16 (get_or run k d).0) (run_points_more samples a at le less) shorter.2.0 in
+        let all = subst (λ run. (k : ℕ) (d : ℤ × ℤ) → k < length run → IsInt16 (get_or run k d).0) (run_points_more samples a at le less) shorter.2.1.0 in
         absurd (wider (All-contains (λ (p : ℤ × ℤ). IsInt16 p.0) (run_points samples a at ++ p ∷ []) p all (Contains-push (run_points samples a at) p)))
     | inr not ↦ not
   ]

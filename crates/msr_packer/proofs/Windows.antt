@@ -17,7 +17,7 @@ use Rattle.msr_packer.proofs.Least.{goes_on}
 
 -- ---- samples that more follow
 
-by_front : (samples : List ℤ) (a b : ℕ) → a ≤ b → run_points samples a b ≡ drop a (points None (take b samples))
+pub by_front : (samples : List ℤ) (a b : ℕ) → a ≤ b → run_points samples a b ≡ drop a (points None (take b samples))
 by_front samples a b order =
     let e : a + (b - a) ≡ b = omega arith in
     sym (drop-take a (b - a) (points None samples)) ∙ ap (λ n. drop a (take n (points None samples))) e ∙ ap (drop a) (points_take samples b)

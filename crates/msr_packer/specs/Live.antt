@@ -22,7 +22,7 @@ kind_of_tracker (Int32 t) = kinds.Int32
 
 -- the run was pushed to the tracker
 abbrev pub Follows : ℕ → List (ℤ × ℤ) → KindTracker → Type 0
-Follows bytes run (Steim2 t) = FollowsSteim2 (words_of bytes) (map (λ p. p.1) run) t.left t.count t.most t.fits
+Follows bytes run (Steim2 t) = FollowsSteim2 bytes run t.left t.count t.most t.more t.fits
 Follows bytes run (Steim1 t) = FollowsSteim1 (words_of bytes) (map (λ p. p.1) run) t.words t.counts t.fits
 Follows bytes run (Int16 t) = FollowsInt16 bytes run t.left t.fits
 Follows bytes run (Int32 t) = FollowsInt32 bytes run t.left t.fits

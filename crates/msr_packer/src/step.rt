@@ -14,7 +14,7 @@ ghost use Rattle.msr_packer.specs.Steps.{AreEnds, AreInt16, AreNarrowThrough, Is
 
 use crate::steim1::steim1_reach;
 use msr_words::{
-    Int16, Int32, Kind, Length, Tracker, Window, difference, fits_bits, is_narrow,
+    Int16, Int32, Kind, Length, Steim2, Tracker, Window, difference, fits_bits, is_narrow,
     steim2_greedy_reach, wide_one,
 };
 
@@ -76,7 +76,8 @@ fn reach_to(samples: &[i32], end: usize, least: usize) -> Reach
     }
 }
 
-/// The greatest end of a run of Steim-2 from `start` on: as many of the longest groups as there are words.
+/// The greatest end of a run of Steim-2 from `start` on: as many of the longest groups as there are words, of no more
+/// samples than a record has.
 fn steim2_reach(samples: &[i32], record_length: Length, start: usize) -> Reach
     requires { start ≤ length samples.now }
     ensures fits { IsRun (Fits SecondSteim (bytes_of record_length)) samples.now start result.end }
@@ -84,12 +85,14 @@ fn steim2_reach(samples: &[i32], record_length: Length, start: usize) -> Reach
     ensures narrow { IsTrue result.narrow → AreNarrowThrough samples.now start result.end }
 {
     steim2_greedy_reach();
+    let latest = start + Steim2::most(record_length).min(samples.len() - start);
+    let seen = &samples[..latest];
     let words = record_length.data_words();
     let mut window = Window::new();
     let mut at = start;
     let mut least = 7;
     for _word in 0..words {
-        let size = window.longest_steim2_group(samples, at);
+        let size = window.longest_steim2_group(seen, at);
         if size == 0 {
             return reach_to(samples, at, least);
         }

@@ -18,8 +18,8 @@ enum Made {
     Signs(usize),
     /// So many: 1000000 at even places and 1020000 at odd ones, but this one at the places from 84 to 88.
     Swings(usize, i32),
-    /// The two samples that lie furthest apart.
-    Extremes,
+    /// The two samples that lie furthest apart, in turn.
+    Extremes(usize),
     /// So many, by a seed, of noise of that height.
     Noise(usize, u64, u32),
     /// So many, by a seed, of noise of two heights in turn, each for so many samples.
@@ -42,9 +42,8 @@ fn of_height(number: u64, height: u32) -> i32 {
 impl Made {
     fn count(self) -> usize {
         match self {
-            Zeros(count) | Signs(count) | Swings(count, _) => count,
+            Zeros(count) | Signs(count) | Swings(count, _) | Extremes(count) => count,
             Noise(count, _, _) | Turns(count, _, _, _, _) => count,
-            Extremes => 2,
         }
     }
 
@@ -70,7 +69,7 @@ impl Made {
                     1_020_000
                 }
             }
-            Extremes => { if even { -2_147_483_648 } else { 2_147_483_647 } }
+            Extremes(_) => { if even { -2_147_483_648 } else { 2_147_483_647 } }
             Noise(_, _, height) => of_height(number, height),
             Turns(_, _, calm, loud, stretch) => {
                 let loud_now = place / stretch.max(1) % 2 == 1;
@@ -94,12 +93,27 @@ impl Made {
 type Row = (u32, Made, &'static [(u64, Kind)], &'static [u64]);
 
 /// Those of noise were found by a search over all cuts, starts and divisions into groups.
-const ROWS: [Row; 20] = [
+const ROWS: [Row; 23] = [
     // 43 words of seven differences
     (256, Zeros(301), &[(301, Steim2)], &[0]),
     (256, Zeros(302), &[(301, Steim2), (302, Steim2)], &[0, 301]),
     // 7663 words in 511 frames
     (32768, Zeros(53641), &[(53641, Steim2)], &[0]),
+    // 15343 words in 1023 frames have room for more samples than a header counts
+    (65536, Zeros(65535), &[(65535, Steim2)], &[0]),
+    (
+        65536,
+        Zeros(65536),
+        &[(65535, Steim2), (65536, Steim2)],
+        &[0, 65535],
+    ),
+    // 16368 places of 32 bits
+    (
+        65536,
+        Extremes(16369),
+        &[(16368, Int32), (16369, Int32)],
+        &[0, 16368],
+    ),
     // 96 places of 16 bits
     (256, Signs(97), &[(96, Int16), (97, Steim2)], &[0, 96]),
     // where each record starts at the frontier, three are needed
@@ -112,7 +126,7 @@ const ROWS: [Row; 20] = [
     // a group of three ends the record
     (256, Swings(87, 1_020_000), &[(87, Steim1)], &[0]),
     // a difference of more than 32 bits
-    (256, Extremes, &[(2, Int32)], &[0]),
+    (256, Extremes(2), &[(2, Int32)], &[0]),
     (
         256,
         Noise(400, 1, 10),

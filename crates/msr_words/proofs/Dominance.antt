@@ -1,15 +1,16 @@
 -- Where all differences are narrow, each group of Steim-1 is one of Steim-2.
 use Rattle.std.specs.Prelude.{◌≡◌, ◌↔◌, ◌⊎◌, ◌<◌, ◌-◌, ◌^◌, ℕ, suc, ◌≤◌, ℤ, List, [], ◌∷◌, ◌++◌, length, map, flat_map, All}
 use Rattle.std.specs.List.{AllByRecursion}
-use Rattle.std.proofs.Common.{arith, refl, sym, subst, inl, inr, lit≤}
+use Rattle.std.proofs.Common.{arith, refl, sym, subst, inl, inr, length-append, lit≤}
 use Rattle.std.proofs.lemmas.List.{map-append}
 use Rattle.std.proofs.lemmas.List.Elements.{All-head, All-tail}
 use Rattle.msr_steim.specs.declared.word.Version.TheVariants.{One, Two}
 use Rattle.msr_steim.specs.Word.{AreGroups, FitsBits, IsGroup}
 use Rattle.msr_words.specs.Division.{CanDivide}
-use Rattle.msr_words.specs.Fit.{FitsSteim}
+use Rattle.msr_words.specs.Fit.{Fits}
 use Rattle.msr_words.specs.Laws.{DominanceLaw, IsNarrow}
 use Rattle.msr_words.specs.RecordLength.{words_of}
+use Rattle.msr_words.specs.declared.kinds.Kind.TheVariants.{Steim1, Steim2}
 use Rattle.msr_words.specs.Lemmas.SteimLaws.{all_more, group_drop, head_group, one_has_few, tail_groups}
 use Rattle.msr_words.proofs.Parts.{HasDivision, cut, more_groups, no_groups, one_group}
 use Rattle.msr_words.proofs.Steim2Groups.{IsSteim2Group, division_from, group_to}
@@ -51,13 +52,15 @@ narrow_back (group ∷ groups) front back narrow are join =
         (one_group IsSteim2Group (length groups) (y ∷ ys) (flat_map (λ g. g) groups) (group_to (y ∷ ys) (narrow_group (y ∷ ys) parts.0 part)) (rest parts.1))
 
 -- Steim-2 reaches as far as Steim-1
-pub steim2_dominates : (bytes : ℕ) → DominanceLaw (FitsSteim One bytes) (FitsSteim Two bytes)
+pub steim2_dominates : (bytes : ℕ) → DominanceLaw (Fits Steim1 bytes) (Fits Steim2 bytes)
 steim2_dominates bytes front back narrow fits =
-    let can = subst (CanDivide One (words_of bytes)) (map-append (λ (p : ℤ × ℤ). p.1) front back) fits in
-    let few = can.few in
-    division_from (words_of bytes) (map (λ p. p.1) back)
-    (more_groups IsSteim2Group (length can.groups) (words_of bytes) (map (λ p. p.1) back) few
-    (narrow_back can.groups (map (λ p. p.1) front) (map (λ p. p.1) back) (all_narrow back narrow) can.are_groups can.join))
+    let can = subst (CanDivide One (words_of bytes)) (map-append (λ (p : ℤ × ℤ). p.1) front back) fits.1 in
+    let few = can.few in (
+      omega (arith, length-append front back, fits.0),
+      division_from (words_of bytes) (map (λ p. p.1) back)
+          (more_groups IsSteim2Group (length can.groups) (words_of bytes) (map (λ p. p.1) back) few
+          (narrow_back can.groups (map (λ p. p.1) front) (map (λ p. p.1) back) (all_narrow back narrow) can.are_groups can.join)),
+    )
 
 -- ---- the size of a difference
 

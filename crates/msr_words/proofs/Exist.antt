@@ -14,7 +14,7 @@ use Rattle.msr_words.specs.Division.{CanDivide}
 use Rattle.msr_words.specs.Canonical.{DividesFrom, IsCanonicalDivision}
 use Rattle.msr_words.specs.Existence.{Decided}
 use Rattle.msr_words.specs.RecordLength.{words_of}
-use Rattle.msr_words.specs.Fit.{Fits, FitsAny, FitsIntegers, IsFirstKind, rank}
+use Rattle.msr_words.specs.Fit.{Fits, FitsAny, FitsIntegers, HasRoom, IsFirstKind, most_counted, rank}
 use Rattle.msr_words.specs.Lemmas.LeastCounts.{a_group_has_few}
 use Rattle.msr_words.specs.Lemmas.SteimLaws.{head_group, none_divides}
 use Rattle.msr_words.proofs.Choosing.{divides_can, starts_with, with_first}
@@ -163,12 +163,15 @@ module _ (version : Version) where
 integers_decided : (bits size bytes : ℕ) (run : List (ℤ × ℤ)) → Decided (FitsIntegers bits size bytes run)
 integers_decided bits size bytes run = both_decided (All (λ p. FitsBits bits p.0) run) (size * length run + 64 ≤ bytes) (all_decided (λ p. FitsBits bits p.0) (λ p. bits_decided bits p.0) run) (most_decided (size * length run + 64) bytes)
 
+room_decided : (kind : Kind) (bytes : ℕ) (run : List (ℤ × ℤ)) → Decided (HasRoom kind bytes run)
+room_decided Int16 bytes run = integers_decided 16 2 bytes run
+room_decided Int24 bytes run = integers_decided 24 3 bytes run
+room_decided Int32 bytes run = most_decided (4 * length run + 64) bytes
+room_decided Steim1 bytes run = divide_decided One (words_of bytes) (map (λ p. p.1) run)
+room_decided Steim2 bytes run = divide_decided Two (words_of bytes) (map (λ p. p.1) run)
+
 pub fits_decided : (kind : Kind) (bytes : ℕ) (run : List (ℤ × ℤ)) → Decided (Fits kind bytes run)
-fits_decided Int16 bytes run = integers_decided 16 2 bytes run
-fits_decided Int24 bytes run = integers_decided 24 3 bytes run
-fits_decided Int32 bytes run = most_decided (4 * length run + 64) bytes
-fits_decided Steim1 bytes run = divide_decided One (words_of bytes) (map (λ p. p.1) run)
-fits_decided Steim2 bytes run = divide_decided Two (words_of bytes) (map (λ p. p.1) run)
+fits_decided kind bytes run = both_decided (length run ≤ most_counted) (HasRoom kind bytes run) (most_decided (length run) most_counted) (room_decided kind bytes run)
 
 -- the kind that is tried first
 pub record HasFirstKind (bytes : ℕ) (run : List (ℤ × ℤ)) : Type 0 where

@@ -8,14 +8,14 @@ use Rattle.std.proofs.lemmas.List.{drop-map, get_or-drop, get_or-take, length-ma
 use Rattle.msr_steim.specs.Word.{FitsBits, IsGroup}
 use Rattle.msr_steim.specs.declared.word.Version.TheVariants.{Two}
 use Rattle.msr_words.specs.declared.kinds.Kind.TheVariants.{Steim2}
-use Rattle.msr_words.specs.Bounds.{GreedyLaw, IsGreedyReach}
+use Rattle.msr_words.specs.Bounds.{GreedyLaw, IsGreedyReach, latest_end}
 use Rattle.msr_words.specs.Division.{CanDivide}
 use Rattle.msr_words.specs.Fit.{Fits, IsRun}
 use Rattle.msr_words.specs.Groups.{IsLongestGroup}
 use Rattle.msr_words.specs.RecordLength.{words_of}
 use Rattle.msr_words.specs.Laws.{IsNarrow}
 use Rattle.msr_words.specs.Segment.{difference_at, differences, points, run_points}
-use Rattle.msr_words.specs.Lemmas.KindLaws.{back_step_kind}
+use Rattle.msr_words.specs.Lemmas.KindLaws.{back_step_kind, size_kind}
 use Rattle.msr_words.specs.Lemmas.LeastCounts.{a_group_has_few}
 use Rattle.msr_words.specs.Lemmas.SteimLaws.{all_more}
 use Rattle.msr_words.proofs.Plain.{difference_of, length_differences}
@@ -87,26 +87,36 @@ reach_most (suc words) ds reach n is within h = elim (cases_lt is.0 n) [
 
 -- ---- the runs of a segment
 
-pub differences_to : (samples : List ℤ) (g n : ℕ) → g + n ≤ length samples → map (λ p. p.1) (run_points samples g (g + n)) ≡ take n (map (λ p. p.1) (run_points samples g (length samples)))
-differences_to samples g n within =
-    let long : length (map (λ (p : ℤ × ℤ). p.1) (run_points samples g (g + n))) ≡ n = length-map (run_points samples g (g + n)) (λ (p : ℤ × ℤ). p.1) ∙ length_run_points samples g (g + n) (omega arith) within ∙ omega arith in
-    let whole : map (λ (p : ℤ × ℤ). p.1) (run_points samples g (length samples)) ≡ map (λ p. p.1) (run_points samples g (g + n)) ++ map (λ p. p.1) (run_points samples (g + n) (length samples)) =
-    ap (map (λ (p : ℤ × ℤ). p.1)) (sym (run_points_cut samples g (g + n) (length samples) (omega arith) within)) ∙ map-append (λ (p : ℤ × ℤ). p.1) (run_points samples g (g + n)) (run_points samples (g + n) (length samples)) in
-    sym (ap (take n) whole ∙ take_at (map (λ p. p.1) (run_points samples g (g + n))) (map (λ p. p.1) (run_points samples (g + n) (length samples))) n long)
+pub differences_to : (samples : List ℤ) (g n end : ℕ) → g + n ≤ end → end ≤ length samples → map (λ p. p.1) (run_points samples g (g + n)) ≡ take n (map (λ p. p.1) (run_points samples g end))
+differences_to samples g n end within inside =
+    let long : length (map (λ (p : ℤ × ℤ). p.1) (run_points samples g (g + n))) ≡ n = length-map (run_points samples g (g + n)) (λ (p : ℤ × ℤ). p.1) ∙ length_run_points samples g (g + n) (omega arith) (omega arith) ∙ omega arith in
+    let whole : map (λ (p : ℤ × ℤ). p.1) (run_points samples g end) ≡ map (λ p. p.1) (run_points samples g (g + n)) ++ map (λ p. p.1) (run_points samples (g + n) end) =
+    ap (map (λ (p : ℤ × ℤ). p.1)) (sym (run_points_cut samples g (g + n) end (omega arith) within)) ∙ map-append (λ (p : ℤ × ℤ). p.1) (run_points samples g (g + n)) (run_points samples (g + n) end) in
+    sym (ap (take n) whole ∙ take_at (map (λ p. p.1) (run_points samples g (g + n))) (map (λ p. p.1) (run_points samples (g + n) end)) n long)
 
--- the differences from g on
-abbrev behind : List ℤ → ℕ → List ℤ
-behind samples g = map (λ p. p.1) (run_points samples g (length samples))
+-- the differences from g up to an end
+abbrev between : List ℤ → ℕ → ℕ → List ℤ
+between samples g end = map (λ p. p.1) (run_points samples g end)
 
-length_behind : (samples : List ℤ) (g : ℕ) → g ≤ length samples → length (behind samples g) ≡ length samples - g
-length_behind samples g le = length-map (run_points samples g (length samples)) (λ (p : ℤ × ℤ). p.1) ∙ length_run_points samples g (length samples) le (omega arith)
+length_between : (samples : List ℤ) (g end : ℕ) → g ≤ end → end ≤ length samples → length (between samples g end) ≡ end - g
+length_between samples g end order within = length-map (run_points samples g end) (λ (p : ℤ × ℤ). p.1) ∙ length_run_points samples g end order within
 
 pub greedy_law : GreedyLaw
 greedy_law bytes samples g reach le is =
-    let l = length_behind samples g le in
-    let w = reach_within (words_of bytes) (behind samples g) reach is in
-    let inside : g + reach ≤ length samples = omega arith in (
-      (omega arith, inside, subst (CanDivide Two (words_of bytes)) (sym (differences_to samples g reach inside)) (division_from (words_of bytes) (take reach (behind samples g)) (reach_fits (words_of bytes) (behind samples g) reach is))),
+    let end = latest_end Steim2 bytes samples g in
+    let ds = between samples g (latest_end Steim2 bytes samples g) in
+    let l = length_between samples g (latest_end Steim2 bytes samples g) (omega arith) (omega arith) in
+    let w = reach_within (words_of bytes) (between samples g (latest_end Steim2 bytes samples g)) reach is in
+    let inside : g + reach ≤ latest_end Steim2 bytes samples g = omega arith in
+    let long = length_run_points samples g (g + reach) (omega arith) (omega arith) in (
+      (
+        omega arith,
+        omega arith,
+        (
+          omega arith,
+          subst (CanDivide Two (words_of bytes)) (sym (differences_to samples g reach end inside (omega arith))) (division_from (words_of bytes) (take reach ds) (reach_fits (words_of bytes) ds reach is)),
+        ),
+      ),
       λ s b before run. elim (cases_lt g b) [
         | inl past ↦ furthest s b before run past
         | inr not ↦ omega arith
@@ -120,11 +130,15 @@ greedy_law bytes samples g reach le is =
         let low = cut.2 in
         let same : cut.0 ≡ g = omega arith in
         let here : IsRun (Fits Steim2 bytes) samples g b = subst (λ x. IsRun (Fits Steim2 bytes) samples x b) same cut.4 in
-        let l = length_behind samples g le in
         let in' = here.1 in
+        let long = length_run_points samples g b here.0 here.1 in
+        let few = size_kind Steim2 bytes (run_points samples g b) here.2 in
+        let ds = between samples g (latest_end Steim2 bytes samples g) in
+        let l = length_between samples g (latest_end Steim2 bytes samples g) (omega arith) (omega arith) in
         let e : b ≡ g + (b - g) = omega arith in
-        let can : CanDivide Two (words_of bytes) (take (b - g) (behind samples g)) = subst (CanDivide Two (words_of bytes)) (differences_to samples g (b - g) (omega arith)) (subst (λ x. Fits Steim2 bytes (run_points samples g x)) e here.2) in
-        let most = reach_most (words_of bytes) (behind samples g) reach (b - g) is (omega arith) (division_to (words_of bytes) (take (b - g) (behind samples g)) can) in
+        let can : CanDivide Two (words_of bytes) (take (b - g) (between samples g (latest_end Steim2 bytes samples g))) =
+        subst (CanDivide Two (words_of bytes)) (differences_to samples g (b - g) (latest_end Steim2 bytes samples g) (omega arith) (omega arith)) (subst (λ x. Fits Steim2 bytes (run_points samples g x)) e here.2).1 in
+        let most = reach_most (words_of bytes) ds reach (b - g) is (omega arith) (division_to (words_of bytes) (take (b - g) ds) can) in
         omega arith
 
 -- ---- word after word

@@ -1,11 +1,12 @@
 -- A walk of Steim-1 words over a segment.
-use Rattle.std.proofs.Common.{◌≡◌, ℕ, ◌+◌, ◌-◌, ◌≤◌, ℤ, false, List, length, map, take, drop, None, arith, sym, ap, ◌∙◌, subst}
+use Rattle.std.proofs.Common.{◌≡◌, ℕ, ◌+◌, ◌-◌, ◌*◌, ◌≤◌, ℤ, false, List, length, map, take, drop, None, arith, sym, ap, ◌∙◌, subst}
 use Rattle.std.proofs.lemmas.List.{drop-drop, length-drop}
 use Rattle.msr_steim.specs.declared.word.Version.TheVariants.{One}
 use Rattle.msr_words.specs.declared.kinds.Kind.TheVariants.{Steim1}
 use Rattle.msr_words.specs.Bounds.{IsEnd}
 use Rattle.msr_words.specs.Division.{CanDivide}
-use Rattle.msr_words.specs.Fit.{Fits, IsRun}
+use Rattle.msr_words.specs.Fit.{Fits, IsRun, most_counted}
+use Rattle.msr_words.specs.Lemmas.KindLaws.{size_steim}
 use Rattle.msr_words.specs.RecordLength.{words_of}
 use Rattle.msr_words.specs.Segment.{differences, run_points}
 use Rattle.msr_words.specs.Steim1Reach.{IsSteim1End, IsSteim1Reach}
@@ -32,9 +33,9 @@ left_behind samples start at le =
     let e : start + (at - start) ≡ at = omega arith in
     sym (drop-drop (at - start) start (differences None samples) ∙ ap (λ n. drop n (differences None samples)) (omega arith))
 
-module _ (bytes : ℕ) (samples : List ℤ) (start reach end : ℕ) (le : start ≤ length samples) (is : IsSteim1End (words_of bytes) (behind samples start) reach) (same : end ≡ start + reach) where
+module _ (bytes : ℕ) (few : 4 * words_of bytes ≤ most_counted) (samples : List ℤ) (start reach end : ℕ) (le : start ≤ length samples) (is : IsSteim1End (words_of bytes) (behind samples start) reach) (same : end ≡ start + reach) where
   taken : (n : ℕ) → start + n ≤ length samples → map (λ p. p.1) (run_points samples start (start + n)) ≡ take n (behind samples start)
-  taken n within = differences_to samples start n within ∙ ap (take n) (differences_from samples start le)
+  taken n within = differences_to samples start n (length samples) within (omega arith) ∙ ap (take n) (differences_from samples start le)
 
   -- the end of the walk is the end of the run
   pub walk_ends : IsEnd Steim1 bytes samples start end
@@ -42,7 +43,9 @@ module _ (bytes : ℕ) (samples : List ℤ) (start reach end : ℕ) (le : start 
       let l = length_behind samples start in
       let w = is.within in
       let inside : start + reach ≤ length samples = omega arith in
-      let whole : IsRun (Fits Steim1 bytes) samples start (start + reach) = (omega arith, inside, subst (CanDivide One (words_of bytes)) (sym (taken reach inside)) is.fits) in
+      let can = subst (CanDivide One (words_of bytes)) (sym (taken reach inside)) is.fits in
+      let size = size_steim One bytes (run_points samples start (start + reach)) can in
+      let whole : IsRun (Fits Steim1 bytes) samples start (start + reach) = (omega arith, inside, (omega arith, can)) in
       record {
         fits = subst (IsRun (Fits Steim1 bytes) samples start) (sym same) whole;
         furthest = λ b run.
@@ -51,7 +54,7 @@ module _ (bytes : ℕ) (samples : List ℤ) (start reach end : ℕ) (le : start 
             let e : b ≡ start + (b - start) = omega arith in
             let within : start + (b - start) ≤ length samples = omega arith in
             let can : CanDivide One (words_of bytes) (take (b - start) (behind samples start)) =
-            subst (CanDivide One (words_of bytes)) (taken (b - start) within) (subst (λ x. Fits Steim1 bytes (run_points samples start x)) e run.2) in
+            subst (CanDivide One (words_of bytes)) (taken (b - start) within) (subst (λ x. Fits Steim1 bytes (run_points samples start x)) e run.2).1 in
             let most = is.furthest (b - start) (omega arith) can in
             omega arith;
       }

@@ -148,10 +148,10 @@ four_begin samples a b at le less order within four =
 -- ---- for the runs of a record
 
 pub wide_of_steim2 : (bytes : ℕ) (run : List (ℤ × ℤ)) → Fits Steim2 bytes run → count_by is_wide (map (λ p. p.1) run) ≤ 2 * words_of bytes
-wide_of_steim2 bytes run fits = wide_law Two (words_of bytes) (map (λ p. p.1) run) fits
+wide_of_steim2 bytes run fits = wide_law Two (words_of bytes) (map (λ p. p.1) run) fits.1
 
 pub wide_of_steim1 : (bytes : ℕ) (run : List (ℤ × ℤ)) → Fits Steim1 bytes run → count_by is_wide (map (λ p. p.1) run) ≤ 2 * words_of bytes
-wide_of_steim1 bytes run fits = wide_law One (words_of bytes) (map (λ p. p.1) run) fits
+wide_of_steim1 bytes run fits = wide_law One (words_of bytes) (map (λ p. p.1) run) fits.1
 
 pub rest_of_run : (bytes : ℕ) (p : ℤ × ℤ) (run : List (ℤ × ℤ)) → (BeginsWithFour (map (λ q. q.1) (p ∷ run)) → ⊥) → Fits Steim1 bytes (p ∷ run) → Fits Steim1 bytes run
-rest_of_run bytes p run apart fits = look_back_law (words_of bytes) p.1 (map (λ q. q.1) run) apart fits
+rest_of_run bytes p run apart fits = (omega (arith, fits.0), look_back_law (words_of bytes) p.1 (map (λ q. q.1) run) apart fits.1)

@@ -1,5 +1,5 @@
 -- What the differences of a run tell of the records that hold it.
-use Rattle.std.specs.Prelude.{◌≡◌, ℕ, zero, suc, ◌+◌, ◌-◌, ◌*◌, ◌^◌, ◌≤◌, ◌↔◌, ℤ, pos, negsuc, Bool, not, nat_lt, List, ◌∷◌, length, map, take, drop, count_by, All}
+use Rattle.std.specs.Prelude.{◌≡◌, ℕ, zero, suc, ◌+◌, ◌-◌, ◌*◌, ◌^◌, ◌≤◌, ◌↔◌, min, ℤ, pos, negsuc, Bool, not, nat_lt, List, ◌∷◌, length, map, take, drop, count_by, All}
 use Rattle.std.specs.List.{AllByRecursion}
 use Rattle.msr_steim.specs.declared.word.Version.{Version}
 use Rattle.msr_steim.specs.declared.word.Version.TheVariants.{One}
@@ -49,9 +49,14 @@ abbrev pub IsGreedyReach : ℕ → List ℤ → ℕ → Type 0
 IsGreedyReach zero ds reach = reach ≡ 0
 IsGreedyReach (suc words) ds reach = (count : ℕ) × (rest : ℕ) × IsLongestGroup ds count × IsGreedyReach words (drop count ds) rest × (reach ≡ count + rest)
 
--- no Steim-2 record that starts at or before g reaches further than the longest groups from g on
+-- where a record ends at the latest that starts at g
+abbrev pub latest_end : Kind → ℕ → List ℤ → ℕ → ℕ
+latest_end kind bytes samples g = min (length samples) (g + most_of kind bytes)
+
+-- no Steim-2 record that starts at or before g reaches further than the longest groups from g on, of no more differences
+-- than a record has
 abbrev pub GreedyLaw : Type 0
-GreedyLaw = (bytes : ℕ) (samples : List ℤ) (g reach : ℕ) → g ≤ length samples → IsGreedyReach (words_of bytes) (map (λ p. p.1) (run_points samples g (length samples))) reach →
+GreedyLaw = (bytes : ℕ) (samples : List ℤ) (g reach : ℕ) → g ≤ length samples → IsGreedyReach (words_of bytes) (map (λ p. p.1) (run_points samples g (latest_end Steim2 bytes samples g))) reach →
     IsRun (Fits Steim2 bytes) samples g (g + reach) × ((s b : ℕ) → s ≤ g → IsRun (Fits Steim2 bytes) samples s b → b ≤ g + reach)
 
 -- The runs that fit this kind are those of numbers of so many bits that are no longer than its longest.

@@ -9,6 +9,12 @@ use Rattle.msr_words.specs.Division.{CanDivide}
 use Rattle.msr_words.specs.RecordLength.{words_of}
 use Rattle.msr_words.specs.Segment.{run_points}
 
+-- the header counts the samples of a record in 16 bits
+abbrev pub most_counted : ℕ
+most_counted = 65535
+
+-- ---- the room that a record of each kind has
+
 -- integers of so many bits, in so many bytes each, behind the 64 bytes of the header
 abbrev pub FitsIntegers : ℕ → ℕ → ℕ → List (ℤ × ℤ) → Type 0
 FitsIntegers bits size bytes run = All (λ p. FitsBits bits p.0) run × (size * length run + 64 ≤ bytes)
@@ -29,13 +35,17 @@ FitsInt32 bytes run = 4 * length run + 64 ≤ bytes
 abbrev pub FitsSteim : Version → ℕ → List (ℤ × ℤ) → Type 0
 FitsSteim version bytes run = CanDivide version (words_of bytes) (map (λ p. p.1) run)
 
--- the run fits a record of that many bytes and that kind
+-- a record of that many bytes and that kind has room for the run
+abbrev pub HasRoom : Kind → ℕ → List (ℤ × ℤ) → Type 0
+HasRoom Int16 bytes run = FitsInt16 bytes run
+HasRoom Int24 bytes run = FitsInt24 bytes run
+HasRoom Int32 bytes run = FitsInt32 bytes run
+HasRoom Steim1 bytes run = FitsSteim One bytes run
+HasRoom Steim2 bytes run = FitsSteim Two bytes run
+
+-- the run fits a record of that many bytes and that kind: it has room there, and its samples can be counted
 abbrev pub Fits : Kind → ℕ → List (ℤ × ℤ) → Type 0
-Fits Int16 bytes run = FitsInt16 bytes run
-Fits Int24 bytes run = FitsInt24 bytes run
-Fits Int32 bytes run = FitsInt32 bytes run
-Fits Steim1 bytes run = FitsSteim One bytes run
-Fits Steim2 bytes run = FitsSteim Two bytes run
+Fits kind bytes run = (length run ≤ most_counted) × HasRoom kind bytes run
 
 -- it fits a record of some kind
 abbrev pub FitsAny : ℕ → List (ℤ × ℤ) → Type 0

@@ -1,8 +1,9 @@
 -- The laws of a tracker. They hold for lists of any whole numbers.
-use Rattle.std.specs.Prelude.{ℕ, ◌+◌, ◌-◌, ◌*◌, ◌/◌, ◌≤◌, max, ℤ, List, [], ◌++◌, length, drop, All}
+use Rattle.std.specs.Prelude.{ℕ, ◌+◌, ◌-◌, ◌*◌, ◌/◌, ◌≤◌, max, min, ℤ, List, [], ◌++◌, length, drop, All}
 use Rattle.msr_steim.specs.Word.{FitsBits}
 use Rattle.msr_words.specs.declared.kinds.Kind.{Kind}
 use Rattle.msr_words.specs.declared.kinds.Kind.TheVariants.{Int16, Int24, Int32, Steim1, Steim2}
+use Rattle.msr_words.specs.Fit.{most_counted}
 use Rattle.msr_words.specs.RecordLength.{words_of}
 
 -- what a run begins with fits where the run does
@@ -48,13 +49,17 @@ look_back_of Int32 = 0
 look_back_of Steim1 = 1
 look_back_of Steim2 = 0
 
--- how many samples a record of each kind has at most: two bytes each, three, four, a quarter of a word, a seventh
+-- for how many samples a record of each kind has room at most: two bytes each, three, four, a quarter of a word, a seventh
+abbrev pub room_of : Kind → ℕ → ℕ
+room_of Int16 bytes = (bytes - 64) / 2
+room_of Int24 bytes = (bytes - 64) / 3
+room_of Int32 bytes = (bytes - 64) / 4
+room_of Steim1 bytes = 4 * words_of bytes
+room_of Steim2 bytes = 7 * words_of bytes
+
+-- how many samples a record of each kind has at most
 abbrev pub most_of : Kind → ℕ → ℕ
-most_of Int16 bytes = (bytes - 64) / 2
-most_of Int24 bytes = (bytes - 64) / 3
-most_of Int32 bytes = (bytes - 64) / 4
-most_of Steim1 bytes = 4 * words_of bytes
-most_of Steim2 bytes = 7 * words_of bytes
+most_of kind bytes = min (room_of kind bytes) most_counted
 
 -- as many as a record of some kind has at most
 abbrev pub most_any : ℕ → ℕ

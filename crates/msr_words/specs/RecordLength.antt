@@ -1,11 +1,18 @@
 -- The lengths of written records, and what a record of a length has room for.
 use Rattle.std.specs.Prelude.{◌≡◌, ◌≤◌, ◌-◌, ◌*◌, ◌/◌, ◌^◌, ℕ}
 
--- a power of two from 256 to 32768 bytes
+-- the exponents of the shortest record, of 256 bytes, and of the longest, of 65536
+abbrev pub least_exponent : ℕ
+least_exponent = 8
+
+abbrev pub most_exponent : ℕ
+most_exponent = 16
+
+-- a power of two from 256 to 65536 bytes
 pub record IsRecordLength (bytes : ℕ) : Type 0 where
   pub exponent : ℕ
-  pub least : 8 ≤ exponent
-  pub most : exponent ≤ 15
+  pub least : least_exponent ≤ exponent
+  pub most : exponent ≤ most_exponent
   pub power : bytes ≡ 2 ^ exponent
 
 -- the frames of 64 bytes behind the header, which has 64 bytes

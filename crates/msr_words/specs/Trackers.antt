@@ -1,14 +1,15 @@
 -- What the fields of a tracker say of the samples pushed so far.
-use Rattle.std.specs.Prelude.{◌≡◌, ℕ, ◌+◌, ◌-◌, ◌/◌, ◌≤◌, ℤ, List, ◌++◌, suc, ◌↔◌, length, All, IsTrue, IsFalse, Bool, Some, reverse}
+use Rattle.std.specs.Prelude.{◌≡◌, ℕ, ◌+◌, ◌*◌, ◌≤◌, ℤ, List, ◌++◌, suc, ◌↔◌, length, map, All, IsTrue, IsFalse, Bool, Some, reverse}
 use Rattle.msr_steim.specs.Word.{FitsBits, group_width}
 use Rattle.msr_steim.specs.declared.word.Version.TheVariants.{One, Two}
 use Rattle.msr_words.specs.declared.counts.LeastCounts.{LeastCounts}
 use Rattle.msr_words.specs.Division.{CanDivide}
 use Rattle.msr_words.specs.AreCounts.{AreCounts}
 use Rattle.msr_words.specs.declared.kinds.Kind.{Kind}
-use Rattle.msr_words.specs.declared.kinds.Kind.TheVariants.{Int16, Int24}
-use Rattle.msr_words.specs.Fit.{Fits, FitsInt32}
+use Rattle.msr_words.specs.declared.kinds.Kind.TheVariants.{Int16, Int24, Int32, Steim2}
+use Rattle.msr_words.specs.Fit.{Fits, most_counted}
 use Rattle.msr_words.specs.Laws.{most_of}
+use Rattle.msr_words.specs.RecordLength.{words_of}
 
 -- `left` more samples, of so many bits, may come while the run fits
 pub record FollowsIntegers (kind : Kind) (bits bytes : ℕ) (run : List (ℤ × ℤ)) (left : ℕ) (fits : Bool) : Type 0 where
@@ -25,21 +26,25 @@ FollowsInt24 bytes run left fits = FollowsIntegers Int24 24 bytes run left fits
 
 pub record FollowsInt32 (bytes : ℕ) (run : List (ℤ × ℤ)) (left : ℕ) (fits : Bool) : Type 0 where
   pub has_header : 64 ≤ bytes
-  pub room : IsTrue fits → length run + left ≡ (bytes - 64) / 4
-  pub past : IsFalse fits → FitsInt32 bytes run → ⊥
+  pub room : IsTrue fits → length run + left ≡ most_of Int32 bytes
+  pub past : IsFalse fits → Fits Int32 bytes run → ⊥
 
--- what still fits depends on the open group alone: its differences, of which as many as `most` have room in one word, and the words left
-pub record FollowsSteim2 (words : ℕ) (ds : List ℤ) (left count most : ℕ) (fits : Bool) : Type 0 where
+-- What still fits depends on the open group alone: its differences, of which as many as `most` have room in one word, and the words left.
+-- A record has `more` samples more at most.
+pub record FollowsSteim2 (bytes : ℕ) (run : List (ℤ × ℤ)) (left count most more : ℕ) (fits : Bool) : Type 0 where
   pub group : List ℤ
   pub size : length group ≡ count
   pub room : count ≤ most
   pub limit : most ≤ 7
   pub bits : (n width : ℕ) → group_width Two n ≡ Some width → (All (FitsBits width) group ↔ n ≤ most)
-  pub so_far : IsTrue fits → (tail : List ℤ) → (CanDivide Two words (ds ++ tail) ↔ CanDivide Two (suc left) (group ++ tail))
-  pub past : IsFalse fits → CanDivide Two words ds → ⊥
+  pub so_far : IsTrue fits → (tail : List ℤ) → (CanDivide Two (words_of bytes) (map (λ p. p.1) run ++ tail) ↔ CanDivide Two (suc left) (group ++ tail))
+  pub number : IsTrue fits → length run + more ≡ most_of Steim2 bytes
+  pub past : IsFalse fits → Fits Steim2 bytes run → ⊥
 
--- the least counts are those of the differences, the newest first
+-- The least counts are those of the differences, the newest first. No division into so many words has more differences
+-- than can be counted.
 pub record FollowsSteim1 (words : ℕ) (ds : List ℤ) (own : ℕ) (counts : LeastCounts) (fits : Bool) : Type 0 where
   pub words_is : own ≡ words
+  pub countable : 4 * words ≤ most_counted
   pub counted : IsTrue fits → AreCounts words (reverse ds) counts
   pub past : IsFalse fits → CanDivide One words ds → ⊥

@@ -7,11 +7,11 @@ ghost use Rattle.msr_words.specs.declared.kinds.Kind.{Kind};
 ghost use Rattle.msr_words.specs.declared.kinds.Kind.TheVariants.{Int16, Int24, Int32, Steim1, Steim2};
 ghost use Rattle.msr_words.specs.Lengths.{bytes_of};
 ghost use Rattle.msr_words.specs.RecordLength.{words_of};
-ghost use Rattle.msr_words.specs.Fit.{Fits, FitsInt32, FitsSteim, code_of};
+ghost use Rattle.msr_words.specs.Fit.{Fits, code_of};
 ghost use Rattle.msr_words.specs.Trackers.{FollowsInt16, FollowsInt24, FollowsInt32, FollowsSteim1, FollowsSteim2};
 ghost use Rattle.msr_words.specs.Laws.{PrefixLaw, BackStepLaw, SizeLaw, EmptyLaw, most_of};
 ghost use Rattle.std.proofs.Common.{lit≤};
-ghost use Rattle.msr_words.specs.Lemmas.KindLaws.{prefix_kind, back_step_kind, size_kind, empty_kind, prefix_int32, back_step_int32, empty_int32, prefix_steim, back_step_steim, size_steim, empty_steim};
+ghost use Rattle.msr_words.specs.Lemmas.KindLaws.{prefix_kind, back_step_kind, size_kind, empty_kind};
 
 use crate::counts::{LeastCounts, fits_bits, steim2_capacity};
 use crate::kinds::Kind;
@@ -78,12 +78,12 @@ pub trait Codec: Tracker {
 /// The tracker of 32-bit integers.
 #[derive(Clone, Copy, Debug, PartialEq, Eq)]
 pub struct Int32 {
-    left: u32,
+    left: usize,
     fits: bool,
 }
 
 impl Tracker for Int32 {
-    ghost fits = { FitsInt32 };
+    ghost fits = { Fits Int32 };
 
     ghost follows = { λ bytes run it. FollowsInt32 bytes run it.left it.fits };
 
@@ -93,13 +93,13 @@ impl Tracker for Int32 {
 
     const LOOK_BACK: usize = 0;
 
-    ghost prefix = { prefix_int32 };
+    ghost prefix = { prefix_kind Int32 };
 
-    ghost back_step = { back_step_int32 };
+    ghost back_step = { back_step_kind Int32 };
 
     ghost near = { lit≤ tt };
 
-    ghost empty = { empty_int32 };
+    ghost empty = { empty_kind Int32 };
 
     ghost size = { size_kind Int32 };
 
@@ -109,7 +109,7 @@ impl Tracker for Int32 {
 
     fn start(record_length: Length) -> Self {
         Int32 {
-            left: (record_length.bytes() - 64) / 4,
+            left: Kind::Int32.most(record_length),
             fits: true,
         }
     }
@@ -270,6 +270,8 @@ pub struct Steim2 {
     count: u8,
     /// As many have room in a word with the greatest of them.
     most: u8,
+    /// How many samples more a record has at most.
+    more: usize,
     fits: bool,
 }
 
@@ -298,9 +300,9 @@ fn most_after(count: u8, most: u8, capacity: u8) -> u8
 }
 
 impl Tracker for Steim2 {
-    ghost fits = { FitsSteim Two };
+    ghost fits = { Fits Steim2 };
 
-    ghost follows = { λ bytes run it. FollowsSteim2 (words_of bytes) (map (λ p. p.1) run) it.left it.count it.most it.fits };
+    ghost follows = { λ bytes run it. FollowsSteim2 bytes run it.left it.count it.most it.more it.fits };
 
     ghost LOOK_BACK = { 0 };
 
@@ -308,15 +310,15 @@ impl Tracker for Steim2 {
 
     const LOOK_BACK: usize = 0;
 
-    ghost prefix = { prefix_steim Two };
+    ghost prefix = { prefix_kind Steim2 };
 
-    ghost back_step = { back_step_steim Two };
+    ghost back_step = { back_step_kind Steim2 };
 
     ghost near = { lit≤ tt };
 
-    ghost empty = { empty_steim Two };
+    ghost empty = { empty_kind Steim2 };
 
-    ghost size = { size_steim Two };
+    ghost size = { size_kind Steim2 };
 
     fn most(record_length: Length) -> usize {
         Kind::Steim2.most(record_length)
@@ -327,6 +329,7 @@ impl Tracker for Steim2 {
             left: record_length.data_words() - 1,
             count: 0,
             most: 7,
+            more: Kind::Steim2.most(record_length),
             fits: true,
         }
     }
@@ -338,11 +341,12 @@ impl Tracker for Steim2 {
         let capacity = steim2_capacity(diff);
         let most = self.most.min(capacity);
         let opened = words_opened(self.count, most);
-        if self.left < opened || u32::from(capacity) < opened {
+        if self.more == 0 || self.left < opened || u32::from(capacity) < opened {
             self.fits = false;
             return false;
         }
         self.left -= opened;
+        self.more -= 1;
         self.most = most_after(self.count, most, capacity);
         self.count = count_after(self.count, most);
         true
@@ -369,7 +373,7 @@ pub struct Steim1 {
 }
 
 impl Tracker for Steim1 {
-    ghost fits = { FitsSteim One };
+    ghost fits = { Fits Steim1 };
 
     ghost follows = { λ bytes run it. FollowsSteim1 (words_of bytes) (map (λ p. p.1) run) it.words it.counts it.fits };
 
@@ -379,15 +383,15 @@ impl Tracker for Steim1 {
 
     const LOOK_BACK: usize = 1;
 
-    ghost prefix = { prefix_steim One };
+    ghost prefix = { prefix_kind Steim1 };
 
-    ghost back_step = { back_step_steim One };
+    ghost back_step = { back_step_kind Steim1 };
 
     ghost near = { lit≤ tt };
 
-    ghost empty = { empty_steim One };
+    ghost empty = { empty_kind Steim1 };
 
-    ghost size = { size_steim One };
+    ghost size = { size_kind Steim1 };
 
     fn most(record_length: Length) -> usize {
         Kind::Steim1.most(record_length)

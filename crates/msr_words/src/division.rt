@@ -8,12 +8,14 @@ ghost use Rattle.msr_steim.specs.Word.{FitsBits};
 ghost use Rattle.msr_words.specs.Lengths.{bytes_of};
 ghost use Rattle.msr_words.specs.RecordLength.{words_of};
 ghost use Rattle.msr_words.specs.Division.{CanDivide};
+ghost use Rattle.msr_words.specs.Fit.{most_counted};
 ghost use Rattle.msr_words.specs.Groups.{IsCapacity};
 ghost use Rattle.msr_words.specs.Canonical.{IsCanonicalDivision};
 ghost use Rattle.msr_words.specs.FirstGroup.{AreSizes};
 
 use crate::counts::{fits_bits, steim2_capacity};
 use crate::first_group::Following;
+use crate::kinds::MOST_COUNTED;
 use crate::lengths::Length;
 use msr_steim::{Group, Version};
 use std::alloc::{AllocError, Global};
@@ -132,8 +134,8 @@ fn steim2_groups(
     Ok(Some(groups))
 }
 
-/// The groups in which a record of this length has these differences, where it has room: no division has
-/// fewer groups, and each group in turn is the longest with which there are no more.
+/// The groups in which a record of this length has these differences, where it has room and can count them: no division
+/// has fewer groups, and each group in turn is the longest with which there are no more.
 pub fn groups(
     alloc: Global,
     version: Version,
@@ -142,9 +144,13 @@ pub fn groups(
 ) -> Result<Option<Vec<Group>>, AllocError>
     ensures chosen { IfOk result (λ o. IfSome o (λ groups. IsCanonicalDivision version (map (λ g. g.items) groups.items) differences.now)) }
     ensures few { IfOk result (λ o. IfSome o (λ groups. length groups.items ≤ words_of (bytes_of record_length))) }
-    ensures none { IfOk result (λ o. IsNone o → CanDivide version (words_of (bytes_of record_length)) differences.now → ⊥) }
+    ensures counted { IfOk result (λ o. IfSome o (λ _. length differences.now ≤ most_counted)) }
+    ensures none { IfOk result (λ o. IsNone o → length differences.now ≤ most_counted → CanDivide version (words_of (bytes_of record_length)) differences.now → ⊥) }
 {
     let words = record_length.data_words();
+    if differences.len() > MOST_COUNTED {
+        return Ok(None);
+    }
     match version {
         Version::One => steim1_groups(alloc, words, differences),
         Version::Two => steim2_groups(alloc, words, differences),

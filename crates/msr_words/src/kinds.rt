@@ -4,16 +4,20 @@ ghost use Rattle.std.specs.Prelude.{◌≡◌, All, ℕ, ◌+◌, ◌*◌, ◌^�
 ghost use Rattle.msr_steim.specs.Word.{FitsBits};
 ghost use Rattle.msr_words.specs.Lengths.{bytes_of};
 ghost use Rattle.msr_steim.specs.declared.word.Version.TheVariants.{One, Two};
+ghost use Rattle.msr_words.specs.declared.kinds.Kind.TheVariants.{Steim1 as FirstSteim, Steim2 as SecondSteim};
 ghost use Rattle.msr_words.specs.Segment.{points, run_points, differences, difference_at, difference_from};
 ghost use Rattle.msr_words.specs.Division.{CanDivide};
 ghost use Rattle.msr_words.specs.Groups.{IsCapacity, IsLongestGroup};
 ghost use Rattle.msr_words.specs.Laws.{DominanceLaw, look_back_of, most_of};
-ghost use Rattle.msr_words.specs.Fit.{Fits, FitsAny, FitsSteim, IsRun, IsFirstKind, code_of};
+ghost use Rattle.msr_words.specs.Fit.{Fits, FitsAny, IsRun, IsFirstKind, code_of};
 ghost use Rattle.msr_words.specs.RecordLength.{words_of};
 
 use crate::counts::{LeastCounts, fits_bits, magnitude};
 use crate::lengths::Length;
 use crate::window::Window;
+
+/// As many samples as the header of a record counts, in 16 bits.
+pub(crate) const MOST_COUNTED: usize = 65_535;
 
 /// What a record holds.
 #[derive(Clone, Copy, Debug, PartialEq, Eq)]
@@ -69,13 +73,14 @@ impl Kind {
     pub fn most(self, record_length: Length) -> usize
         ensures { result ≡ most_of self (bytes_of record_length) }
     {
-        match self {
+        let room = match self {
             Kind::Int16 => ((record_length.bytes() - 64) / 2) as usize,
             Kind::Int24 => ((record_length.bytes() - 64) / 3) as usize,
             Kind::Int32 => ((record_length.bytes() - 64) / 4) as usize,
             Kind::Steim1 => 4 * record_length.data_words() as usize,
             Kind::Steim2 => 7 * record_length.data_words() as usize,
-        }
+        };
+        room.min(MOST_COUNTED)
     }
 
     /// The run fits one record of this kind; `before` is the sample before it, none at a segment's start.
@@ -247,5 +252,5 @@ pub fn difference(samples: &[i32], at: usize) -> i64
 /// Where no difference behind a cut is of exactly 16 bits, or of more than 30, the part behind the cut fits
 /// Steim-2 where the run fits Steim-1: each group of Steim-1 is then one of Steim-2.
 pub fn steim2_dominates()
-    ensures { (bytes : ℕ) → DominanceLaw (FitsSteim One bytes) (FitsSteim Two bytes) }
+    ensures { (bytes : ℕ) → DominanceLaw (Fits FirstSteim bytes) (Fits SecondSteim bytes) }
 {}

@@ -1,18 +1,18 @@
 //! The lengths of written records.
 
 ghost use Rattle.std.specs.Prelude.{◌≡◌, ◌<◌, ◌≤◌, ◌^◌, ◌↔◌, IsSome, IfSome};
-ghost use Rattle.msr_words.specs.RecordLength.{IsRecordLength};
+ghost use Rattle.msr_words.specs.RecordLength.{IsRecordLength, least_exponent, most_exponent};
 
-/// The length of a written record: a power of two from 256 to 32768 bytes.
+/// The length of a written record: a power of two from 256 to 65536 bytes.
 #[derive(Clone, Copy, Debug, PartialEq, Eq)]
 pub struct Length {
     bytes: u32,
     exponent: u8,
-    ghost least: { 256 ≤ bytes },
-    ghost most: { bytes ≤ 32768 },
+    ghost least: { 2 ^ least_exponent ≤ bytes },
+    ghost most: { bytes ≤ 2 ^ most_exponent },
     ghost power: { bytes ≡ 2 ^ exponent },
-    ghost from: { 8 ≤ exponent },
-    ghost to: { exponent ≤ 15 },
+    ghost from: { least_exponent ≤ exponent },
+    ghost to: { exponent ≤ most_exponent },
 }
 
 impl Length {
@@ -32,6 +32,7 @@ impl Length {
             8192 => 13,
             16384 => 14,
             32768 => 15,
+            65536 => 16,
             _ => return None,
         };
         Some(Length { bytes, exponent })

@@ -14,15 +14,25 @@ fn shortest() -> Result<Length, Fail> {
     Ok(Length::new(256).ok_or("a length")?)
 }
 
-/// How many samples of these differences, all alike, the tracker takes, of four hundred.
-fn taken<T: Tracker + Drop>(record_length: Length, sample: i32, difference: i64) -> usize {
+/// How many samples of these differences, all alike, the tracker takes, of so many.
+fn taken_of<T: Tracker + Drop>(
+    many: usize,
+    record_length: Length,
+    sample: i32,
+    difference: i64,
+) -> usize {
     let mut tracker = T::start(record_length);
-    for count in 0..400 {
+    for count in 0..many {
         if !tracker.push(sample, difference) {
             return count;
         }
     }
-    400
+    many
+}
+
+/// The same, of four hundred.
+fn taken<T: Tracker + Drop>(record_length: Length, sample: i32, difference: i64) -> usize {
+    taken_of::<T>(400, record_length, sample, difference)
 }
 
 #[test]
@@ -151,6 +161,7 @@ fn the_record_lengths(rt: HostRuntime) -> Result<(), Fail> {
         (8192, 13, 127, 1903),
         (16_384, 14, 255, 3823),
         (32_768, 15, 511, 7663),
+        (65_536, 16, 1023, 15_343),
     ] {
         let length = Length::new(bytes).ok_or("a length")?;
         assert_eq!(rt; length.bytes(), bytes);
@@ -158,9 +169,59 @@ fn the_record_lengths(rt: HostRuntime) -> Result<(), Fail> {
         assert_eq!(rt; length.frames(), frames);
         assert_eq!(rt; length.data_words(), words);
     }
-    for bytes in [0, 64, 128, 255, 257, 768, 32_767, 65_536] {
+    for bytes in [0, 64, 128, 255, 257, 768, 32_767, 65_535, 131_072] {
         assert_eq!(rt; Length::new(bytes), None);
     }
+    Ok(())
+}
+
+/// The longest record has room for 107401 differences of Steim-2, and its header counts 65535 samples.
+#[test]
+fn no_more_samples_than_are_counted(rt: HostRuntime) -> Result<(), Fail> {
+    let length = Length::new(65_536).ok_or("a length")?;
+    for (kind, most, taken) in [
+        (Kind::Int16, 32_736, taken_of::<Int16>(70_000, length, 0, 0)),
+        (Kind::Int32, 16_368, taken_of::<Int32>(70_000, length, 0, 0)),
+        (
+            Kind::Steim1,
+            61_372,
+            taken_of::<Steim1>(70_000, length, 0, 0),
+        ),
+        (
+            Kind::Steim2,
+            65_535,
+            taken_of::<Steim2>(70_000, length, 0, 0),
+        ),
+    ] {
+        assert_eq!(rt; kind.most(length), most);
+        assert_eq!(rt; taken, most);
+    }
+    assert_eq!(rt; taken_of::<AnyKind>(70_000, length, 0, 0), 65_535);
+    assert_eq!(rt; AnyKind::most(length), 65_535);
+    let mut tracker = Steim2::start(length);
+    for _ in 0..65_535 {
+        assert!(rt; tracker.push(0, 0));
+    }
+    assert!(rt; !tracker.push(0, 0));
+    assert!(rt; !tracker.push(0, 0));
+    let mut zeros = Vec::new(rt.alloc());
+    zeros.resize(65_535, 0)?;
+    assert!(rt; Kind::Steim2.fits(None, &zeros, length));
+    zeros.push(0)?;
+    assert!(rt; !Kind::Steim2.fits(None, &zeros, length));
+    Ok(())
+}
+
+#[test]
+fn no_division_of_more_than_are_counted(rt: HostRuntime) -> Result<(), Fail> {
+    let length = Length::new(65_536).ok_or("a length")?;
+    let mut zeros = Vec::new(rt.alloc());
+    zeros.resize(65_535, 0i64)?;
+    let found = groups(rt.alloc(), Version::Two, &zeros, length).map_err(|_| "memory")?;
+    assert_eq!(rt; found.ok_or("no division")?.len(), 9363);
+    zeros.push(0)?;
+    let found = groups(rt.alloc(), Version::Two, &zeros, length).map_err(|_| "memory")?;
+    assert!(rt; found.is_none());
     Ok(())
 }
 

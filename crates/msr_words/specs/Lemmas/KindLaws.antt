@@ -1,7 +1,7 @@
 -- The laws of each kind: what a run begins with fits, and a part behind a cut fits with a few of the samples before it.
 use Rattle.std.specs.Prelude.{◌≡◌, ℕ, ◌+◌, ◌-◌, ◌*◌, ◌/◌, ◌<◌, ◌≤◌, ◌⊎◌, ℤ, List, [], ◌∷◌, ◌++◌, length, drop, map, All}
 use Rattle.std.proofs.Common.{arith, length-append, subst, refl, sym, ap, ◌∙◌, inl, inr}
-use Rattle.std.proofs.lemmas.List.{take_at, drop_at, drop_all, map-append, length-map, drop-map}
+use Rattle.std.proofs.lemmas.List.{take_at, drop_at, drop_all, map-append, length-drop, length-map, drop-map}
 use Rattle.std.proofs.lemmas.List.Elements.{All-nil, All-take, All-drop}
 use Rattle.std.proofs.lemmas.Nat.{le-div}
 use Rattle.std.proofs.Math.Nat.{mul-div-le, mul-le-mul_left, mul_comm}
@@ -11,10 +11,10 @@ use Rattle.msr_steim.specs.declared.word.Version.{Version}
 use Rattle.msr_steim.specs.declared.word.Version.TheVariants.{One, Two}
 use Rattle.msr_steim.specs.Word.{FitsBits}
 use Rattle.msr_words.specs.Division.{CanDivide}
-use Rattle.msr_words.specs.Laws.{PrefixLaw, BackStepLaw, SuffixLaw, SizeLaw, EmptyLaw, FitsShort, look_back_of, most_of, most_any}
+use Rattle.msr_words.specs.Laws.{PrefixLaw, BackStepLaw, SuffixLaw, SizeLaw, EmptyLaw, FitsShort, look_back_of, room_of, most_of, most_any}
 use Rattle.msr_words.specs.Lemmas.SteimLaws.{places_of, largest_of, prefix_law, back_step_law, size_law, none_divides}
 use Rattle.msr_words.specs.Bounds.{AreIntegers}
-use Rattle.msr_words.specs.Fit.{FitsIntegers, FitsInt32, FitsSteim, Fits, FitsAny}
+use Rattle.msr_words.specs.Fit.{FitsIntegers, FitsInt32, FitsSteim, HasRoom, Fits, FitsAny}
 use Rattle.msr_words.specs.RecordLength.{words_of}
 
 -- where each part behind a cut fits by itself, none of the samples before it is needed; and the other way round
@@ -127,36 +127,52 @@ empty_int32 bytes h = omega arith
 pub empty_steim : (version : Version) → EmptyLaw (FitsSteim version)
 empty_steim version bytes h = none_divides version (words_of bytes)
 
--- the laws, for each kind
+-- the laws of the room, for each kind
+prefix_room : (kind : Kind) (bytes : ℕ) → PrefixLaw (HasRoom kind bytes)
+prefix_room Int16 bytes = prefix_integers 16 2 bytes
+prefix_room Int24 bytes = prefix_integers 24 3 bytes
+prefix_room Int32 bytes = prefix_int32 bytes
+prefix_room Steim1 bytes = prefix_steim One bytes
+prefix_room Steim2 bytes = prefix_steim Two bytes
+
+back_step_room : (kind : Kind) (bytes : ℕ) → BackStepLaw (look_back_of kind) (HasRoom kind bytes)
+back_step_room Int16 bytes = back_step_integers 16 2 bytes
+back_step_room Int24 bytes = back_step_integers 24 3 bytes
+back_step_room Int32 bytes = back_step_int32 bytes
+back_step_room Steim1 bytes = back_step_steim One bytes
+back_step_room Steim2 bytes = back_step_steim Two bytes
+
+size_room : (kind : Kind) (bytes : ℕ) → SizeLaw (room_of kind bytes) (HasRoom kind bytes)
+size_room Int16 bytes run h = size_integers 2 bytes (length run) (omega arith) h.1
+size_room Int24 bytes run h = size_integers 3 bytes (length run) (omega arith) h.1
+size_room Int32 bytes run h = size_integers 4 bytes (length run) (omega arith) h
+size_room Steim1 bytes run h = size_steim One bytes run h
+size_room Steim2 bytes run h = size_steim Two bytes run h
+
+empty_room : (kind : Kind) → EmptyLaw (HasRoom kind)
+empty_room Int16 = empty_integers 16 2
+empty_room Int24 = empty_integers 24 3
+empty_room Int32 = empty_int32
+empty_room Steim1 = empty_steim One
+empty_room Steim2 = empty_steim Two
+
+-- the laws, for each kind: where a run is cut, each part has no more samples to count
 pub prefix_kind : (kind : Kind) (bytes : ℕ) → PrefixLaw (Fits kind bytes)
-prefix_kind Int16 bytes = prefix_integers 16 2 bytes
-prefix_kind Int24 bytes = prefix_integers 24 3 bytes
-prefix_kind Int32 bytes = prefix_int32 bytes
-prefix_kind Steim1 bytes = prefix_steim One bytes
-prefix_kind Steim2 bytes = prefix_steim Two bytes
+prefix_kind kind bytes front back h = (omega (arith, length-append front back, h.0), prefix_room kind bytes front back h.1)
 
 pub back_step_kind : (kind : Kind) (bytes : ℕ) → BackStepLaw (look_back_of kind) (Fits kind bytes)
-back_step_kind Int16 bytes = back_step_integers 16 2 bytes
-back_step_kind Int24 bytes = back_step_integers 24 3 bytes
-back_step_kind Int32 bytes = back_step_int32 bytes
-back_step_kind Steim1 bytes = back_step_steim One bytes
-back_step_kind Steim2 bytes = back_step_steim Two bytes
+back_step_kind kind bytes front back h =
+    let r = back_step_room kind bytes front back h.1 in
+    let fewer = length-drop r.0 front in
+    (r.0, r.1, r.2, (omega (arith, length-append front back, length-append (drop r.0 front) back, fewer, h.0), r.3))
 
 pub size_kind : (kind : Kind) (bytes : ℕ) → SizeLaw (most_of kind bytes) (Fits kind bytes)
-size_kind Int16 bytes run h = size_integers 2 bytes (length run) (omega arith) h.1
-size_kind Int24 bytes run h = size_integers 3 bytes (length run) (omega arith) h.1
-size_kind Int32 bytes run h = size_integers 4 bytes (length run) (omega arith) h
-size_kind Steim1 bytes run h = size_steim One bytes run h
-size_kind Steim2 bytes run h = size_steim Two bytes run h
+size_kind kind bytes run h = let room = size_room kind bytes run h.1 in omega (arith, h.0, room)
 
 pub empty_kind : (kind : Kind) → EmptyLaw (Fits kind)
-empty_kind Int16 = empty_integers 16 2
-empty_kind Int24 = empty_integers 24 3
-empty_kind Int32 = empty_int32
-empty_kind Steim1 = empty_steim One
-empty_kind Steim2 = empty_steim Two
+empty_kind kind bytes header = (omega arith, empty_room kind bytes header)
 
--- integers of fewer bits than a sample has fit by their bits and their number
+-- integers of fewer bits than a sample has room by their bits and their number
 by_bits : (bits size bytes : ℕ) → 64 ≤ bytes → (run : List (ℤ × ℤ)) → All (λ p. FitsBits bits p.0) run → length run ≤ (bytes - 64) / size → FitsIntegers bits size bytes run
 by_bits bits size bytes header run all few =
     let room = mul-le-mul_left size few in
@@ -164,10 +180,10 @@ by_bits bits size bytes header run all few =
     (all, omega arith)
 
 pub int16_by_bits : (bytes : ℕ) → 64 ≤ bytes → AreIntegers Int16 16 bytes
-int16_by_bits bytes header = record { takes = by_bits 16 2 bytes header; needs = λ run h. h.0 }
+int16_by_bits bytes header = record { takes = λ run all few. (omega (arith, few), by_bits 16 2 bytes header run all (omega (arith, few))); needs = λ run h. h.1.0 }
 
 pub int24_by_bits : (bytes : ℕ) → 64 ≤ bytes → AreIntegers Int24 24 bytes
-int24_by_bits bytes header = record { takes = by_bits 24 3 bytes header; needs = λ run h. h.0 }
+int24_by_bits bytes header = record { takes = λ run all few. (omega (arith, few), by_bits 24 3 bytes header run all (omega (arith, few))); needs = λ run h. h.1.0 }
 
 few_places : (kind : Kind) → look_back_of kind ≤ 1
 few_places Int16 = omega arith
@@ -186,7 +202,7 @@ back_step_any bytes front back h =
     (r.0, r.1, r.2, (h.0, r.3))
 
 pub empty_any : EmptyLaw FitsAny
-empty_any bytes h = (Int32, empty_int32 bytes h)
+empty_any bytes h = (Int32, empty_kind Int32 bytes h)
 
 within_any : (kind : Kind) (bytes : ℕ) → most_of kind bytes ≤ most_any bytes
 within_any Int16 bytes = omega arith
@@ -203,4 +219,4 @@ size_any bytes run h =
 
 -- a few samples fit a record of any length, as 32-bit integers
 pub short_any : (bytes : ℕ) → 256 ≤ bytes → FitsShort (FitsAny bytes)
-short_any bytes h run short = (Int32, omega arith)
+short_any bytes h run short = (Int32, (omega arith, omega arith))

@@ -49,7 +49,8 @@ returns-then-next-eq0 c =
     subst (λ n. IsSteim1Word (drop (c.loop-word.at - c.args.start) (behind c.args.samples.now c.args.start)) c.loop-word.spare n c.next_word-next.result.spare) c.if-next-eq0.true next in
     let same = c.data_words-word-end.ensures.same in
     let end = c.steim1_word_by_word.ensures.stop (c.loop-word._word - 1) (words_of c.args.record_length.bytes) (behind samples start) (at - start) c.loop-word.spare c.next_word-next.result.spare loop.reach here (omega arith) in
-    walk_ends c.args.record_length.bytes samples start (at - start) at c.requires end (omega arith)
+    let most = c.args.record_length.most in
+    walk_ends c.args.record_length.bytes (omega arith) samples start (at - start) at c.requires end (omega arith)
 
 pub returns : goal.returns
 returns c =
@@ -63,5 +64,6 @@ returns c =
     let same = c.data_words-word-end.ensures.same in
     let some = c.data_words-word-end.ensures.some in
     let all : suc (c.loop-word._word - 1) ≡ words_of c.args.record_length.bytes = omega arith in
-    walk_ends c.args.record_length.bytes samples start (at - start + c.next_word.result.size) (at + c.next_word.result.size) c.requires
+    let most = c.args.record_length.most in
+    walk_ends c.args.record_length.bytes (omega arith) samples start (at - start + c.next_word.result.size) (at + c.next_word.result.size) c.requires
     (subst (λ k. IsSteim1End k (behind c.args.samples.now c.args.start) (c.loop-word.at - c.args.start + c.next_word.result.size)) all end) (omega arith)

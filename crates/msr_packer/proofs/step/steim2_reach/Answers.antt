@@ -1,55 +1,73 @@
 -- Word by word, until no group begins or no word is left.
-use Rattle.std.proofs.Common.{arith, ◌≡◌, ◌+◌, ◌-◌, suc, None, drop, refl, subst}
-use Rattle.msr_words.specs.Bounds.{IsGreedyReach}
+use Rattle.std.proofs.Common.{arith, ◌≡◌, ◌+◌, ◌-◌, suc, None, length, take, drop, refl, subst}
+use Rattle.std.proofs.lemmas.List.{length-take-le}
+use Rattle.msr_words.specs.declared.kinds.Kind.TheVariants.{Steim2}
+use Rattle.msr_words.specs.Bounds.{IsGreedyReach, latest_end}
 use Rattle.msr_words.specs.Groups.{IsLongestGroup}
+use Rattle.msr_words.specs.Laws.{most_of}
 use Rattle.msr_words.specs.RecordLength.{words_of}
 use Rattle.msr_words.specs.Segment.{differences}
 use Rattle.msr_words.proofs.GreedyReach.{none_reached}
 use Rattle.msr_words.proofs.Windows.{window_on}
 use Rattle.msr_packer.proofs.Narrow.{none_narrow}
-use Rattle.msr_packer.proofs.Reach.{IsWalked, group_narrow, narrow_through, walk_begins, walk_fits, walk_furthest, walk_more}
+use Rattle.msr_packer.proofs.Reach.{IsWalked, group_narrow, narrow_seen, narrow_through, walk_begins, walk_fits, walk_furthest, walk_more}
 use Rattle.msr_packer.proofs.step.steim2_reach.Goals as goal
 
 pub loop-word-init : goal.loop-word-init
 loop-word-init c =
     let all : c.data_words-words.result ≡ c.data_words-words.result - 0 = omega arith in
+    let latest = c.args.start + c.min.result in
+    let seen = take (c.args.start + c.min.result) c.args.samples.now in
+    let long : length (take (c.args.start + c.min.result) c.args.samples.now) ≡ c.args.start + c.min.result = length-take-le latest c.args.samples.now (omega arith) in
     record {
-      walked = subst (λ n. IsWalked c.data_words-words.result n c.args.samples.now c.args.start c.args.start) all (walk_begins c.data_words-words.result c.args.samples.now c.args.start c.requires);
-      window = c.new-window.ensures c.args.samples.now c.args.start;
-      small = λ some. none_narrow c.args.samples.now c.args.start;
+      walked = subst (λ n. IsWalked c.data_words-words.result n (take (c.args.start + c.min.result) c.args.samples.now) c.args.start c.args.start) all (walk_begins c.data_words-words.result seen c.args.start (omega arith));
+      window = c.new-window.ensures seen c.args.start;
+      small = λ some. none_narrow seen c.args.start;
     }
 
 pub loop-word-preserved : goal.loop-word-preserved
 loop-word-preserved c =
     let words = c.data_words-words.result in
+    let seen = take (c.args.start + c.min.result) c.args.samples.now in
     let left : words - c.loop-word._word ≡ suc (words - (c.loop-word._word + 1)) = omega arith in
     let walked = c.loop-word.invariant.walked in
     record {
-      walked = walk_more words (words - (c.loop-word._word + 1)) c.args.samples.now c.args.start c.loop-word.at c.longest_steim2_group-size.result c.longest_steim2_group-size.ensures.longest
-          (subst (λ n. IsWalked words n c.args.samples.now c.args.start c.loop-word.at) left walked);
-      window = window_on c.args.samples.now c.loop-word.at (c.loop-word.at + c.longest_steim2_group-size.result) c.longest_steim2_group-size.new.self (omega arith) c.longest_steim2_group-size.ensures.window;
-      small = λ some. group_narrow c.args.samples.now c.args.start c.loop-word.at c.longest_steim2_group-size.result walked.from walked.within c.longest_steim2_group-size.ensures.longest
+      walked = walk_more words (words - (c.loop-word._word + 1)) seen c.args.start c.loop-word.at c.longest_steim2_group-size.result c.longest_steim2_group-size.ensures.longest
+          (subst (λ n. IsWalked words n seen c.args.start c.loop-word.at) left walked);
+      window = window_on seen c.loop-word.at (c.loop-word.at + c.longest_steim2_group-size.result) c.longest_steim2_group-size.new.self (omega arith) c.longest_steim2_group-size.ensures.window;
+      small = λ some. group_narrow seen c.args.start c.loop-word.at c.longest_steim2_group-size.result walked.from walked.within c.longest_steim2_group-size.ensures.longest
           (omega (arith, c.min-least.ensures)) (c.loop-word.invariant.small (omega (arith, c.min-least.ensures)));
     }
+
+pub longest_steim2_group-size-requires-clause-within : goal.longest_steim2_group-size-requires-clause-within
+longest_steim2_group-size-requires-clause-within c = c.loop-word.invariant.walked.within
+
+pub longest_steim2_group-size-requires-clause-window : goal.longest_steim2_group-size-requires-clause-window
+longest_steim2_group-size-requires-clause-window c = c.loop-word.invariant.window
 
 pub returns-then-size-eq0 : goal.returns-then-size-eq0
 returns-then-size-eq0 c =
     let words = c.data_words-words.result in
     let bytes = c.args.record_length.bytes in
     let samples = c.args.samples.now in
+    let latest = c.args.start + c.min.result in
     let at = c.loop-word.at in
-    let xs = drop c.loop-word.at (differences None c.args.samples.now) in
-    let none : IsLongestGroup (drop c.loop-word.at (differences None c.args.samples.now)) 0 =
-    subst (IsLongestGroup (drop c.loop-word.at (differences None c.args.samples.now))) c.if-size-eq0.true c.longest_steim2_group-size.ensures.longest in
+    let most : c.most.result ≡ most_of Steim2 c.args.record_length.bytes = c.most.ensures in
+    let latest_is : c.args.start + c.min.result ≡ latest_end Steim2 c.args.record_length.bytes c.args.samples.now c.args.start = omega arith in
     let walked = c.loop-word.invariant.walked in
-    let is : IsWalked (words_of bytes) (words - c.loop-word._word) samples c.args.start at =
-    subst (λ w. IsWalked w (words - c.loop-word._word) c.args.samples.now c.args.start c.loop-word.at) c.data_words-words.ensures.same walked in
+    let is : IsWalked (words_of bytes) (words - c.loop-word._word) (take latest samples) c.args.start at =
+    subst (λ w. IsWalked w (words - c.loop-word._word) (take latest samples) c.args.start at) c.data_words-words.ensures.same walked in
+    let xs = drop at (differences None (take latest samples)) in
+    let none : IsLongestGroup (drop at (differences None (take latest samples))) 0 = subst (IsLongestGroup xs) c.if-size-eq0.true c.longest_steim2_group-size.ensures.longest in
     let stuck = none_reached (words - c.loop-word._word) xs none in
     let law = c.steim2_greedy_reach.ensures in
+    let seen : length (take latest samples) ≡ latest = length-take-le latest samples (omega arith) in
+    let within = walked.within in
     record {
-      fits = walk_fits bytes (words - c.loop-word._word) samples c.args.start at c.reach_to.result.end law is stuck c.reach_to.ensures.end;
-      furthest = walk_furthest bytes (words - c.loop-word._word) samples c.args.start at c.reach_to.result.end law is stuck c.reach_to.ensures.end;
-      narrow = λ t. rw c.reach_to.ensures.end (narrow_through samples c.args.start at walked.from walked.within (c.loop-word.invariant.small (c.reach_to.ensures.groups t)) (c.reach_to.ensures.behind t));
+      fits = walk_fits bytes (words - c.loop-word._word) samples c.args.start latest at c.reach_to.result.end c.requires law latest_is is stuck c.reach_to.ensures.end;
+      furthest = walk_furthest bytes (words - c.loop-word._word) samples c.args.start latest at c.reach_to.result.end c.requires law latest_is is stuck c.reach_to.ensures.end;
+      narrow = λ t. rw c.reach_to.ensures.end (narrow_through samples c.args.start at walked.from (omega arith)
+          (narrow_seen samples c.args.start at latest walked.from (omega arith) (omega arith) (c.loop-word.invariant.small (c.reach_to.ensures.groups t))) (c.reach_to.ensures.behind t));
     }
 
 pub returns : goal.returns
@@ -57,16 +75,22 @@ returns c =
     let words = c.data_words-words.result in
     let bytes = c.args.record_length.bytes in
     let samples = c.args.samples.now in
+    let latest = c.args.start + c.min.result in
     let at = c.loop-word.at in
-    let xs = drop c.loop-word.at (differences None c.args.samples.now) in
+    let most : c.most.result ≡ most_of Steim2 c.args.record_length.bytes = c.most.ensures in
+    let latest_is : c.args.start + c.min.result ≡ latest_end Steim2 c.args.record_length.bytes c.args.samples.now c.args.start = omega arith in
     let walked = c.loop-word.invariant.walked in
-    let is : IsWalked (words_of bytes) (words - c.loop-word._word) samples c.args.start at =
-    subst (λ w. IsWalked w (words - c.loop-word._word) c.args.samples.now c.args.start c.loop-word.at) c.data_words-words.ensures.same walked in
+    let is : IsWalked (words_of bytes) (words - c.loop-word._word) (take latest samples) c.args.start at =
+    subst (λ w. IsWalked w (words - c.loop-word._word) (take latest samples) c.args.start at) c.data_words-words.ensures.same walked in
+    let xs = drop at (differences None (take latest samples)) in
     let over : 0 ≡ words - c.loop-word._word = omega arith in
-    let stuck : IsGreedyReach (words - c.loop-word._word) xs 0 = subst (λ n. IsGreedyReach n (drop c.loop-word.at (differences None c.args.samples.now)) 0) over refl in
+    let stuck : IsGreedyReach (words - c.loop-word._word) xs 0 = subst (λ n. IsGreedyReach n xs 0) over refl in
     let law = c.steim2_greedy_reach.ensures in
+    let seen : length (take latest samples) ≡ latest = length-take-le latest samples (omega arith) in
+    let within = walked.within in
     record {
-      fits = walk_fits bytes (words - c.loop-word._word) samples c.args.start at c.reach_to-2.result.end law is stuck c.reach_to-2.ensures.end;
-      furthest = walk_furthest bytes (words - c.loop-word._word) samples c.args.start at c.reach_to-2.result.end law is stuck c.reach_to-2.ensures.end;
-      narrow = λ t. rw c.reach_to-2.ensures.end (narrow_through samples c.args.start at walked.from walked.within (c.loop-word.invariant.small (c.reach_to-2.ensures.groups t)) (c.reach_to-2.ensures.behind t));
+      fits = walk_fits bytes (words - c.loop-word._word) samples c.args.start latest at c.reach_to-2.result.end c.requires law latest_is is stuck c.reach_to-2.ensures.end;
+      furthest = walk_furthest bytes (words - c.loop-word._word) samples c.args.start latest at c.reach_to-2.result.end c.requires law latest_is is stuck c.reach_to-2.ensures.end;
+      narrow = λ t. rw c.reach_to-2.ensures.end (narrow_through samples c.args.start at walked.from (omega arith)
+          (narrow_seen samples c.args.start at latest walked.from (omega arith) (omega arith) (c.loop-word.invariant.small (c.reach_to-2.ensures.groups t))) (c.reach_to-2.ensures.behind t));
     }

@@ -1,5 +1,5 @@
 -- The words that are filled, and whether their groups are of two or more.
-use Rattle.std.proofs.Common.{◌-◌, ◌<◌}
+use Rattle.std.proofs.Common.{◌-◌, ◌<◌, take}
 use Rattle.msr_words.specs.Window.{IsWindow}
 use Rattle.msr_packer.specs.Steps.{AreNarrow}
 use Rattle.msr_packer.proofs.Reach.{IsWalked}
@@ -7,7 +7,7 @@ use Rattle.msr_packer.proofs.step.steim2_reach.Given as goal
 
 abbrev pub invariant-loop-word : goal.invariant-loop-word
 invariant-loop-word l = record {
-  walked : IsWalked l.words (l.words - l._word) l.samples l.start l.at;
-  window : IsWindow l.samples l.at l.window;
-  small : 1 < l.least → AreNarrow l.samples l.start l.at;
+  walked : IsWalked l.words (l.words - l._word) (take l.latest l.samples) l.start l.at;
+  window : IsWindow (take l.latest l.samples) l.at l.window;
+  small : 1 < l.least → AreNarrow (take l.latest l.samples) l.start l.at;
 }
