@@ -105,6 +105,10 @@ def wave(count, height=30_000):
     return [round(sample * height / 1000) for sample in kinds.white_noise(1000)(count)]
 
 
+def zeros(count):
+    return [0] * count
+
+
 def of_32_bits(count):
     noise = random.Random(7)
     return [noise.randrange(-(1 << 31), 1 << 31) for _ in range(count)]

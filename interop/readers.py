@@ -25,7 +25,7 @@ import inputs
 HERE = os.path.dirname(os.path.realpath(__file__))
 ROOT = os.path.dirname(HERE)
 PACKAGES = ["gcc", "libc6-dev", "libmseed-dev", "libmseed-doc", "mseed2sac"]
-LENGTHS = [256, 512, 1024, 2048, 4096, 8192, 16384, 32768]
+LENGTHS = [256, 512, 1024, 2048, 4096, 8192, 16384, 32768, 65536]
 KINDS = {11: "Steim-2", 10: "Steim-1", 1: "16-bit", 3: "32-bit"}
 TYPES = {"i": "integers", "f": "floats", "d": "doubles", "a": "characters"}
 SIZES = {"i": 4, "f": 4, "d": 8, "a": 1, "-": 0}
@@ -320,6 +320,27 @@ def print_refused(bench):
         print(refused_row(bench, case, three))
 
 
+def kept(found):
+    return f"{len(found.records)} | {sum(it.count for it in found.records):,}"
+
+
+def written_row(bench, length):
+    """Samples of 0, packed as Steim-2 by libmseed itself, and by msrepack."""
+    name = f"{bench.folder}/in"
+    inputs.by_libmseed(inputs.zeros, 11, 1, length)(name, bench.libmseed)
+    theirs = bench.found(name)
+    inputs.by_libmseed(inputs.zeros, 11, 1, 4096)(name, bench.libmseed)
+    ours, _, _ = repacked(bench, name, length)
+    return f"| {inputs.COUNT:,} | {length} | {kept(theirs)} | {kept(ours)} |"
+
+
+def print_longest(bench):
+    print("| samples of 0 | length | libmseed: records | samples in them | msrepack: records | samples in them |")
+    print("|---|---|---|---|---|---|")
+    for length in LENGTHS[-2:]:
+        print(written_row(bench, length))
+
+
 def versions(bench):
     there = packages_there()
     said = subprocess.run(["git", "-C", ROOT, "describe", "--always"], capture_output=True, text=True)
@@ -348,6 +369,8 @@ def main():
         rows = [row_of(bench, it) for it in inputs.INPUTS if asked.only in it.title]
         print_rows(rows)
         if not asked.only:
+            print("\n## What libmseed writes in the longest records\n")
+            print_longest(bench)
             print("\n## What msrepack refuses\n")
             print_refused(bench)
     sys.exit(any(map(is_wrong, rows)))

@@ -1,7 +1,7 @@
 -- From the lines that were read to the rest of the text.
 use Rattle.std.proofs.Common.{◌≡◌, ◌∙◌, ap, sym, refl, rules, arith, ℕ, suc, ◌-◌, ◌<◌, ◌≤◌, ◌^◌, List, [], ◌∷◌, ◌++◌, append_assoc, length, decimal, codes}
 use Rattle.std.proofs.Math.Nat.{pow-le-pow_right}
-use Rattle.msr_words.specs.RecordLength.{IsRecordLength}
+use Rattle.msr_words.specs.RecordLength.{IsRecordLength, most_exponent}
 use Rattle.msr_report.specs.Text.{counts_line, end_line}
 use Rattle.msr_report.specs.declared.report.Counts.{Counts}
 use Rattle.msr_certificate.specs.Form.{Form, IsForm, IsFirst, IsFormText, form_records, first_then}
@@ -78,8 +78,8 @@ step_first tail tail' body_of splits one w P in_first =
 pub counts_then : (counts : Counts) (more : List ℕ) → counts_line counts ++ more ≡ counts_body counts ++ (10 ∷ more)
 counts_then counts more = simp append_assoc
 
-pub record_length_small : (n : ℕ) → IsRecordLength n → n ≤ 32768
-record_length_small n is = rw is.power (pow-le-pow_right {n = 2} (omega arith) {i = is.exponent} {j = 15} is.most)
+pub record_length_small : (n : ℕ) → IsRecordLength n → n ≤ 2 ^ most_exponent
+record_length_small n is = rw is.power (pow-le-pow_right {n = 2} (omega arith) {i = is.exponent} {j = most_exponent} is.most)
 
 pub one_2 : (form : Form) → IsForm form → IsOneLine (body_2 form)
 one_2 form is = one-append (codes "length ") (decimal form.bytes) (refl, (refl, (refl, (refl, (refl, (refl, (refl, tt))))))) (decimal_is_one form.bytes (omega (arith, record_length_small form.bytes is.first.is_length)))

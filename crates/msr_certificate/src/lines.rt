@@ -62,10 +62,10 @@ pub(crate) fn record_length(text: &[u8]) -> Option<(Length, &[u8])>
         → IsSomeAnd result (λ x. x.1.now ≡ rest) }
 {
     let (bytes, text) = numbered(text, b"length ")?;
-    if bytes > 32_768 {
+    let Ok(bytes) = u32::try_from(bytes) else {
         return None;
-    }
-    let length = Length::new(bytes as u32)?;
+    };
+    let length = Length::new(bytes)?;
     Some((length, text))
 }
 

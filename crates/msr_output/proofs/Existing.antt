@@ -11,7 +11,7 @@ use Rattle.msr_time.proofs.RateLemmas.{nominal_is, quotient_bounds}
 use Rattle.msr_words.specs.declared.kinds.Run.{Run}
 use Rattle.msr_words.specs.Fit.{Fits}
 use Rattle.msr_words.specs.Packing.{IsCanonical}
-use Rattle.msr_words.specs.RecordLength.{IsRecordLength}
+use Rattle.msr_words.specs.RecordLength.{IsRecordLength, least_exponent}
 use Rattle.msr_words.specs.Segment.{points}
 use Rattle.msr_packer.proofs.Exist.{has_packing}
 use Rattle.msr_packer.proofs.Least.{found}
@@ -39,7 +39,7 @@ nominal_exists rate t0 last n m h =
     (t0 +ℤ pos q, nominal_is rate t0 n q bounds.0 bounds.1)
 
 pub enough_bytes : (size : ℕ) → IsRecordLength size → 256 ≤ size
-enough_bytes size power = let least : 2 ^ 8 ≤ 2 ^ power.exponent = pow_mono {i = 8} {j = power.exponent} power.least in omega (arith, least, power.power)
+enough_bytes size power = let least : 2 ^ least_exponent ≤ 2 ^ power.exponent = pow_mono {i = least_exponent} {j = power.exponent} power.least in omega (arith, least, power.power)
 
 -- ---- the records of runs
 

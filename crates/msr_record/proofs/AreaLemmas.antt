@@ -1,6 +1,6 @@
 -- Which samples the written data areas carry.
-use Rattle.std.proofs.Common.{◌≡◌, ℕ, zero, suc, ◌+◌, ◌-◌, ◌*◌, ◌/◌, ◌%◌, ◌^◌, ◌<◌, ◌≤◌, ℤ, pos, negsuc, ◌-ℤ◌, List, [], ◌∷◌, length, map, refl, sym, ap, ◌∙◌, arith, Option, Some, None, length-append, FitsSigned}
-use Rattle.std.specs.Prelude.{All, IsSomeAnd, flat_map, slice_get, slice_index_or}
+use Rattle.std.proofs.Common.{◌≡◌, ℕ, zero, suc, ◌+◌, ◌-◌, ◌*◌, ◌/◌, ◌%◌, ◌^◌, ◌<◌, ◌≤◌, ℤ, pos, negsuc, ◌-ℤ◌, List, [], ◌∷◌, length, map, refl, sym, ap, ◌∙◌, arith, Option, Some, None, FitsSigned}
+use Rattle.std.specs.Prelude.{All, slice_get, slice_index_or}
 use Rattle.std.specs.Int.{w16, w32}
 use Rattle.std.proofs.lemmas.Int.{ints}
 use Rattle.std.proofs.lemmas.List.Elements.{All-map, All-weaker, All-same}
@@ -12,15 +12,12 @@ use Rattle.msr_header.specs.declared.header.Order.TheVariants.{Big}
 use Rattle.msr_steim.specs.Area.{differences as joined, CarriesSteim, ReverseAgrees as FramesAgree}
 use Rattle.msr_steim.specs.Frames.{differences_after, frame_bytes}
 use Rattle.msr_steim.proofs.Filled.{filled_carries, filled_reverse}
-use Rattle.msr_steim.specs.Word.{AreGroups, IsGroup, IsInnerGroup, FitsBits, group_width}
+use Rattle.msr_steim.specs.Word.{AreGroups, FitsBits}
 use Rattle.msr_steim.specs.declared.word.Version.{Version}
-use Rattle.msr_steim.specs.declared.word.Version.TheVariants.{One, Two}
-use Rattle.msr_words.specs.Division.{CanDivide}
 use Rattle.msr_words.specs.Fit.{Fits}
-use Rattle.msr_words.specs.RecordLength.{words_of}
+use Rattle.msr_words.specs.RecordLength.{least_exponent, most_exponent, words_of}
 use Rattle.msr_words.specs.Segment.{differences, points, points_after}
 use Rattle.msr_words.specs.declared.kinds.Kind.{Kind}
-use Rattle.msr_words.specs.declared.kinds.Kind.TheVariants.{Int16, Int32, Steim1, Steim2}
 
 -- the points of some samples have the samples
 after_samples : (before : ℤ) (xs : List ℤ) → map (λ (p : ℤ × ℤ). p.0) (points_after before xs) ≡ xs
@@ -62,45 +59,15 @@ differences_from_base None [] = refl
 differences_from_base None (x ∷ xs) = rw (← itself x) (ap (λ (ds : List ℤ). pos 0 ∷ ds) (after_differences x xs))
 differences_from_base (Some before) xs = after_differences before xs
 
--- a group has at most seven differences
-few_of : (version : Version) (n : ℕ) (width : Option ℕ) → width ≡ group_width version n → (width ≡ None → ⊥) → n ≤ 7
-few_of One n width e h = grind arith
-few_of Two n width e h = grind arith
-
-some_width : (P : ℕ → Type 0) (o : Option ℕ) → IsSomeAnd o P → o ≡ None → ⊥
-some_width P None h e = h
-some_width P (Some width) h e = cc
-
-group_few : (version : Version) (group : List ℤ) → IsGroup version group → length group ≤ 7
-group_few version group h = few_of version (length group) (group_width version (length group)) refl (some_width _ (group_width version (length group)) h)
-
-inner_few : (version : Version) (group : List ℤ) → IsInnerGroup version group → length group ≤ 7
-inner_few One group h = group_few One group h.0
-inner_few Two group h = group_few Two group h
-
-pub groups_few : (version : Version) (groups : List (List ℤ)) → AreGroups version groups → length (flat_map (λ (group : List ℤ). group) groups) ≤ 7 * length groups
-groups_few version [] h = omega arith
-groups_few version (group ∷ []) h = simp length-append (omega (arith, group_few version group h))
-groups_few version (group ∷ next ∷ groups) h = simp length-append (omega (arith, inner_few version group h.0, simp length-append at (groups_few version (next ∷ groups) h.1)))
-
--- fewer samples fit a record than its header can count
-divided_few : (version : Version) (size : ℕ) (before : Option ℤ) (xs : List ℤ) → size ≤ 32768 → CanDivide version (words_of size) (map (λ (p : ℤ × ℤ). p.1) (points before xs)) → length xs < 2 ^ 16
-divided_few version size before xs h can =
-    let few = groups_few version can.groups can.are_groups in
-    let number = ap length can.join ∙ length-map (points before xs) (λ (p : ℤ × ℤ). p.1) ∙ length-points before xs in
-    omega (arith, few, number, can.few, h)
-
-pub few_samples : (kind : Kind) (size : ℕ) (before : Option ℤ) (xs : List ℤ) → size ≤ 32768 → Fits kind size (points before xs) → length xs < 2 ^ 16
-few_samples Int16 size before xs h fits = omega (arith, fits.1, h, length-points before xs)
-few_samples Int32 size before xs h fits = omega (arith, fits, h, length-points before xs)
-few_samples Steim1 size before xs h fits = divided_few One size before xs h fits
-few_samples Steim2 size before xs h fits = divided_few Two size before xs h fits
+-- the header of a record can count the samples that fit it
+pub few_samples : (kind : Kind) (size : ℕ) (before : Option ℤ) (xs : List ℤ) → Fits kind size (points before xs) → length xs < 2 ^ 16
+few_samples kind size before xs fits = omega (arith, fits.0, length-points before xs)
 
 -- a record's data area is whole frames
-pub whole_frames : (exponent : ℕ) → 8 ≤ exponent → exponent ≤ 15 → ((2 ^ exponent - 64) % 64 ≡ 0) × ((2 ^ exponent - 64) / 64 ≡ 2 ^ exponent / 64 - 1) × (256 ≤ 2 ^ exponent)
+pub whole_frames : (exponent : ℕ) → least_exponent ≤ exponent → exponent ≤ most_exponent → ((2 ^ exponent - 64) % 64 ≡ 0) × ((2 ^ exponent - 64) / 64 ≡ 2 ^ exponent / 64 - 1) × (256 ≤ 2 ^ exponent)
 whole_frames exponent low high = by_number exponent (exponent - 8) (omega arith) (omega arith)
   where
-    by_number : (exponent k : ℕ) → k ≤ 7 → exponent ≡ 8 + k → ((2 ^ exponent - 64) % 64 ≡ 0) × ((2 ^ exponent - 64) / 64 ≡ 2 ^ exponent / 64 - 1) × (256 ≤ 2 ^ exponent)
+    by_number : (exponent k : ℕ) → k ≤ 8 → exponent ≡ 8 + k → ((2 ^ exponent - 64) % 64 ≡ 0) × ((2 ^ exponent - 64) / 64 ≡ 2 ^ exponent / 64 - 1) × (256 ≤ 2 ^ exponent)
     by_number exponent zero h e = rw e (refl, refl, omega arith)
     by_number exponent (suc zero) h e = rw e (refl, refl, omega arith)
     by_number exponent (suc (suc zero)) h e = rw e (refl, refl, omega arith)
@@ -109,7 +76,8 @@ whole_frames exponent low high = by_number exponent (exponent - 8) (omega arith)
     by_number exponent (suc (suc (suc (suc (suc zero))))) h e = rw e (refl, refl, omega arith)
     by_number exponent (suc (suc (suc (suc (suc (suc zero)))))) h e = rw e (refl, refl, omega arith)
     by_number exponent (suc (suc (suc (suc (suc (suc (suc zero))))))) h e = rw e (refl, refl, omega arith)
-    by_number exponent (suc (suc (suc (suc (suc (suc (suc (suc k)))))))) h e = absurd (omega arith)
+    by_number exponent (suc (suc (suc (suc (suc (suc (suc (suc zero)))))))) h e = rw e (refl, refl, omega arith)
+    by_number exponent (suc (suc (suc (suc (suc (suc (suc (suc (suc k))))))))) h e = absurd (omega arith)
 
 last_at : (d : ℤ) (xs : List ℤ) (i : ℕ) → i < length xs → slice_get xs i ≡ Some (slice_index_or xs i d)
 last_at d [] i h = absurd (omega arith)
@@ -131,20 +99,20 @@ frames_end version xs groups frames area some are more first last e =
     rw e (last_sample xs some ∙ sym (ap (λ (z : ℤ). Some z) (filled_reverse version (slice_index_or xs 0 (pos 0)) (slice_index_or xs (length xs - 1) (pos 0)) groups frames are more first last)))
 
 -- the exponent of a record's length
-pub exponent_bounds : (size exponent : ℕ) → size ≡ 2 ^ exponent → 256 ≤ size → size ≤ 32768 → (8 ≤ exponent) × (exponent ≤ 15)
+pub exponent_bounds : (size exponent : ℕ) → size ≡ 2 ^ exponent → 2 ^ least_exponent ≤ size → size ≤ 2 ^ most_exponent → (least_exponent ≤ exponent) × (exponent ≤ most_exponent)
 exponent_bounds size exponent e low high = (
-  elim (cases_lt exponent 8) [
-    | inl small ↦ absurd (let most : 2 ^ exponent ≤ 2 ^ 7 = pow_mono {i = exponent} {j = 7} (omega (arith, small)) in omega (arith, most, e, low))
+  elim (cases_lt exponent least_exponent) [
+    | inl small ↦ absurd (let most : 2 ^ exponent ≤ 2 ^ (least_exponent - 1) = pow_mono {i = exponent} {j = least_exponent - 1} (omega (arith, small)) in omega (arith, most, e, low))
     | inr large ↦ large
   ],
-  elim (cases_lt 15 exponent) [
-    | inl large ↦ absurd (let least : 2 ^ 16 ≤ 2 ^ exponent = pow_mono {i = 16} {j = exponent} large in omega (arith, least, e, high))
+  elim (cases_lt most_exponent exponent) [
+    | inl large ↦ absurd (let least : 2 ^ (most_exponent + 1) ≤ 2 ^ exponent = pow_mono {i = most_exponent + 1} {j = exponent} large in omega (arith, least, e, high))
     | inr small ↦ small
   ],
 )
 
 -- a data area has room for as many groups as the record's length allows
-pub room_for : (size exponent bytes groups : ℕ) → size ≡ 2 ^ exponent → bytes ≡ size → 8 ≤ exponent → exponent ≤ 15 → groups ≤ words_of size → groups + 2 ≤ 15 * ((bytes - 64) / 64)
+pub room_for : (size exponent bytes groups : ℕ) → size ≡ 2 ^ exponent → bytes ≡ size → least_exponent ≤ exponent → exponent ≤ most_exponent → groups ≤ words_of size → groups + 2 ≤ 15 * ((bytes - 64) / 64)
 room_for size exponent bytes groups es eb low high few =
     let whole = whole_frames exponent low high in
     let frames : (bytes - 64) / 64 ≡ size / 64 - 1 = rw (eb, es) whole.1 in

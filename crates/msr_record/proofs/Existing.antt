@@ -5,7 +5,6 @@ use Rattle.std.specs.Int.{w32}
 use Rattle.std.proofs.lemmas.Int.{ints}
 use Rattle.std.proofs.lemmas.List.{length-replicate}
 use Rattle.std.proofs.lemmas.List.Elements.{All-get_or}
-use Rattle.std.proofs.Math.Pow.{pow_mono}
 use Rattle.msr_time.specs.declared.btime.BTime.{BTime}
 use Rattle.msr_time.specs.Instant.{IsInstant}
 use Rattle.msr_time.proofs.Existing.{has_split}
@@ -100,16 +99,16 @@ record HasArea (kind : Kind) (before : Option ℤ) (samples : List ℤ) (size : 
 
 area_of : (kind : Kind) (before : Option ℤ) (samples : List ℤ) (size : ℕ) → IsRecordLength size → 1 ≤ length samples → All (FitsSigned w32) samples → Fits kind size (points before samples) → HasArea kind before samples (size - 64)
 area_of Int16 before samples size power some fit fits =
-    let n = numbers_of TwoBytes samples (size - 64) (all_16 before samples fits.0) (omega (arith, fits.1, length-points before samples)) in
+    let n = numbers_of TwoBytes samples (size - 64) (all_16 before samples fits.1.0) (omega (arith, fits.1.1, length-points before samples)) in
     record { frames = 0; area = n.area; is_area = n.are; long = n.long; carries = n.carries; agrees = tt }
 area_of Int32 before samples size power some fit fits =
-    let n = numbers_of FourBytes samples (size - 64) fit (omega (arith, fits, length-points before samples)) in
+    let n = numbers_of FourBytes samples (size - 64) fit (omega (arith, fits.1, length-points before samples)) in
     record { frames = 0; area = n.area; is_area = n.are; long = n.long; carries = n.carries; agrees = tt }
 area_of Steim1 before samples size power some fit fits =
-    let f = frames_of One before samples size power some fit fits in
+    let f = frames_of One before samples size power some fit fits.1 in
     record { frames = f.frames; area = f.area; is_area = f.are; long = f.long; carries = f.carries; agrees = f.agrees }
 area_of Steim2 before samples size power some fit fits =
-    let f = frames_of Two before samples size power some fit fits in
+    let f = frames_of Two before samples size power some fit fits.1 in
     record { frames = f.frames; area = f.area; is_area = f.are; long = f.long; carries = f.carries; agrees = f.agrees }
 
 -- ---- the header
@@ -139,8 +138,7 @@ pub has_record : (old : List ℕ) (key : Key) (start : ℤ) (sequence : ℕ) (be
 has_record old key start sequence before samples kind size power is_key quality normal instant some fit fits =
     let s = has_split start instant in
     let a = area_of kind before samples size power some fit fits in
-    let most : 2 ^ power.exponent ≤ 2 ^ 15 = pow_mono {i = power.exponent} {j = 15} power.most in
-    let few = few_samples kind size before samples (omega (arith, most, power.power)) fits in
+    let few = few_samples kind size before samples fits in
     let h : Header = header_for key s.time s.micros sequence (length samples) kind power.exponent a.frames in
     record {
       bytes = header_bytes h ++ a.area;

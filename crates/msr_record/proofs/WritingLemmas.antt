@@ -14,6 +14,7 @@ use Rattle.msr_header.specs.Reading.{header_of, is_sequence_byte, is_quality}
 use Rattle.msr_header.specs.Writing.{header_bytes, IsWritable, as_read}
 use Rattle.msr_header.specs.declared.header.Order.TheVariants.{Big}
 use Rattle.msr_header.specs.declared.header.Header.{Header}
+use Rattle.msr_words.specs.RecordLength.{least_exponent, most_exponent}
 use Rattle.msr_words.specs.Fit.{code_of}
 use Rattle.msr_words.specs.declared.kinds.Kind.{Kind}
 use Rattle.msr_words.specs.declared.kinds.Kind.TheVariants.{Int16, Int32, Steim1, Steim2}
@@ -41,7 +42,7 @@ digits : (n : ℕ) → list_all is_sequence_byte (sequence_digits n) ≡ true
 digits n = rw (digit n 100_000, digit n 10_000, digit n 1_000, digit n 100, digit n 10, digit n 1) refl
 
 -- the header of a written record is such as a reader accepts
-writable : (key : Key) (time : BTime) (micros sequence count : ℕ) (kind : Kind) (exponent frames : ℕ) (start : ℤ) → IsTrue (is_quality key.quality) → IsSplit start time micros → 8 ≤ exponent → exponent ≤ 15 → IsWritable (header_for key time micros sequence count kind exponent frames)
+writable : (key : Key) (time : BTime) (micros sequence count : ℕ) (kind : Kind) (exponent frames : ℕ) (start : ℤ) → IsTrue (is_quality key.quality) → IsSplit start time micros → least_exponent ≤ exponent → exponent ≤ most_exponent → IsWritable (header_for key time micros sequence count kind exponent frames)
 writable key time micros sequence count kind exponent frames start quality split low high = record {
   sequence = digits sequence;
   quality = quality;
@@ -98,7 +99,7 @@ pub appends_record : (old new front area : List ℕ) (key : Key) (start : ℤ) (
     → ((rest : List ℕ) → IsWritable (header_for key time micros sequence count kind exponent frames) → 2 ^ exponent ≤ 64 + length rest → header_of (front ++ rest) ≡ Ok (as_read (header_for key time micros sequence count kind exponent frames)))
     → Carries kind Big area samples
     → ReverseAgrees kind Big area samples
-    → IsSplit start time micros → size ≡ 2 ^ exponent → 8 ≤ exponent → exponent ≤ 15
+    → IsSplit start time micros → size ≡ 2 ^ exponent → least_exponent ≤ exponent → exponent ≤ most_exponent
     → IsTrue (is_quality key.quality) → is_pending key.activity key.correction ≡ false → 1 ≤ length samples
     → (key.rate.factor ≢ pos 0) × (key.rate.multiplier ≢ pos 0)
     → AppendsRecord old new key start sequence before samples kind size

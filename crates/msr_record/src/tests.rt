@@ -465,16 +465,16 @@ fn written_records(rt: HostRuntime) -> Result<(), Fail> {
     Ok(())
 }
 
-// 511 frames, a number that the frame count of blockette 1001 cannot hold.
-#[test]
-fn longest_record(rt: HostRuntime) -> Result<(), Fail> {
-    let zeros = [0; 53641];
-    let Some(rate) = Rate::new(20, 1) else {
-        panic!(rt; "no rate")
-    };
-    let Some(record_length) = Length::new(32768) else {
-        panic!(rt; "no length")
-    };
+// One record of so many samples of 0, which is read back.
+fn record_of_zeros(
+    rt: &impl Abort,
+    alloc: Global,
+    bytes: u32,
+    count: usize,
+) -> Result<Vec<u8>, Fail> {
+    let zeros = vec![in alloc; 0; count]?;
+    let rate = Rate::new(20, 1).ok_or("no rate")?;
+    let record_length = Length::new(bytes).ok_or("no length")?;
     let key = Key {
         network: *b"XX",
         station: *b"TEST ",
@@ -488,10 +488,11 @@ fn longest_record(rt: HostRuntime) -> Result<(), Fail> {
         correction: 0,
         timing: 0,
     };
+    assert!(rt; !zeros.is_empty());
     assert!(rt; Kind::Steim2.fits(None, &zeros, record_length));
-    let mut out = Vec::new(rt.alloc());
+    let mut out = Vec::new(alloc);
     encode_record(
-        rt.alloc(),
+        alloc,
         &key,
         START,
         1,
@@ -501,16 +502,29 @@ fn longest_record(rt: HostRuntime) -> Result<(), Fail> {
         record_length,
         &mut out,
     )?;
-    assert_eq!(rt; out.len(), 32768);
-    assert_eq!(rt; out.get(63).copied(), Some(0));
-    let Ok(found) = decode_record(rt.alloc(), &out) else {
+    let Ok(found) = decode_record(alloc, &out) else {
         panic!(rt; "refused")
     };
     assert!(rt; found.reverse_agrees);
     let Some(row) = found.row else {
         panic!(rt; "no row")
     };
-    assert_eq!(rt; row.samples.len(), 53641);
+    assert!(rt; row.samples.as_slice() == zeros.as_slice());
+    Ok(out)
+}
+
+// 511 and 625 frames, numbers that the frame count of blockette 1001 cannot hold. The longest record has room for more
+// samples than its header counts.
+#[test]
+fn longest_records(rt: HostRuntime) -> Result<(), Fail> {
+    for (bytes, exponent, count) in [(32_768, 15, 53_641), (65_536, 16, 65_535)] {
+        let out = record_of_zeros(&rt, rt.alloc(), bytes, count)?;
+        assert_eq!(rt; out.len(), bytes as usize);
+        assert_eq!(rt; out.get(54).copied(), Some(exponent));
+        assert_eq!(rt; out.get(63).copied(), Some(0));
+        let samples = (count as u16).to_be_bytes();
+        assert!(rt; out.get(30..32) == Some(samples.as_slice()));
+    }
     Ok(())
 }
 

@@ -10,7 +10,7 @@ use Rattle.msr_record.proofs.writing.fill_record.Goals as goal
 
 pub overflow_cast-count : goal.overflow_cast-count
 overflow_cast-count c =
-    let few = few_samples c.args.kind (bytes_of c.args.record_length) c.args.before c.args.run.now c.args.record_length.most c.requires.fits in
+    let few = few_samples c.args.kind (bytes_of c.args.record_length) c.args.before c.args.run.now c.requires.fits in
     search rules
 
 -- what is said of a header holds of one that is the same
