@@ -5,6 +5,7 @@ pub mod TimeLemmas
 pub mod RowLemmas
 pub mod OneAnswer
 pub mod AreaLemmas
+pub mod FilledFrames
 pub mod WritingLemmas
 pub mod OneWritten
 pub mod FirstBytes

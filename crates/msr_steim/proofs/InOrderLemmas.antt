@@ -1,6 +1,6 @@
 -- The samples of an area in order are those that it carries.
 use Rattle.std.proofs.Common.{◌≡◌, ◌<◌, ◌≤◌, ℕ, zero, suc, ◌+◌, ◌-◌, ◌*◌, ◌/◌, ◌%◌, ◌^◌, ℤ, pos, ◌+ℤ◌, List, [], ◌∷◌, ◌++◌, length, take, get_or, refl, sym, ap, ◌∙◌, subst, arith, w32, to_z, of_z, SFits, append_assoc, length-append, Some, lit<}
-use Rattle.std.specs.Prelude.{Option, None, IsNone, IsSome, IsSomeAnd, IsTrue, slice_get, ◌↔◌}
+use Rattle.std.specs.Prelude.{Option, None, IsSomeAnd, IsTrue, slice_get, ◌↔◌}
 use Rattle.std.specs.Cmp.{signed_Decides}
 use Rattle.std.specs.Int.{int_wrap}
 use Rattle.std.specs.Iterator.{MakesProgress, item_count}
@@ -143,11 +143,11 @@ counted_enough version order area number found count counted enough = record {
 
 -- ---- the samples
 
--- an area that holds enough has a word
-pub has_words : (version : Version) (order : Order) (area : List ℕ) (count : ℕ) → 1 ≤ count → HoldsEnough version order area count → 12 ≤ length area
-has_words version order area count some e = some_words e.groups e.held.within e.enough
+-- an area that holds enough has a frame
+pub has_frame : (version : Version) (order : Order) (area : List ℕ) (count : ℕ) → 1 ≤ count → HoldsEnough version order area count → 64 ≤ length area
+has_frame version order area count some e = some_words e.groups e.held.within e.enough
   where
-    some_words : (groups : List (List ℤ)) → length groups ≤ length area / 64 * 16 → count ≤ length (differences groups) → 12 ≤ length area
+    some_words : (groups : List (List ℤ)) → length groups ≤ length area / 64 * 16 → count ≤ length (differences groups) → 64 ≤ length area
     some_words [] within enough = absurd (omega (arith, some, enough))
     some_words (g ∷ gs) within enough = let n : suc (length gs) ≤ length area / 64 * 16 = within in omega arith
 
@@ -239,9 +239,3 @@ first_sum before ds rest d (suc left) some e =
 pub no_sums : (before : ℤ) (ds : List ℤ) (left : ℕ) → ds ≡ [] → take left (sums_after before ds) ≡ []
 no_sums before ds zero e = refl
 no_sums before ds (suc left) e = rw e refl
-
--- ---- the first of all
-
-pub some_found : {X : Type 0} (o : Option X) → (IsNone o → ⊥) → IsSome o
-some_found None none = absurd (none refl)
-some_found (Some x) none = refl

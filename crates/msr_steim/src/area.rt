@@ -1,6 +1,6 @@
 //! The samples that a data area of Steim frames carries.
 
-ghost use Rattle.std.specs.Prelude.{◌≡◌, ◌<◌, ◌≤◌, ◌↔◌, ℕ, ℤ, List, ◌+◌, ◌-◌, ◌*◌, ◌/◌, ◌%◌, ◌^◌, IfOk, IsErrOf, IsTrue, OnOk, Some, length, slice_get};
+ghost use Rattle.std.specs.Prelude.{◌≡◌, ◌<◌, ◌≤◌, ◌↔◌, ℕ, ℤ, List, ◌+◌, ◌-◌, ◌*◌, IfOk, IsErrOf, IsTrue, OnOk, Some, length, slice_get};
 ghost use Rattle.msr_header.specs.declared.header.Order.{Order};
 ghost use Rattle.msr_steim.specs.declared.word.Version.{Version};
 ghost use Rattle.msr_steim.specs.Area.{CarriesSteim, EndsBefore, IsUndefinedBefore, ReverseAgrees, arranged_word, constant, whole_word};
@@ -56,16 +56,6 @@ pub(crate) fn whole_word_at(order: Order, area: &[u8], number: usize) -> u32
         Order::Big => BigEndian::read_u32(&area[4 * number..]),
         Order::Little => LittleEndian::read_u32(&area[4 * number..]),
     }
-}
-
-/// The code of a word of a frame with these codes.
-#[inline(always)]
-pub(crate) fn code_in(codes: u32, slot: usize) -> u8
-    requires { slot < 16 }
-    ensures value { result ≡ codes / 2 ^ (30 - 2 * slot) % 4 }
-    ensures small { result < 4 }
-{
-    ((codes << (2 * slot)) >> 30) as u8
 }
 
 /// The first word of a frame that has differences: its first word has the codes, and two more of the

@@ -1,13 +1,13 @@
 //! The samples of a data area of Steim frames, one after the other, without memory.
 
-ghost use Rattle.std.specs.Prelude.{◌≡◌, ◌<◌, ◌≤◌, ◌↔◌, ◌++◌, ◌*◌, ℕ, ℤ, List, ⊤, IfOk, IfSome, IsErrOf, IsNone, IsSome, IsTrue, OnOk, [], length};
+ghost use Rattle.std.specs.Prelude.{◌≡◌, ◌<◌, ◌≤◌, ◌↔◌, ◌++◌, ◌-◌, ◌*◌, ◌/◌, ◌%◌, ◌^◌, ℕ, ℤ, List, ⊤, IfOk, IfSome, IsErrOf, IsNone, IsSome, IsTrue, OnOk, [], length};
 ghost use Rattle.std.specs.Iterator.{YieldsFirst, item_count};
 ghost use Rattle.msr_steim.specs.Area.{CarriesSteim, EndsBefore, IsUndefined, IsUndefinedBefore, ReverseAgrees, code_of, word_count};
 ghost use Rattle.msr_steim.specs.InOrder.{BeginsAfter, HasFields, HoldsEnough, differences_from};
 ghost use Rattle.msr_steim.specs.Left.{GivesFirst};
 ghost use Rattle.msr_steim.specs.Word.{numbers_in};
 
-use crate::area::{SteimFault, arranged_word_at, code_in, constant_at, whole_word_at};
+use crate::area::{SteimFault, arranged_word_at, constant_at, whole_word_at};
 use crate::word::{Version, difference_at, division_for};
 use msr_header::Order;
 use std::alloc::AllocError;
@@ -68,6 +68,16 @@ impl<'a> Model for SteimSamples<'a> {
     ghost use Rattle.msr_steim.specs.SumsLeft.{samples_left};
 
     ghost view = { samples_left };
+}
+
+/// The code of a word of a frame with these codes.
+#[inline(always)]
+fn code_in(codes: u32, slot: usize) -> u8
+    requires { slot < 16 }
+    ensures value { result ≡ codes / 2 ^ (30 - 2 * slot) % 4 }
+    ensures small { result < 4 }
+{
+    ((codes << (2 * slot)) >> 30) as u8
 }
 
 /// The code of the word with this number. A word that has no differences has code 0.
@@ -267,18 +277,19 @@ pub fn steim_samples<'a>(
     ensures never_memory { IsErrOf result SteimFault.Memory → ⊥ }
 {
     check_words(version, order, area, count)?;
-    let (fields, number) = next_fields(version, order, area, 0).unwrap();
-    // The first difference is not used: with it, the first sample is the constant.
-    let difference = difference_at(fields.word, fields.count - 1, fields.width);
     Ok(SteimSamples {
         differences: Differences {
             version,
             order,
             area,
-            number,
-            fields,
+            number: 0,
+            fields: Fields {
+                word: 0,
+                count: 0,
+                width: 0,
+            },
         },
-        last: constant_at(order, area, 1).wrapping_sub(difference),
+        last: before_first(version, order, area),
         reverse: constant_at(order, area, 2),
         left: count,
     })

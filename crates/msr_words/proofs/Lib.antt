@@ -6,6 +6,7 @@ pub mod Exist
 pub mod Fill
 pub mod FillFields
 pub mod FillSizes
+pub mod FilledAreas
 pub mod FirstGroups
 pub mod Greedy
 pub mod GreedyReach

@@ -1,18 +1,12 @@
 -- The next Steim-1 word, where the size of its group is known.
-use Rattle.std.proofs.Common.{◌≡◌, ◌<◌, ◌≤◌, ◌+◌, ◌-◌, ◌*◌, ℕ, ℤ, pos, List, Option, drop, take, length, get_or, refl, sym, subst, arith}
+use Rattle.std.proofs.Common.{◌≡◌, ◌<◌, ◌≤◌, ◌+◌, ℕ, ℤ, List, Option, drop, take, length, refl, sym, subst, arith}
 use Rattle.std.proofs.lemmas.List.{length-drop}
 use Rattle.msr_steim.specs.declared.word.Version.TheVariants.{One}
 use Rattle.msr_steim.specs.Word.{IsGroup, group_code, group_word}
-use Rattle.msr_steim.specs.Frames.{frame_bytes}
 use Rattle.msr_words.specs.declared.filling.NextWord.{NextWord}
-use Rattle.msr_words.specs.Canonical.{IsCanonicalDivision}
-use Rattle.msr_words.specs.Division.{CanDivide}
-use Rattle.msr_words.specs.Filled.{IsFilledArea}
 use Rattle.msr_words.specs.FirstGroup.{IsCanonicalFirst}
 use Rattle.msr_words.specs.NextWord.{IsNextWord}
 use Rattle.msr_words.specs.Segment.{differences}
-use Rattle.msr_words.specs.Lemmas.SteimLaws.{size_law}
-use Rattle.msr_words.proofs.Exist.{has_division}
 use Rattle.msr_words.proofs.FirstGroups.{first_few, first_is_group, first_some, next_first, next_none}
 use Rattle.msr_words.proofs.Plain.{length_differences}
 
@@ -73,19 +67,3 @@ word_none before run at end =
       full = λ some. absurd (omega arith);
       empty_is = λ none'. refl;
     }
-
--- the area, where it is filled with the groups of the division that is written
-pub area_filled : (before : Option ℤ) (run : List ℤ) (frames : ℕ) (area : List ℕ) (number : ℕ) → 1 ≤ length run → CanDivide One (15 * frames - 2) (differences before run)
-    → ((groups : List (List ℤ)) → IsCanonicalDivision One groups (differences before run) → length groups + 2 ≤ 15 * frames
-    → (area ≡ frame_bytes One (get_or run 0 (pos 0)) (get_or run (length run - 1) (pos 0)) groups frames) × (number ≡ length groups))
-    → IsFilledArea One before run frames area number
-area_filled before run frames area number some can filled =
-    let found = has_division One (15 * frames - 2) (differences before run) can in
-    let gs = found.groups in
-    let few = found.canonical.fewest can.groups can.are_groups can.join in
-    let few' = can.few in
-    let long = length_differences before run in
-    let enough = size_law One (length found.groups) (differences before run) (record { groups = gs; are_groups = found.canonical.are_groups; join = found.canonical.join; few = omega arith }) in
-    let room : length found.groups + 2 ≤ 15 * frames = omega arith in
-    let is = filled gs found.canonical room in
-    record { groups = gs; canonical = found.canonical; bytes_are = is.0; number_is = is.1 }

@@ -5,8 +5,8 @@ ghost use Rattle.std.specs.Int.{cast_unsigned, w32};
 ghost use Rattle.std.specs.List.{AllByRecursion};
 ghost use Rattle.msr_steim.specs.declared.word.Version.TheVariants.{Two};
 ghost use Rattle.msr_steim.specs.Word.{FitsBits, group_code, group_top, group_width, group_word, joined_fields, twos_complement};
-ghost use Rattle.msr_steim.specs.Frames.{frame_bytes};
-ghost use Rattle.msr_words.specs.Canonical.{IsCanonicalDivision};
+ghost use Rattle.msr_words.specs.Division.{CanDivide};
+ghost use Rattle.msr_words.specs.Filled.{IsFilledArea};
 ghost use Rattle.msr_words.specs.Groups.{IsLongestGroup};
 ghost use Rattle.msr_words.specs.NextWord.{IsNextWord};
 ghost use Rattle.msr_words.specs.Segment.{differences};
@@ -220,13 +220,14 @@ pub(crate) fn steim2_word(
 }
 
 /// Fills the area, of whole frames, with the words of the run's differences, big-endian: each group in turn is the
-/// longest, and the constants are the first and the last sample. Gives the number of groups.
+/// longest, and the constants are the first and the last sample. Gives the number of groups. Where there is no room for
+/// these, nothing is said of the area.
 #[inline(never)]
 pub fn fill_steim2(before: Option<i32>, run: &[i32], area: &mut [u8]) -> usize
     requires some { 1 ≤ length run.now }
     requires frames { length area.old % 64 ≡ 0 }
-    ensures filled { (groups : List (List ℤ)) → IsCanonicalDivision Two groups (differences before run.now) → length groups + 2 ≤ 15 * (length area.old / 64)
-        → (area.new ≡ frame_bytes Two (slice_index_or run.now 0 (pos 0)) (slice_index_or run.now (length run.now - 1) (pos 0)) groups (length area.old / 64)) × (result ≡ length groups) }
+    ensures filled { CanDivide Two (15 * (length area.old / 64) - 2) (differences before run.now)
+        → IsFilledArea Two before run.now (length area.old / 64) area.new result }
 {
     fill_frames(Sizing::Longest, before, run, &[], area).unwrap()
 }
