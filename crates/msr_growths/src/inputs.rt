@@ -1,4 +1,6 @@
 //! What the calls are made with: noise as samples, as records, and as what becomes of them.
+ghost use Rattle.std.specs.Prelude.{◌≡◌, IfSome, IsSome, OnErr};
+ghost use Rattle.msr_tool.specs.Choice.{size_of};
 
 use msr_devices::{Behavior, TestSink, TestSource};
 use msr_record::{Key, encode_record};
@@ -76,7 +78,10 @@ pub fn room(alloc: Global) -> Result<Vec<u8>, AllocError> {
 }
 
 /// Records of 256 bytes.
-pub fn options() -> Option<Options> {
+pub fn options() -> Option<Options>
+    ensures some { IsSome result }
+    ensures size { IfSome result (λ options. size_of options ≡ 256) }
+{
     Options::new(Length::new(256)?, 1000)
 }
 
@@ -101,7 +106,9 @@ pub fn append(
     kind: Kind,
     bytes: u32,
     out: &mut Vec<u8>,
-) -> Result<(), AllocError> {
+) -> Result<(), AllocError>
+    ensures { OnErr result (out.new.items ≡ out.old.items) }
+{
     let (Some(rate), Some(record_length)) = (Rate::new(20, 1), Length::new(bytes)) else {
         return Ok(());
     };

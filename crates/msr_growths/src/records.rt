@@ -1,4 +1,7 @@
 //! Calls of the crates up to segments and packings.
+ghost use Rattle.std.specs.Prelude.{◌≡◌, ℕ, List, IfOk, drop};
+ghost use Rattle.msr_packer.specs.Stream.{IsEnd};
+ghost use Rattle.msr_words.specs.declared.kinds.Run.{Run};
 
 use crate::inputs::{Inputs, append};
 use msr_header::Order;
@@ -14,8 +17,13 @@ use std::io;
 /// Where the data of a record begin.
 const DATA_AT: usize = 64;
 
-fn data(record: &[u8]) -> &[u8] {
-    record.get(DATA_AT..).unwrap_or(&[])
+fn data(record: &[u8]) -> &[u8]
+    ensures { result.now ≡ drop 64 record.now }
+{
+    if record.len() < DATA_AT {
+        return &[];
+    }
+    &record[DATA_AT..]
 }
 
 pub fn push(rt: &HostRuntime) -> io::Result<()> {
@@ -65,7 +73,10 @@ pub fn pack_all(rt: &HostRuntime, inputs: &Inputs) -> io::Result<()> {
 }
 
 /// What is left at the end of a stream.
-fn last_of(alloc: Global, samples: &[i32], record_length: Length) -> Result<Last, AllocError> {
+fn last_of(alloc: Global, samples: &[i32], record_length: Length) -> Result<Last, AllocError>
+    ensures { IfOk result (λ last. (runs : List Run) × (separators : List ℕ)
+        × IsEnd record_length samples.now runs separators last.pieces.items last.samples.items) }
+{
     let mut packer = StreamPacker::new(alloc, record_length);
     for at in 0..samples.len() {
         packer.push(samples[at])?;

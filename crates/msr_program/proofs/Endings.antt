@@ -10,6 +10,7 @@ use Rattle.msr_tool.specs.Listing.{IsListed, ListAnswers}
 use Rattle.msr_tool.specs.Tasks.{Reports, Tells}
 use Rattle.msr_tool.specs.declared.fault.ToolFault.{ToolFault}
 use Rattle.msr_tool.specs.declared.fault.ToolFault.TheVariants as fault
+use Rattle.msr_walk.specs.Day.{Asked}
 use Rattle.msr_walk.specs.Walk.{IsWalk, Walks}
 use Rattle.msr_program.specs.declared.done.Done.{Done}
 use Rattle.msr_program.specs.declared.done.Done.TheVariants.{Written, Checked, Walked}
@@ -17,7 +18,7 @@ use Rattle.msr_program.specs.declared.stop.Stop.{Stop}
 use Rattle.msr_program.specs.declared.stop.Stop.TheVariants.{CannotOpen, SameFile, Closed, Tool}
 use Rattle.msr_program.specs.declared.words.Task.{Task}
 use Rattle.msr_program.specs.declared.words.Task.TheVariants.{Repack, List as Listing, Check, Archive}
-use Rattle.msr_program.specs.Ends.{Checks, Does, IsUncreated, IsUnopened, ListsNamed, Repacks, RepacksNamed, WalksArchive, choice_of}
+use Rattle.msr_program.specs.Ends.{Checks, Does, IsUncreated, IsUnopened, ListsNamed, Repacks, RepacksNamed, WalksArchive, days_asked}
 
 -- a file that is needed cannot be opened
 
@@ -154,11 +155,11 @@ check-stops packed report out0 out why does = record {
   ends = does.answers;
 }
 
-pub archive-done : (choice : Choice) (out0 out : Device) (refused : Bool) → Walks choice out0 out (Ok refused) → WalksArchive choice out0 out (Ok (Walked refused))
-archive-done choice out0 out refused does = record { printed = does.printed; prints = does.prints; ends = does.ends }
+pub archive-done : (asked : Asked) (out0 out : Device) (refused : Bool) → Walks asked out0 out (Ok refused) → WalksArchive asked out0 out (Ok (Walked refused))
+archive-done asked out0 out refused does = record { printed = does.printed; prints = does.prints; ends = does.ends }
 
-pub archive-stops : (choice : Choice) (out0 out : Device) (why : ToolFault) → Walks choice out0 out (Err why) → WalksArchive choice out0 out (Err (Tool why))
-archive-stops choice out0 out why does = record { printed = does.printed; prints = does.prints; ends = does.ends }
+pub archive-stops : (asked : Asked) (out0 out : Device) (why : ToolFault) → Walks asked out0 out (Err why) → WalksArchive asked out0 out (Err (Tool why))
+archive-stops asked out0 out why does = record { printed = does.printed; prints = does.prints; ends = does.ends }
 
 -- a file, and not standard input, was listed, or is at fault
 
@@ -259,8 +260,7 @@ task-unsettled (Check asked) standard out0 out (Walked refused) does = absurd do
 task-unsettled (Archive asked) standard out0 out Written does = absurd does.ends
 task-unsettled (Archive asked) standard out0 out (Checked verdict) does = absurd does.ends
 task-unsettled (Archive asked) standard out0 out (Walked refused) does =
-    let choice = choice_of asked.length asked.tolerance in
-    let P : List ℕ → Type 0 = λ text. IsWalk choice text does.ends.0 in
+    let P : List ℕ → Type 0 = λ text. IsWalk (days_asked asked) text does.ends.0 in
     record {
       printed = does.printed;
       prints = does.prints;

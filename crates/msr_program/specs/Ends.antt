@@ -10,11 +10,13 @@ use Rattle.msr_tool.specs.Listing.{IsListed, ListAnswers}
 use Rattle.msr_tool.specs.Tasks.{IsReported, ReportAnswers, VerdictAnswers}
 use Rattle.msr_verdict.specs.declared.verdict.Verdict.TheVariants.{Least, NotShown}
 use Rattle.msr_tool.specs.declared.fault.ToolFault.{ToolFault}
+use Rattle.msr_walk.specs.Day.{Asked}
 use Rattle.msr_walk.specs.Walk.{WalkEnds}
 use Rattle.msr_program.specs.declared.done.Done.{Done}
 use Rattle.msr_program.specs.declared.done.Done.TheVariants.{Written, Checked, Walked}
 use Rattle.msr_program.specs.declared.stop.Stop.{Stop}
 use Rattle.msr_program.specs.declared.stop.Stop.TheVariants.{CannotOpen, SameFile, Closed, Tool}
+use Rattle.msr_program.specs.declared.words.Archiving.{Archiving}
 use Rattle.msr_program.specs.declared.words.NoTask.{NoTask}
 use Rattle.msr_program.specs.declared.words.NoTask.TheVariants.{Ending, Memory}
 use Rattle.msr_program.specs.declared.words.Task.{Task}
@@ -142,20 +144,28 @@ pub record ListsNamed (tolerance : ℕ) (name : List ℕ) (standard out0 out : D
   pub prints : Takes out0 out printed
   pub ends : ListEnds tolerance input printed result
 
-abbrev pub ArchiveEnds : Choice → (printed : List ℕ) → Result Done Stop → Type 0
-ArchiveEnds choice printed (Ok Written) = ⊥
-ArchiveEnds choice printed (Ok (Checked verdict)) = ⊥
-ArchiveEnds choice printed (Ok (Walked refused)) = WalkEnds choice printed (Ok refused)
-ArchiveEnds choice printed (Err (CannotOpen name)) = ⊥
-ArchiveEnds choice printed (Err SameFile) = ⊥
-ArchiveEnds choice printed (Err Closed) = printed ≡ []
-ArchiveEnds choice printed (Err (Tool fault)) = WalkEnds choice printed (Err fault)
+-- what is asked of each day of an archive
+abbrev pub days_asked : Archiving → Asked
+days_asked asked = record {
+  choice = choice_of asked.length asked.tolerance;
+  resume = asked.walking.resume;
+  check = asked.walking.check;
+}
+
+abbrev pub ArchiveEnds : Asked → (printed : List ℕ) → Result Done Stop → Type 0
+ArchiveEnds asked printed (Ok Written) = ⊥
+ArchiveEnds asked printed (Ok (Checked verdict)) = ⊥
+ArchiveEnds asked printed (Ok (Walked refused)) = WalkEnds asked printed (Ok refused)
+ArchiveEnds asked printed (Err (CannotOpen name)) = ⊥
+ArchiveEnds asked printed (Err SameFile) = ⊥
+ArchiveEnds asked printed (Err Closed) = printed ≡ []
+ArchiveEnds asked printed (Err (Tool fault)) = WalkEnds asked printed (Err fault)
 
 -- Walking an archive, and what was printed.
-pub record WalksArchive (choice : Choice) (out0 out : Device) (result : Result Done Stop) : Type 0 where
+pub record WalksArchive (asked : Asked) (out0 out : Device) (result : Result Done Stop) : Type 0 where
   pub printed : List ℕ
   pub prints : Takes out0 out printed
-  pub ends : ArchiveEnds choice printed result
+  pub ends : ArchiveEnds asked printed result
 
 -- what doing a task reads and prints, and how it ends
 abbrev pub Does : Task → (standard out0 out : Device) → Result Done Stop → Type 0
@@ -163,7 +173,7 @@ Does (Repack asked) standard out0 out result =
     RepacksNamed (choice_of asked.length asked.tolerance) asked.input.now standard out0 out result
 Does (Listing asked) standard out0 out result = ListsNamed asked.tolerance asked.input.now standard out0 out result
 Does (Check asked) standard out0 out result = Checks out0 out result
-Does (Archive asked) standard out0 out result = WalksArchive (choice_of asked.length asked.tolerance) out0 out result
+Does (Archive asked) standard out0 out result = WalksArchive (days_asked asked) out0 out result
 
 -- The words ask for a task, with none for the default, and it ended with this status.
 pub record EndsTask (words : ℕ) (standard out0 out : Device) (status : ℕ) : Type 0 where

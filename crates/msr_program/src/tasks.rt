@@ -3,7 +3,7 @@
 ghost use Rattle.std.specs.Prelude.{◌≡◌};
 ghost use Rattle.msr_devices.specs.Device.{CanCountCall};
 ghost use Rattle.msr_program.specs.Tasks.{IsTolerance, HasTolerance};
-ghost use Rattle.msr_program.specs.Ends.{choice_of, Checks, Does, ListsNamed, OpensOutput, Repacks, RepacksNamed, WalksArchive};
+ghost use Rattle.msr_program.specs.Ends.{choice_of, days_asked, Checks, Does, ListsNamed, OpensOutput, Repacks, RepacksNamed, WalksArchive};
 
 use crate::done::Done;
 use crate::files::{
@@ -177,8 +177,7 @@ fn repack_archive<'a, R: Files, O: Sink>(
 ) -> Result<Done, Stop<'a>>
     requires tolerance { IsTolerance asked.tolerance }
     requires output { CanCountCall (O.device output.old) }
-    ensures { WalksArchive (choice_of asked.entry.length asked.entry.tolerance)
-        (O.device output.old) (O.device output.new) result }
+    ensures { WalksArchive (days_asked asked.entry) (O.device output.old) (O.device output.new) result }
 {
     let archive = Archive {
         root: asked.folders.root,

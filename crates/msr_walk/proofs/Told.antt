@@ -6,10 +6,10 @@ use Rattle.std.specs.List.{AllByRecursion}
 use Rattle.msr_devices.specs.Device.{Device, IsCalm, Takes}
 use Rattle.msr_devices.proofs.Chaining.{takes-append, calm-same, calm-calm, calm-failed, steady-steady}
 use Rattle.msr_report.specs.Writing.{TakesFront}
-use Rattle.msr_tool.specs.Choice.{Choice}
 use Rattle.msr_tool.specs.Writing.{StopsSink}
 use Rattle.msr_tool.specs.declared.fault.ToolFault.{ToolFault}
 use Rattle.msr_tool.specs.declared.fault.ToolFault.TheVariants.{Input, Report, Read, Write, Memory}
+use Rattle.msr_walk.specs.Day.{Asked}
 use Rattle.msr_walk.specs.Entries.{Entry, IsEntry, IsOutcomeOf, IsLineOf, AreLines, IsTally, counted, is_refused}
 use Rattle.msr_walk.specs.Walk.{IsWalkInPart, StopsFront, StopsTelling, Tells, TellsInPart, TellsRefusals, Walks, summary}
 use Rattle.msr_walk.specs.declared.outcome.Outcome.{Outcome}
@@ -31,8 +31,8 @@ one-line : (entry : Entry) (line : List ℕ) → IsLineOf entry.path entry.outco
 one-line entry line h = (line, [], h, refl, sym (append-nil line))
 
 -- no entry more
-pub tells-none : (choice : Choice) (out : Device) (tally : Tally) → Tells choice out out tally tally
-tells-none choice out tally = record {
+pub tells-none : (asked : Asked) (out : Device) (tally : Tally) → Tells asked out out tally tally
+tells-none asked out tally = record {
   entries = [];
   lines = [];
   are_entries = tt;
@@ -43,11 +43,11 @@ tells-none choice out tally = record {
 }
 
 -- one entry more
-pub tells-one : (choice : Choice) (out0 out : Device) (tally0 tally : Tally) (path channel line : List ℕ) (outcome : Outcome) →
-    IsOutcomeOf choice path channel outcome → IsLineOf path outcome line → Takes out0 out line → IsCalm out0 out →
+pub tells-one : (asked : Asked) (out0 out : Device) (tally0 tally : Tally) (path channel line : List ℕ) (outcome : Outcome) →
+    IsOutcomeOf asked path channel outcome → IsLineOf path outcome line → Takes out0 out line → IsCalm out0 out →
     ((before : List Entry) → IsTally before tally0 → IsTally (before ++ record { path = path; channel = channel; outcome = outcome } ∷ []) tally) →
-    Tells choice out0 out tally0 tally
-tells-one choice out0 out tally0 tally path channel line outcome is_outcome is_line prints calm counts = record {
+    Tells asked out0 out tally0 tally
+tells-one asked out0 out tally0 tally path channel line outcome is_outcome is_line prints calm counts = record {
   entries = record { path = path; channel = channel; outcome = outcome } ∷ [];
   lines = line;
   are_entries = (is_outcome, tt);
@@ -57,12 +57,12 @@ tells-one choice out0 out tally0 tally path channel line outcome is_outcome is_l
   counts = counts;
 }
 
-pub tells-more : (choice : Choice) (out0 out1 out : Device) (tally0 tally1 tally : Tally) →
-    Tells choice out0 out1 tally0 tally1 → Tells choice out1 out tally1 tally → Tells choice out0 out tally0 tally
-tells-more choice out0 out1 out tally0 tally1 tally first second = record {
+pub tells-more : (asked : Asked) (out0 out1 out : Device) (tally0 tally1 tally : Tally) →
+    Tells asked out0 out1 tally0 tally1 → Tells asked out1 out tally1 tally → Tells asked out0 out tally0 tally
+tells-more asked out0 out1 out tally0 tally1 tally first second = record {
   entries = first.entries ++ second.entries;
   lines = first.lines ++ second.lines;
-  are_entries = all-append (IsEntry choice) first.entries second.entries first.are_entries second.are_entries;
+  are_entries = all-append (IsEntry asked) first.entries second.entries first.are_entries second.are_entries;
   are_lines = lines-append first.entries second.entries first.lines second.lines first.are_lines second.are_lines;
   prints = takes-append out0 out1 out first.lines second.lines first.prints second.prints;
   calm = calm-calm out0 out1 out first.calm second.calm;
@@ -72,8 +72,8 @@ tells-more choice out0 out1 out tally0 tally1 tally first second = record {
 }
 
 -- nothing was printed
-pub part-none : (choice : Choice) (out : Device) → TellsInPart choice out out
-part-none choice out = record {
+pub part-none : (asked : Asked) (out : Device) → TellsInPart asked out out
+part-none asked out = record {
   entries = [];
   printed = [];
   rest = [];
@@ -83,9 +83,9 @@ part-none choice out = record {
 }
 
 -- a prefix of a line
-pub part-line : (choice : Choice) (out0 out : Device) (n : ℕ) (path channel line : List ℕ) (outcome : Outcome) →
-    IsOutcomeOf choice path channel outcome → IsLineOf path outcome line → Takes out0 out (take n line) → TellsInPart choice out0 out
-part-line choice out0 out n path channel line outcome is_outcome is_line prints = record {
+pub part-line : (asked : Asked) (out0 out : Device) (n : ℕ) (path channel line : List ℕ) (outcome : Outcome) →
+    IsOutcomeOf asked path channel outcome → IsLineOf path outcome line → Takes out0 out (take n line) → TellsInPart asked out0 out
+part-line asked out0 out n path channel line outcome is_outcome is_line prints = record {
   entries = record { path = path; channel = channel; outcome = outcome } ∷ [];
   printed = take n line;
   rest = drop n line;
@@ -95,9 +95,9 @@ part-line choice out0 out n path channel line outcome is_outcome is_line prints 
 }
 
 -- a whole line
-pub part-one : (choice : Choice) (out0 out : Device) (path channel line : List ℕ) (outcome : Outcome) →
-    IsOutcomeOf choice path channel outcome → IsLineOf path outcome line → Takes out0 out line → TellsInPart choice out0 out
-part-one choice out0 out path channel line outcome is_outcome is_line prints = record {
+pub part-one : (asked : Asked) (out0 out : Device) (path channel line : List ℕ) (outcome : Outcome) →
+    IsOutcomeOf asked path channel outcome → IsLineOf path outcome line → Takes out0 out line → TellsInPart asked out0 out
+part-one asked out0 out path channel line outcome is_outcome is_line prints = record {
   entries = record { path = path; channel = channel; outcome = outcome } ∷ [];
   printed = line;
   rest = [];
@@ -106,20 +106,20 @@ part-one choice out0 out path channel line outcome is_outcome is_line prints = r
   prints = prints;
 }
 
-pub part-more : (choice : Choice) (out0 out1 out : Device) (tally0 tally1 : Tally) →
-    Tells choice out0 out1 tally0 tally1 → TellsInPart choice out1 out → TellsInPart choice out0 out
-part-more choice out0 out1 out tally0 tally1 first second = record {
+pub part-more : (asked : Asked) (out0 out1 out : Device) (tally0 tally1 : Tally) →
+    Tells asked out0 out1 tally0 tally1 → TellsInPart asked out1 out → TellsInPart asked out0 out
+part-more asked out0 out1 out tally0 tally1 first second = record {
   entries = first.entries ++ second.entries;
   printed = first.lines ++ second.printed;
   rest = second.rest;
-  are_entries = all-append (IsEntry choice) first.entries second.entries first.are_entries second.are_entries;
+  are_entries = all-append (IsEntry asked) first.entries second.entries first.are_entries second.are_entries;
   are_lines = rw (append_assoc first.lines second.printed second.rest) (lines-append first.entries second.entries first.lines (second.printed ++ second.rest) first.are_lines second.are_lines);
   prints = takes-append out0 out1 out first.lines second.printed first.prints second.prints;
 }
 
-pub part-all : (choice : Choice) (out0 out : Device) (tally0 tally : Tally) → Tells choice out0 out tally0 tally → TellsInPart choice out0 out
-part-all choice out0 out tally0 tally first =
-    part-more choice out0 out out tally0 tally first (part-none choice out)
+pub part-all : (asked : Asked) (out0 out : Device) (tally0 tally : Tally) → Tells asked out0 out tally0 tally → TellsInPart asked out0 out
+part-all asked out0 out tally0 tally first =
+    part-more asked out0 out out tally0 tally first (part-none asked out)
 
 -- Where a walk stops.
 
@@ -132,20 +132,20 @@ stops-within out0 out1 out Read calm whole h = absurd h
 stops-within out0 out1 out Write calm whole h = (whole h.0, calm-failed out0 out1 out calm h.1)
 stops-within out0 out1 out Memory calm whole h = (whole h.0, steady-steady out0 out1 out calm.steady h.1)
 
-pub stops-more : (choice : Choice) (out0 out1 out : Device) (tally0 tally1 : Tally) (fault : ToolFault) →
-    Tells choice out0 out1 tally0 tally1 → StopsTelling choice out1 out fault → StopsTelling choice out0 out fault
-stops-more choice out0 out1 out tally0 tally1 fault first second =
-    stops-within out0 out1 out fault first.calm (part-more choice out0 out1 out tally0 tally1 first) second
+pub stops-more : (asked : Asked) (out0 out1 out : Device) (tally0 tally1 : Tally) (fault : ToolFault) →
+    Tells asked out0 out1 tally0 tally1 → StopsTelling asked out1 out fault → StopsTelling asked out0 out fault
+stops-more asked out0 out1 out tally0 tally1 fault first second =
+    stops-within out0 out1 out fault first.calm (part-more asked out0 out1 out tally0 tally1 first) second
 
 -- a prefix of the text of a walk was printed
-pub record WalksInPart (choice : Choice) (out0 out : Device) : Type 0 where
+pub record WalksInPart (asked : Asked) (out0 out : Device) : Type 0 where
   pub printed : List ℕ
   pub prints : Takes out0 out printed
-  pub walk : IsWalkInPart choice printed
+  pub walk : IsWalkInPart asked printed
 
 -- up to an entry
-entries-in_part : (choice : Choice) (out0 out : Device) → TellsInPart choice out0 out → WalksInPart choice out0 out
-entries-in_part choice out0 out told = record {
+entries-in_part : (asked : Asked) (out0 out : Device) → TellsInPart asked out0 out → WalksInPart asked out0 out
+entries-in_part asked out0 out told = record {
   printed = told.printed;
   prints = told.prints;
   walk = record {
@@ -161,9 +161,9 @@ entries-in_part choice out0 out told = record {
 }
 
 -- all entries, and a front of the last lines
-summary-in_part : (choice : Choice) (out0 out1 out : Device) (tally0 tally : Tally) (told : Tells choice out0 out1 tally0 tally) →
-    TakesFront out1 out (summary told.entries) → WalksInPart choice out0 out
-summary-in_part choice out0 out1 out tally0 tally told front = record {
+summary-in_part : (asked : Asked) (out0 out1 out : Device) (tally0 tally : Tally) (told : Tells asked out0 out1 tally0 tally) →
+    TakesFront out1 out (summary told.entries) → WalksInPart asked out0 out
+summary-in_part asked out0 out1 out tally0 tally told front = record {
   printed = told.lines ++ front.taken;
   prints = takes-append out0 out1 out told.lines front.taken told.prints front.takes;
   walk = record {
@@ -178,28 +178,28 @@ summary-in_part choice out0 out1 out tally0 tally told front = record {
   };
 }
 
-pub stops-entries : (choice : Choice) (out0 out : Device) (fault : ToolFault) → StopsTelling choice out0 out fault →
-    StopsSink (WalksInPart choice out0 out) (WalksInPart choice out0 out) out0 out fault
-stops-entries choice out0 out fault told = stops-within out0 out0 out fault (calm-same out0) (entries-in_part choice out0 out) told
+pub stops-entries : (asked : Asked) (out0 out : Device) (fault : ToolFault) → StopsTelling asked out0 out fault →
+    StopsSink (WalksInPart asked out0 out) (WalksInPart asked out0 out) out0 out fault
+stops-entries asked out0 out fault told = stops-within out0 out0 out fault (calm-same out0) (entries-in_part asked out0 out) told
 
-pub stops-summary : (choice : Choice) (out0 out1 out : Device) (tally0 tally : Tally) (fault : ToolFault) →
-    (told : Tells choice out0 out1 tally0 tally) → StopsFront out1 out (summary told.entries) fault →
-    StopsSink (WalksInPart choice out0 out) (WalksInPart choice out0 out) out0 out fault
-stops-summary choice out0 out1 out tally0 tally fault told front =
-    stops-within out0 out1 out fault told.calm (summary-in_part choice out0 out1 out tally0 tally told) front
+pub stops-summary : (asked : Asked) (out0 out1 out : Device) (tally0 tally : Tally) (fault : ToolFault) →
+    (told : Tells asked out0 out1 tally0 tally) → StopsFront out1 out (summary told.entries) fault →
+    StopsSink (WalksInPart asked out0 out) (WalksInPart asked out0 out) out0 out fault
+stops-summary asked out0 out1 out tally0 tally fault told front =
+    stops-within out0 out1 out fault told.calm (summary-in_part asked out0 out1 out tally0 tally told) front
 
-pub walk-stops : (choice : Choice) (out0 out : Device) (fault : ToolFault) →
-    StopsSink (WalksInPart choice out0 out) (WalksInPart choice out0 out) out0 out fault → Walks choice out0 out (Err fault)
-walk-stops choice out0 out (Input found) h = absurd h
-walk-stops choice out0 out (Report line) h = absurd h
-walk-stops choice out0 out Read h = absurd h
-walk-stops choice out0 out Write h = record { printed = h.0.printed; prints = h.0.prints; ends = h.0.walk }
-walk-stops choice out0 out Memory h = record { printed = h.0.printed; prints = h.0.prints; ends = h.0.walk }
+pub walk-stops : (asked : Asked) (out0 out : Device) (fault : ToolFault) →
+    StopsSink (WalksInPart asked out0 out) (WalksInPart asked out0 out) out0 out fault → Walks asked out0 out (Err fault)
+walk-stops asked out0 out (Input found) h = absurd h
+walk-stops asked out0 out (Report line) h = absurd h
+walk-stops asked out0 out Read h = absurd h
+walk-stops asked out0 out Write h = record { printed = h.0.printed; prints = h.0.prints; ends = h.0.walk }
+walk-stops asked out0 out Memory h = record { printed = h.0.printed; prints = h.0.prints; ends = h.0.walk }
 
-pub walk-ends : (choice : Choice) (out0 out1 out : Device) (tally0 tally : Tally) (refused : Bool) →
-    (told : Tells choice out0 out1 tally0 tally) → Takes out1 out (summary told.entries) → TellsRefusals told.entries refused →
-    Walks choice out0 out (Ok refused)
-walk-ends choice out0 out1 out tally0 tally refused told prints refusals = record {
+pub walk-ends : (asked : Asked) (out0 out1 out : Device) (tally0 tally : Tally) (refused : Bool) →
+    (told : Tells asked out0 out1 tally0 tally) → Takes out1 out (summary told.entries) → TellsRefusals told.entries refused →
+    Walks asked out0 out (Ok refused)
+walk-ends asked out0 out1 out tally0 tally refused told prints refusals = record {
   printed = told.lines ++ summary told.entries;
   prints = takes-append out0 out1 out told.lines (summary told.entries) told.prints prints;
   ends = (

@@ -12,11 +12,22 @@ use Rattle.msr_tool.specs.declared.fault.ToolFault.TheVariants.{Memory}
 use Rattle.msr_verdict.specs.declared.verdict.Verdict.{Verdict}
 use Rattle.msr_verdict.specs.declared.verdict.Verdict.TheVariants.{Least}
 use Rattle.msr_words.specs.Lengths.{bytes_of}
+use Rattle.msr_walk.specs.declared.folders.Archive.{Archive}
 use Rattle.msr_walk.specs.declared.outcome.Outcome.{Outcome}
 use Rattle.msr_walk.specs.declared.outcome.Outcome.TheVariants.{Done, Same, Skipped, Refused, NotShown as Unshown}
 use Rattle.msr_walk.specs.declared.outcome.Refusal.{Refusal}
 use Rattle.msr_walk.specs.declared.outcome.Refusal.TheVariants.{CannotOpen, Listing, NotShown, Tool}
 use Rattle.msr_walk.specs.declared.outcome.Repacked.{Repacked}
+
+-- What is asked of each day of an archive: the length and the tolerance; whether what an earlier walk did is left alone;
+-- whether records are held against their report before they are kept.
+pub record Asked : Type 0 where
+  pub choice : Choice
+  pub resume : Bool
+  pub check : Bool
+
+abbrev pub asked_of : Archive → Asked
+asked_of archive = record { choice = archive.options; resume = archive.resume; check = archive.check }
 
 -- The input was repacked, what was told is the text of its report, and the counts are those of this report: the
 -- records that were read, and those that were written.
@@ -77,15 +88,25 @@ IsShown (Err refusal) = IsUnkept refusal
 -- the same where it is asked for
 abbrev pub IsShownWhere : Bool → Result (Unit {0}) Refusal → Type 0
 IsShownWhere check (Ok done) = IsTrue check → WasShown
-IsShownWhere check (Err refusal) = IsUnkept refusal
+IsShownWhere check (Err refusal) = IsTrue check × IsUnkept refusal
+
+-- Some input was repacked with these counts, and where that is asked for, what was written was shown to be the fewest.
+pub record IsDone (asked : Asked) (repacked : Repacked) : Type 0 where
+  pub answer : HasAnswer asked.choice (Ok repacked)
+  pub shown : IsTrue asked.check → WasShown
+
+-- It was asked for that what is written is shown, and it was not.
+pub record IsNotShown (asked : Asked) : Type 0 where
+  pub check : IsTrue asked.check
+  pub unshown : IsUnshown
 
 -- what an answer says of a day file; nothing is known of the files of the system but that they have some bytes
-abbrev pub IsRepackedDay : Choice → Result Repacked Refusal → Type 0
-IsRepackedDay choice (Ok repacked) = HasAnswer choice (Ok repacked)
-IsRepackedDay choice (Err CannotOpen) = ⊤
-IsRepackedDay choice (Err Listing) = ⊥
-IsRepackedDay choice (Err NotShown) = IsUnshown
-IsRepackedDay choice (Err (Tool fault)) = HasAnswer choice (Err fault)
+abbrev pub IsRepackedDay : Asked → Result Repacked Refusal → Type 0
+IsRepackedDay asked (Ok repacked) = IsDone asked repacked
+IsRepackedDay asked (Err CannotOpen) = ⊤
+IsRepackedDay asked (Err Listing) = ⊥
+IsRepackedDay asked (Err NotShown) = IsNotShown asked
+IsRepackedDay asked (Err (Tool fault)) = HasAnswer asked.choice (Err fault)
 
 -- Some text is that of a report of these options, and the counts are those of this report.
 pub record IsKept (choice : Choice) (repacked : Repacked) : Type 0 where
@@ -97,10 +118,18 @@ pub record IsKept (choice : Choice) (repacked : Repacked) : Type 0 where
   pub read : repacked.read ≡ report.counts.read
   pub written : repacked.written ≡ records_of report.segments.items
 
+-- It was asked for that days are left alone that an earlier walk did, and this one is kept.
+pub record IsSame (asked : Asked) (repacked : Repacked) : Type 0 where
+  pub resume : IsTrue asked.resume
+  pub kept : IsKept asked.choice repacked
+
 -- what an outcome says of a day file
-abbrev pub IsDayOutcome : Choice → Outcome → Type 0
-IsDayOutcome choice (Done repacked) = IsRepackedDay choice (Ok repacked)
-IsDayOutcome choice (Same repacked) = IsKept choice repacked
-IsDayOutcome choice (Skipped fault) = ⊥
-IsDayOutcome choice (Refused refusal) = IsRepackedDay choice (Err refusal)
-IsDayOutcome choice Unshown = IsUnshown
+abbrev pub IsDayOutcome : Asked → Outcome → Type 0
+IsDayOutcome asked (Done repacked) = IsDone asked repacked
+IsDayOutcome asked (Same repacked) = IsSame asked repacked
+IsDayOutcome asked (Skipped fault) = ⊥
+IsDayOutcome asked (Refused CannotOpen) = ⊤
+IsDayOutcome asked (Refused Listing) = ⊥
+IsDayOutcome asked (Refused NotShown) = ⊥
+IsDayOutcome asked (Refused (Tool fault)) = HasAnswer asked.choice (Err fault)
+IsDayOutcome asked Unshown = IsNotShown asked

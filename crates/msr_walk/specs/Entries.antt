@@ -1,5 +1,5 @@
 -- The entries of a walk: what became of each, its line, and what they sum up to.
-use Rattle.std.specs.Prelude.{◌≡◌, ℕ, ⊤, Bool, true, false, List, [], ◌∷◌, ◌++◌, codes, Ok, Err}
+use Rattle.std.specs.Prelude.{◌≡◌, ℕ, ⊤, Bool, true, false, List, [], ◌∷◌, ◌++◌, codes, Err}
 use Rattle.std.specs.Fmt.{decimal}
 use Rattle.std.specs.List.{count_by, flat_map}
 use Rattle.msr_sds.specs.SdsPath.{SdsPath, ReadsAs, ReadsAsDay, IsWaveform, HasDate}
@@ -7,8 +7,7 @@ use Rattle.msr_sds.specs.declared.SdsFault.{SdsFault}
 use Rattle.msr_sds.specs.declared.SdsFault.TheVariants.{NotSds, NotWaveform, BadDay}
 use Rattle.msr_totals.specs.Totals.{Add, saturated, totals_of}
 use Rattle.msr_totals.specs.declared.Total.{Total}
-use Rattle.msr_tool.specs.Choice.{Choice}
-use Rattle.msr_walk.specs.Day.{IsKept, IsRepackedDay, IsUnshown}
+use Rattle.msr_walk.specs.Day.{Asked, HasAnswer, IsDone, IsNotShown, IsSame}
 use Rattle.msr_walk.specs.Paths.{channel_of}
 use Rattle.msr_walk.specs.declared.outcome.Outcome.{Outcome}
 use Rattle.msr_walk.specs.declared.outcome.Outcome.TheVariants.{Done, Same, Skipped, Refused, NotShown as Unshown}
@@ -34,18 +33,18 @@ IsNoDay path NotWaveform = (name : SdsPath) × ReadsAs path name × ¬ (IsWavefo
 IsNoDay path BadDay = (name : SdsPath) × ReadsAs path name × IsWaveform name × ¬ (HasDate name)
 
 -- what an outcome says of an entry
-abbrev pub IsOutcomeOf : Choice → (path channel : List ℕ) → Outcome → Type 0
-IsOutcomeOf choice path channel (Done repacked) = IsDayOf path channel × IsRepackedDay choice (Ok repacked)
-IsOutcomeOf choice path channel (Same repacked) = IsDayOf path channel × IsKept choice repacked
-IsOutcomeOf choice path channel (Skipped fault) = IsNoDay path fault
-IsOutcomeOf choice path channel (Refused CannotOpen) = IsDayOf path channel
-IsOutcomeOf choice path channel (Refused Listing) = ⊤
-IsOutcomeOf choice path channel (Refused NotShown) = IsDayOf path channel × IsUnshown
-IsOutcomeOf choice path channel (Refused (Tool fault)) = IsDayOf path channel × IsRepackedDay choice (Err (Tool fault))
-IsOutcomeOf choice path channel Unshown = IsDayOf path channel × IsUnshown
+abbrev pub IsOutcomeOf : Asked → (path channel : List ℕ) → Outcome → Type 0
+IsOutcomeOf asked path channel (Done repacked) = IsDayOf path channel × IsDone asked repacked
+IsOutcomeOf asked path channel (Same repacked) = IsDayOf path channel × IsSame asked repacked
+IsOutcomeOf asked path channel (Skipped fault) = IsNoDay path fault
+IsOutcomeOf asked path channel (Refused CannotOpen) = IsDayOf path channel
+IsOutcomeOf asked path channel (Refused Listing) = ⊤
+IsOutcomeOf asked path channel (Refused NotShown) = ⊥
+IsOutcomeOf asked path channel (Refused (Tool fault)) = IsDayOf path channel × HasAnswer asked.choice (Err fault)
+IsOutcomeOf asked path channel Unshown = IsDayOf path channel × IsNotShown asked
 
-abbrev pub IsEntry : Choice → Entry → Type 0
-IsEntry choice entry = IsOutcomeOf choice entry.path entry.channel entry.outcome
+abbrev pub IsEntry : Asked → Entry → Type 0
+IsEntry asked entry = IsOutcomeOf asked entry.path entry.channel entry.outcome
 
 -- The line of an entry. The texts of faults are shown by tests.
 abbrev pub IsLineOf : List ℕ → Outcome → List ℕ → Type 0

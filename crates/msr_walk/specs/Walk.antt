@@ -5,10 +5,10 @@ use Rattle.std.specs.List.{AllByRecursion, flat_map}
 use Rattle.msr_devices.specs.Device.{Device, IsCalm, Takes}
 use Rattle.msr_report.specs.Writing.{TakesFront}
 use Rattle.msr_totals.specs.declared.Total.{Total}
-use Rattle.msr_tool.specs.Choice.{Choice}
 use Rattle.msr_tool.specs.Writing.{StopsSink}
 use Rattle.msr_tool.specs.declared.fault.ToolFault.{ToolFault}
 use Rattle.msr_tool.specs.declared.fault.ToolFault.TheVariants.{Input, Report, Read, Write, Memory}
+use Rattle.msr_walk.specs.Day.{Asked}
 use Rattle.msr_walk.specs.Entries.{Entry, IsEntry, AreLines, IsTally, channels_of, counted, is_done, is_skipped, is_refused}
 use Rattle.msr_walk.specs.declared.tally.Tally.{Tally}
 
@@ -31,32 +31,32 @@ abbrev pub StopsFront : Device → Device → List ℕ → ToolFault → Type 0
 StopsFront out0 out text fault = StopsSink (TakesFront out0 out text) (TakesFront out0 out text) out0 out fault
 
 -- Some more entries were told: their lines were printed, and they are counted.
-pub record Tells (choice : Choice) (out0 out : Device) (tally0 tally : Tally) : Type 0 where
+pub record Tells (asked : Asked) (out0 out : Device) (tally0 tally : Tally) : Type 0 where
   pub entries : List Entry
   pub lines : List ℕ
-  pub are_entries : AllByRecursion (IsEntry choice) entries
+  pub are_entries : AllByRecursion (IsEntry asked) entries
   pub are_lines : AreLines entries lines
   pub prints : Takes out0 out lines
   pub calm : IsCalm out0 out
   pub counts : (before : List Entry) → IsTally before tally0 → IsTally (before ++ entries) tally
 
 -- A prefix of the lines of some more entries was printed.
-pub record TellsInPart (choice : Choice) (out0 out : Device) : Type 0 where
+pub record TellsInPart (asked : Asked) (out0 out : Device) : Type 0 where
   pub entries : List Entry
   pub printed : List ℕ
   pub rest : List ℕ
-  pub are_entries : AllByRecursion (IsEntry choice) entries
+  pub are_entries : AllByRecursion (IsEntry asked) entries
   pub are_lines : AreLines entries (printed ++ rest)
   pub prints : Takes out0 out printed
 
 -- the same where the walk stops
-abbrev pub StopsTelling : Choice → Device → Device → ToolFault → Type 0
-StopsTelling choice out0 out fault = StopsSink (TellsInPart choice out0 out) (TellsInPart choice out0 out) out0 out fault
+abbrev pub StopsTelling : Asked → Device → Device → ToolFault → Type 0
+StopsTelling asked out0 out fault = StopsSink (TellsInPart asked out0 out) (TellsInPart asked out0 out) out0 out fault
 
 -- The text of a whole walk: a line for each of some entries, and then what these very entries sum up to.
-pub record IsWalk (choice : Choice) (text : List ℕ) (entries : List Entry) : Type 0 where
+pub record IsWalk (asked : Asked) (text : List ℕ) (entries : List Entry) : Type 0 where
   pub lines : List ℕ
-  pub are_entries : AllByRecursion (IsEntry choice) entries
+  pub are_entries : AllByRecursion (IsEntry asked) entries
   pub are_lines : AreLines entries lines
   pub whole : text ≡ lines ++ summary entries
 
@@ -65,22 +65,22 @@ abbrev pub TellsRefusals : List Entry → Bool → Type 0
 TellsRefusals entries refused = (refused ≡ true → 0 < counted is_refused entries) × (refused ≡ false → counted is_refused entries ≡ 0)
 
 -- A prefix of the text of a whole walk.
-pub record IsWalkInPart (choice : Choice) (printed : List ℕ) : Type 0 where
+pub record IsWalkInPart (asked : Asked) (printed : List ℕ) : Type 0 where
   pub entries : List Entry
   pub rest : List ℕ
-  pub walk : IsWalk choice (printed ++ rest) entries
+  pub walk : IsWalk asked (printed ++ rest) entries
 
 -- the whole text was printed, or a prefix of it where the walk stopped, which no input and no source can make it do
-abbrev pub WalkEnds : Choice → (printed : List ℕ) → Result Bool ToolFault → Type 0
-WalkEnds choice printed (Ok refused) = (entries : List Entry) × IsWalk choice printed entries × TellsRefusals entries refused
-WalkEnds choice printed (Err (Input found)) = ⊥
-WalkEnds choice printed (Err (Report line)) = ⊥
-WalkEnds choice printed (Err Read) = ⊥
-WalkEnds choice printed (Err Write) = IsWalkInPart choice printed
-WalkEnds choice printed (Err Memory) = IsWalkInPart choice printed
+abbrev pub WalkEnds : Asked → (printed : List ℕ) → Result Bool ToolFault → Type 0
+WalkEnds asked printed (Ok refused) = (entries : List Entry) × IsWalk asked printed entries × TellsRefusals entries refused
+WalkEnds asked printed (Err (Input found)) = ⊥
+WalkEnds asked printed (Err (Report line)) = ⊥
+WalkEnds asked printed (Err Read) = ⊥
+WalkEnds asked printed (Err Write) = IsWalkInPart asked printed
+WalkEnds asked printed (Err Memory) = IsWalkInPart asked printed
 
 -- What a walk printed, and how it ended.
-pub record Walks (choice : Choice) (out0 out : Device) (result : Result Bool ToolFault) : Type 0 where
+pub record Walks (asked : Asked) (out0 out : Device) (result : Result Bool ToolFault) : Type 0 where
   pub printed : List ℕ
   pub prints : Takes out0 out printed
-  pub ends : WalkEnds choice printed result
+  pub ends : WalkEnds asked printed result

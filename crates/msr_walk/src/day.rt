@@ -1,6 +1,6 @@
 //! One day file: from its file to the files of its records and its report.
 ghost use Rattle.std.specs.Prelude.{IfSome};
-ghost use Rattle.msr_walk.specs.Day.{IsDayOutcome, IsKept, IsRepackedDay, IsShownWhere};
+ghost use Rattle.msr_walk.specs.Day.{Asked, IsDayOutcome, IsKept, IsRepackedDay, IsShownWhere, asked_of};
 
 use crate::files::{NewFile, may_be_one_file, settle};
 use crate::folders::Archive;
@@ -34,16 +34,16 @@ impl Day {
         })
     }
 
-    // Opens the input before anything is made. An old stamp goes before anything gets its name, so that what has one was
-    // made whole; the report gets its name first, so that records that have theirs have a report.
+    // Opens the input before anything is made. What is to be shown is shown before anything gets its name. An old stamp
+    // goes before that too, so that what has one was made whole; the report gets its name first, so that records that
+    // have theirs have a report.
     fn write<R: Files>(
         &self,
         rt: &R,
         alloc: Global,
-        options: Options,
-        check: bool,
+        archive: &Archive<'_>,
     ) -> Result<Repacked, Refusal>
-        ensures { IsRepackedDay options result }
+        ensures { IsRepackedDay (asked_of archive.now) result }
     {
         let Ok(input) = File::open(rt, self.input.as_str()) else {
             return Err(Refusal::CannotOpen);
@@ -55,11 +55,11 @@ impl Day {
             &mut FromRead::new(input),
             &mut FromWrite::new(&mut records),
             &mut FromWrite::new(&mut report),
-            options,
+            archive.options,
         )?;
         settle(&records)?;
         settle(&report)?;
-        self.hold(rt, alloc, check)?;
+        self.hold(rt, alloc, archive.check)?;
         self.stamp.clear(rt)?;
         self.report.keep(rt)?;
         self.records.keep(rt)?;
@@ -94,10 +94,10 @@ impl Day {
         alloc: Global,
         archive: &Archive<'_>,
     ) -> Result<Repacked, Refusal>
-        ensures { IsRepackedDay archive.now.options result }
+        ensures { IsRepackedDay (asked_of archive.now) result }
     {
         let before = Stamp::of(rt, self.input.as_str());
-        let result = self.write(rt, alloc, archive.options, archive.check);
+        let result = self.write(rt, alloc, archive);
         if result.is_err() {
             self.remove(rt);
         } else if archive.resume {
@@ -154,7 +154,7 @@ impl Day {
     /// Repacks the day, or leaves it alone where an earlier walk did it and that is asked for. Where it is refused, no
     /// records and no report of it are left, unless they may be the input by another name: then nothing is touched.
     pub fn handle<R: Files>(&self, rt: &R, alloc: Global, archive: &Archive<'_>) -> Outcome
-        ensures { IsDayOutcome archive.now.options result }
+        ensures { IsDayOutcome (asked_of archive.now) result }
     {
         let input = self.input.as_str();
         if may_be_one_file(rt, input, self.records.path())
@@ -169,8 +169,17 @@ impl Day {
         }
         match self.repack(rt, alloc, archive) {
             Ok(repacked) => Outcome::Done(repacked),
-            Err(Refusal::NotShown) => Outcome::NotShown,
-            Err(refusal) => Outcome::Refused(refusal),
+            Err(refusal) => refused(refusal),
         }
+    }
+}
+
+// What becomes of a day that is refused: what is not shown has an outcome of its own.
+fn refused(refusal: Refusal) -> Outcome
+    ensures { (asked : Asked) → IsRepackedDay asked (Err refusal) → IsDayOutcome asked result }
+{
+    match refusal {
+        Refusal::NotShown => Outcome::NotShown,
+        Refusal::CannotOpen | Refusal::Listing | Refusal::Tool(_) => Outcome::Refused(refusal),
     }
 }

@@ -2,7 +2,7 @@
 ghost use Rattle.std.specs.Prelude.{◌↔◌, IfErr, IsErrOf, OnOk};
 ghost use Rattle.msr_devices.specs.Device.{CanCountCall, HasFailed};
 ghost use Rattle.msr_sds.specs.SdsPath.{ReadsAsDay};
-ghost use Rattle.msr_tool.specs.Choice.{Choice};
+ghost use Rattle.msr_walk.specs.Day.{Asked, asked_of};
 ghost use Rattle.msr_walk.specs.Entries.{IsOutcomeOf};
 ghost use Rattle.msr_walk.specs.Walk.{StopsTelling, Tells, Walks};
 
@@ -48,11 +48,11 @@ fn tell<O: Sink>(
     tally: &mut Tally,
 ) -> Result<(), ToolFault>
     requires { CanCountCall (O.device out.old) }
-    // Whatever the choice with which the entry has this outcome.
-    ensures told { (choice : Choice) → IsOutcomeOf choice path.now channel.now outcome →
-        OnOk result (Tells choice (O.device out.old) (O.device out.new) tally.old tally.new) }
-    ensures stops { (choice : Choice) → IsOutcomeOf choice path.now channel.now outcome →
-        IfErr result (StopsTelling choice (O.device out.old) (O.device out.new)) }
+    // Whatever is asked for, where the entry has this outcome.
+    ensures told { (asked : Asked) → IsOutcomeOf asked path.now channel.now outcome →
+        OnOk result (Tells asked (O.device out.old) (O.device out.new) tally.old tally.new) }
+    ensures stops { (asked : Asked) → IsOutcomeOf asked path.now channel.now outcome →
+        IfErr result (StopsTelling asked (O.device out.old) (O.device out.new)) }
 {
     let line = outcome.line(alloc, path)?;
     write_all(out, line.as_bytes())?;
@@ -71,8 +71,8 @@ fn tell_day<R: Files, O: Sink>(
 ) -> Result<(), ToolFault>
     requires day { ReadsAsDay path.now name.now }
     requires count { CanCountCall (O.device out.old) }
-    ensures told { OnOk result (Tells archive.now.options (O.device out.old) (O.device out.new) tally.old tally.new) }
-    ensures stops { IfErr result (StopsTelling archive.now.options (O.device out.old) (O.device out.new)) }
+    ensures told { OnOk result (Tells (asked_of archive.now) (O.device out.old) (O.device out.new) tally.old tally.new) }
+    ensures stops { IfErr result (StopsTelling (asked_of archive.now) (O.device out.old) (O.device out.new)) }
 {
     let channel = channel_text(alloc, name)?;
     let day = Day::new(alloc, archive, path)?;
@@ -90,8 +90,8 @@ fn tell_file<R: Files, O: Sink>(
     tally: &mut Tally,
 ) -> Result<(), ToolFault>
     requires { CanCountCall (O.device out.old) }
-    ensures told { OnOk result (Tells archive.now.options (O.device out.old) (O.device out.new) tally.old tally.new) }
-    ensures stops { IfErr result (StopsTelling archive.now.options (O.device out.old) (O.device out.new)) }
+    ensures told { OnOk result (Tells (asked_of archive.now) (O.device out.old) (O.device out.new) tally.old tally.new) }
+    ensures stops { IfErr result (StopsTelling (asked_of archive.now) (O.device out.old) (O.device out.new)) }
 {
     match SdsName::parse(path) {
         Ok(name) => tell_day(rt, alloc, archive, path, &name, out, tally),
@@ -119,8 +119,8 @@ fn walk_folder<R: Files, O: Sink>(
     tally: &mut Tally,
 ) -> Result<(), ToolFault>
     requires { CanCountCall (O.device out.old) }
-    ensures told { OnOk result (Tells archive.now.options (O.device out.old) (O.device out.new) tally.old tally.new) }
-    ensures stops { IfErr result (StopsTelling archive.now.options (O.device out.old) (O.device out.new)) }
+    ensures told { OnOk result (Tells (asked_of archive.now) (O.device out.old) (O.device out.new) tally.old tally.new) }
+    ensures stops { IfErr result (StopsTelling (asked_of archive.now) (O.device out.old) (O.device out.new)) }
 {
     let place = join(alloc, archive.root, folder)?;
     let names = match names_in(rt, alloc, place.as_str()) {
@@ -153,8 +153,8 @@ fn walk_folders<R: Files, O: Sink>(
     tally: &mut Tally,
 ) -> Result<(), ToolFault>
     requires { CanCountCall (O.device out.old) }
-    ensures told { OnOk result (Tells archive.now.options (O.device out.old) (O.device out.new) tally.old tally.new) }
-    ensures stops { IfErr result (StopsTelling archive.now.options (O.device out.old) (O.device out.new)) }
+    ensures told { OnOk result (Tells (asked_of archive.now) (O.device out.old) (O.device out.new) tally.old tally.new) }
+    ensures stops { IfErr result (StopsTelling (asked_of archive.now) (O.device out.old) (O.device out.new)) }
 {
     if archive.below.is_empty() {
         return walk_folder(rt, alloc, archive, "", FOLDERS, out, tally);
@@ -174,7 +174,7 @@ pub fn walk<R: Files, O: Sink>(
     out: &mut O,
 ) -> Result<bool, ToolFault>
     requires { CanCountCall (O.device out.old) }
-    ensures answer { Walks archive.now.options (O.device out.old) (O.device out.new) result }
+    ensures answer { Walks (asked_of archive.now) (O.device out.old) (O.device out.new) result }
 
     // A failure of the sink is answered as such, and nothing else is.
     ensures write { IsErrOf result ToolFault.Write ↔ HasFailed (O.device out.old) (O.device out.new) }

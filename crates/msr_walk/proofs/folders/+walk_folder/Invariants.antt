@@ -1,3 +1,4 @@
+use Rattle.msr_walk.specs.Day.{asked_of}
 use Rattle.msr_walk.specs.Walk.{Tells}
 use Rattle.msr_walk.proofs.folders.+walk_folder.Given as goal
 
@@ -6,4 +7,4 @@ decreases-walk_folder g l = l.levels
 
 -- some entries were told
 abbrev pub invariant-loop-name : goal.invariant-loop-name
-invariant-loop-name g l = Tells l.archive.options (g.O.Sink.device l.fn.out) (g.O.Sink.device l.out) l.fn.tally l.tally
+invariant-loop-name g l = Tells (asked_of l.archive) (g.O.Sink.device l.fn.out) (g.O.Sink.device l.out) l.fn.tally l.tally

@@ -8,20 +8,20 @@ pub returns-in_err-line-clause-stops : goal.returns-in_err-line-clause-stops
 returns-in_err-line-clause-stops g c =
     let p = err_from_is_err_and c.from_residual.result c.from_residual.ensures.1 in
     let out = g.O.Sink.device c.args.out.now in
-    λ choice is. rw (p.1, p.2) (part-none choice out, (calm-same out).steady)
+    λ asked is. rw (p.1, p.2) (part-none asked out, (calm-same out).steady)
 
 pub returns-in_err-write_all-clause-stops : goal.returns-in_err-write_all-clause-stops
 returns-in_err-write_all-clause-stops g c =
     let p = err_from_is_err_and c.from_residual-in_err-write_all.result c.from_residual-in_err-write_all.ensures.1 in
     let part = c.in_err-write_all.ensures.part in
-    λ choice is. rw (p.1, p.2) (part-line choice (g.O.Sink.device c.args.out.now) (g.O.Sink.device c.write_all.new.sink) part.0 c.args.path.now c.args.channel.now c.as_bytes.result.now c.args.outcome is (rw c.as_bytes.ensures.value c.in_ok-line.ensures) part.1, c.in_err-write_all.ensures.failed)
+    λ asked is. rw (p.1, p.2) (part-line asked (g.O.Sink.device c.args.out.now) (g.O.Sink.device c.write_all.new.sink) part.0 c.args.path.now c.args.channel.now c.as_bytes.result.now c.args.outcome is (rw c.as_bytes.ensures.value c.in_ok-line.ensures) part.1, c.in_err-write_all.ensures.failed)
 
 pub returns-in_err-add-clause-stops : goal.returns-in_err-add-clause-stops
 returns-in_err-add-clause-stops g c =
     let p = err_from_is_err_and c.from_residual-in_err-add.result c.from_residual-in_err-add.ensures.1 in
-    λ choice is. rw (p.1, p.2) (part-one choice (g.O.Sink.device c.args.out.now) (g.O.Sink.device c.write_all.new.sink) c.args.path.now c.args.channel.now c.as_bytes.result.now c.args.outcome is (rw c.as_bytes.ensures.value c.in_ok-line.ensures) c.in_ok-write_all.ensures.all, c.in_ok-write_all.ensures.calm.steady)
+    λ asked is. rw (p.1, p.2) (part-one asked (g.O.Sink.device c.args.out.now) (g.O.Sink.device c.write_all.new.sink) c.args.path.now c.args.channel.now c.as_bytes.result.now c.args.outcome is (rw c.as_bytes.ensures.value c.in_ok-line.ensures) c.in_ok-write_all.ensures.all, c.in_ok-write_all.ensures.calm.steady)
 
 pub returns-clause-told : goal.returns-clause-told
 returns-clause-told g c =
-    λ choice is. tells-one choice (g.O.Sink.device c.args.out.now) (g.O.Sink.device c.write_all.new.sink) c.args.tally.now c.add.new.self c.args.path.now c.args.channel.now c.as_bytes.result.now c.args.outcome is (rw c.as_bytes.ensures.value c.in_ok-line.ensures) c.in_ok-write_all.ensures.all c.in_ok-write_all.ensures.calm
+    λ asked is. tells-one asked (g.O.Sink.device c.args.out.now) (g.O.Sink.device c.write_all.new.sink) c.args.tally.now c.add.new.self c.args.path.now c.args.channel.now c.as_bytes.result.now c.args.outcome is (rw c.as_bytes.ensures.value c.in_ok-line.ensures) c.in_ok-write_all.ensures.all c.in_ok-write_all.ensures.calm
     (λ before h. c.in_ok-add.ensures before (record { path = c.args.path.now; channel = c.args.channel.now; outcome = c.args.outcome }) h refl refl)
