@@ -1,7 +1,7 @@
 -- The records that came from a source, step by step, and why no further one comes.
 use Rattle.std.proofs.Common.{◌≡◌, ◌≢◌, ℕ, ◌+◌, ◌^◌, ◌<◌, ◌-◌, ◌⊎◌, inl, inr, Bool, true, false, List, [], ◌∷◌, ◌++◌, length, drop, refl, sym, ap, subst, ◌∙◌, arith, append_assoc, length-append, length-drop, Option, Result, Ok, Err, IfErr, MatchResult}
 use Rattle.std.proofs.lemmas.List.{append-nil, drop-append-le}
-use Rattle.msr_record.specs.Records.{IsRecordOf, IsRefused}
+use Rattle.msr_record.specs.Records.{IsRecordOf}
 use Rattle.msr_record.specs.declared.row.Record.{Record}
 use Rattle.msr_record.specs.declared.fault.FaultKind.{FaultKind}
 use Rattle.msr_record.proofs.Shown.{record_fits, shown_record}
@@ -9,7 +9,7 @@ use Rattle.msr_devices.specs.Device.{Device, HasLeft, GivesOnto, IsCalm}
 use Rattle.msr_devices.specs.ReadBuffer.{Window, IsFilled}
 use Rattle.msr_devices.proofs.Chaining.{calm-same, calm-calm, calm-failed, steady-steady, left-of}
 use Rattle.msr_report.specs.declared.report.Counts.{Counts}
-use Rattle.msr_input.specs.Input.{BeginsWith, counts_of}
+use Rattle.msr_input.specs.Input.{Agrees, AllAgree, BeginsWith, IsRefusedAlone, counts_of}
 use Rattle.msr_input.specs.Reading.{HoldsRecord, TakesMemoryFor}
 use Rattle.msr_input.specs.Records.{Position, HaveCome, HasGiven, IsRefusedAfter, StopsRecords}
 use Rattle.msr_input.specs.Steps.{CameBefore, StopsDecoding}
@@ -17,22 +17,24 @@ use Rattle.msr_input.specs.declared.fault.Fault.{Fault}
 use Rattle.msr_input.specs.declared.fault.ReadFault.{ReadFault}
 use Rattle.msr_input.specs.declared.fault.ReadFault.TheVariants as fault
 use Rattle.msr_input.proofs.Seen.{open-or-ended}
-use Rattle.msr_input.proofs.Records.{begins-snoc, bytes-snoc, records-few}
+use Rattle.msr_input.proofs.Records.{agree-more, begins-snoc, bytes-snoc, records-few}
 
 -- a reader with this window
-abbrev pub at_window : Window → Counts → ℕ → Position
-at_window window counts offset = record {
+abbrev pub at_window : Bool → Window → Counts → ℕ → Position
+at_window strict window counts offset = record {
   waiting = window.bytes;
   ended = window.ended;
   room = window.room;
+  strict = strict;
   counts = counts;
   offset = offset;
 }
 
 -- before the first record
-pub come-none : (start : Device) (room : ℕ) → HaveCome start start (at_window (record { bytes = []; ended = false; room = room }) (counts_of []) 0) []
-come-none start room = record {
+pub come-none : (strict : Bool) (start : Device) (room : ℕ) → HaveCome start start (at_window strict (record { bytes = []; ended = false; room = room }) (counts_of []) 0) []
+come-none strict start room = record {
   begins = λ rest h. (rest, h, refl);
+  agree = λ t. refl;
   counts = refl;
   offset = refl;
   moved = omega arith;
@@ -53,12 +55,13 @@ begins-more a b start records old new rest onto begins left =
     (before.0, before.1, subst (λ (bytes : List ℕ). BeginsWith records before.0 bytes) same before.2)
 
 -- after bytes were read ahead
-come-filled : (s a b : Device) (w w' : Window) (counts : Counts) (offset want : ℕ) (records : List Record) → HaveCome s a (at_window w counts offset) records → IsFilled want a b w w' → HaveCome s b (at_window w' counts offset) records
-come-filled s a b w w' counts offset want records come filled =
+come-filled : (s a b : Device) (strict : Bool) (w w' : Window) (counts : Counts) (offset want : ℕ) (records : List Record) → HaveCome s a (at_window strict w counts offset) records → IsFilled want a b w w' → HaveCome s b (at_window strict w' counts offset) records
+come-filled s a b strict w w' counts offset want records come filled =
     let onto : GivesOnto a b w.bytes w'.bytes = filled.fills.onto in
     let size : length w'.bytes ≡ length w.bytes + length onto.more = omega (arith, ap length onto.whole, length-append w.bytes onto.more) in
     record {
       begins = λ rest left. begins-more a b s records w.bytes w'.bytes rest onto come.begins left;
+      agree = come.agree;
       counts = come.counts;
       offset = come.offset;
       moved = omega (arith, come.moved, onto.moved, size);
@@ -69,23 +72,23 @@ come-filled s a b w w' counts offset want records come filled =
     }
 
 -- the source's bytes begin with the records that came
-pub come-given : (s a : Device) (position : Position) (records : List Record) → HaveCome s a position records → HasGiven s records
+pub come-given : (s a : Device) (position : Position) (records : List Record) → HaveCome s a position records → HasGiven position.strict s records
 come-given s a position records come =
     let left = left-of a in
     let begun = come.begins left.0 left.1 in
-    record { input = begun.0; rest = position.waiting ++ left.0; left = begun.1; begins = begun.2 }
+    record { input = begun.0; rest = position.waiting ++ left.0; left = begun.1; begins = begun.2; agree = come.agree }
 
 -- what is refused with all that is left behind it
-record RefusedWithRest (a : Device) (bytes : List ℕ) (kind : FaultKind) : Type 0 where
+record RefusedWithRest (strict : Bool) (a : Device) (bytes : List ℕ) (kind : FaultKind) : Type 0 where
   rest : List ℕ
   left : HasLeft a rest
-  refused : IsRefused (bytes ++ rest) kind
+  refused : IsRefusedAlone strict (bytes ++ rest) kind
 
-refused-with-rest : (s a : Device) (position : Position) (records : List Record) (kind : FaultKind) → HaveCome s a position records → IsRefused position.waiting kind → (position.ended ≡ false → (rest : List ℕ) → IsRefused (position.waiting ++ rest) kind) → (position.ended ≡ true) ⊎ (position.ended ≡ false) → RefusedWithRest a position.waiting kind
+refused-with-rest : (s a : Device) (position : Position) (records : List Record) (kind : FaultKind) → HaveCome s a position records → IsRefusedAlone position.strict position.waiting kind → (position.ended ≡ false → (rest : List ℕ) → IsRefusedAlone position.strict (position.waiting ++ rest) kind) → (position.ended ≡ true) ⊎ (position.ended ≡ false) → RefusedWithRest position.strict a position.waiting kind
 refused-with-rest s a position records kind come refused more (inl ended) = record {
   rest = [];
   left = come.end ended;
-  refused = subst (λ (bytes : List ℕ). IsRefused bytes kind) (sym (append-nil position.waiting)) refused;
+  refused = subst (λ (bytes : List ℕ). IsRefusedAlone position.strict bytes kind) (sym (append-nil position.waiting)) refused;
 }
 refused-with-rest s a position records kind come refused more (inr unended) = record {
   rest = (left-of a).0;
@@ -94,51 +97,52 @@ refused-with-rest s a position records kind come refused more (inr unended) = re
 }
 
 -- the next record is refused by itself
-decode-stops : (s a : Device) (window : Window) (counts : Counts) (offset : ℕ) (records : List Record) (f : Fault) → HaveCome s a (at_window window counts offset) records → StopsDecoding window offset (fault.Input f) → IsRefusedAfter s records f
-decode-stops s a window counts offset records f come stop =
-    let refused = refused-with-rest s a (at_window window counts offset) records f.kind come stop.2 stop.3 (open-or-ended window.ended) in
+decode-stops : (s a : Device) (strict : Bool) (window : Window) (counts : Counts) (offset : ℕ) (records : List Record) (f : Fault) → HaveCome s a (at_window strict window counts offset) records → StopsDecoding strict window offset (fault.Input f) → IsRefusedAfter strict s records f
+decode-stops s a strict window counts offset records f come stop =
+    let refused = refused-with-rest s a (at_window strict window counts offset) records f.kind come stop.2 stop.3 (open-or-ended window.ended) in
     let begun = come.begins refused.rest refused.left in
     record {
-      given = record { input = begun.0; rest = window.bytes ++ refused.rest; left = begun.1; begins = begun.2 };
+      given = record { input = begun.0; rest = window.bytes ++ refused.rest; left = begun.1; begins = begun.2; agree = come.agree };
       some_left = omega (arith, stop.1, length-append window.bytes refused.rest);
       refused = refused.refused;
       offset_is = stop.0 ∙ come.offset;
     }
 
 -- after the next record was given, or none
-pub come-next : (s a b : Device) (w w' : Window) (counts : Counts) (offset : ℕ) (records : List Record) (result : Result (Option Record) ReadFault) → HaveCome s a (at_window w counts offset) records → MatchResult result (λ _. IsFilled 0 a b w w') (CameBefore a b w w') → IfErr result (StopsDecoding w' offset)
-    → MatchResult result (λ _. HaveCome s b (at_window w' counts offset) records) (StopsRecords s b records)
-come-next s a b w w' counts offset records (Ok next) come came stops = come-filled s a b w w' counts offset 0 records come came
-come-next s a b w w' counts offset records (Err (fault.Input f)) come came stops =
-    let filled = come-filled s a b w w' counts offset 0 records come came in
-    (decode-stops s b w' counts offset records f filled stops, filled.steady)
-come-next s a b w w' counts offset records (Err fault.Read) come came stops =
-    (come-given s a (at_window w counts offset) records come, calm-failed s a b (come.calm came.1) came.0)
-come-next s a b w w' counts offset records (Err fault.Memory) come came stops =
-    let filled = come-filled s a b w w' counts offset 0 records come came in
-    (come-given s b (at_window w' counts offset) records filled, filled.steady)
+pub come-next : (s a b : Device) (strict : Bool) (w w' : Window) (counts : Counts) (offset : ℕ) (records : List Record) (result : Result (Option Record) ReadFault) → HaveCome s a (at_window strict w counts offset) records → MatchResult result (λ _. IsFilled 0 a b w w') (CameBefore a b w w') → IfErr result (StopsDecoding strict w' offset)
+    → MatchResult result (λ _. HaveCome s b (at_window strict w' counts offset) records) (StopsRecords strict s b records)
+come-next s a b strict w w' counts offset records (Ok next) come came stops = come-filled s a b strict w w' counts offset 0 records come came
+come-next s a b strict w w' counts offset records (Err (fault.Input f)) come came stops =
+    let filled = come-filled s a b strict w w' counts offset 0 records come came in
+    (decode-stops s b strict w' counts offset records f filled stops, filled.steady)
+come-next s a b strict w w' counts offset records (Err fault.Read) come came stops =
+    (come-given s a (at_window strict w counts offset) records come, calm-failed s a b (come.calm came.1) came.0)
+come-next s a b strict w w' counts offset records (Err fault.Memory) come came stops =
+    let filled = come-filled s a b strict w w' counts offset 0 records come came in
+    (come-given s b (at_window strict w' counts offset) records filled, filled.steady)
 
 -- unless the source failed, the reader stands before the same record
-pub come-keeps : (s a b : Device) (w w' : Window) (counts : Counts) (offset : ℕ) (records : List Record) (result : Result (Option Record) ReadFault) → HaveCome s a (at_window w counts offset) records → MatchResult result (λ _. IsFilled 0 a b w w') (CameBefore a b w w')
-    → IfErr result (λ why. why ≢ fault.Read → HaveCome s b (at_window w' counts offset) records)
-come-keeps s a b w w' counts offset records (Ok next) come came = tt
-come-keeps s a b w w' counts offset records (Err (fault.Input f)) come came = λ other. come-filled s a b w w' counts offset 0 records come came
-come-keeps s a b w w' counts offset records (Err fault.Read) come came = λ other. absurd (other refl)
-come-keeps s a b w w' counts offset records (Err fault.Memory) come came = λ other. come-filled s a b w w' counts offset 0 records come came
+pub come-keeps : (s a b : Device) (strict : Bool) (w w' : Window) (counts : Counts) (offset : ℕ) (records : List Record) (result : Result (Option Record) ReadFault) → HaveCome s a (at_window strict w counts offset) records → MatchResult result (λ _. IsFilled 0 a b w w') (CameBefore a b w w')
+    → IfErr result (λ why. why ≢ fault.Read → HaveCome s b (at_window strict w' counts offset) records)
+come-keeps s a b strict w w' counts offset records (Ok next) come came = tt
+come-keeps s a b strict w w' counts offset records (Err (fault.Input f)) come came = λ other. come-filled s a b strict w w' counts offset 0 records come came
+come-keeps s a b strict w w' counts offset records (Err fault.Read) come came = λ other. absurd (other refl)
+come-keeps s a b strict w w' counts offset records (Err fault.Memory) come came = λ other. come-filled s a b strict w w' counts offset 0 records come came
 
 -- why it stopped
-pub at-memory : (window : Window) (offset : ℕ) (result : Result (Option Record) ReadFault) → IfErr result (StopsDecoding window offset) → result ≡ Err fault.Memory → TakesMemoryFor window.bytes window.room
-at-memory window offset (Ok next) stops e = absurd cc
-at-memory window offset (Err why) stops e = let same : why ≡ fault.Memory = cc in subst (λ (w : ReadFault). StopsDecoding window offset w) same stops
+pub at-memory : (strict : Bool) (window : Window) (offset : ℕ) (result : Result (Option Record) ReadFault) → IfErr result (StopsDecoding strict window offset) → result ≡ Err fault.Memory → TakesMemoryFor window.bytes window.room
+at-memory strict window offset (Ok next) stops e = absurd cc
+at-memory strict window offset (Err why) stops e = let same : why ≡ fault.Memory = cc in subst (λ (w : ReadFault). StopsDecoding strict window offset w) same stops
 
-pub at-failure : (window : Window) (offset : ℕ) (result : Result (Option Record) ReadFault) → IfErr result (StopsDecoding window offset) → result ≡ Err fault.Read → HoldsRecord window.bytes → ⊥
-at-failure window offset (Ok next) stops e = absurd cc
-at-failure window offset (Err why) stops e = let same : why ≡ fault.Read = cc in subst (λ (w : ReadFault). StopsDecoding window offset w) same stops
+pub at-failure : (strict : Bool) (window : Window) (offset : ℕ) (result : Result (Option Record) ReadFault) → IfErr result (StopsDecoding strict window offset) → result ≡ Err fault.Read → HoldsRecord window.bytes → ⊥
+at-failure strict window offset (Ok next) stops e = absurd cc
+at-failure strict window offset (Err why) stops e = let same : why ≡ fault.Read = cc in subst (λ (w : ReadFault). StopsDecoding strict window offset w) same stops
 
 -- the place behind a record
 pub record Passes (old new : Position) (found : Record) (counts : Counts) : Type 0 where
   pub waiting : new.waiting ≡ drop found.length old.waiting
   pub ended : new.ended ≡ old.ended
+  pub strict : new.strict ≡ old.strict
   pub counted : new.counts ≡ counts
   pub offset : old.offset + found.length < 2 ^ 64 → new.offset ≡ old.offset + found.length
 
@@ -163,8 +167,8 @@ abbrev pub CountsOneMore : Counts → Counts → Record → Type 0
 CountsOneMore old new found = (records : List Record) → old ≡ counts_of records → length records < 2 ^ 64 - 1 → new ≡ counts_of (records ++ found ∷ [])
 
 -- after a record was passed
-pub come-passed : (s a : Device) (old new : Position) (records : List Record) (found : Record) (counts : Counts) → HaveCome s a old records → IsRecordOf old.waiting found → CountsOneMore old.counts counts found → Passes old new found counts → HaveCome s a new (records ++ found ∷ [])
-come-passed s a old new records found counts come is counted passes =
+pub come-passed : (s a : Device) (old new : Position) (records : List Record) (found : Record) (counts : Counts) → HaveCome s a old records → IsRecordOf old.waiting found → Agrees old.strict found → CountsOneMore old.counts counts found → Passes old new found counts → HaveCome s a new (records ++ found ∷ [])
+come-passed s a old new records found counts come is agrees counted passes =
     let fits = record_fits old.waiting found is in
     let bounds = in-bounds s a old records found come is in
     let size = bytes-snoc records found in
@@ -174,6 +178,7 @@ come-passed s a old new records found counts come is counted passes =
           let before = come.begins rest h in
           let more = begins-snoc records found before.0 (old.waiting ++ rest) before.2 (shown_record old.waiting rest found is) in
           (before.0, before.1, subst (λ (bytes : List ℕ). BeginsWith (records ++ found ∷ []) before.0 bytes) (drop-append-le found.length old.waiting rest fits.1 ∙ ap (λ (bytes : List ℕ). bytes ++ rest) (sym passes.waiting)) more);
+      agree = subst (λ (strict : Bool). AllAgree strict (records ++ found ∷ [])) (sym passes.strict) (agree-more old.strict records found come.agree agrees);
       counts = passes.counted ∙ counted records come.counts bounds.records_few;
       offset = omega (arith, passes.offset bounds.offset_small, come.offset, size);
       moved = omega (arith, come.moved, size, left);

@@ -18,9 +18,10 @@ use Rattle.msr_segments.specs.declared.joiner.Segment.{Segment}
 use Rattle.msr_segments.proofs.Divisions.{no_empty, cases_last}
 use Rattle.msr_segments.proofs.Histories.{joined_none}
 use Rattle.msr_segments.proofs.StepLaws.{pushes_grow, overruns_out}
-use Rattle.msr_input.specs.Input.{BeginsWith, NoneOverruns, HaveBegun, rows_of_records}
+use Rattle.msr_input.specs.Input.{Agrees, BeginsWith, NoneOverruns, HaveBegun, rows_of_records}
 use Rattle.msr_input.specs.Records.{Position, HaveCome, HasGiven, IsRefusedAfter, StopsRecords}
-use Rattle.msr_input.specs.Reading.{Reading, IsWritable, HasRead, HasReadAll, GaveReadable, StopsAfter, StopsAtFault, StopsReading, AllReadIsReadable, position_of}
+use Rattle.msr_input.specs.Reading.{Reading, IsWritable, HasRead, HasReadAll, GaveReadable, StopsAfter, StopsAtFault, StopsReading, AllReadIsReadable, position_of, settings_of}
+use Rattle.msr_input.specs.declared.settings.Settings.{Settings}
 use Rattle.msr_input.specs.declared.fault.Fault.{Fault}
 use Rattle.msr_input.specs.Steps.{JoinsRecord, OverrunsWith, StopsJoining}
 use Rattle.msr_input.specs.declared.fault.ReadFault.{ReadFault}
@@ -38,10 +39,18 @@ at_place position joining = record {
   waiting = position.waiting;
   ended = position.ended;
   room = position.room;
+  strict = position.strict;
   joining = joining;
   counts = position.counts;
   offset = position.offset;
 }
+
+-- how such a reader reads
+abbrev pub settings_at : Position → Joining → Settings
+settings_at position joining = record { tolerance = joining.tolerance; strict = position.strict }
+
+pub same-settings : (a b : Reading) → a.joining ≡ b.joining → a.strict ≡ b.strict → settings_of a ≡ settings_of b
+same-settings a b joining strict = rw (joining, strict) refl
 
 -- before the first record
 pub read-none : (start : Device) (position : Position) (tolerance : ℕ) → HaveCome start start position [] → HasRead start start (at_place position (record { tolerance = tolerance; current = None })) [] []
@@ -57,25 +66,25 @@ pub joined-begun : (joining : Joining) (records : List Record) (given : List Seg
 joined-begun joining records given joined = record { others = option_to_list joining.current; are_segments = joined.segments }
 
 -- the records so far are read
-pub stops-after : (tolerance : ℕ) (s : Device) (records : List Record) (given : List Segment) → HasGiven s records → NoneOverruns tolerance records → HaveBegun tolerance records given → StopsAfter tolerance s given
-stops-after tolerance s records given has none begun = record {
+pub stops-after : (settings : Settings) (s : Device) (records : List Record) (given : List Segment) → HasGiven settings.strict s records → NoneOverruns settings.tolerance records → HaveBegun settings.tolerance records given → StopsAfter settings s given
+stops-after settings s records given has none begun = record {
   input = has.input;
   records = records;
   rest = has.rest;
   left = has.left;
-  are_read = record { begins = has.begins; in_range = none };
+  are_read = record { begins = has.begins; in_range = none; agree = has.agree };
   begun = begun;
 }
 
 -- the next record is refused by itself
-refused-stops : (tolerance : ℕ) (s : Device) (records : List Record) (given : List Segment) (f : Fault) → IsRefusedAfter s records f → NoneOverruns tolerance records → HaveBegun tolerance records given → StopsAtFault tolerance s given f
-refused-stops tolerance s records given f refused none begun = record {
+refused-stops : (settings : Settings) (s : Device) (records : List Record) (given : List Segment) (f : Fault) → IsRefusedAfter settings.strict s records f → NoneOverruns settings.tolerance records → HaveBegun settings.tolerance records given → StopsAtFault settings s given f
+refused-stops settings s records given f refused none begun = record {
   input = refused.given.input;
   records = records;
   left = refused.given.left;
   first = record {
     rest = refused.given.rest;
-    are_read = record { begins = refused.given.begins; in_range = none };
+    are_read = record { begins = refused.given.begins; in_range = none; agree = refused.given.agree };
     some_left = refused.some_left;
     refused = inl refused.refused;
     offset_is = refused.offset_is;
@@ -84,14 +93,14 @@ refused-stops tolerance s records given f refused none begun = record {
 }
 
 -- no further record was given
-pub stops-reading : (tolerance : ℕ) (s a : Device) (records : List Record) (given : List Segment) (why : ReadFault) → StopsRecords s a records why → NoneOverruns tolerance records → HaveBegun tolerance records given → StopsReading tolerance s a given why
-stops-reading tolerance s a records given (fault.Input f) stop none begun = (refused-stops tolerance s records given f stop.0 none begun, stop.1)
-stops-reading tolerance s a records given fault.Read stop none begun = (stops-after tolerance s records given stop.0 none begun, stop.1)
-stops-reading tolerance s a records given fault.Memory stop none begun = (stops-after tolerance s records given stop.0 none begun, stop.1)
+pub stops-reading : (settings : Settings) (s a : Device) (records : List Record) (given : List Segment) (why : ReadFault) → StopsRecords settings.strict s a records why → NoneOverruns settings.tolerance records → HaveBegun settings.tolerance records given → StopsReading settings s a given why
+stops-reading settings s a records given (fault.Input f) stop none begun = (refused-stops settings s records given f stop.0 none begun, stop.1)
+stops-reading settings s a records given fault.Read stop none begun = (stops-after settings s records given stop.0 none begun, stop.1)
+stops-reading settings s a records given fault.Memory stop none begun = (stops-after settings s records given stop.0 none begun, stop.1)
 
 -- after the next record was given, or none
-pub read-next : (s a b : Device) (old new : Position) (joining : Joining) (records : List Record) (given : List Segment) (result : Result (Option Record) ReadFault) → HasRead s a (at_place old joining) records given → MatchResult result (λ _. HaveCome s b new records) (StopsRecords s b records)
-    → MatchResult result (λ _. HasRead s b (at_place new joining) records given) (StopsReading joining.tolerance s b given)
+pub read-next : (s a b : Device) (old new : Position) (joining : Joining) (records : List Record) (given : List Segment) (result : Result (Option Record) ReadFault) → HasRead s a (at_place old joining) records given → MatchResult result (λ _. HaveCome s b new records) (StopsRecords old.strict s b records)
+    → MatchResult result (λ _. HasRead s b (at_place new joining) records given) (StopsReading (settings_at old joining) s b given)
 read-next s a b old new joining records given (Ok next) has come = record {
   came = come;
   in_range = has.in_range;
@@ -99,7 +108,7 @@ read-next s a b old new joining records given (Ok next) has come = record {
   writable = has.writable;
 }
 read-next s a b old new joining records given (Err why) has stop =
-    stops-reading joining.tolerance s b records given why stop has.in_range (joined-begun joining records given has.joined)
+    stops-reading (settings_at old joining) s b records given why stop has.in_range (joined-begun joining records given has.joined)
 
 -- unless the source failed, the reader stands before the same record
 pub read-keeps : (s a b : Device) (old new : Position) (joining : Joining) (records : List Record) (given : List Segment) (result : Result (Option Record) ReadFault) → HasRead s a (at_place old joining) records given → IfErr result (λ why. why ≢ fault.Read → HaveCome s b new records)
@@ -116,9 +125,9 @@ rows-with records found row has_row =
     rows-snoc records found ∙ ap (λ (option : Option Row). rows_of_records records ++ option_to_list option) has_row
 
 -- the row of the next record ends its segment out of range
-pub overrun-stops : (s a : Device) (position : Position) (joining : Joining) (records : List Record) (ended given : List Segment) (found : Record) (f : Fault) → HaveCome s a position records → NoneOverruns joining.tolerance records → HasJoined joining (rows_of_records records) ended → IsRecordOf position.waiting found
-    → f.offset ≡ position.offset → f.kind ≡ TimeRange → OverrunsWith (following_of joining) found.row → HaveBegun joining.tolerance records given → StopsAtFault joining.tolerance s given f
-overrun-stops s a position joining records ended given found f come none joined is offset kind o begun =
+pub overrun-stops : (s a : Device) (position : Position) (joining : Joining) (records : List Record) (ended given : List Segment) (found : Record) (f : Fault) → HaveCome s a position records → NoneOverruns joining.tolerance records → HasJoined joining (rows_of_records records) ended → IsRecordOf position.waiting found → Agrees position.strict found
+    → f.offset ≡ position.offset → f.kind ≡ TimeRange → OverrunsWith (following_of joining) found.row → HaveBegun joining.tolerance records given → StopsAtFault (settings_at position joining) s given f
+overrun-stops s a position joining records ended given found f come none joined is agrees offset kind o begun =
     let left = left-of a in
     let input = come.begins left.0 left.1 in
     let fits = record_fits position.waiting found is in
@@ -130,7 +139,7 @@ overrun-stops s a position joining records ended given found f come none joined 
       left = input.1;
       first = record {
         rest = position.waiting ++ left.0;
-        are_read = record { begins = input.2; in_range = none };
+        are_read = record { begins = input.2; in_range = none; agree = come.agree };
         some_left = omega (arith, fits.0, fits.1, length-append position.waiting left.0);
         refused = inr (
           kind,
@@ -139,6 +148,7 @@ overrun-stops s a position joining records ended given found f come none joined 
             row = o.the_row;
             has_row = o.has_row;
             is_record = shown_record position.waiting left.0 found is;
+            agrees = agrees;
             out_of_range = subst (λ (rows : List Row). LastEndsOutOfRange joining.tolerance rows) (sym (rows-with records found o.the_row o.has_row)) out;
           },
         );
@@ -148,13 +158,13 @@ overrun-stops s a position joining records ended given found f come none joined 
     }
 
 -- the row of the next record does not join, or there is no memory for it
-pub join-stops : (s a : Device) (reading : Reading) (records : List Record) (given : List Segment) (found : Record) (why : ReadFault) → HasRead s a reading records given → IsRecordOf reading.waiting found → StopsJoining reading.joining found.row reading.offset why → StopsReading reading.joining.tolerance s a given why
-join-stops s a reading records given found (fault.Input f) has is stop =
+pub join-stops : (s a : Device) (reading : Reading) (records : List Record) (given : List Segment) (found : Record) (why : ReadFault) → HasRead s a reading records given → IsRecordOf reading.waiting found → Agrees reading.strict found → StopsJoining reading.joining found.row reading.offset why → StopsReading (settings_of reading) s a given why
+join-stops s a reading records given found (fault.Input f) has is agrees stop =
     let begun = joined-begun reading.joining records given has.joined in
-    (overrun-stops s a (position_of reading) reading.joining records given given found f has.came has.in_range has.joined is stop.0 stop.1 stop.2 begun, has.came.steady)
-join-stops s a reading records given found fault.Read has is stop = absurd stop
-join-stops s a reading records given found fault.Memory has is stop = (
-  stops-after reading.joining.tolerance s records given (come-given s a (position_of reading) records has.came) has.in_range (joined-begun reading.joining records given has.joined),
+    (overrun-stops s a (position_of reading) reading.joining records given given found f has.came has.in_range has.joined is agrees stop.0 stop.1 stop.2 begun, has.came.steady)
+join-stops s a reading records given found fault.Read has is agrees stop = absurd stop
+join-stops s a reading records given found fault.Memory has is agrees stop = (
+  stops-after (settings_of reading) s records given (come-given s a (position_of reading) records has.came) has.in_range (joined-begun reading.joining records given has.joined),
   has.came.steady,
 )
 
@@ -245,7 +255,7 @@ read-all s a reading records given has none ended = record { records = records; 
 
 -- where all came that the source had, what came is all of it
 pub readable-at-end : (s a : Device) (position : Position) (joining : Joining) (records : List Record) (given : List Segment) → HaveCome s a position records → position.waiting ≡ [] → position.ended ≡ true → NoneOverruns joining.tolerance records → HasJoined joining (rows_of_records records) given
-    → GaveReadable s joining.tolerance (given ++ option_to_list joining.current) position.counts
+    → GaveReadable s (settings_at position joining) (given ++ option_to_list joining.current) position.counts
 readable-at-end s a position joining records given come none_wait ended none joined =
     let input = come.begins [] (come.end ended) in
     record {
@@ -256,6 +266,7 @@ readable-at-end s a position joining records given come none_wait ended none joi
         are_read = record {
           begins = subst (λ (bytes : List ℕ). BeginsWith records input.0 bytes) (append-nil position.waiting ∙ none_wait) input.2;
           in_range = none;
+          agree = come.agree;
         };
         are_segments = joined.segments;
       };

@@ -1,4 +1,5 @@
 pub mod Records
+pub mod Strict
 pub mod Seen
 pub mod OneReading
 pub mod Rows

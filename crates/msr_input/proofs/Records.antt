@@ -8,7 +8,7 @@ use Rattle.msr_record.specs.declared.row.Record.{Record}
 use Rattle.msr_record.specs.declared.row.Row.{Row}
 use Rattle.msr_record.proofs.Shown.{record_fits}
 use Rattle.msr_record.proofs.OneAnswer.{one_record}
-use Rattle.msr_input.specs.Input.{BeginsWith, bytes_of_records, rows_of_records, empty_count, mismatch_count}
+use Rattle.msr_input.specs.Input.{Agrees, AllAgree, BeginsWith, bytes_of_records, rows_of_records, empty_count, mismatch_count}
 
 pub begins-snoc : (records : List Record) (found : Record) (input rest : List ℕ) → BeginsWith records input rest → IsRecordOf rest found → BeginsWith (records ++ found ∷ []) input (drop found.length rest)
 begins-snoc [] found input rest e is =
@@ -31,6 +31,26 @@ empty-snoc (x ∷ xs) found = omega (arith, empty-snoc xs found)
 pub mismatch-snoc : (records : List Record) (found : Record) → mismatch_count (records ++ found ∷ []) ≡ mismatch_count records + (if found.reverse_agrees then 0 else 1)
 mismatch-snoc [] found = omega arith
 mismatch-snoc (x ∷ xs) found = omega (arith, mismatch-snoc xs found)
+
+pub mismatch-append : (records others : List Record) → mismatch_count (records ++ others) ≡ mismatch_count records + mismatch_count others
+mismatch-append [] others = omega arith
+mismatch-append (x ∷ xs) others = omega (arith, mismatch-append xs others)
+
+-- where all agree, each does, and so with one more that does
+abbrev one-mismatch : Bool → ℕ
+one-mismatch agrees = if agrees then 0 else 1
+
+agrees-so : (b : Bool) → one-mismatch b ≡ 0 → b ≡ true
+agrees-so true e = refl
+agrees-so false e = absurd (omega (arith, e))
+
+pub agree-one : (strict : Bool) (before after : List Record) (found : Record) → AllAgree strict (before ++ found ∷ after) → Agrees strict found
+agree-one strict before after found all t =
+    agrees-so found.reverse_agrees (omega (arith, all t, mismatch-append before (found ∷ after)))
+
+pub agree-more : (strict : Bool) (records : List Record) (found : Record) → AllAgree strict records → Agrees strict found → AllAgree strict (records ++ found ∷ [])
+agree-more strict records found all agrees t =
+    omega (arith, mismatch-snoc records found, all t, ap one-mismatch (agrees t))
 
 pub one-most : (b : Bool) → (if b then 0 else 1) ≤ 1
 one-most true = omega arith

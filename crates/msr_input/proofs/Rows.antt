@@ -15,11 +15,12 @@ use Rattle.msr_segments.specs.Spans.{Following, Overruns, IsStep}
 use Rattle.msr_segments.specs.Segments.{Part, segment_of, part_span, row_segment, row_span, IsDivision}
 use Rattle.msr_segments.specs.Joining.{Joining, HasJoined, HasFollowed, following_of}
 use Rattle.msr_segments.proofs.Histories.{followed_none, followed_step}
-use Rattle.msr_input.specs.Input.{NoneOverruns, HaveBegun, rows_of_records}
+use Rattle.msr_input.specs.Input.{Agrees, NoneOverruns, HaveBegun, rows_of_records}
 use Rattle.msr_input.specs.Records.{Position, HaveCome, StopsRecords}
-use Rattle.msr_input.specs.Reading.{IsWritable, StopsReading}
-use Rattle.msr_input.specs.Rows.{RowReading, HasReadRows, ReadsRow, ReadsNoRow, StopsRows, AllRowsAreReadable}
+use Rattle.msr_input.specs.Reading.{GaveReadable, IsWritable, StopsReading}
+use Rattle.msr_input.specs.Rows.{RowReading, HasReadRows, ReadsRow, ReadsNoRow, StopsRows, AllRowsAreReadable, row_settings}
 use Rattle.msr_input.specs.Steps.{CanJoin, FollowsRecord, FollowsRow, OverrunsWith, StopsFollowing}
+use Rattle.msr_input.specs.declared.settings.Settings.{Settings}
 use Rattle.msr_input.specs.declared.fault.ReadFault.{ReadFault}
 use Rattle.msr_input.specs.declared.fault.ReadFault.TheVariants as fault
 use Rattle.msr_input.specs.declared.row_reader.NextRow.{NextRow}
@@ -59,6 +60,9 @@ stands-so following rows answers followed = stands-at following rows followed.en
 same-tolerance : (following : Following) (rows : List Row) (at : Stands following rows) → following.tolerance ≡ at.joining.tolerance
 same-tolerance following rows at = ap (λ (f : Following). f.tolerance) at.stands
 
+pub same-row-settings : (a b : RowReading) → a.following ≡ b.following → a.position.strict ≡ b.position.strict → row_settings a ≡ row_settings b
+same-row-settings a b following strict = rw (following, strict) refl
+
 -- before the first record
 pub rows-none : (start : Device) (position : Position) (tolerance : ℕ) → HaveCome start start position [] → HasReadRows start start (record { position = position; following = record { tolerance = tolerance; current = None } }) [] []
 rows-none start position tolerance come = record { came = come; in_range = none-overrun tolerance; followed = followed_none tolerance }
@@ -68,21 +72,21 @@ pub rows-come : (s a b : Device) (reading : RowReading) (new : Position) (record
 rows-come s a b reading new records answers has come = record { came = come; in_range = has.in_range; followed = has.followed }
 
 -- no further record was given
-pub rows-stop : (tolerance : ℕ) (s a : Device) (records : List Record) (why : ReadFault) → StopsRecords s a records why → NoneOverruns tolerance records → StopsRows tolerance s a records why
-rows-stop tolerance s a records why stop none = λ given begun. stops-reading tolerance s a records given why stop none begun
+pub rows-stop : (settings : Settings) (s a : Device) (records : List Record) (why : ReadFault) → StopsRecords settings.strict s a records why → NoneOverruns settings.tolerance records → StopsRows settings s a records why
+rows-stop settings s a records why stop none = λ given begun. stops-reading settings s a records given why stop none begun
 
 -- the row of the next record ends its segment out of range
-pub follow-stops : (s a : Device) (reading : RowReading) (records : List Record) (answers : List Step) (found : Record) (why : ReadFault) → HasReadRows s a reading records answers → IsRecordOf reading.position.waiting found → StopsFollowing reading.following found.row reading.position.offset why → StopsRows reading.following.tolerance s a records why
-follow-stops s a reading records answers found (fault.Input f) has is stop = λ given begun.
+pub follow-stops : (s a : Device) (reading : RowReading) (records : List Record) (answers : List Step) (found : Record) (why : ReadFault) → HasReadRows s a reading records answers → IsRecordOf reading.position.waiting found → Agrees reading.position.strict found → StopsFollowing reading.following found.row reading.position.offset why → StopsRows (row_settings reading) s a records why
+follow-stops s a reading records answers found (fault.Input f) has is agrees stop = λ given begun.
     let at = stands-so reading.following (rows_of_records records) answers has.followed in
     let same = same-tolerance reading.following (rows_of_records records) at in
     let over : OverrunsWith (following_of at.joining) found.row = subst (λ (f : Following). OverrunsWith f found.row) at.stands stop.2 in
     let none = subst (λ (t : ℕ). NoneOverruns t records) same has.in_range in
     let begun-at = subst (λ (t : ℕ). HaveBegun t records given) same begun in
-    let stops = overrun-stops s a reading.position at.joining records at.given given found f has.came none at.joined is stop.0 stop.1 over begun-at in
-    subst (λ (t : ℕ). StopsReading t s a given (fault.Input f)) (sym same) (stops, has.came.steady)
-follow-stops s a reading records answers found fault.Read has is stop = absurd stop
-follow-stops s a reading records answers found fault.Memory has is stop = absurd stop
+    let stops = overrun-stops s a reading.position at.joining records at.given given found f has.came none at.joined is agrees stop.0 stop.1 over begun-at in
+    subst (λ (t : ℕ). StopsReading (record { tolerance = t; strict = reading.position.strict }) s a given (fault.Input f)) (sym same) (stops, has.came.steady)
+follow-stops s a reading records answers found fault.Read has is agrees stop = absurd stop
+follow-stops s a reading records answers found fault.Memory has is agrees stop = absurd stop
 
 in-range-followed : (following : Following) (records : List Record) (answers : List Step) (found : Record) → NoneOverruns following.tolerance records → HasFollowed following (rows_of_records records) answers → IfSome found.row RowIsInTime → ((row : Row) → found.row ≡ Some row → Overruns following (row_span row) → ⊥) → NoneOverruns following.tolerance (records ++ found ∷ [])
 in-range-followed following records answers found none followed in_time within =
@@ -172,8 +176,8 @@ pub row-given : (bytes : List ℕ) (old new : Following) (found : Record) (next 
 row-given bytes old new found next is can follows = row-given-so bytes old new found found.row next is refl can follows
 
 -- behind records without rows the same holds
-pub stops-behind : (tolerance : ℕ) (s a b : Device) (reading : RowReading) (records : List Record) (answers : List Step) (why : ReadFault) (none : ReadsNoRow s a reading records answers) → StopsRows tolerance s b none.after why → StopsRows tolerance s b records why
-stops-behind tolerance s a b reading records answers why none stops = λ given begun.
+pub stops-behind : (settings : Settings) (s a b : Device) (reading : RowReading) (records : List Record) (answers : List Step) (why : ReadFault) (none : ReadsNoRow s a reading records answers) → StopsRows settings s b none.after why → StopsRows settings s b records why
+stops-behind settings s a b reading records answers why none stops = λ given begun.
     stops given (record { others = begun.others; are_segments = rw none.rows begun.are_segments })
 
 pub none-behind : (s a b : Device) (reading new : RowReading) (records : List Record) (answers : List Step) (none : ReadsNoRow s a reading records answers) → ReadsNoRow s b new none.after answers → ReadsNoRow s b new records answers
@@ -190,4 +194,5 @@ pub all_rows_are_readable : AllRowsAreReadable
 all_rows_are_readable start now reading records answers joining given end joined same =
     let none = subst (λ (t : ℕ). NoneOverruns t end.none.after) (sym same) end.none.read.in_range in
     let all = subst (λ (rows : List Row). HasJoined joining rows given) (sym end.none.rows) joined in
-    readable-at-end start now reading.position joining end.none.after given end.none.read.came end.none_wait end.ended none all
+    subst (λ (t : ℕ). GaveReadable start (record { tolerance = t; strict = reading.position.strict }) (given ++ option_to_list joining.current) reading.position.counts) same
+    (readable-at-end start now reading.position joining end.none.after given end.none.read.came end.none_wait end.ended none all)

@@ -18,9 +18,11 @@ use Rattle.msr_record.specs.declared.fault.FaultKind.{FaultKind}
 use Rattle.msr_record.specs.declared.fault.FaultKind.TheVariants.{Header, NoRate, OtherEncoding, BadDataOffset, DataShort, BadCode, TimeRange, ReverseMismatch, Memory}
 use Rattle.msr_header.specs.declared.fault.HeaderFault.{HeaderFault}
 use Rattle.msr_devices.specs.ReadBuffer.{Window}
+use Rattle.msr_input.specs.Input.{IsRefusedAlone}
 use Rattle.msr_input.specs.Reading.{HoldsRecord}
 use Rattle.msr_input.specs.Steps.{fault_at, may_change, StopsDecoding}
-use Rattle.msr_record.proofs.FirstBytes.{SameRecord, own_same, refused_same}
+use Rattle.msr_record.proofs.FirstBytes.{SameRecord, own_same}
+use Rattle.msr_input.proofs.Strict.{alone-same}
 
 number_short : (order : Order) (at : ℕ) (bytes : List ℕ) → AreBytes bytes → number_at order 2 at bytes < 2 ^ 16
 number_short Big at bytes h = big_from-lt at 2 bytes h
@@ -50,8 +52,8 @@ covers_first bytes h = record {
 }
 
 -- a refusal of so many bytes stays one
-pub still_refused : (bytes rest : List ℕ) (kind : FaultKind) → AreBytes bytes → 1_048_576 ≤ length bytes → IsRefused bytes kind → IsRefused (bytes ++ rest) kind
-still_refused bytes rest kind are long refused =
+pub still_refused : (strict : Bool) (bytes rest : List ℕ) (kind : FaultKind) → AreBytes bytes → 1_048_576 ≤ length bytes → IsRefusedAlone strict bytes kind → IsRefusedAlone strict (bytes ++ rest) kind
+still_refused strict bytes rest kind are long refused =
     let first : SameFirst 1_048_576 bytes (bytes ++ rest) = record { same = sym (take-append-le 1_048_576 bytes rest long) } in
     let same : SameRecord bytes (bytes ++ rest) = record {
       header = header_alike first (covers_first bytes are);
@@ -59,7 +61,7 @@ still_refused bytes rest kind are long refused =
           let within : 2 ^ h.exponent ≤ length bytes = (header_sound bytes h read).within in
           (own_same bytes (bytes ++ rest) h read (take-append-le (2 ^ h.exponent) bytes rest within)).area h read;
     } in
-    refused_same bytes (bytes ++ rest) kind same refused
+    alone-same strict bytes (bytes ++ rest) kind same refused
 
 -- a refusal of what stands behind the header, whose record is there
 behind : (bytes : List ℕ) (kind : FaultKind) → ((reason : HeaderFault) → kind ≢ Header reason) → IsRefused bytes kind → HoldsRecord bytes
@@ -73,6 +75,10 @@ behind bytes TimeRange other refused = (refused.is_row.header, refused.is_row.ha
 behind bytes ReverseMismatch other refused = absurd refused
 behind bytes Memory other refused = absurd refused
 
+behind-alone : (strict : Bool) (bytes : List ℕ) (kind : FaultKind) → ((reason : HeaderFault) → kind ≢ Header reason) → IsRefusedAlone strict bytes kind → HoldsRecord bytes
+behind-alone strict bytes kind other (inl m) = (m.0.reverse.header, m.0.reverse.read)
+behind-alone strict bytes kind other (inr r) = behind bytes kind other r.1
+
 -- a record that is there has some bytes, and they decide
 pub held-some : (bytes : List ℕ) → HoldsRecord bytes → 0 < length bytes
 held-some bytes holds =
@@ -80,10 +86,10 @@ held-some bytes holds =
     let some = pow_pos holds.0.exponent in
     omega (arith, within, some)
 
-held-refused : (bytes rest : List ℕ) (kind : FaultKind) → HoldsRecord bytes → IsRefused bytes kind → IsRefused (bytes ++ rest) kind
-held-refused bytes rest kind holds refused =
+held-refused : (strict : Bool) (bytes rest : List ℕ) (kind : FaultKind) → HoldsRecord bytes → IsRefusedAlone strict bytes kind → IsRefusedAlone strict (bytes ++ rest) kind
+held-refused strict bytes rest kind holds refused =
     let within = (header_sound bytes holds.0 holds.1).within in
-    refused_same bytes (bytes ++ rest) kind (own_same bytes (bytes ++ rest) holds.0 holds.1 (take-append-le (2 ^ holds.0.exponent) bytes rest within)) refused
+    alone-same strict bytes (bytes ++ rest) kind (own_same bytes (bytes ++ rest) holds.0 holds.1 (take-append-le (2 ^ holds.0.exponent) bytes rest within)) refused
 
 pub open-or-ended : (b : Bool) → (b ≡ true) ⊎ (b ≡ false)
 open-or-ended true = inl refl
@@ -94,20 +100,24 @@ header-some bytes reason ended some decided (inl e) = some e
 header-some bytes reason ended some decided (inr e) = omega (arith, ltb-false (length bytes) 1_048_576 (decided e))
 
 -- so a record that is refused stops reading once no bytes could change it, and so does want of memory
-pub decoding-stops : (window : Window) (offset : ℕ) (kind : FaultKind) → AreBytes window.bytes → (kind ≢ Memory → IsRefused window.bytes kind) → (kind ≡ Memory → TakesMemory window.bytes) → (window.ended ≡ true → 0 < length window.bytes) → (window.ended ≡ false → may_change kind (length window.bytes) ≡ false) → StopsDecoding window offset (fault_at offset kind)
-decoding-stops window offset Memory are refused takes some decided = inr (takes refl)
-decoding-stops window offset (Header reason) are refused takes some decided = (
+pub decoding-stops : (strict : Bool) (window : Window) (offset : ℕ) (kind : FaultKind) → AreBytes window.bytes → (kind ≢ Memory → IsRefusedAlone strict window.bytes kind) → (kind ≡ Memory → TakesMemory window.bytes) → (window.ended ≡ true → 0 < length window.bytes) → (window.ended ≡ false → may_change kind (length window.bytes) ≡ false) → StopsDecoding strict window offset (fault_at offset kind)
+decoding-stops strict window offset Memory are refused takes some decided = inr (takes refl)
+decoding-stops strict window offset (Header reason) are refused takes some decided = (
   refl,
   header-some window.bytes reason window.ended some decided (open-or-ended window.ended),
   refused (λ e. cc),
-  λ unended rest. still_refused window.bytes rest (Header reason) are (ltb-false (length window.bytes) 1_048_576 (decided unended)) (refused (λ e. cc)),
+  λ unended rest. still_refused strict window.bytes rest (Header reason) are (ltb-false (length window.bytes) 1_048_576 (decided unended)) (refused (λ e. cc)),
 )
-decoding-stops window offset kind are refused takes some decided =
+decoding-stops strict window offset kind are refused takes some decided =
     let is = refused (λ e. cc) in
-    let holds = behind window.bytes kind (λ reason e. cc) is in
-    (refl, held-some window.bytes holds, is, λ unended rest. held-refused window.bytes rest kind holds is)
+    let holds = behind-alone strict window.bytes kind (λ reason e. cc) is in
+    (refl, held-some window.bytes holds, is, λ unended rest. held-refused strict window.bytes rest kind holds is)
 
 -- a refusal that may change is one of a header, so there is no whole record
-pub none-held : (bytes : List ℕ) (kind : FaultKind) (size : ℕ) → may_change kind size ≡ true → (kind ≢ Memory → IsRefused bytes kind) → HoldsRecord bytes → ⊥
-none-held bytes (Header reason) size e refused holds = let is = refused (λ e. cc) in absurd cc
-none-held bytes kind size e refused holds = absurd cc
+no-header : (strict : Bool) (bytes : List ℕ) (reason : HeaderFault) → IsRefusedAlone strict bytes (Header reason) → HoldsRecord bytes → ⊥
+no-header strict bytes reason (inl m) holds = let other = m.1 in cc
+no-header strict bytes reason (inr r) holds = let is = r.1 in let read = holds.1 in cc
+
+pub none-held : (strict : Bool) (bytes : List ℕ) (kind : FaultKind) (size : ℕ) → may_change kind size ≡ true → (kind ≢ Memory → IsRefusedAlone strict bytes kind) → HoldsRecord bytes → ⊥
+none-held strict bytes (Header reason) size e refused holds = no-header strict bytes reason (refused (λ e. cc)) holds
+none-held strict bytes kind size e refused holds = absurd cc

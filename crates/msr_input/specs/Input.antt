@@ -1,16 +1,18 @@
 -- An input: miniSEED records one after another (SEED Reference Manual 2.4, data records), and the first one that
 -- is refused. Each record is judged by all bytes that are left from its first one on.
-use Rattle.std.specs.Prelude.{◌≡◌, ◌≢◌, ◌⊎◌, ℕ, ◌+◌, ◌<◌, if◌then◌else◌, List, [], ◌∷◌, ◌++◌, length, drop, is_some, Some}
+use Rattle.std.specs.Prelude.{◌≡◌, ◌≢◌, ◌⊎◌, ℕ, ◌+◌, ◌<◌, Bool, false, IsTrue, if◌then◌else◌, List, [], ◌∷◌, ◌++◌, length, drop, is_some, Some}
 use Rattle.std.specs.Option.{option_to_list}
 use Rattle.msr_record.specs.Records.{IsRecordOf, IsRefused}
+use Rattle.msr_record.specs.Reverse.{HasReverse}
 use Rattle.msr_record.specs.declared.row.Record.{Record}
 use Rattle.msr_record.specs.declared.row.Row.{Row}
 use Rattle.msr_record.specs.declared.fault.FaultKind.{FaultKind}
-use Rattle.msr_record.specs.declared.fault.FaultKind.TheVariants.{TimeRange, Memory}
+use Rattle.msr_record.specs.declared.fault.FaultKind.TheVariants.{TimeRange, ReverseMismatch, Memory}
 use Rattle.msr_segments.specs.Segments.{AreSegments, LastEndsOutOfRange}
 use Rattle.msr_segments.specs.declared.joiner.Segment.{Segment}
 use Rattle.msr_report.specs.declared.report.Counts.{Counts}
 use Rattle.msr_input.specs.declared.fault.Fault.{Fault}
+use Rattle.msr_input.specs.declared.settings.Settings.{Settings}
 
 -- the input begins with these records, one after another, and this is left behind them
 abbrev pub BeginsWith : List Record → List ℕ → List ℕ → Type 0
@@ -51,37 +53,60 @@ NoneOverruns tolerance records =
     → found.row ≡ Some row
     → LastEndsOutOfRange tolerance (rows_of_records (before ++ found ∷ [])) → ⊥
 
+-- where reading is strict, the reverse constant of the record agrees, and of each of the records
+abbrev pub Agrees : Bool → Record → Type 0
+Agrees strict found = IsTrue strict → IsTrue found.reverse_agrees
+
+abbrev pub AllAgree : Bool → List Record → Type 0
+AllAgree strict records = IsTrue strict → mismatch_count records ≡ 0
+
 -- The input begins with these records, none of which is refused, and this is left behind them.
-pub record AreRead (tolerance : ℕ) (input : List ℕ) (records : List Record) (rest : List ℕ) : Type 0 where
+pub record AreRead (settings : Settings) (input : List ℕ) (records : List Record) (rest : List ℕ) : Type 0 where
   pub begins : BeginsWith records input rest
-  pub in_range : NoneOverruns tolerance records
+  pub in_range : NoneOverruns settings.tolerance records
+  pub agree : AllAgree settings.strict records
 
 -- A readable input: these records, none of which is refused, and nothing behind them; and these are the segments
 -- of their rows.
-pub record IsReadable (tolerance : ℕ) (input : List ℕ) (records : List Record) (segments : List Segment) : Type 0 where
-  pub are_read : AreRead tolerance input records []
-  pub are_segments : AreSegments tolerance (rows_of_records records) segments
+pub record IsReadable (settings : Settings) (input : List ℕ) (records : List Record) (segments : List Segment) : Type 0 where
+  pub are_read : AreRead settings input records []
+  pub are_segments : AreSegments settings.tolerance (rows_of_records records) segments
 
--- The record that the bytes begin with ends its segment outside the supported years, behind these records.
-pub record OverrunsBehind (tolerance : ℕ) (records : List Record) (rest : List ℕ) : Type 0 where
+-- Reading is strict, and the reverse constant of the record that the bytes begin with does not agree, be it in time or
+-- not. No other fault refuses it but that of its time.
+pub record Mismatches (strict : Bool) (rest : List ℕ) : Type 0 where
+  pub is_strict : IsTrue strict
+  pub reverse : HasReverse rest false
+
+-- The record that the bytes begin with is refused so by itself. A reverse constant that does not agree comes before the
+-- time, and where reading is strict alone.
+abbrev pub IsRefusedAlone : Bool → List ℕ → FaultKind → Type 0
+IsRefusedAlone strict rest kind =
+    (Mismatches strict rest × (kind ≡ ReverseMismatch)) ⊎ ((Mismatches strict rest → ⊥) × IsRefused rest kind)
+
+-- The record that the bytes begin with has no fault by itself, and ends its segment outside the supported years, behind
+-- these records.
+pub record OverrunsBehind (settings : Settings) (records : List Record) (rest : List ℕ) : Type 0 where
   pub found : Record
   pub row : Row
   pub has_row : found.row ≡ Some row
   pub is_record : IsRecordOf rest found
-  pub out_of_range : LastEndsOutOfRange tolerance (rows_of_records (records ++ found ∷ []))
+  pub agrees : Agrees settings.strict found
+  pub out_of_range : LastEndsOutOfRange settings.tolerance (rows_of_records (records ++ found ∷ []))
 
 -- Behind these records the one that the bytes begin with is refused so: by itself, or since it ends its segment
 -- out of range.
-abbrev pub IsRefusedBehind : ℕ → List Record → List ℕ → FaultKind → Type 0
-IsRefusedBehind tolerance records rest kind = IsRefused rest kind ⊎ ((kind ≡ TimeRange) × OverrunsBehind tolerance records rest)
+abbrev pub IsRefusedBehind : Settings → List Record → List ℕ → FaultKind → Type 0
+IsRefusedBehind settings records rest kind =
+    IsRefusedAlone settings.strict rest kind ⊎ ((kind ≡ TimeRange) × OverrunsBehind settings records rest)
 
 -- The first fault of an input: these records are read before it, and the next one is refused. The offset is that
 -- of its first byte.
-pub record IsFirstFault (tolerance : ℕ) (input : List ℕ) (records : List Record) (fault : Fault) : Type 0 where
+pub record IsFirstFault (settings : Settings) (input : List ℕ) (records : List Record) (fault : Fault) : Type 0 where
   pub rest : List ℕ
-  pub are_read : AreRead tolerance input records rest
+  pub are_read : AreRead settings input records rest
   pub some_left : 0 < length rest
-  pub refused : IsRefusedBehind tolerance records rest fault.kind
+  pub refused : IsRefusedBehind settings records rest fault.kind
   pub offset_is : fault.offset ≡ bytes_of_records records
 
 -- some first records of the input are read; these are first segments of their rows, and what follows them
@@ -92,29 +117,29 @@ pub record HaveBegun (tolerance : ℕ) (records : List Record) (segments : List 
 -- a readable input has one list of records, and one list of segments
 abbrev pub OneListOfRecords : Type 0
 OneListOfRecords =
-    (tolerance : ℕ) (input : List ℕ) (records others : List Record) (segments more : List Segment)
-    → IsReadable tolerance input records segments
-    → IsReadable tolerance input others more
+    (settings : Settings) (input : List ℕ) (records others : List Record) (segments more : List Segment)
+    → IsReadable settings input records segments
+    → IsReadable settings input others more
     → (records ≡ others) × (segments ≡ more)
 
 -- an input has at most one first fault, with one list of records before it
 abbrev pub OneFirstFault : Type 0
 OneFirstFault =
-    (tolerance : ℕ) (input : List ℕ) (records others : List Record) (fault other : Fault)
-    → IsFirstFault tolerance input records fault
-    → IsFirstFault tolerance input others other
+    (settings : Settings) (input : List ℕ) (records others : List Record) (fault other : Fault)
+    → IsFirstFault settings input records fault
+    → IsFirstFault settings input others other
     → (records ≡ others) × (fault ≡ other)
 
 -- and a readable input has none
 abbrev pub ReadableHasNoFault : Type 0
 ReadableHasNoFault =
-    (tolerance : ℕ) (input : List ℕ) (records others : List Record) (segments : List Segment) (fault : Fault)
-    → IsReadable tolerance input records segments
-    → IsFirstFault tolerance input others fault
+    (settings : Settings) (input : List ℕ) (records others : List Record) (segments : List Segment) (fault : Fault)
+    → IsReadable settings input records segments
+    → IsFirstFault settings input others fault
     → ⊥
 
 -- want of memory is no fault of an input
 abbrev pub MemoryIsNoFault : Type 0
 MemoryIsNoFault =
-    (tolerance : ℕ) (input : List ℕ) (records : List Record) (fault : Fault) → IsFirstFault tolerance input records fault
+    (settings : Settings) (input : List ℕ) (records : List Record) (fault : Fault) → IsFirstFault settings input records fault
     → fault.kind ≢ Memory

@@ -13,16 +13,19 @@ use Rattle.msr_segments.specs.declared.joiner.Segment.{Segment}
 use Rattle.msr_report.specs.declared.report.Counts.{Counts}
 use Rattle.msr_input.specs.Input.{AreRead, IsReadable, IsFirstFault, HaveBegun, NoneOverruns, rows_of_records, counts_of}
 use Rattle.msr_input.specs.Records.{Position, HaveCome, left_with}
+use Rattle.msr_input.specs.declared.settings.Settings.{Settings}
 use Rattle.msr_input.specs.declared.fault.Fault.{Fault}
 use Rattle.msr_input.specs.declared.fault.ReadFault.{ReadFault}
 use Rattle.msr_input.specs.declared.fault.ReadFault.TheVariants.{Input, Read, Memory}
 
 -- what a reader shows: the bytes that came and are not yet used, whether the source has ended behind them, for
--- how many bytes it has memory, its joiner, the counts of the records so far, and how many bytes these have
+-- how many bytes it has memory, whether it reads strictly, its joiner, the counts of the records so far, and how many
+-- bytes these have
 pub record Reading : Type 0 where
   pub waiting : List ℕ
   pub ended : Bool
   pub room : ℕ
+  pub strict : Bool
   pub joining : Joining
   pub counts : Counts
   pub offset : ℕ
@@ -33,9 +36,14 @@ position_of reading = record {
   waiting = reading.waiting;
   ended = reading.ended;
   room = reading.room;
+  strict = reading.strict;
   counts = reading.counts;
   offset = reading.offset;
 }
+
+-- how it reads
+abbrev pub settings_of : Reading → Settings
+settings_of reading = record { tolerance = reading.joining.tolerance; strict = reading.strict }
 
 -- how many bytes are left to read at most, of a source that gives fewer than 2^64
 abbrev pub left_to_read : Device → Reading → ℕ
@@ -81,43 +89,43 @@ pub record HasReadAll (start now : Device) (reading : Reading) (given : List Seg
   pub ended : reading.ended ≡ true
 
 -- Some first records of the input are read; the segments given are the first ones of theirs.
-pub record StopsAfter (tolerance : ℕ) (start : Device) (given : List Segment) : Type 0 where
+pub record StopsAfter (settings : Settings) (start : Device) (given : List Segment) : Type 0 where
   pub input : List ℕ
   pub records : List Record
   pub rest : List ℕ
   pub left : HasLeft start input
-  pub are_read : AreRead tolerance input records rest
-  pub begun : HaveBegun tolerance records given
+  pub are_read : AreRead settings input records rest
+  pub begun : HaveBegun settings.tolerance records given
 
 -- The next record is the input's first fault; the segments given are the first ones of the rows before it.
-pub record StopsAtFault (tolerance : ℕ) (start : Device) (given : List Segment) (fault : Fault) : Type 0 where
+pub record StopsAtFault (settings : Settings) (start : Device) (given : List Segment) (fault : Fault) : Type 0 where
   pub input : List ℕ
   pub records : List Record
   pub left : HasLeft start input
-  pub first : IsFirstFault tolerance input records fault
-  pub begun : HaveBegun tolerance records given
+  pub first : IsFirstFault settings input records fault
+  pub begun : HaveBegun settings.tolerance records given
 
 -- why no segment was given
-abbrev pub StopsReading : ℕ → Device → Device → List Segment → ReadFault → Type 0
-StopsReading tolerance start now given (Input fault) = StopsAtFault tolerance start given fault × IsSteady start now
-StopsReading tolerance start now given Read = StopsAfter tolerance start given × HasFailed start now
-StopsReading tolerance start now given Memory = StopsAfter tolerance start given × IsSteady start now
+abbrev pub StopsReading : Settings → Device → Device → List Segment → ReadFault → Type 0
+StopsReading settings start now given (Input fault) = StopsAtFault settings start given fault × IsSteady start now
+StopsReading settings start now given Read = StopsAfter settings start given × HasFailed start now
+StopsReading settings start now given Memory = StopsAfter settings start given × IsSteady start now
 
 -- the source's bytes are a readable input, these are its segments, and these its counts
-pub record GaveReadable (start : Device) (tolerance : ℕ) (segments : List Segment) (counts : Counts) : Type 0 where
+pub record GaveReadable (start : Device) (settings : Settings) (segments : List Segment) (counts : Counts) : Type 0 where
   pub input : List ℕ
   pub records : List Record
   pub left : HasLeft start input
-  pub readable : IsReadable tolerance input records segments
+  pub readable : IsReadable settings input records segments
   pub counted : counts ≡ counts_of records
 
 -- and each of the segments can be written
-pub record GaveInput (start : Device) (tolerance : ℕ) (segments : List Segment) (counts : Counts) : Type 0 where
-  pub gave : GaveReadable start tolerance segments counts
+pub record GaveInput (start : Device) (settings : Settings) (segments : List Segment) (counts : Counts) : Type 0 where
+  pub gave : GaveReadable start settings segments counts
   pub writable : All IsWritable segments
 
 -- Where all records came the input is readable, and the segment that is still with the reader is its last.
 abbrev pub AllReadIsReadable : Type 0
 AllReadIsReadable =
     (start now : Device) (reading : Reading) (given : List Segment) → HasReadAll start now reading given
-    → GaveInput start reading.joining.tolerance (given ++ option_to_list reading.joining.current) reading.counts
+    → GaveInput start (settings_of reading) (given ++ option_to_list reading.joining.current) reading.counts

@@ -1,20 +1,21 @@
 -- What a reader of records shows, and what reading does before the rows of the records are looked at.
 use Rattle.std.specs.Prelude.{◌≡◌, ℕ, ◌+◌, ◌-◌, ◌<◌, ◌^◌, Bool, true, false, List, [], ◌++◌, length}
-use Rattle.msr_record.specs.Records.{IsRefused}
 use Rattle.msr_record.specs.declared.row.Record.{Record}
 use Rattle.msr_devices.specs.Device.{Device, HasLeft, HasFailed, IsCalm, IsSteady}
 use Rattle.msr_report.specs.declared.report.Counts.{Counts}
-use Rattle.msr_input.specs.Input.{BeginsWith, bytes_of_records, counts_of}
+use Rattle.msr_input.specs.Input.{AllAgree, BeginsWith, IsRefusedAlone, bytes_of_records, counts_of}
 use Rattle.msr_input.specs.declared.fault.Fault.{Fault}
 use Rattle.msr_input.specs.declared.fault.ReadFault.{ReadFault}
 use Rattle.msr_input.specs.declared.fault.ReadFault.TheVariants.{Input, Read, Memory}
 
 -- what a reader of records shows: the bytes that came and are not yet used, whether the source has ended behind
--- them, for how many bytes it has memory, the counts of the records so far, and how many bytes these have
+-- them, for how many bytes it has memory, whether it reads strictly, the counts of the records so far, and how many
+-- bytes these have
 pub record Position : Type 0 where
   pub waiting : List ℕ
   pub ended : Bool
   pub room : ℕ
+  pub strict : Bool
   pub counts : Counts
   pub offset : ℕ
 
@@ -25,6 +26,7 @@ left_with source waiting = (2 ^ 64 - source.moved) + length waiting
 -- From the one state of the source to the other these records came; the rest waits.
 pub record HaveCome (start now : Device) (position : Position) (records : List Record) : Type 0 where
   pub begins : (rest : List ℕ) → HasLeft now rest → (input : List ℕ) × HasLeft start input × BeginsWith records input (position.waiting ++ rest)
+  pub agree : AllAgree position.strict records
   pub counts : position.counts ≡ counts_of records
   pub offset : position.offset ≡ bytes_of_records records
   pub moved : now.moved ≡ start.moved + (bytes_of_records records + length position.waiting)
@@ -33,22 +35,23 @@ pub record HaveCome (start now : Device) (position : Position) (records : List R
   pub calm : position.ended ≡ false → IsCalm start now
   pub steady : IsSteady start now
 
--- The source's bytes begin with these records.
-pub record HasGiven (start : Device) (records : List Record) : Type 0 where
+-- The source's bytes begin with these records, none of which is refused by itself.
+pub record HasGiven (strict : Bool) (start : Device) (records : List Record) : Type 0 where
   pub input : List ℕ
   pub rest : List ℕ
   pub left : HasLeft start input
   pub begins : BeginsWith records input rest
+  pub agree : AllAgree strict records
 
 -- Behind these records one is refused by itself.
-pub record IsRefusedAfter (start : Device) (records : List Record) (fault : Fault) : Type 0 where
-  pub given : HasGiven start records
+pub record IsRefusedAfter (strict : Bool) (start : Device) (records : List Record) (fault : Fault) : Type 0 where
+  pub given : HasGiven strict start records
   pub some_left : 0 < length given.rest
-  pub refused : IsRefused given.rest fault.kind
+  pub refused : IsRefusedAlone strict given.rest fault.kind
   pub offset_is : fault.offset ≡ bytes_of_records records
 
 -- why no further record was given
-abbrev pub StopsRecords : Device → Device → List Record → ReadFault → Type 0
-StopsRecords start now records (Input fault) = IsRefusedAfter start records fault × IsSteady start now
-StopsRecords start now records Read = HasGiven start records × HasFailed start now
-StopsRecords start now records Memory = HasGiven start records × IsSteady start now
+abbrev pub StopsRecords : (strict : Bool) → Device → Device → List Record → ReadFault → Type 0
+StopsRecords strict start now records (Input fault) = IsRefusedAfter strict start records fault × IsSteady start now
+StopsRecords strict start now records Read = HasGiven strict start records × HasFailed start now
+StopsRecords strict start now records Memory = HasGiven strict start records × IsSteady start now

@@ -1,5 +1,5 @@
 -- What a reader of rows shows, and what reading them does.
-use Rattle.std.specs.Prelude.{◌≡◌, ℕ, true, List, [], ◌∷◌, ◌++◌}
+use Rattle.std.specs.Prelude.{◌≡◌, true, List, [], ◌∷◌, ◌++◌}
 use Rattle.std.specs.Option.{option_to_list}
 use Rattle.msr_record.specs.declared.row.Record.{Record}
 use Rattle.msr_devices.specs.Device.{Device}
@@ -10,6 +10,7 @@ use Rattle.msr_segments.specs.declared.joiner.Segment.{Segment}
 use Rattle.msr_input.specs.Input.{NoneOverruns, HaveBegun, rows_of_records}
 use Rattle.msr_input.specs.Records.{Position, HaveCome}
 use Rattle.msr_input.specs.Reading.{StopsReading, GaveReadable}
+use Rattle.msr_input.specs.declared.settings.Settings.{Settings}
 use Rattle.msr_input.specs.declared.fault.ReadFault.{ReadFault}
 use Rattle.msr_input.specs.declared.row_reader.NextRow.{NextRow}
 
@@ -17,6 +18,10 @@ use Rattle.msr_input.specs.declared.row_reader.NextRow.{NextRow}
 pub record RowReading : Type 0 where
   pub position : Position
   pub following : Following
+
+-- how it reads
+abbrev pub row_settings : RowReading → Settings
+row_settings reading = record { tolerance = reading.following.tolerance; strict = reading.position.strict }
 
 -- From the one state of the source to the other these records came, none refused; the rest waits. These answers
 -- were given for their rows.
@@ -45,9 +50,9 @@ pub record ReadsToEnd (start now : Device) (reading : RowReading) (records : Lis
 
 -- Why no row was given, of the segments that the rows before it began: what stops a reader of segments that gave
 -- some first ones of these.
-abbrev pub StopsRows : ℕ → Device → Device → List Record → ReadFault → Type 0
-StopsRows tolerance start now records why =
-    (given : List Segment) → HaveBegun tolerance records given → StopsReading tolerance start now given why
+abbrev pub StopsRows : Settings → Device → Device → List Record → ReadFault → Type 0
+StopsRows settings start now records why =
+    (given : List Segment) → HaveBegun settings.tolerance records given → StopsReading settings start now given why
 
 -- Where all records came the input is readable, and its segments are those of a joiner of the same rows, the last
 -- one included.
@@ -57,4 +62,4 @@ AllRowsAreReadable =
     → ReadsToEnd start now reading records answers
     → HasJoined joining (rows_of_records records) given
     → joining.tolerance ≡ reading.following.tolerance
-    → GaveReadable start joining.tolerance (given ++ option_to_list joining.current) reading.position.counts
+    → GaveReadable start (row_settings reading) (given ++ option_to_list joining.current) reading.position.counts

@@ -1,7 +1,6 @@
 -- What the steps of reading do: bytes are read ahead, a record is decoded, and its row is joined.
 use Rattle.std.specs.Prelude.{◌≡◌, ℕ, ◌<◌, ◌≤◌, Bool, false, nat_lt, List, ◌++◌, length, Option, None, Some, IsSome}
 use Rattle.msr_time.specs.Instant.{IsInstant}
-use Rattle.msr_record.specs.Records.{IsRefused}
 use Rattle.msr_record.specs.declared.row.Row.{Row}
 use Rattle.msr_record.specs.declared.fault.FaultKind.{FaultKind}
 use Rattle.msr_record.specs.declared.fault.FaultKind.TheVariants as refusal
@@ -14,6 +13,7 @@ use Rattle.msr_segments.specs.Segments.{row_span}
 use Rattle.msr_segments.specs.Joining.{Joining, following_of, IsPush}
 use Rattle.msr_segments.specs.declared.follow.Step.{Step}
 use Rattle.msr_segments.specs.declared.joiner.Segment.{Segment}
+use Rattle.msr_input.specs.Input.{IsRefusedAlone}
 use Rattle.msr_input.specs.Reading.{HoldsRecord, TakesMemoryFor}
 use Rattle.msr_input.specs.declared.fault.ReadFault.{ReadFault}
 use Rattle.msr_input.specs.declared.row_reader.NextRow.{NextRow}
@@ -44,12 +44,12 @@ CameBefore old new before after fault.Memory = IsFilled 0 old new before after
 
 -- Why no record was given from the bytes that came: the one at that offset is refused, whatever more comes behind
 -- them; they hold no whole record, and the source failed; or there was no memory.
-abbrev pub StopsDecoding : Window → ℕ → ReadFault → Type 0
-StopsDecoding window offset (fault.Input f) =
-    (f.offset ≡ offset) × (0 < length window.bytes) × IsRefused window.bytes f.kind
-    × (window.ended ≡ false → (rest : List ℕ) → IsRefused (window.bytes ++ rest) f.kind)
-StopsDecoding window offset fault.Read = HoldsRecord window.bytes → ⊥
-StopsDecoding window offset fault.Memory = TakesMemoryFor window.bytes window.room
+abbrev pub StopsDecoding : (strict : Bool) → Window → ℕ → ReadFault → Type 0
+StopsDecoding strict window offset (fault.Input f) =
+    (f.offset ≡ offset) × (0 < length window.bytes) × IsRefusedAlone strict window.bytes f.kind
+    × (window.ended ≡ false → (rest : List ℕ) → IsRefusedAlone strict (window.bytes ++ rest) f.kind)
+StopsDecoding strict window offset fault.Read = HoldsRecord window.bytes → ⊥
+StopsDecoding strict window offset fault.Memory = TakesMemoryFor window.bytes window.room
 
 -- a joiner takes such rows
 pub record CanJoin (row : Row) : Type 0 where

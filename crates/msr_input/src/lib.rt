@@ -10,6 +10,7 @@ mod laws;
 mod reader;
 mod record_reader;
 mod row_reader;
+mod settings;
 mod step;
 
 pub use fault::{Fault, ReadFault};
@@ -19,6 +20,7 @@ pub use laws::{
 };
 pub use reader::SegmentReader;
 pub use row_reader::{NextRow, RowReader};
+pub use settings::Settings;
 
 #[cfg(test)]
 mod tests;

@@ -1,6 +1,7 @@
 //! Reading records, and joining their rows.
 use crate::fault::ReadFault;
 use crate::record_reader::RecordReader;
+use crate::settings::Settings;
 use crate::step::{counted, join};
 use msr_devices::Source;
 use msr_record::Record;
@@ -21,7 +22,7 @@ impl Model for SegmentReader {
 
     ghost Value = { Reading };
 
-    ghost view = { λ r. record { waiting = r.records.waiting; ended = r.records.ended; room = r.records.room; joining = r.joiner; counts = r.records.counts; offset = r.records.offset } };
+    ghost view = { λ r. record { waiting = r.records.waiting; ended = r.records.ended; room = r.records.room; strict = r.records.strict; joining = r.joiner; counts = r.records.counts; offset = r.records.offset } };
 }
 
 impl SegmentReader {
@@ -31,18 +32,19 @@ impl SegmentReader {
     ghost use Rattle.msr_record.specs.Records.{IsRecordOf, TakesMemory};
     ghost use Rattle.msr_record.specs.declared.row.Record.{Record as Found};
     ghost use Rattle.msr_segments.specs.declared.joiner.Segment.{Segment as Joined};
-    ghost use Rattle.msr_input.specs.Reading.{HasRead, HasReadAll, HoldsRecord, StopsReading, TakesMemoryNext, left_to_read, room_with};
+    ghost use Rattle.msr_input.specs.Input.{Agrees};
+    ghost use Rattle.msr_input.specs.Reading.{HasRead, HasReadAll, HoldsRecord, StopsReading, TakesMemoryNext, left_to_read, room_with, settings_of};
     ghost use Rattle.msr_input.specs.Steps.{CanJoin, JoinsRecord};
 
-    /// A reader before the first record, for that tolerance in microseconds. It takes no memory yet.
-    pub fn new(alloc: Global, tolerance: u32) -> SegmentReader
-        requires { (1 ≤ tolerance) × (tolerance ≤ 1_000_000) }
-        ensures tolerance { result.joining.tolerance ≡ tolerance }
+    /// A reader before the first record, with a tolerance in its range. It takes no memory yet.
+    pub fn new(alloc: Global, settings: Settings) -> SegmentReader
+        requires { (1 ≤ settings.tolerance) × (settings.tolerance ≤ 1_000_000) }
+        ensures settings { settings_of result ≡ settings }
         ensures none { (start : Device) → HasRead start start result [] [] }
     {
         SegmentReader {
-            records: RecordReader::new(alloc),
-            joiner: Joiner::new(alloc, tolerance),
+            records: RecordReader::new(alloc, settings.strict),
+            joiner: Joiner::new(alloc, settings.tolerance),
         }
     }
 
@@ -53,10 +55,10 @@ impl SegmentReader {
     pub fn next_record<R: Source>(&mut self, source: &mut R) -> Result<Option<Record>, ReadFault>
         requires { CanCountCall (R.device source.old) }
         ensures read { (start : Device) (records : List Found) (given : List Joined) → HasRead start (R.device source.old) self.old records given
-            → MatchResult result (λ _. HasRead start (R.device source.new) self.new records given) (StopsReading self.old.joining.tolerance start (R.device source.new) given) }
+            → MatchResult result (λ _. HasRead start (R.device source.new) self.new records given) (StopsReading (settings_of self.old) start (R.device source.new) given) }
         ensures next { IfOk result (λ next. MatchOption next
             ((self.new.waiting ≡ []) × (self.new.ended ≡ true))
-            (λ found. IsRecordOf self.new.waiting found × IfSome found.row CanJoin)) }
+            (λ found. IsRecordOf self.new.waiting found × IfSome found.row CanJoin × Agrees self.new.strict found)) }
         ensures kept { (start : Device) (records : List Found) (given : List Joined) → HasRead start (R.device source.old) self.old records given
             → IfErr result (λ fault. fault ≢ ReadFault.Read → HasRead start (R.device source.new) self.new records given) }
         ensures memory { IsErrOf result ReadFault.Memory → TakesMemoryNext self.new }
@@ -67,6 +69,7 @@ impl SegmentReader {
         // Room is taken for 64 KiB, and for more only where a record needs it.
         ensures room { IfOk result (λ next. IfSome next (λ found. self.new.room ≤ room_with found.length self.old.room)) }
         ensures joining { self.new.joining ≡ self.old.joining }
+        ensures strict { self.new.strict ≡ self.old.strict }
         ensures steady { OnOk result (IsSteady (R.device source.old) (R.device source.new)) }
         ensures few { CountsFew (R.device source.old) (R.device source.new) }
 
@@ -81,10 +84,11 @@ impl SegmentReader {
     pub fn take(&mut self, found: Record) -> Result<Option<Segment>, ReadFault>
         requires is_record { IsRecordOf self.old.waiting found }
         requires can_join { IfSome found.row CanJoin }
+        requires agrees { Agrees self.old.strict found }
         ensures read { (start now : Device) (records : List Found) (given : List Joined) → HasRead start now self.old records given
-            → MatchResult result (λ ended. HasRead start now self.new (records ++ found ∷ []) (given ++ option_to_list ended)) (StopsReading self.old.joining.tolerance start now given) }
+            → MatchResult result (λ ended. HasRead start now self.new (records ++ found ∷ []) (given ++ option_to_list ended)) (StopsReading (settings_of self.old) start now given) }
         ensures step { IfOk result (λ ended. JoinsRecord self.old.joining found.row ended self.new.joining) }
-        ensures tolerance { self.new.joining.tolerance ≡ self.old.joining.tolerance }
+        ensures settings { settings_of self.new ≡ settings_of self.old }
         ensures memory { IsErrOf result ReadFault.Memory → TakesMemory self.old.waiting }
         ensures unread { IsErrOf result ReadFault.Read → ⊥ }
         ensures unchanged { OnErr result (self.new ≡ self.old) }
@@ -106,7 +110,7 @@ impl SegmentReader {
             (λ next. MatchOption next
             (HasReadAll start (R.device source.new) self.new given)
             (λ segment. (now : List Found) × HasRead start (R.device source.new) self.new now (given ++ segment ∷ [])))
-            (StopsReading self.old.joining.tolerance start (R.device source.new) given) }
+            (StopsReading (settings_of self.old) start (R.device source.new) given) }
         ensures kept { (start : Device) (records : List Found) (given : List Joined) → HasRead start (R.device source.old) self.old records given
             → IfErr result (λ fault. fault ≢ ReadFault.Read → (now : List Found) × HasRead start (R.device source.new) self.new now given) }
 
@@ -115,7 +119,7 @@ impl SegmentReader {
 
         // Of a record whose bytes have come none are awaited.
         ensures awaited { IsErrOf result ReadFault.Read → HoldsRecord self.new.waiting → ⊥ }
-        ensures tolerance { self.new.joining.tolerance ≡ self.old.joining.tolerance }
+        ensures settings { settings_of self.new ≡ settings_of self.old }
         ensures less { IfOk result (λ next. IfSome next (λ _. left_to_read (R.device source.new) self.new < left_to_read (R.device source.old) self.old)) }
         ensures few { CountsFew (R.device source.old) (R.device source.new) }
     {

@@ -13,6 +13,8 @@ use std::marker::Model;
 pub(crate) struct RecordReader {
     alloc: Global,
     buffer: ReadBuffer,
+    // whether a record is refused whose reverse constant does not agree
+    strict: bool,
     counts: Counts,
     // how many bytes the records had so far
     offset: u64,
@@ -23,7 +25,7 @@ impl Model for RecordReader {
 
     ghost Value = { Position };
 
-    ghost view = { λ r. record { waiting = r.buffer.bytes; ended = r.buffer.ended; room = r.buffer.room; counts = r.counts; offset = r.offset } };
+    ghost view = { λ r. record { waiting = r.buffer.bytes; ended = r.buffer.ended; room = r.buffer.room; strict = r.strict; counts = r.counts; offset = r.offset } };
 }
 
 impl RecordReader {
@@ -31,17 +33,21 @@ impl RecordReader {
     ghost use Rattle.msr_devices.specs.Device.{Device, CanCountCall, CountsFew, IsSteady};
     ghost use Rattle.msr_record.specs.Records.{IsRecordOf};
     ghost use Rattle.msr_record.specs.declared.row.Record.{Record as Found};
+    ghost use Rattle.msr_input.specs.Input.{Agrees};
     ghost use Rattle.msr_input.specs.Records.{HaveCome, StopsRecords, left_with};
     ghost use Rattle.msr_input.specs.Reading.{HoldsRecord, TakesMemoryFor, room_with};
     ghost use Rattle.msr_input.specs.Steps.{CanJoin};
 
-    /// A reader before the first record. It takes no memory yet.
-    pub fn new(alloc: Global) -> RecordReader
-        ensures { (start : Device) → HaveCome start start result [] }
+    /// A reader before the first record; a strict one refuses a record whose reverse constant does not agree. It
+    /// takes no memory yet.
+    pub fn new(alloc: Global, strict: bool) -> RecordReader
+        ensures strict { result.strict ≡ strict }
+        ensures none { (start : Device) → HaveCome start start result [] }
     {
         RecordReader {
             alloc,
             buffer: ReadBuffer::new(alloc),
+            strict,
             counts: Counts {
                 read: 0,
                 empty: 0,
@@ -60,10 +66,10 @@ impl RecordReader {
         ensures came { (start : Device) (records : List Found) → HaveCome start (R.device source.old) self.old records
             → MatchResult result
             (λ _. HaveCome start (R.device source.new) self.new records)
-            (StopsRecords start (R.device source.new) records) }
+            (StopsRecords self.old.strict start (R.device source.new) records) }
         ensures next { IfOk result (λ next. MatchOption next
             ((self.new.waiting ≡ []) × (self.new.ended ≡ true))
-            (λ found. IsRecordOf self.new.waiting found × IfSome found.row CanJoin)) }
+            (λ found. IsRecordOf self.new.waiting found × IfSome found.row CanJoin × Agrees self.new.strict found)) }
         ensures kept { (start : Device) (records : List Found) → HaveCome start (R.device source.old) self.old records
             → IfErr result (λ fault. fault ≢ ReadFault.Read
             → HaveCome start (R.device source.new) self.new records) }
@@ -71,12 +77,19 @@ impl RecordReader {
         ensures awaited { IsErrOf result ReadFault.Read → HoldsRecord self.new.waiting → ⊥ }
         ensures room { IfOk result (λ next. IfSome next (λ found.
             self.new.room ≤ room_with found.length self.old.room)) }
+        ensures strict { self.new.strict ≡ self.old.strict }
         ensures steady { OnOk result (IsSteady (R.device source.old) (R.device source.new)) }
         ensures few { CountsFew (R.device source.old) (R.device source.new) }
         ensures left { OnOk result (left_with (R.device source.new) self.new.waiting
             ≤ left_with (R.device source.old) self.old.waiting) }
     {
-        read_record(self.alloc, &mut self.buffer, source, self.offset)
+        read_record(
+            self.alloc,
+            &mut self.buffer,
+            source,
+            self.strict,
+            self.offset,
+        )
     }
 
     /// Passes a record of so many bytes; the counts are those with it.
@@ -84,6 +97,7 @@ impl RecordReader {
         requires { size ≤ length self.old.waiting }
         ensures waiting { self.new.waiting ≡ drop size self.old.waiting }
         ensures ended { self.new.ended ≡ self.old.ended }
+        ensures strict { self.new.strict ≡ self.old.strict }
         ensures room { self.new.room ≡ self.old.room }
         ensures counts { self.new.counts ≡ counts }
         ensures offset { self.old.offset + size < 2 ^ 64 → self.new.offset ≡ self.old.offset + size }

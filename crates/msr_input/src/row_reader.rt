@@ -1,6 +1,7 @@
 //! Reading rows, each with what it does.
 use crate::fault::ReadFault;
 use crate::record_reader::RecordReader;
+use crate::settings::Settings;
 use crate::step::{counted, follow};
 use msr_devices::Source;
 use msr_record::{Record, Row};
@@ -41,20 +42,22 @@ impl RowReader {
     ghost use Rattle.msr_segments.specs.Spans.{IsInBounds, IsStep};
     ghost use Rattle.msr_segments.specs.Segments.{row_span, row_segment};
     ghost use Rattle.msr_segments.specs.declared.follow.Step.{Step as Answer};
+    ghost use Rattle.msr_input.specs.Input.{Agrees};
     ghost use Rattle.msr_input.specs.Records.{left_with};
     ghost use Rattle.msr_input.specs.Reading.{HoldsRecord, IsWritable, TakesMemoryFor};
-    ghost use Rattle.msr_input.specs.Rows.{HasReadRows, ReadsRow, ReadsNoRow, ReadsToEnd, StopsRows};
+    ghost use Rattle.msr_input.specs.Rows.{HasReadRows, ReadsRow, ReadsNoRow, ReadsToEnd, StopsRows, row_settings};
     ghost use Rattle.msr_input.specs.Steps.{CanJoin, FollowsRecord};
 
-    /// A reader before the first record, for that tolerance in microseconds. It takes no memory yet.
-    pub fn new(alloc: Global, tolerance: u32) -> RowReader
-        requires { (1 ≤ tolerance) × (tolerance ≤ 1_000_000) }
-        ensures following { result.following ≡ record { tolerance = tolerance; current = None } }
+    /// A reader before the first record, with a tolerance in its range. It takes no memory yet.
+    pub fn new(alloc: Global, settings: Settings) -> RowReader
+        requires { (1 ≤ settings.tolerance) × (settings.tolerance ≤ 1_000_000) }
+        ensures following { result.following ≡ record { tolerance = settings.tolerance; current = None } }
+        ensures strict { result.position.strict ≡ settings.strict }
         ensures none { (start : Device) → HasReadRows start start result [] [] }
     {
         RowReader {
-            records: RecordReader::new(alloc),
-            follow: Follow::new(tolerance),
+            records: RecordReader::new(alloc, settings.strict),
+            follow: Follow::new(settings.tolerance),
         }
     }
 
@@ -69,7 +72,7 @@ impl RowReader {
             (λ next. MatchOption next
             (ReadsToEnd start (R.device source.new) self.new records answers)
             (ReadsRow start (R.device source.new) self.new records answers))
-            (StopsRows self.old.following.tolerance start (R.device source.new) records) }
+            (StopsRows (row_settings self.old) start (R.device source.new) records) }
         ensures kept { (start : Device) (records : List Found) (answers : List Answer)
             → HasReadRows start (R.device source.old) self.old records answers
             → IfErr result (λ fault. fault ≢ ReadFault.Read
@@ -81,7 +84,7 @@ impl RowReader {
         ensures row { IfOk result (λ next. IfSome next (λ given.
             CanJoin given.row × IsWritable (row_segment given.row))) }
         ensures in_bounds { IfOk result (λ next. IfSome next (λ _. IsInBounds self.new.following.current)) }
-        ensures tolerance { self.new.following.tolerance ≡ self.old.following.tolerance }
+        ensures settings { row_settings self.new ≡ row_settings self.old }
 
         // Want of memory comes only where memory is taken.
         ensures memory { IsErrOf result ReadFault.Memory
@@ -106,13 +109,15 @@ impl RowReader {
     fn take(&mut self, found: Record) -> Result<Option<NextRow>, ReadFault>
         requires is_record { IsRecordOf self.old.position.waiting found }
         requires can_join { IfSome found.row CanJoin }
+        requires agrees { Agrees self.old.position.strict found }
         ensures read { (start now : Device) (records : List Found) (answers : List Answer)
             → HasReadRows start now self.old records answers
             → MatchResult result
             (λ next. MatchOption next
             (ReadsNoRow start now self.new records answers)
             (ReadsRow start now self.new records answers))
-            (StopsRows self.old.following.tolerance start now records) }
+            (StopsRows (row_settings self.old) start now records) }
+        ensures strict { self.new.position.strict ≡ self.old.position.strict }
         ensures step { IfOk result (λ next. FollowsRecord self.old.following found.row next self.new.following) }
         ensures row { IfOk result (λ next. IfSome next (λ given.
             CanJoin given.row × IsWritable (row_segment given.row))) }

@@ -1,18 +1,18 @@
 //! The steps of reading: bytes ahead, a record, its row, its counts.
-ghost use Rattle.std.specs.Prelude.{◌≡◌, ◌+◌, ◌<◌, ◌≤◌, ◌-◌, ◌^◌, ℕ, true, List, [], ◌∷◌, ◌++◌, length, IfOk, IfErr, IfSome, OnErr, MatchResult, MatchOption, if◌then◌else◌};
-ghost use Rattle.msr_record.specs.Records.{IsRecordOf};
+ghost use Rattle.std.specs.Prelude.{◌≡◌, ◌≢◌, ◌+◌, ◌<◌, ◌≤◌, ◌-◌, ◌^◌, ℕ, true, List, [], ◌∷◌, ◌++◌, length, IfOk, IfErr, IfSome, IsErrOf, OnErr, MatchResult, MatchOption, if◌then◌else◌};
+ghost use Rattle.msr_record.specs.Records.{IsRecordOf, IsRefused, TakesMemory};
 ghost use Rattle.msr_record.specs.declared.row.Record.{Record as Found};
 ghost use Rattle.msr_devices.specs.Device.{CanCountCall, CountsFew};
 ghost use Rattle.msr_devices.specs.ReadBuffer.{IsFilled};
 ghost use Rattle.msr_segments.specs.Spans.{IsInBounds};
-ghost use Rattle.msr_input.specs.Input.{counts_of};
+ghost use Rattle.msr_input.specs.Input.{Agrees, IsRefusedAlone, counts_of};
 ghost use Rattle.msr_input.specs.Reading.{room_with};
 ghost use Rattle.msr_input.specs.Steps.{CanJoin, CameBefore, FollowsRecord, JoinsRecord, StopsDecoding, StopsFollowing, StopsJoining, may_change};
 
 use crate::fault::{Fault, ReadFault, fault_at};
 use crate::row_reader::NextRow;
 use msr_devices::{ReadBuffer, Source};
-use msr_record::{FaultKind, Record, Row, decode_record};
+use msr_record::{FaultKind, Record, Row, decode_record, reverse_in};
 use msr_report::Counts;
 use msr_segments::{Follow, JoinFault, JoinKind, Joiner, OutOfRange, Segment};
 use std::alloc::Global;
@@ -30,12 +30,51 @@ fn may_change(kind: FaultKind, len: usize) -> bool
     }
 }
 
+// Why a record is refused, where it has that fault by itself: before that of its time comes, where reading is strict,
+// that of its reverse constant.
+fn fault_of(kind: FaultKind, bytes: &[u8], strict: bool) -> FaultKind
+    requires { kind ≢ FaultKind.Memory → IsRefused bytes.now kind }
+    ensures refused { result ≢ FaultKind.Memory → IsRefusedAlone strict bytes.now result }
+    ensures memory { result ≡ FaultKind.Memory → kind ≡ FaultKind.Memory }
+{
+    let FaultKind::TimeRange = kind else {
+        return kind;
+    };
+    if !strict {
+        return kind;
+    }
+    match reverse_in(bytes) {
+        Some(false) => FaultKind::ReverseMismatch,
+        _ => kind,
+    }
+}
+
+// The record that the bytes begin with, or why it is refused. Where reading is strict its reverse constant agrees.
+fn judge(alloc: Global, bytes: &[u8], strict: bool) -> Result<Record, FaultKind>
+    ensures found { IfOk result (IsRecordOf bytes.now) }
+    ensures can_join { IfOk result (λ found. IfSome found.row CanJoin) }
+    ensures agrees { IfOk result (Agrees strict) }
+    ensures refused { IfErr result (λ kind. kind ≢ FaultKind.Memory → IsRefusedAlone strict bytes.now kind) }
+    ensures memory { IsErrOf result FaultKind.Memory → TakesMemory bytes.now }
+{
+    match decode_record(alloc, bytes) {
+        Ok(found) => {
+            if strict && !found.reverse_agrees {
+                return Err(FaultKind::ReverseMismatch);
+            }
+            Ok(found)
+        }
+        Err(kind) => Err(fault_of(kind, bytes, strict)),
+    }
+}
+
 // The record that the bytes left begin with, which is the one at the offset; `None` where there are none. It is
 // given as soon as its own bytes are there; a refusal waits while more bytes might change it.
 pub(crate) fn read_record<R: Source>(
     alloc: Global,
     buffer: &mut ReadBuffer,
     source: &mut R,
+    strict: bool,
     offset: u64,
 ) -> Result<Option<Record>, ReadFault>
     requires { CanCountCall (R.device source.old) }
@@ -44,8 +83,8 @@ pub(crate) fn read_record<R: Source>(
         (CameBefore (R.device source.old) (R.device source.new) buffer.old buffer.new) }
     ensures next { IfOk result (λ next. MatchOption next
         ((buffer.new.bytes ≡ []) × (buffer.new.ended ≡ true))
-        (λ found. IsRecordOf buffer.new.bytes found × IfSome found.row CanJoin)) }
-    ensures refused { IfErr result (StopsDecoding buffer.new offset) }
+        (λ found. IsRecordOf buffer.new.bytes found × IfSome found.row CanJoin × Agrees strict found)) }
+    ensures refused { IfErr result (StopsDecoding strict buffer.new offset) }
     ensures room { IfOk result (λ next. IfSome next (λ found.
         buffer.new.room ≤ room_with found.length buffer.old.room)) }
     ensures few { CountsFew (R.device source.old) (R.device source.new) }
@@ -55,7 +94,7 @@ pub(crate) fn read_record<R: Source>(
         if bytes.is_empty() && buffer.has_ended() {
             return Ok(None);
         }
-        let kind = match decode_record(alloc, bytes) {
+        let kind = match judge(alloc, bytes, strict) {
             Ok(found) => return Ok(Some(found)),
             Err(kind) => kind,
         };

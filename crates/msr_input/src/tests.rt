@@ -1,5 +1,5 @@
 //! What readers do, which no clause says: printed faults, sources that play, and each call once.
-use crate::{Fault, NextRow, ReadFault, RowReader, SegmentReader};
+use crate::{Fault, NextRow, ReadFault, RowReader, SegmentReader, Settings};
 use msr_devices::{Behavior, FillFault, TestSource};
 use msr_header::HeaderFault;
 use msr_record::FaultKind;
@@ -38,7 +38,7 @@ const AT_THE_END: &[(usize, &[u8])] = &[(
     &[0x08, 0x34, 0x01, 0x6d, 0x17, 0x3b, 0x39, 0x00, 0x19, 0x32],
 )];
 
-// one sample of 0 as Steim-2, whose reverse constant is 1.
+// one sample of 0 as Steim-2, whose reverse constant is 1, and the same so late that it is out of time.
 const MISMATCHED: &[(usize, &[u8])] = &[
     (26, &[0x0a, 0x00, 0x00, 0x00]),
     (30, &[0x00, 0x01]),
@@ -47,6 +47,25 @@ const MISMATCHED: &[(usize, &[u8])] = &[
     (64, &[0x01, 0x00, 0x00, 0x00]),
     (75, &[0x01]),
 ];
+
+const MISMATCHED_LATE: &[(usize, &[u8])] = &[
+    (20, &[0x08, 0x34, 0x01, 0x6d, 0x17, 0x3b, 0x3c]),
+    (30, &[0x00, 0x01]),
+    (52, &[0x0b]),
+    (63, &[0x03]),
+    (64, &[0x01, 0x00, 0x00, 0x00]),
+    (75, &[0x01]),
+];
+
+const LENIENT: Settings = Settings {
+    tolerance: 10_000,
+    strict: false,
+};
+
+const STRICT: Settings = Settings {
+    tolerance: 10_000,
+    strict: true,
+};
 
 const WHOLE: Behavior = Behavior {
     most: 65_536,
@@ -109,7 +128,7 @@ fn segments_of(
     behavior: Behavior,
 ) -> (Option<Place>, Option<Place>, Option<Place>, Counts) {
     let mut source = TestSource::new(bytes, behavior);
-    let mut reader = SegmentReader::new(alloc, 10_000);
+    let mut reader = SegmentReader::new(alloc, LENIENT);
     let first = given(rt, reader.next_segment(&mut source));
     let second = given(rt, reader.next_segment(&mut source));
     let third = given(rt, reader.next_segment(&mut source));
@@ -122,9 +141,13 @@ fn segments_of(
 }
 
 // How many segments were given before the bytes were refused, and why they are; the second call tells it again.
-fn fault_of(rt: &impl Abort, alloc: Global, bytes: &[u8]) -> (u32, ReadFault) {
+fn fault_of(rt: &impl Abort, alloc: Global, bytes: &[u8], strict: bool) -> (u32, ReadFault) {
+    let settings = Settings {
+        tolerance: 10_000,
+        strict,
+    };
     let mut source = TestSource::new(bytes, WHOLE);
-    let mut reader = SegmentReader::new(alloc, 10_000);
+    let mut reader = SegmentReader::new(alloc, settings);
     let first = reader.next_segment(&mut source);
     let second = reader.next_segment(&mut source);
     match (first, second) {
@@ -169,6 +192,43 @@ fn segments_end_at_a_gap(rt: HostRuntime) {
     assert_eq!(rt; segments_of(&rt, rt.alloc(), &bytes, WHOLE), want);
 }
 
+// Strict reading refuses a record for its reverse constant, before its time is looked at.
+#[test]
+fn reverse_constants_that_do_not_agree(rt: HostRuntime) -> Result<(), Fail> {
+    let first = record(&rt, &[]);
+    let two_records = two(&first, &record(&rt, MISMATCHED));
+    let late = two(&first, &record(&rt, MISMATCHED_LATE));
+    let cut = record(&rt, &[(30, &[0xff, 0xff]), (52, &[0x0b]), (75, &[0x01])]);
+    let rows: [(&[u8], bool, &str); 5] = [
+        (&two_records, true, "offset 256: 18 ReverseMismatch"),
+        (&late, true, "offset 256: 18 ReverseMismatch"),
+        (&late, false, "offset 256: 17 TimeRange"),
+        (&cut, true, "offset 0: 12 DataShort"),
+        (&cut, false, "offset 0: 12 DataShort"),
+    ];
+    for (bytes, strict, want) in rows {
+        let (given, fault) = fault_of(&rt, rt.alloc(), bytes, strict);
+        assert_eq!(rt; given, 0, "{want}");
+        assert_eq!(rt; format!(in rt.alloc(); "{fault}")?.as_str(), want);
+    }
+    let mut reader = RowReader::new(rt.alloc(), STRICT);
+    let mut source = TestSource::new(&two_records, WHOLE);
+    assert_eq!(rt;
+        told(&rt, reader.next_row(&mut source)),
+        Some((Step::Begins, 48))
+    );
+    match reader.next_row(&mut source) {
+        Ok(_) => panic!(rt; "a row"),
+        Err(fault) => {
+            assert_eq!(rt;
+                format!(in rt.alloc(); "{fault}")?.as_str(),
+                "offset 256: 18 ReverseMismatch"
+            );
+        }
+    }
+    Ok(())
+}
+
 // What the next row does, and how many samples it has, where there is one.
 fn told(rt: &impl Abort, next: Result<Option<NextRow>, ReadFault>) -> Option<(Step, usize)> {
     match next {
@@ -186,7 +246,7 @@ fn rows_begin_and_join(rt: HostRuntime) {
         &record(&rt, MISMATCHED),
     );
     let mut source = TestSource::new(&bytes, WHOLE);
-    let mut reader = RowReader::new(rt.alloc(), 10_000);
+    let mut reader = RowReader::new(rt.alloc(), LENIENT);
     let first = told(&rt, reader.next_row(&mut source));
     let second = told(&rt, reader.next_row(&mut source));
     let third = told(&rt, reader.next_row(&mut source));
@@ -226,7 +286,7 @@ fn one_byte_for_each_read_between_interruptions(rt: HostRuntime) {
 // What the first call answers where the source plays so.
 fn failure_of(rt: &impl Abort, alloc: Global, bytes: &[u8], behavior: Behavior) -> ReadFault {
     let mut source = TestSource::new(bytes, behavior);
-    let mut reader = SegmentReader::new(alloc, 10_000);
+    let mut reader = SegmentReader::new(alloc, LENIENT);
     match reader.next_segment(&mut source) {
         Ok(_) => panic!(rt; "no failure"),
         Err(fault) => fault,
@@ -270,7 +330,7 @@ fn first_of(
         fails_at: Some(fails_at),
     };
     let mut source = TestSource::new(bytes, behavior);
-    match SegmentReader::new(alloc, 10_000).next_record(&mut source)? {
+    match SegmentReader::new(alloc, LENIENT).next_record(&mut source)? {
         Some(found) => Ok(Some(found.length)),
         None => Ok(None),
     }
@@ -341,7 +401,7 @@ fn faults_stand_at_their_records(rt: HostRuntime) -> Result<(), Fail> {
         (&end, 0, "offset 256: 17 TimeRange"),
     ];
     for (bytes, segments, want) in rows {
-        let (given, fault) = fault_of(&rt, rt.alloc(), bytes);
+        let (given, fault) = fault_of(&rt, rt.alloc(), bytes, false);
         assert_eq!(rt; given, segments, "{want}");
         assert_eq!(rt; format!(in rt.alloc(); "{fault}")?.as_str(), want);
     }

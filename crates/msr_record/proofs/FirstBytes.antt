@@ -1,11 +1,12 @@
 -- Which bytes decide what a record is read as: its own, and so the first 2^20.
 use Rattle.std.proofs.Common.{◌≡◌, ◌≢◌, ℕ, ◌+◌, ◌-◌, ◌^◌, ◌≤◌, inl, inr, Bool, List, length, take, drop, refl, sym, ap, ◌∙◌, arith, Option, Some, None, Ok, Err, Result, IfErr}
-use Rattle.std.specs.Prelude.{slice_range}
+use Rattle.std.specs.Prelude.{◌↔◌, IsTrue, IfNone, IfSome, slice_range}
 use Rattle.std.proofs.lemmas.Bool.{cases_lt}
 use Rattle.std.proofs.lemmas.List.{drop-take, take-take}
 use Rattle.msr_header.specs.Reading.{header_of}
 use Rattle.msr_header.specs.declared.header.Header.{Header}
 use Rattle.msr_record.specs.Records.{data_area, first_bytes, HasSamples, HasArea, IsRowOf, AgreesAtEnd, FieldsAreRefused, AreaIsRefused, IsRefused, IsRecordOf}
+use Rattle.msr_record.specs.Reverse.{HasReverse}
 use Rattle.msr_words.specs.declared.kinds.Kind.{Kind}
 use Rattle.msr_record.specs.declared.row.Row.{Row}
 use Rattle.msr_record.specs.declared.row.Record.{Record}
@@ -108,6 +109,23 @@ same_parts xs ys length (Some row) agrees s p = record {
 
 pub record_same : (xs ys : List ℕ) (found : Record) → SameRecord xs ys → IsRecordOf xs found → IsRecordOf ys found
 record_same xs ys found s p = same_parts xs ys found.length found.row found.reverse_agrees s p
+
+-- and what they say of the reverse constant
+reverse_parts : (xs ys : List ℕ) (h : Header) (row : Option Row) (agrees : Bool) → SameRecord xs ys → header_of xs ≡ Ok h
+    → IfNone row ((h.samples ≡ 0) × IsTrue agrees) → IfSome row (IsRowOf xs) → IfSome row (λ row. IsTrue agrees ↔ AgreesAtEnd xs row)
+    → HasReverse ys agrees
+reverse_parts xs ys h None agrees s read empty is_row at_end = record { header = h; read = s.header ∙ read; row = None; empty = empty; is_row = tt; agrees_at_end = tt }
+reverse_parts xs ys h (Some row) agrees s read empty is_row at_end = record {
+  header = h;
+  read = s.header ∙ read;
+  row = Some row;
+  empty = tt;
+  is_row = row_same xs ys row s is_row;
+  agrees_at_end = (λ t. agrees_same xs ys row s (at_end.0 t), λ a. at_end.1 (agrees_same ys xs row (turned xs ys s) a));
+}
+
+pub reverse_same : (xs ys : List ℕ) (agrees : Bool) → SameRecord xs ys → HasReverse xs agrees → HasReverse ys agrees
+reverse_same xs ys agrees s p = reverse_parts xs ys p.header p.row agrees s p.read p.empty p.is_row p.agrees_at_end
 
 pub refusal_same : {T : Type 0} → (r : Result T FaultKind) (xs ys : List ℕ) → SameRecord xs ys → IfErr r (λ fault. fault ≢ Memory → IsRefused xs fault) → IfErr r (λ fault. fault ≢ Memory → IsRefused ys fault)
 refusal_same (Ok x) xs ys s h = h

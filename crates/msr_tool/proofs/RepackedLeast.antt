@@ -1,5 +1,5 @@
 -- What was repacked is shown by each report that its report's text is that of.
-use Rattle.std.proofs.Common.{◌≡◌, ◌∙◌, refl, sym, ap, subst, ℕ, List, [], ◌∷◌, map, length, All, Ok, Err}
+use Rattle.std.proofs.Common.{◌≡◌, ◌∙◌, refl, sym, ap, subst, ℕ, false, List, [], ◌∷◌, map, length, All, Ok, Err}
 use Rattle.msr_words.specs.Lengths.{bytes_of}
 use Rattle.msr_words.specs.Packing.{IsSeparating}
 use Rattle.msr_segments.specs.Segments.{Part, segment_of, IsDivision}
@@ -8,7 +8,7 @@ use Rattle.msr_report.specs.declared.report.Report.{Report}
 use Rattle.msr_certificate.specs.Form.{Form, FormLine, form_line, form_of}
 use Rattle.msr_certificate.specs.Laws.{NoLineAtFault, OneReport}
 use Rattle.msr_input.specs.Input.{AreRead, ReadableHasNoFault, rows_of_records}
-use Rattle.msr_verdict.specs.Packed.{IsFull, IsShownBy, AreShownBy, ShowsLeast, ShownIsReadable}
+use Rattle.msr_verdict.specs.Packed.{IsFull, IsShownBy, AreShownBy, ShowsLeast, ShownIsReadable, settings_by}
 use Rattle.msr_verdict.specs.declared.verdict.Verdict.TheVariants.{Least, NotShown}
 use Rattle.msr_tool.specs.Shown.{RepackedIsLeast, RepackedIsShown}
 use Rattle.msr_tool.specs.declared.fault.ToolFault.TheVariants as fault
@@ -47,7 +47,7 @@ shows-same report other input same shows =
     record {
       records = shows.records;
       parts = shows.parts;
-      are_read = subst (λ (t : ℕ). AreRead t input shows.records []) tolerance shows.are_read;
+      are_read = subst (λ (t : ℕ). AreRead (record { tolerance = t; strict = false }) input shows.records []) tolerance shows.are_read;
       division = subst (λ (t : ℕ). IsDivision t (rows_of_records shows.records) shows.parts) tolerance shows.division;
       full = subst (λ (n : ℕ). All (IsFull n) shows.records) bytes shows.full;
       shown = subst (λ (n : ℕ). AreShownBy n shows.parts other.segments.items) bytes (same-lines (bytes_of report.length) shows.parts report.segments.items other.segments.items lines shows.shown);
@@ -61,7 +61,7 @@ repacked-least shown readable one none has_none choice input written text report
 repacked-least shown readable one none has_none choice input written text report records segments (Err (fault.Input found)) repacked are_readable before is_text answers not_read not_memory =
     let same = one report answers.report text repacked.is_report.is_form answers.read.is_form is_text answers.read.is_text in
     let again = readable answers.report written (shows-same report answers.report written same (shown choice input written report records segments repacked are_readable before)) in
-    absurd (has_none answers.report.tolerance written again.0 answers.answers.records again.1 found again.2 answers.answers.first)
+    absurd (has_none (settings_by answers.report) written again.0 answers.answers.records again.1 found again.2 answers.answers.first)
 repacked-least shown readable one none has_none choice input written text report records segments (Err (fault.Report line)) repacked are_readable before is_text answers not_read not_memory =
     absurd (none report text line (record { proper = repacked.is_report.proper; is_form = repacked.is_report.is_form; is_text = is_text }) answers)
 repacked-least shown readable one none has_none choice input written text report records segments (Err fault.Read) repacked are_readable before is_text answers not_read not_memory = absurd (not_read refl)

@@ -1,5 +1,5 @@
 -- The rows so far, and the segments that a joiner at the follower's place makes of them.
-use Rattle.std.proofs.Common.{◌≡◌, ℕ, List, [], ◌∷◌, ◌++◌, ◌∙◌, arith, append_assoc, refl, sym, ap, subst, All, Option, Some, None}
+use Rattle.std.proofs.Common.{◌≡◌, ℕ, List, [], ◌∷◌, ◌++◌, ◌∙◌, arith, append_assoc, refl, sym, ap, subst, All, Option, None}
 use Rattle.std.proofs.lemmas.List.{append-nil}
 use Rattle.std.specs.Option.{option_to_list}
 use Rattle.msr_record.specs.declared.row.Record.{Record}
@@ -14,37 +14,38 @@ use Rattle.msr_segments.proofs.Histories.{joined_none}
 use Rattle.msr_segments.proofs.StepLaws.{pushes_grow, steps_push}
 use Rattle.msr_devices.specs.Device.{Device}
 use Rattle.msr_report.specs.declared.report.Counts.{Counts}
-use Rattle.msr_input.specs.Input.{HaveBegun, NoneOverruns, rows_of_records}
+use Rattle.msr_input.specs.Input.{HaveBegun, rows_of_records}
 use Rattle.msr_input.specs.Reading.{GaveReadable, IsWritable, StopsAfter, StopsReading}
-use Rattle.msr_input.specs.Rows.{RowReading, HasReadRows, ReadsRow, ReadsToEnd, StopsRows}
+use Rattle.msr_input.specs.Rows.{RowReading, HasReadRows, ReadsRow, ReadsToEnd, StopsRows, row_settings}
+use Rattle.msr_input.specs.declared.settings.Settings.{Settings}
 use Rattle.msr_input.specs.declared.fault.ReadFault.{ReadFault}
 use Rattle.msr_input.specs.declared.row_reader.NextRow.{NextRow}
 use Rattle.msr_input.proofs.Coming.{come-given}
 use Rattle.msr_input.proofs.Histories.{push-writable, stops-after}
-use Rattle.msr_input.proofs.Rows.{all_rows_are_readable, step-tolerance}
+use Rattle.msr_input.proofs.Rows.{all_rows_are_readable}
 use Rattle.msr_tool.specs.Writing.{current_after, ended_by, longer_current, segments_with}
 
 -- A joiner of the rows so far stands where the follower does: these segments have ended, and it has the last one.
-pub record RowsSoFar (tolerance : ℕ) (source0 source : Device) (reading : RowReading) (given : List Segment) (joining : Joining) : Type 0 where
+pub record RowsSoFar (settings : Settings) (source0 source : Device) (reading : RowReading) (given : List Segment) (joining : Joining) : Type 0 where
   pub records : List Record
   pub answers : List Step
   pub has_read : HasReadRows source0 source reading records answers
   pub joined : HasJoined joining (rows_of_records records) given
   pub stands : reading.following ≡ following_of joining
   pub in_bounds : IsInBounds reading.following.current
-  pub same : reading.following.tolerance ≡ tolerance
+  pub same : row_settings reading ≡ settings
   pub writable : All IsWritable (given ++ option_to_list joining.current)
 
 -- before the first row
-pub no-rows : (tolerance : ℕ) (source0 : Device) (reading : RowReading) → HasReadRows source0 source0 reading [] [] → reading.following ≡ record { tolerance = tolerance; current = None } → RowsSoFar tolerance source0 source0 reading [] (record { tolerance = tolerance; current = None })
-no-rows tolerance source0 reading has follows = record {
+pub no-rows : (settings : Settings) (source0 : Device) (reading : RowReading) → HasReadRows source0 source0 reading [] [] → reading.following ≡ record { tolerance = settings.tolerance; current = None } → reading.position.strict ≡ settings.strict → RowsSoFar settings source0 source0 reading [] (record { tolerance = settings.tolerance; current = None })
+no-rows settings source0 reading has follows strict = record {
   records = [];
   answers = [];
   has_read = has;
-  joined = joined_none tolerance;
+  joined = joined_none settings.tolerance;
   stands = follows;
   in_bounds = rw follows (λ segment e. absurd cc);
-  same = ap (λ (f : Following). f.tolerance) follows;
+  same = rw (follows, strict) refl;
   writable = λ k d h. absurd (omega arith);
 }
 
@@ -76,14 +77,14 @@ told old row Joins next step =
     }
 
 -- one row more
-pub record RowMore (tolerance : ℕ) (source0 source : Device) (reading : RowReading) (given : List Segment) (joining : Joining) (next : NextRow) : Type 0 where
+pub record RowMore (settings : Settings) (source0 source : Device) (reading : RowReading) (given : List Segment) (joining : Joining) (next : NextRow) : Type 0 where
   pub new : Joining
-  pub rows : RowsSoFar tolerance source0 source reading (given ++ option_to_list (ended_by next.step joining.current)) new
+  pub rows : RowsSoFar settings source0 source reading (given ++ option_to_list (ended_by next.step joining.current)) new
   pub current : new.current ≡ current_after next.step joining.current next.row
 
-pub row-more : (tolerance : ℕ) (source0 source source' : Device) (reading reading' : RowReading) (given : List Segment) (joining : Joining) (next : NextRow) (u : RowsSoFar tolerance source0 source reading given joining) → ReadsRow source0 source' reading' u.records u.answers next
-    → IsStep reading.following (row_span next.row) next.step reading'.following → IsInBounds reading'.following.current → IsWritable (row_segment next.row) → RowMore tolerance source0 source' reading' given joining next
-row-more tolerance source0 source source' reading reading' given joining next u reads step bounds writable =
+pub row-more : (settings : Settings) (source0 source source' : Device) (reading reading' : RowReading) (given : List Segment) (joining : Joining) (next : NextRow) (u : RowsSoFar settings source0 source reading given joining) → ReadsRow source0 source' reading' u.records u.answers next
+    → IsStep reading.following (row_span next.row) next.step reading'.following → row_settings reading' ≡ row_settings reading → IsInBounds reading'.following.current → IsWritable (row_segment next.row) → RowMore settings source0 source' reading' given joining next
+row-more settings source0 source source' reading reading' given joining next u reads step still bounds writable =
     let at = subst (λ (f : Following). IsStep f (row_span next.row) next.step reading'.following) u.stands step in
     let t = told joining next.row next.step reading'.following at in
     let ended = ended_by next.step joining.current in
@@ -96,26 +97,27 @@ row-more tolerance source0 source source' reading reading' given joining next u 
         joined = subst (λ (rows : List Row). HasJoined t.new rows (given ++ option_to_list ended)) (sym reads.rows) (pushes_grow joining t.new (rows_of_records u.records) given next.row ended u.joined t.push);
         stands = t.stands;
         in_bounds = bounds;
-        same = step-tolerance reading.following reading'.following (row_span next.row) next.step step ∙ u.same;
+        same = still ∙ u.same;
         writable = push-writable joining t.new given next.row ended u.writable writable t.push;
       };
       current = t.current;
     }
 
 -- all segments so far, with the one that has not ended
-begun-all : (tolerance : ℕ) (source0 source : Device) (reading : RowReading) (given : List Segment) (joining : Joining) (u : RowsSoFar tolerance source0 source reading given joining) → HaveBegun tolerance u.records (given ++ option_to_list joining.current)
-begun-all tolerance source0 source reading given joining u =
-    subst (λ (t : ℕ). HaveBegun t u.records (given ++ option_to_list joining.current)) (sym (ap (λ (f : Following). f.tolerance) u.stands) ∙ u.same)
+begun-all : (settings : Settings) (source0 source : Device) (reading : RowReading) (given : List Segment) (joining : Joining) (u : RowsSoFar settings source0 source reading given joining) → HaveBegun reading.following.tolerance u.records (given ++ option_to_list joining.current)
+begun-all settings source0 source reading given joining u =
+    subst (λ (t : ℕ). HaveBegun t u.records (given ++ option_to_list joining.current)) (sym (ap (λ (f : Following). f.tolerance) u.stands))
     (record { others = []; are_segments = rw (append-nil (given ++ option_to_list joining.current)) u.joined.segments })
 
 -- they are read
-pub rows-read : (tolerance : ℕ) (source0 source : Device) (reading : RowReading) (given : List Segment) (joining : Joining) → RowsSoFar tolerance source0 source reading given joining → StopsAfter tolerance source0 (given ++ option_to_list joining.current)
-rows-read tolerance source0 source reading given joining u =
-    stops-after tolerance source0 u.records (given ++ option_to_list joining.current) (come-given source0 source reading.position u.records u.has_read.came) (subst (λ (t : ℕ). NoneOverruns t u.records) u.same u.has_read.in_range) (begun-all tolerance source0 source reading given joining u)
+pub rows-read : (settings : Settings) (source0 source : Device) (reading : RowReading) (given : List Segment) (joining : Joining) → RowsSoFar settings source0 source reading given joining → StopsAfter settings source0 (given ++ option_to_list joining.current)
+rows-read settings source0 source reading given joining u =
+    subst (λ (s : Settings). StopsAfter s source0 (given ++ option_to_list joining.current)) u.same
+    (stops-after (row_settings reading) source0 u.records (given ++ option_to_list joining.current) (come-given source0 source reading.position u.records u.has_read.came) u.has_read.in_range (begun-all settings source0 source reading given joining u))
 
-pub given-read : (tolerance : ℕ) (source0 source : Device) (reading : RowReading) (given : List Segment) (joining : Joining) → RowsSoFar tolerance source0 source reading given joining → StopsAfter tolerance source0 given
-given-read tolerance source0 source reading given joining u =
-    let all = rows-read tolerance source0 source reading given joining u in
+pub given-read : (settings : Settings) (source0 source : Device) (reading : RowReading) (given : List Segment) (joining : Joining) → RowsSoFar settings source0 source reading given joining → StopsAfter settings source0 given
+given-read settings source0 source reading given joining u =
+    let all = rows-read settings source0 source reading given joining u in
     record {
       input = all.input;
       records = all.records;
@@ -128,21 +130,21 @@ given-read tolerance source0 source reading given joining u =
       };
     }
 
-pub more-read : (tolerance : ℕ) (source0 source : Device) (reading : RowReading) (given : List Segment) (joining : Joining) (next : NextRow) → RowMore tolerance source0 source reading given joining next → StopsAfter tolerance source0 (given ++ segments_with next.step joining.current next.row)
-more-read tolerance source0 source reading given joining next m =
+pub more-read : (settings : Settings) (source0 source : Device) (reading : RowReading) (given : List Segment) (joining : Joining) (next : NextRow) → RowMore settings source0 source reading given joining next → StopsAfter settings source0 (given ++ segments_with next.step joining.current next.row)
+more-read settings source0 source reading given joining next m =
     let ended = option_to_list (ended_by next.step joining.current) in
     let all = append_assoc given ended (option_to_list m.new.current) ∙ ap (λ (current : Option Segment). given ++ (ended ++ option_to_list current)) m.current in
-    subst (λ (segments : List Segment). StopsAfter tolerance source0 segments) all (rows-read tolerance source0 source reading (given ++ ended) m.new m.rows)
+    subst (λ (segments : List Segment). StopsAfter settings source0 segments) all (rows-read settings source0 source reading (given ++ ended) m.new m.rows)
 
 -- why no row was given
-pub rows-stop : (tolerance : ℕ) (source0 source source' : Device) (reading : RowReading) (given : List Segment) (joining : Joining) (why : ReadFault) (u : RowsSoFar tolerance source0 source reading given joining) → StopsRows reading.following.tolerance source0 source' u.records why → StopsReading tolerance source0 source' (given ++ option_to_list joining.current) why
-rows-stop tolerance source0 source source' reading given joining why u stops =
-    (subst (λ (t : ℕ). StopsRows t source0 source' u.records why) u.same stops) (given ++ option_to_list joining.current) (begun-all tolerance source0 source reading given joining u)
+pub rows-stop : (settings : Settings) (source0 source source' : Device) (reading : RowReading) (given : List Segment) (joining : Joining) (why : ReadFault) (u : RowsSoFar settings source0 source reading given joining) → StopsRows (row_settings reading) source0 source' u.records why → StopsReading settings source0 source' (given ++ option_to_list joining.current) why
+rows-stop settings source0 source source' reading given joining why u stops =
+    subst (λ (s : Settings). StopsReading s source0 source' (given ++ option_to_list joining.current) why) u.same (stops (given ++ option_to_list joining.current) (begun-all settings source0 source reading given joining u))
 
 -- the input has ended, and with it the last segment
-pub rows-end : (tolerance : ℕ) (source0 source source' : Device) (reading reading' : RowReading) (given : List Segment) (joining : Joining) (counts : Counts) (u : RowsSoFar tolerance source0 source reading given joining) → ReadsToEnd source0 source' reading' u.records u.answers → reading'.following.tolerance ≡ reading.following.tolerance → counts ≡ reading'.position.counts
-    → GaveReadable source0 tolerance (given ++ option_to_list joining.current) counts
-rows-end tolerance source0 source source' reading reading' given joining counts u end still same_counts =
-    let tolerance_is : joining.tolerance ≡ tolerance = sym (ap (λ (f : Following). f.tolerance) u.stands) ∙ u.same in
-    let gave = all_rows_are_readable source0 source' reading' u.records u.answers joining given end u.joined (tolerance_is ∙ sym u.same ∙ sym still) in
-    rw same_counts (subst (λ (t : ℕ). GaveReadable source0 t (given ++ option_to_list joining.current) reading'.position.counts) tolerance_is gave)
+pub rows-end : (settings : Settings) (source0 source source' : Device) (reading reading' : RowReading) (given : List Segment) (joining : Joining) (counts : Counts) (u : RowsSoFar settings source0 source reading given joining) → ReadsToEnd source0 source' reading' u.records u.answers → row_settings reading' ≡ row_settings reading → counts ≡ reading'.position.counts
+    → GaveReadable source0 settings (given ++ option_to_list joining.current) counts
+rows-end settings source0 source source' reading reading' given joining counts u end still same_counts =
+    let same_tolerance : joining.tolerance ≡ reading'.following.tolerance = sym (ap (λ (f : Following). f.tolerance) u.stands) ∙ sym (ap (λ (s : Settings). s.tolerance) still) in
+    let gave = all_rows_are_readable source0 source' reading' u.records u.answers joining given end u.joined same_tolerance in
+    rw same_counts (subst (λ (s : Settings). GaveReadable source0 s (given ++ option_to_list joining.current) reading'.position.counts) (still ∙ u.same) gave)

@@ -1,5 +1,5 @@
 -- What was repacked is readable and shown by its report.
-use Rattle.std.proofs.Common.{◌≡◌, ℕ, ◌+◌, ◌-◌, ◌≤◌, List, [], ◌∷◌, ◌++◌, ◌∙◌, length, map, arith, refl, sym, ap, subst, append_assoc, ℤ}
+use Rattle.std.proofs.Common.{◌≡◌, ℕ, false, ◌+◌, ◌-◌, ◌≤◌, List, [], ◌∷◌, ◌++◌, ◌∙◌, length, map, arith, refl, sym, ap, subst, append_assoc, ℤ}
 use Rattle.std.specs.List.{flat_map}
 use Rattle.std.specs.Prelude.{All}
 use Rattle.std.specs.Option.{option_to_list}
@@ -15,7 +15,7 @@ use Rattle.msr_input.specs.Input.{AreRead, NoneOverruns, OneListOfRecords, rows_
 use Rattle.msr_output.specs.Output.{cuts_of, segment_of_packed}
 use Rattle.msr_output.proofs.Times.{nominal_within}
 use Rattle.msr_verdict.specs.Packed.{IsFull, AreShownBy}
-use Rattle.msr_tool.specs.Choice.{size_of}
+use Rattle.msr_tool.specs.Choice.{settings_of, size_of}
 use Rattle.msr_tool.specs.Shown.{EndsBeforeTheLast, RepackedIsShown}
 use Rattle.msr_tool.proofs.ShownRows.{IsWithin, AreWithin, record_of, lines-within, cuts-within, rows-sound, bytes-begin, records-full, records-rows}
 use Rattle.msr_tool.proofs.ShownFronts.{IsFrontOf, last-of-front}
@@ -59,7 +59,7 @@ pub repacked-shown : OneListOfRecords → RepackedIsShown
 repacked-shown law choice input written report records segments r readable before =
     let size = size_of choice in
     let parts = r.same_segments.parts in
-    let same : segments ≡ map segment_of_packed r.packed = (law choice.tolerance input records r.records segments (map segment_of_packed r.packed) readable r.readable).1 in
+    let same : segments ≡ map segment_of_packed r.packed = (law (settings_of choice) input records r.records segments (map segment_of_packed r.packed) readable r.readable).1 in
     let before_packed = subst (λ (s : List Segment). All EndsBeforeTheLast s) same before in
     let within = lines-within r.packed report.segments.items r.is_report.lines r.is_report.proper.lines before_packed in
     let cuts = cuts-within size r.packed r.output.packings within in
@@ -69,13 +69,13 @@ repacked-shown law choice input written report records segments r readable befor
     let found = map (record_of size) r.rows in
     let division : IsDivision choice.tolerance (rows_of_records found) parts = subst (λ (rows : List Row). IsDivision choice.tolerance rows parts) (sym (records-rows size r.rows)) r.same_segments.division in
     let within_parts = subst (λ (s : List Segment). AreWithin s) r.same_segments.each within in
-    let are_read : AreRead choice.tolerance written found [] = record { begins = begins; in_range = none-overruns choice.tolerance found parts division within_parts } in
+    let are_read : AreRead (record { tolerance = choice.tolerance; strict = false }) written found [] = record { begins = begins; in_range = none-overruns choice.tolerance found parts division within_parts; agree = λ strict. absurd cc } in
     let at = sym r.is_report.tolerance in
     let of_size = sym r.is_report.size in
     record {
       records = found;
       parts = parts;
-      are_read = subst (λ (t : ℕ). AreRead t written found []) at are_read;
+      are_read = subst (λ (t : ℕ). AreRead (record { tolerance = t; strict = false }) written found []) at are_read;
       division = subst (λ (t : ℕ). IsDivision t (rows_of_records found) parts) at division;
       full = subst (λ (n : ℕ). All (IsFull n) found) of_size (records-full size r.rows);
       shown = subst (λ (n : ℕ). AreShownBy n parts report.segments.items) of_size shown;

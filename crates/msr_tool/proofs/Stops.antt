@@ -1,15 +1,16 @@
 -- What is answered where repacking stops.
-use Rattle.std.proofs.Common.{◌≡◌, ◌↔◌, ℕ, List, ◌++◌, refl, Result, Ok, Err, IsErrOf}
+use Rattle.std.proofs.Common.{◌↔◌, ℕ, List, ◌++◌, refl, Result, Ok, Err, IsErrOf}
 use Rattle.msr_segments.specs.declared.joiner.Segment.{Segment}
 use Rattle.msr_devices.specs.Device.{Device, HasLeft, Takes, HasFailed, IsSteady}
 use Rattle.msr_devices.proofs.Chaining.{steady-sound}
 use Rattle.msr_report.specs.declared.report.Counts.{Counts}
 use Rattle.msr_report.specs.declared.report.Report.{Report}
 use Rattle.msr_input.specs.Reading.{StopsAfter, StopsReading}
+use Rattle.msr_input.specs.declared.settings.Settings.{Settings}
 use Rattle.msr_input.specs.declared.fault.ReadFault.{ReadFault}
 use Rattle.msr_input.specs.declared.fault.ReadFault.TheVariants as read
 use Rattle.msr_output.specs.Writing.{HasWrittenFront}
-use Rattle.msr_tool.specs.Choice.{Choice, size_of}
+use Rattle.msr_tool.specs.Choice.{Choice, settings_of, size_of}
 use Rattle.msr_tool.specs.Fault.{fault_of_reading}
 use Rattle.msr_tool.specs.Writing.{StopsSink, StopsLining}
 use Rattle.msr_tool.specs.ListWriting.{HasListedCut, HasListedFront, StopsListing, StopsListingAll}
@@ -33,7 +34,7 @@ record Stopped (choice : Choice) (source0 sink0 sink : Device) : Type 0 where
   pub takes : Takes sink0 sink written
   pub stopped : IsStopped choice input written
 
-stopped : (choice : Choice) (source0 sink0 sink : Device) (given : List Segment) → StopsAfter choice.tolerance source0 given → HasWrittenFront (size_of choice) sink0 sink given → Stopped choice source0 sink0 sink
+stopped : (choice : Choice) (source0 sink0 sink : Device) (given : List Segment) → StopsAfter (settings_of choice) source0 given → HasWrittenFront (size_of choice) sink0 sink given → Stopped choice source0 sink0 sink
 stopped choice source0 sink0 sink given h front =
     let all : List Segment = given ++ h.begun.others in
     let wide = front-more (size_of choice) sink0 sink given h.begun.others all front refl in
@@ -53,7 +54,7 @@ stopped choice source0 sink0 sink given h front =
     }
 
 -- no further segment is read
-pub read-failed : (choice : Choice) (source0 source sink0 sink : Device) (given : List Segment) (why : ReadFault) → StopsReading choice.tolerance source0 source given why → HasWrittenFront (size_of choice) sink0 sink given → IsAnswered choice source0 sink0 sink (Err (fault_of_reading why))
+pub read-failed : (choice : Choice) (source0 source sink0 sink : Device) (given : List Segment) (why : ReadFault) → StopsReading (settings_of choice) source0 source given why → HasWrittenFront (size_of choice) sink0 sink given → IsAnswered choice source0 sink0 sink (Err (fault_of_reading why))
 read-failed choice source0 source sink0 sink given (read.Input other) h front =
     let all : List Segment = given ++ h.0.begun.others in
     let wide = front-more (size_of choice) sink0 sink given h.0.begun.others all front refl in
@@ -72,7 +73,7 @@ read-failed choice source0 source sink0 sink given read.Memory h front =
     record { input = s.input; written = s.written; left = s.left; takes = s.takes; answers = s.stopped }
 
 -- a segment is not written
-pub write-failed : (choice : Choice) (source0 sink0 sink : Device) (given : List Segment) (found : ToolFault) → StopsAfter choice.tolerance source0 given → StopsLining (size_of choice) sink0 sink given found → IsAnswered choice source0 sink0 sink (Err found)
+pub write-failed : (choice : Choice) (source0 sink0 sink : Device) (given : List Segment) (found : ToolFault) → StopsAfter (settings_of choice) source0 given → StopsLining (size_of choice) sink0 sink given found → IsAnswered choice source0 sink0 sink (Err found)
 write-failed choice source0 sink0 sink given (fault.Input other) after h = absurd h
 write-failed choice source0 sink0 sink given (fault.Report line) after h = absurd h
 write-failed choice source0 sink0 sink given fault.Read after h = absurd h
@@ -84,10 +85,10 @@ write-failed choice source0 sink0 sink given fault.Memory after h =
     record { input = s.input; written = s.written; left = s.left; takes = s.takes; answers = s.stopped }
 
 -- the source failed where reading says so
-pub read-tells_source : {T : Type 0} (tolerance : ℕ) (source0 source : Device) (given : List Segment) (why : ReadFault) → StopsReading tolerance source0 source given why → IsErrOf {T = T} (Err (fault_of_reading why)) fault.Read ↔ HasFailed source0 source
-read-tells_source tolerance source0 source given (read.Input other) h = ((λ e. absurd cc), (λ has_failed. absurd (steady-sound source0 source h.1 has_failed)))
-read-tells_source tolerance source0 source given read.Read h = ((λ e. h.1), (λ has_failed. refl))
-read-tells_source tolerance source0 source given read.Memory h = ((λ e. absurd cc), (λ has_failed. absurd (steady-sound source0 source h.1 has_failed)))
+pub read-tells_source : {T : Type 0} (settings : Settings) (source0 source : Device) (given : List Segment) (why : ReadFault) → StopsReading settings source0 source given why → IsErrOf {T = T} (Err (fault_of_reading why)) fault.Read ↔ HasFailed source0 source
+read-tells_source settings source0 source given (read.Input other) h = ((λ e. absurd cc), (λ has_failed. absurd (steady-sound source0 source h.1 has_failed)))
+read-tells_source settings source0 source given read.Read h = ((λ e. h.1), (λ has_failed. refl))
+read-tells_source settings source0 source given read.Memory h = ((λ e. absurd cc), (λ has_failed. absurd (steady-sound source0 source h.1 has_failed)))
 
 -- and the sink did not
 pub read-tells_sink : {T : Type 0} (sink0 sink : Device) (why : ReadFault) → IsSteady sink0 sink → IsErrOf {T = T} (Err (fault_of_reading why)) fault.Write ↔ HasFailed sink0 sink

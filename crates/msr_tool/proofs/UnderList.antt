@@ -16,6 +16,7 @@ use Rattle.msr_report.specs.Text.{counts_line}
 use Rattle.msr_report.specs.declared.report.Counts.{Counts}
 use Rattle.msr_input.specs.Reading.{GaveReadable, StopsAfter, StopsReading}
 use Rattle.msr_input.specs.Rows.{RowReading, HasReadRows}
+use Rattle.msr_input.specs.declared.settings.Settings.{Settings}
 use Rattle.msr_input.specs.declared.fault.ReadFault.{ReadFault}
 use Rattle.msr_input.specs.declared.fault.ReadFault.TheVariants as read
 use Rattle.msr_input.specs.declared.row_reader.NextRow.{NextRow}
@@ -30,20 +31,20 @@ use Rattle.msr_tool.proofs.Listed.{front-wider}
 use Rattle.msr_tool.proofs.RowsSoFar.{RowsSoFar, RowMore, no-rows}
 
 -- A joiner of the rows so far says what was begun and what has ended.
-pub record UnderList (tolerance : ℕ) (source0 source sink0 sink : Device) (reading : RowReading) (lister : Lister) : Type 0 where
+pub record UnderList (settings : Settings) (source0 source sink0 sink : Device) (reading : RowReading) (lister : Lister) : Type 0 where
   pub given : List Segment
   pub joining : Joining
-  pub rows : RowsSoFar tolerance source0 source reading given joining
+  pub rows : RowsSoFar settings source0 source reading given joining
   pub listed : HasListed sink0 sink lister.waiting given
   pub last : lister.last ≡ option_map open_of joining.current
   pub few_wait : length lister.waiting < 65536
 
 -- before the first row
-pub under-none : (tolerance : ℕ) (source0 sink0 : Device) (reading : RowReading) (lister : Lister) → HasReadRows source0 source0 reading [] [] → reading.following ≡ record { tolerance = tolerance; current = None } → HasListed sink0 sink0 lister.waiting [] → lister.last ≡ None → length lister.waiting < 65536 → UnderList tolerance source0 source0 sink0 sink0 reading lister
-under-none tolerance source0 sink0 reading lister has follows listed last few_wait = record {
+pub under-none : (settings : Settings) (source0 sink0 : Device) (reading : RowReading) (lister : Lister) → HasReadRows source0 source0 reading [] [] → reading.following ≡ record { tolerance = settings.tolerance; current = None } → reading.position.strict ≡ settings.strict → HasListed sink0 sink0 lister.waiting [] → lister.last ≡ None → length lister.waiting < 65536 → UnderList settings source0 source0 sink0 sink0 reading lister
+under-none settings source0 sink0 reading lister has follows strict listed last few_wait = record {
   given = [];
-  joining = record { tolerance = tolerance; current = None };
-  rows = no-rows tolerance source0 reading has follows;
+  joining = record { tolerance = settings.tolerance; current = None };
+  rows = no-rows settings source0 reading has follows strict;
   listed = listed;
   last = last;
   few_wait = few_wait;
@@ -54,8 +55,8 @@ bounds-of at None last bounds e is = rw is tt
 bounds-of at (Some segment) last bounds e is = rw is (bounds (segment_span segment) e)
 
 -- the segment that was begun last is in bounds
-pub last-in_bounds : (tolerance : ℕ) (source0 source sink0 sink : Device) (reading : RowReading) (lister : Lister) → UnderList tolerance source0 source sink0 sink reading lister → IfSome lister.last IsOpenInBounds
-last-in_bounds tolerance source0 source sink0 sink reading lister u =
+pub last-in_bounds : (settings : Settings) (source0 source sink0 sink : Device) (reading : RowReading) (lister : Lister) → UnderList settings source0 source sink0 sink reading lister → IfSome lister.last IsOpenInBounds
+last-in_bounds settings source0 source sink0 sink reading lister u =
     bounds-of reading.following.current u.joining.current lister.last u.rows.in_bounds (ap (λ (f : Following). f.current) u.rows.stands) u.last
 
 open-longer : (current : Option Segment) (row : Row) → open_longer (option_map open_of current) row ≡ option_map open_of (longer_current current row.samples)
@@ -68,9 +69,9 @@ open-told Begins current row = refl
 open-told Joins current row = open-longer current row
 
 -- after the next row
-pub under-more : (tolerance : ℕ) (source0 source' sink0 sink' : Device) (reading' : RowReading) (lister lister' : Lister) (given : List Segment) (joining : Joining) (next : NextRow) → lister.last ≡ option_map open_of joining.current → RowMore tolerance source0 source' reading' given joining next
-    → HasListed sink0 sink' lister'.waiting (given ++ option_to_list (ended_by next.step joining.current)) → lister'.last ≡ open_after next.step lister.last next.row → length lister'.waiting < 65536 → UnderList tolerance source0 source' sink0 sink' reading' lister'
-under-more tolerance source0 source' sink0 sink' reading' lister lister' given joining next was m listed last few_wait = record {
+pub under-more : (settings : Settings) (source0 source' sink0 sink' : Device) (reading' : RowReading) (lister lister' : Lister) (given : List Segment) (joining : Joining) (next : NextRow) → lister.last ≡ option_map open_of joining.current → RowMore settings source0 source' reading' given joining next
+    → HasListed sink0 sink' lister'.waiting (given ++ option_to_list (ended_by next.step joining.current)) → lister'.last ≡ open_after next.step lister.last next.row → length lister'.waiting < 65536 → UnderList settings source0 source' sink0 sink' reading' lister'
+under-more settings source0 source' sink0 sink' reading' lister lister' given joining next was m listed last few_wait = record {
   given = given ++ option_to_list (ended_by next.step joining.current);
   joining = m.new;
   rows = m.rows;
@@ -80,18 +81,18 @@ under-more tolerance source0 source' sink0 sink' reading' lister lister' given j
 }
 
 -- what is answered, for some input and some bytes written
-abbrev pub IsListAnswered : ℕ → Device → Device → Device → Result Counts ToolFault → Type 0
-IsListAnswered tolerance source0 sink0 sink result = (input : List ℕ) × (written : List ℕ) × HasLeft source0 input × Takes sink0 sink written × ListAnswers tolerance input written result
+abbrev pub IsListAnswered : Settings → Device → Device → Device → Result Counts ToolFault → Type 0
+IsListAnswered settings source0 sink0 sink result = (input : List ℕ) × (written : List ℕ) × HasLeft source0 input × Takes sink0 sink written × ListAnswers settings input written result
 
-record Stopped (tolerance : ℕ) (source0 sink0 sink : Device) : Type 0 where
+record Stopped (settings : Settings) (source0 sink0 sink : Device) : Type 0 where
   pub input : List ℕ
   pub written : List ℕ
   pub left : HasLeft source0 input
   pub takes : Takes sink0 sink written
-  pub stopped : IsListStopped tolerance input written
+  pub stopped : IsListStopped settings input written
 
-stopped : (tolerance : ℕ) (source0 sink0 sink : Device) (given : List Segment) → StopsAfter tolerance source0 given → HasListedFront sink0 sink given → Stopped tolerance source0 sink0 sink
-stopped tolerance source0 sink0 sink given h front =
+stopped : (settings : Settings) (source0 sink0 sink : Device) (given : List Segment) → StopsAfter settings source0 given → HasListedFront sink0 sink given → Stopped settings source0 sink0 sink
+stopped settings source0 sink0 sink given h front =
     let all : List Segment = given ++ h.begun.others in
     let wide = front-wider sink0 sink given h.begun.others all front refl in
     record {
@@ -110,29 +111,29 @@ stopped tolerance source0 sink0 sink given h front =
     }
 
 -- no further segment is read
-pub list-read_failed : (tolerance : ℕ) (source0 source sink0 sink : Device) (given : List Segment) (why : ReadFault) → StopsReading tolerance source0 source given why → HasListedFront sink0 sink given → IsListAnswered tolerance source0 sink0 sink (Err (fault_of_reading why))
-list-read_failed tolerance source0 source sink0 sink given (read.Input found) h front =
+pub list-read_failed : (settings : Settings) (source0 source sink0 sink : Device) (given : List Segment) (why : ReadFault) → StopsReading settings source0 source given why → HasListedFront sink0 sink given → IsListAnswered settings source0 sink0 sink (Err (fault_of_reading why))
+list-read_failed settings source0 source sink0 sink given (read.Input found) h front =
     let all : List Segment = given ++ h.0.begun.others in
     let wide = front-wider sink0 sink given h.0.begun.others all front refl in
     (h.0.input, wide.taken, h.0.left, wide.takes, record { records = h.0.records; segments = all; first = h.0.first; are_segments = h.0.begun.are_segments; front = wide.front })
-list-read_failed tolerance source0 source sink0 sink given read.Read h front =
-    let s = stopped tolerance source0 sink0 sink given h.0 front in (s.input, s.written, s.left, s.takes, s.stopped)
-list-read_failed tolerance source0 source sink0 sink given read.Memory h front =
-    let s = stopped tolerance source0 sink0 sink given h.0 front in (s.input, s.written, s.left, s.takes, s.stopped)
+list-read_failed settings source0 source sink0 sink given read.Read h front =
+    let s = stopped settings source0 sink0 sink given h.0 front in (s.input, s.written, s.left, s.takes, s.stopped)
+list-read_failed settings source0 source sink0 sink given read.Memory h front =
+    let s = stopped settings source0 sink0 sink given h.0 front in (s.input, s.written, s.left, s.takes, s.stopped)
 
 -- a line is not written
-pub list-write_failed : (tolerance : ℕ) (source0 sink0 sink : Device) (given : List Segment) (found : ToolFault) → StopsAfter tolerance source0 given → StopsListing sink0 sink given found → IsListAnswered tolerance source0 sink0 sink (Err found)
-list-write_failed tolerance source0 sink0 sink given (fault.Input other) after h = absurd h
-list-write_failed tolerance source0 sink0 sink given (fault.Report line) after h = absurd h
-list-write_failed tolerance source0 sink0 sink given fault.Read after h = absurd h
-list-write_failed tolerance source0 sink0 sink given fault.Write after h =
-    let s = stopped tolerance source0 sink0 sink given after h.0 in (s.input, s.written, s.left, s.takes, inl s.stopped)
-list-write_failed tolerance source0 sink0 sink given fault.Memory after h =
-    let s = stopped tolerance source0 sink0 sink given after h.0 in (s.input, s.written, s.left, s.takes, s.stopped)
+pub list-write_failed : (settings : Settings) (source0 sink0 sink : Device) (given : List Segment) (found : ToolFault) → StopsAfter settings source0 given → StopsListing sink0 sink given found → IsListAnswered settings source0 sink0 sink (Err found)
+list-write_failed settings source0 sink0 sink given (fault.Input other) after h = absurd h
+list-write_failed settings source0 sink0 sink given (fault.Report line) after h = absurd h
+list-write_failed settings source0 sink0 sink given fault.Read after h = absurd h
+list-write_failed settings source0 sink0 sink given fault.Write after h =
+    let s = stopped settings source0 sink0 sink given after h.0 in (s.input, s.written, s.left, s.takes, inl s.stopped)
+list-write_failed settings source0 sink0 sink given fault.Memory after h =
+    let s = stopped settings source0 sink0 sink given after h.0 in (s.input, s.written, s.left, s.takes, s.stopped)
 
 -- some of an input that was read to its end
-after-end : (tolerance : ℕ) (source0 : Device) (segments : List Segment) (counts : Counts) → GaveReadable source0 tolerance segments counts → StopsAfter tolerance source0 segments
-after-end tolerance source0 segments counts gave = record {
+after-end : (settings : Settings) (source0 : Device) (segments : List Segment) (counts : Counts) → GaveReadable source0 settings segments counts → StopsAfter settings source0 segments
+after-end settings source0 segments counts gave = record {
   input = gave.input;
   records = gave.records;
   rest = [];
@@ -142,11 +143,11 @@ after-end tolerance source0 segments counts gave = record {
 }
 
 -- the last lines are not written
-pub list-all_failed : (tolerance : ℕ) (source0 sink0 sink : Device) (segments : List Segment) (counts : Counts) (found : ToolFault) → GaveReadable source0 tolerance segments counts → StopsListingAll sink0 sink segments counts found → IsListAnswered tolerance source0 sink0 sink (Err found)
-list-all_failed tolerance source0 sink0 sink segments counts (fault.Input other) gave h = absurd h
-list-all_failed tolerance source0 sink0 sink segments counts (fault.Report line) gave h = absurd h
-list-all_failed tolerance source0 sink0 sink segments counts fault.Read gave h = absurd h
-list-all_failed tolerance source0 sink0 sink segments counts fault.Write gave h = (
+pub list-all_failed : (settings : Settings) (source0 sink0 sink : Device) (segments : List Segment) (counts : Counts) (found : ToolFault) → GaveReadable source0 settings segments counts → StopsListingAll sink0 sink segments counts found → IsListAnswered settings source0 sink0 sink (Err found)
+list-all_failed settings source0 sink0 sink segments counts (fault.Input other) gave h = absurd h
+list-all_failed settings source0 sink0 sink segments counts (fault.Report line) gave h = absurd h
+list-all_failed settings source0 sink0 sink segments counts fault.Read gave h = absurd h
+list-all_failed settings source0 sink0 sink segments counts fault.Write gave h = (
   gave.input,
   h.0.taken,
   gave.left,
@@ -157,12 +158,12 @@ list-all_failed tolerance source0 sink0 sink segments counts fault.Write gave h 
     listed = record { records = gave.records; segments = segments; text = h.0.text; readable = gave.readable; lines = h.0.lines; are_counts = gave.counted; whole = sym h.0.whole };
   }),
 )
-list-all_failed tolerance source0 sink0 sink segments counts fault.Memory gave h =
-    let s = stopped tolerance source0 sink0 sink segments (after-end tolerance source0 segments counts gave) h.0 in (s.input, s.written, s.left, s.takes, s.stopped)
+list-all_failed settings source0 sink0 sink segments counts fault.Memory gave h =
+    let s = stopped settings source0 sink0 sink segments (after-end settings source0 segments counts gave) h.0 in (s.input, s.written, s.left, s.takes, s.stopped)
 
 -- all was written
-pub list-done : (tolerance : ℕ) (source0 sink0 sink : Device) (segments : List Segment) (counts : Counts) → GaveReadable source0 tolerance segments counts → HasListedAll sink0 sink segments counts → IsListAnswered tolerance source0 sink0 sink (Ok counts)
-list-done tolerance source0 sink0 sink segments counts gave h = (
+pub list-done : (settings : Settings) (source0 sink0 sink : Device) (segments : List Segment) (counts : Counts) → GaveReadable source0 settings segments counts → HasListedAll sink0 sink segments counts → IsListAnswered settings source0 sink0 sink (Ok counts)
+list-done settings source0 sink0 sink segments counts gave h = (
   gave.input,
   h.text ++ counts_line counts,
   gave.left,

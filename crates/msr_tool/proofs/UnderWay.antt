@@ -1,5 +1,5 @@
 -- The state of repacking between two rows.
-use Rattle.std.proofs.Common.{◌≡◌, ℕ, zero, suc, ◌*◌, ◌^◌, ◌<◌, ◌≤◌, List, [], ◌∷◌, ◌++◌, ◌∙◌, length, map, All, refl, sym, subst, Ok, Option, None, IfSome, arith}
+use Rattle.std.proofs.Common.{◌≡◌, ℕ, zero, suc, ◌*◌, ◌^◌, ◌<◌, ◌≤◌, List, [], ◌∷◌, ◌∙◌, length, map, All, refl, sym, subst, Ok, Option, IfSome, arith}
 use Rattle.std.proofs.Math.Nat.{mul-le-mul_right}
 use Rattle.std.specs.Option.{option_to_list}
 use Rattle.msr_words.specs.Lengths.{bytes_of}
@@ -16,7 +16,7 @@ use Rattle.msr_input.specs.Reading.{GaveReadable, IsWritable}
 use Rattle.msr_input.specs.Rows.{RowReading}
 use Rattle.msr_input.specs.declared.row_reader.NextRow.{NextRow}
 use Rattle.msr_output.specs.Output.{Packed, OutputKeepsSegments, OutputHasSize, segment_of_packed, count_of_runs}
-use Rattle.msr_tool.specs.Choice.{Choice, size_of}
+use Rattle.msr_tool.specs.Choice.{Choice, settings_of, size_of}
 use Rattle.msr_tool.specs.Writing.{Lined, GoesOn, HasLined, LinesMore, LinesAll, current_after, ended_by}
 use Rattle.msr_tool.specs.Answer.{AreLinesOf}
 use Rattle.msr_tool.proofs.Lines.{calm-lined, records-of_lines}
@@ -26,19 +26,19 @@ use Rattle.msr_tool.proofs.Stops.{IsAnswered}
 pub record UnderWay (choice : Choice) (source0 source sink0 sink : Device) (reading : RowReading) (so_far : Lined) : Type 0 where
   pub packed : List Packed
   pub joining : Joining
-  pub rows : RowsSoFar choice.tolerance source0 source reading (map segment_of_packed packed) joining
+  pub rows : RowsSoFar (settings_of choice) source0 source reading (map segment_of_packed packed) joining
   pub lined : HasLined sink0 sink so_far packed joining.current
   pub goes_on : IfSome so_far.last (GoesOn so_far.writing.size)
   pub size : so_far.writing.size ≡ size_of choice
   pub calm : IsCalm sink0 sink
 
 -- one more row is read and written
-pub more : (choice : Choice) (source0 source' sink0 sink' : Device) (reading' : RowReading) (so_far' : Lined) (packed : List Packed) (joining : Joining) (next : NextRow) → RowMore choice.tolerance source0 source' reading' (map segment_of_packed packed) joining next
+pub more : (choice : Choice) (source0 source' sink0 sink' : Device) (reading' : RowReading) (so_far' : Lined) (packed : List Packed) (joining : Joining) (next : NextRow) → RowMore (settings_of choice) source0 source' reading' (map segment_of_packed packed) joining next
     → LinesMore sink0 sink' so_far' packed (option_to_list (ended_by next.step joining.current)) (current_after next.step joining.current next.row) → IfSome so_far'.last (GoesOn so_far'.writing.size) → so_far'.writing.size ≡ size_of choice → UnderWay choice source0 source' sink0 sink' reading' so_far'
 more choice source0 source' sink0 sink' reading' so_far' packed joining next m wrote goes_on size = record {
   packed = wrote.all;
   joining = m.new;
-  rows = subst (λ (given : List Segment). RowsSoFar choice.tolerance source0 source' reading' given m.new) (sym wrote.same) m.rows;
+  rows = subst (λ (given : List Segment). RowsSoFar (settings_of choice) source0 source' reading' given m.new) (sym wrote.same) m.rows;
   lined = subst (λ (current : Option Segment). HasLined sink0 sink' so_far' wrote.all current) (sym m.current) wrote.after;
   goes_on = goes_on;
   size = size;
@@ -79,7 +79,7 @@ few-runs size runs bytes some are short =
 
 -- all was read and written
 pub done : (choice : Choice) (source0 sink0 sink : Device) (segments : List Segment) (lines : List SegmentLine) (counts : Counts) (report : Report) →
-    GaveReadable source0 choice.tolerance segments counts → All IsWritable segments → LinesAll (size_of choice) sink0 sink segments lines →
+    GaveReadable source0 (settings_of choice) segments counts → All IsWritable segments → LinesAll (size_of choice) sink0 sink segments lines →
     1 ≤ choice.tolerance → choice.tolerance ≤ 1_000_000 → 1 ≤ size_of choice → OutputKeepsSegments → OutputHasSize →
     report.length ≡ choice.record_length → report.tolerance ≡ choice.tolerance → report.counts ≡ counts → report.segments.items ≡ lines → IsFirst (bytes_of report.length) report.tolerance report.counts → IsAnswered choice source0 sink0 sink (Ok report)
 done choice source0 sink0 sink segments lines counts report gave can wrote least most some keeps has_size same_length same_tolerance same_counts same_lines is_first =

@@ -13,7 +13,7 @@ use Rattle.msr_input.specs.declared.fault.Fault.{Fault}
 use Rattle.msr_input.specs.Input.{AreRead, IsReadable, IsFirstFault, rows_of_records, counts_of}
 use Rattle.msr_output.specs.Writing.{IsLineOf}
 use Rattle.msr_output.specs.Output.{Packed, IsOutput, IsFrontOfOutput, segment_of_packed}
-use Rattle.msr_tool.specs.Choice.{Choice, size_of}
+use Rattle.msr_tool.specs.Choice.{Choice, settings_of, size_of}
 use Rattle.msr_tool.specs.declared.fault.ToolFault.{ToolFault}
 use Rattle.msr_tool.specs.declared.fault.ToolFault.TheVariants as fault
 
@@ -39,7 +39,7 @@ pub record IsRepacked (choice : Choice) (input written : List ℕ) (report : Rep
   pub records : List Record
   pub packed : List Packed
   pub rows : List Row
-  pub readable : IsReadable choice.tolerance input records (map segment_of_packed packed)
+  pub readable : IsReadable (settings_of choice) input records (map segment_of_packed packed)
   pub output : IsOutput (size_of choice) packed rows written
   pub same_segments : AreSegments choice.tolerance rows (map segment_of_packed packed)
   pub is_report : IsReportOf choice records packed report
@@ -48,7 +48,7 @@ pub record IsRepacked (choice : Choice) (input written : List ℕ) (report : Rep
 pub record IsRefusedAt (choice : Choice) (input written : List ℕ) (fault : Fault) : Type 0 where
   pub records : List Record
   pub segments : List Segment
-  pub first : IsFirstFault choice.tolerance input records fault
+  pub first : IsFirstFault (settings_of choice) input records fault
   pub are_segments : AreSegments choice.tolerance (rows_of_records records) segments
   pub front : IsFrontOfOutput (size_of choice) segments written
 
@@ -58,7 +58,7 @@ pub record IsStopped (choice : Choice) (input written : List ℕ) : Type 0 where
   pub records : List Record
   pub rest : List ℕ
   pub segments : List Segment
-  pub are_read : AreRead choice.tolerance input records rest
+  pub are_read : AreRead (settings_of choice) input records rest
   pub are_segments : AreSegments choice.tolerance (rows_of_records records) segments
   pub front : IsFrontOfOutput (size_of choice) segments written
 

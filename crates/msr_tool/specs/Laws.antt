@@ -1,14 +1,15 @@
 -- What follows from the answers: a readable input is refused by nothing but devices and memory, and an input has
 -- one output and one refusal.
-use Rattle.std.specs.Prelude.{◌≡◌, ◌≢◌, List, ℕ, Result, Err, IfErr}
+use Rattle.std.specs.Prelude.{◌≡◌, ◌≢◌, ◌↔◌, true, false, List, ℕ, Result, Err, IfErr}
 use Rattle.msr_record.specs.declared.row.Record.{Record}
 use Rattle.msr_segments.specs.declared.joiner.Segment.{Segment}
 use Rattle.msr_report.specs.declared.report.Counts.{Counts}
 use Rattle.msr_report.specs.declared.report.Report.{Report}
 use Rattle.msr_input.specs.Input.{IsReadable}
+use Rattle.msr_input.specs.declared.settings.Settings.{Settings}
 use Rattle.msr_input.specs.declared.fault.Fault.{Fault}
 use Rattle.msr_output.specs.Output.{Packed}
-use Rattle.msr_tool.specs.Choice.{Choice}
+use Rattle.msr_tool.specs.Choice.{Choice, as_strict, settings_of}
 use Rattle.msr_tool.specs.Answer.{AreLinesOf, IsRepacked, IsRefusedAt, Answers}
 use Rattle.msr_tool.specs.Listing.{ListAnswers}
 use Rattle.msr_tool.specs.declared.fault.ToolFault.{ToolFault}
@@ -18,7 +19,7 @@ use Rattle.msr_tool.specs.declared.fault.ToolFault.TheVariants.{Read, Write, Mem
 abbrev pub ReadableIsRepacked : Type 0
 ReadableIsRepacked =
     (choice : Choice) (input written : List ℕ) (records : List Record) (segments : List Segment) (result : Result Report ToolFault)
-    → IsReadable choice.tolerance input records segments
+    → IsReadable (settings_of choice) input records segments
     → Answers choice input written result
     → result ≢ Err Read → result ≢ Err Write
     → IfErr result (λ fault. fault ≡ Memory)
@@ -26,9 +27,9 @@ ReadableIsRepacked =
 -- and so is it listed
 abbrev pub ReadableIsListed : Type 0
 ReadableIsListed =
-    (tolerance : ℕ) (input written : List ℕ) (records : List Record) (segments : List Segment) (result : Result Counts ToolFault)
-    → IsReadable tolerance input records segments
-    → ListAnswers tolerance input written result
+    (settings : Settings) (input written : List ℕ) (records : List Record) (segments : List Segment) (result : Result Counts ToolFault)
+    → IsReadable settings input records segments
+    → ListAnswers settings input written result
     → result ≢ Err Read → result ≢ Err Write
     → IfErr result (λ fault. fault ≡ Memory)
 
@@ -48,3 +49,11 @@ OneRefusal =
     → IsRefusedAt choice input written fault
     → IsRefusedAt choice input other another
     → fault ≡ another
+
+-- Strict or not, the same is written: an input is repacked strictly exactly where it is repacked otherwise, and the
+-- report counts no record whose reverse constant does not agree.
+abbrev pub StrictWritesTheSame : Type 0
+StrictWritesTheSame =
+    (choice : Choice) (input written : List ℕ) (report : Report)
+    → IsRepacked (as_strict true choice) input written report
+    ↔ (IsRepacked (as_strict false choice) input written report × (report.counts.mismatched ≡ 0))

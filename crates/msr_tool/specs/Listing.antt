@@ -6,6 +6,7 @@ use Rattle.msr_segments.specs.Segments.{AreSegments}
 use Rattle.msr_segments.specs.declared.joiner.Segment.{Segment}
 use Rattle.msr_report.specs.Text.{IsListLine, counts_line}
 use Rattle.msr_report.specs.declared.report.Counts.{Counts}
+use Rattle.msr_input.specs.declared.settings.Settings.{Settings}
 use Rattle.msr_input.specs.declared.fault.Fault.{Fault}
 use Rattle.msr_input.specs.Input.{AreRead, IsReadable, IsFirstFault, rows_of_records, counts_of}
 use Rattle.msr_tool.specs.declared.fault.ToolFault.{ToolFault}
@@ -32,44 +33,44 @@ pub record IsFrontOfList (segments : List Segment) (text : List ℕ) : Type 0 wh
 
 -- The input was listed. It is readable; what was written is the lines of its segments and the line of the counts
 -- of its records, which are the answer.
-pub record IsListed (tolerance : ℕ) (input written : List ℕ) (counts : Counts) : Type 0 where
+pub record IsListed (settings : Settings) (input written : List ℕ) (counts : Counts) : Type 0 where
   pub records : List Record
   pub segments : List Segment
   pub text : List ℕ
-  pub readable : IsReadable tolerance input records segments
+  pub readable : IsReadable settings input records segments
   pub lines : AreListLines segments text
   pub are_counts : counts ≡ counts_of records
   pub whole : written ≡ text ++ counts_line counts
 
 -- The input has this first fault. What was written is a front of the lines of the segments of the rows before it.
-pub record IsListedTo (tolerance : ℕ) (input written : List ℕ) (fault : Fault) : Type 0 where
+pub record IsListedTo (settings : Settings) (input written : List ℕ) (fault : Fault) : Type 0 where
   pub records : List Record
   pub segments : List Segment
-  pub first : IsFirstFault tolerance input records fault
-  pub are_segments : AreSegments tolerance (rows_of_records records) segments
+  pub first : IsFirstFault settings input records fault
+  pub are_segments : AreSegments settings.tolerance (rows_of_records records) segments
   pub front : IsFrontOfList segments written
 
 -- Some first records of the input are read, none of them refused. What was written is a front of the lines of the
 -- segments of their rows.
-pub record IsListStopped (tolerance : ℕ) (input written : List ℕ) : Type 0 where
+pub record IsListStopped (settings : Settings) (input written : List ℕ) : Type 0 where
   pub records : List Record
   pub rest : List ℕ
   pub segments : List Segment
-  pub are_read : AreRead tolerance input records rest
-  pub are_segments : AreSegments tolerance (rows_of_records records) segments
+  pub are_read : AreRead settings input records rest
+  pub are_segments : AreSegments settings.tolerance (rows_of_records records) segments
   pub front : IsFrontOfList segments written
 
 -- The input is readable. What was written is a front of its list, the last line included.
-pub record IsListCut (tolerance : ℕ) (input written : List ℕ) : Type 0 where
+pub record IsListCut (settings : Settings) (input written : List ℕ) : Type 0 where
   pub counts : Counts
   pub tail : List ℕ
-  pub listed : IsListed tolerance input (written ++ tail) counts
+  pub listed : IsListed settings input (written ++ tail) counts
 
 -- what an answer says of the input and of what was written
-abbrev pub ListAnswers : ℕ → List ℕ → List ℕ → Result Counts ToolFault → Type 0
-ListAnswers tolerance input written (Ok counts) = IsListed tolerance input written counts
-ListAnswers tolerance input written (Err (Input fault)) = IsListedTo tolerance input written fault
-ListAnswers tolerance input written (Err (Report line)) = ⊥
-ListAnswers tolerance input written (Err Read) = IsListStopped tolerance input written
-ListAnswers tolerance input written (Err Write) = IsListStopped tolerance input written ⊎ IsListCut tolerance input written
-ListAnswers tolerance input written (Err Memory) = IsListStopped tolerance input written
+abbrev pub ListAnswers : Settings → List ℕ → List ℕ → Result Counts ToolFault → Type 0
+ListAnswers settings input written (Ok counts) = IsListed settings input written counts
+ListAnswers settings input written (Err (Input fault)) = IsListedTo settings input written fault
+ListAnswers settings input written (Err (Report line)) = ⊥
+ListAnswers settings input written (Err Read) = IsListStopped settings input written
+ListAnswers settings input written (Err Write) = IsListStopped settings input written ⊎ IsListCut settings input written
+ListAnswers settings input written (Err Memory) = IsListStopped settings input written

@@ -10,7 +10,7 @@ use Rattle.msr_input.specs.Input.{IsReadable}
 use Rattle.msr_verdict.specs.Packed.{ShowsLeast}
 use Rattle.msr_verdict.specs.declared.verdict.Verdict.{Verdict}
 use Rattle.msr_verdict.specs.declared.verdict.Verdict.TheVariants.{Least}
-use Rattle.msr_tool.specs.Choice.{Choice}
+use Rattle.msr_tool.specs.Choice.{Choice, settings_of}
 use Rattle.msr_tool.specs.Answer.{IsRepacked}
 use Rattle.msr_tool.specs.Checking.{CheckAnswers}
 use Rattle.msr_tool.specs.declared.fault.ToolFault.{ToolFault}
@@ -31,7 +31,7 @@ abbrev pub RepackedIsShown : Type 0
 RepackedIsShown =
     (choice : Choice) (input written : List ℕ) (report : Report) (records : List Record) (segments : List Segment)
     → IsRepacked choice input written report
-    → IsReadable choice.tolerance input records segments
+    → IsReadable (settings_of choice) input records segments
     → All EndsBeforeTheLast segments
     → ShowsLeast report written
 
@@ -41,7 +41,7 @@ abbrev pub RepackedIsLeast : Type 0
 RepackedIsLeast =
     (choice : Choice) (input written text : List ℕ) (report : Report) (records : List Record) (segments : List Segment) (answer : Result Verdict ToolFault)
     → IsRepacked choice input written report
-    → IsReadable choice.tolerance input records segments
+    → IsReadable (settings_of choice) input records segments
     → All EndsBeforeTheLast segments
     → IsReportText report text
     → CheckAnswers written text answer

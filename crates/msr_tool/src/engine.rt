@@ -32,7 +32,7 @@ pub fn repack<R: Source, W: Sink>(
     ensures few_source { CountsFew (R.device source.old) (R.device source.new) }
     ensures few_sink { CountsFew (W.device sink.old) (W.device sink.new) }
 {
-    let mut reader = RowReader::new(alloc, options.tolerance());
+    let mut reader = RowReader::new(alloc, options.settings());
     let mut writer = LinedWriter::new(alloc, options.length());
     'rows: while let Some(next) = reader.next_row(source)? {
         writer.take(sink, &next)?;

@@ -1,5 +1,5 @@
 //! Laws of answers, each the contract of a function that does nothing.
-ghost use Rattle.msr_tool.specs.Laws.{OneRefusal, OneRepacking, ReadableIsListed, ReadableIsRepacked};
+ghost use Rattle.msr_tool.specs.Laws.{OneRefusal, OneRepacking, ReadableIsListed, ReadableIsRepacked, StrictWritesTheSame};
 ghost use Rattle.msr_tool.specs.Shown.{RepackedIsLeast, RepackedIsShown};
 
 use msr_certificate::{one_report, text_is_read_back};
@@ -35,6 +35,12 @@ pub fn one_refusal()
 {
     one_first_fault();
 }
+
+/// A strict repack writes what another writes, and succeeds exactly where the other does and counts no record whose
+/// reverse constant does not agree.
+pub fn strict_writes_the_same()
+    ensures { StrictWritesTheSame }
+{}
 
 /// What `repack` wrote is readable, and its own report shows that each of its segments stands in the fewest
 /// records, where no segment of the input ends in the last microsecond of the supported years.

@@ -18,7 +18,7 @@ pub use engine::repack;
 pub use fault::ToolFault;
 pub use laws::{
     one_refusal, one_repacking, readable_is_listed, readable_is_repacked, repacked_is_least,
-    repacked_is_shown,
+    repacked_is_shown, strict_writes_the_same,
 };
 pub use list::list_segments;
 pub use msr_certificate::{ReportFault, read_report};

@@ -1,6 +1,7 @@
 //! Listing the segments of an input.
 ghost use Rattle.std.specs.Prelude.{◌≡◌, ◌↔◌, List, ℕ, IsErrOf};
 ghost use Rattle.msr_devices.specs.Device.{CanCountCall, CountsFew, HasFailed, HasLeft, Takes};
+ghost use Rattle.msr_tool.specs.Choice.{settings_of};
 ghost use Rattle.msr_tool.specs.Listing.{ListAnswers};
 
 use crate::fault::ToolFault;
@@ -12,7 +13,7 @@ use msr_report::Counts;
 use std::alloc::Global;
 
 /// Reads all records of the source, and writes a line for each segment of their rows and a last line with the
-/// counts of the records. Of the options it takes the tolerance alone. It holds no samples but those of the
+/// counts of the records. Of the options it takes all but the length. It holds no samples but those of the
 /// record at hand.
 pub fn list_segments<R: Source, W: Sink>(
     alloc: Global,
@@ -24,7 +25,7 @@ pub fn list_segments<R: Source, W: Sink>(
     requires sink { CanCountCall (W.device sink.old) }
 
     // What was written and what is answered, for the bytes that the source has.
-    ensures answer { (input : List ℕ) × (written : List ℕ) × HasLeft (R.device source.old) input × Takes (W.device sink.old) (W.device sink.new) written × ListAnswers options.tolerance input written result }
+    ensures answer { (input : List ℕ) × (written : List ℕ) × HasLeft (R.device source.old) input × Takes (W.device sink.old) (W.device sink.new) written × ListAnswers (settings_of options) input written result }
 
     // A failure of a device is answered as such, and nothing else is.
     ensures read { IsErrOf result ToolFault.Read ↔ HasFailed (R.device source.old) (R.device source.new) }
@@ -32,7 +33,7 @@ pub fn list_segments<R: Source, W: Sink>(
     ensures few_source { CountsFew (R.device source.old) (R.device source.new) }
     ensures few_sink { CountsFew (W.device sink.old) (W.device sink.new) }
 {
-    let mut reader = RowReader::new(alloc, options.tolerance());
+    let mut reader = RowReader::new(alloc, options.settings());
     let mut writer = ListWriter::new(alloc);
     'rows: while let Some(next) = reader.next_row(source)? {
         writer.take(sink, &next)?;

@@ -6,4 +6,5 @@ mod fixtures;
 mod joining;
 mod packing;
 mod refusals;
+mod strict;
 mod texts;

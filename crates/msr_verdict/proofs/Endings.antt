@@ -14,13 +14,14 @@ use Rattle.msr_segments.proofs.DivisionLaws.{one_division}
 use Rattle.msr_report.specs.declared.report.Report.{Report}
 use Rattle.msr_report.specs.declared.report.SegmentLine.{SegmentLine}
 use Rattle.msr_input.specs.Input.{AreRead, IsReadable, rows_of_records}
-use Rattle.msr_input.specs.Reading.{Reading, HasRead, StopsReading}
+use Rattle.msr_input.specs.Reading.{Reading, HasRead, StopsReading, settings_of}
+use Rattle.msr_input.specs.declared.settings.Settings.{Settings}
 use Rattle.msr_input.specs.declared.fault.ReadFault.{ReadFault}
 use Rattle.msr_input.specs.declared.fault.ReadFault.TheVariants as fault
 use Rattle.msr_input.proofs.OneReading.{one_list_of_records}
 use Rattle.msr_verdict.specs.declared.verdict.Verdict.{Verdict}
 use Rattle.msr_verdict.specs.declared.verdict.Verdict.TheVariants.{Least, NotShown}
-use Rattle.msr_verdict.specs.Packed.{IsFull, IsShownBy, AreShownBy, ShowsLeast, Answers, StandsInFewest, AllStandInFewest, ShownIsFewest, ShownIsReadable, runs_of_part}
+use Rattle.msr_verdict.specs.Packed.{IsFull, IsShownBy, AreShownBy, ShowsLeast, Answers, StandsInFewest, AllStandInFewest, ShownIsFewest, ShownIsReadable, runs_of_part, settings_by}
 use Rattle.msr_verdict.specs.Compared.{Compared, ComparesEnded}
 use Rattle.msr_verdict.proofs.Lines.{shown-length}
 use Rattle.msr_verdict.proofs.Runs.{runs-length}
@@ -31,7 +32,7 @@ pub record UnderWay (report : Report) (start now : Device) (reading : Reading) (
   pub records : List Record
   pub given : List Segment
   pub read : HasRead start now reading records given
-  pub tolerance : reading.joining.tolerance ≡ report.tolerance
+  pub settings : settings_of reading ≡ settings_by report
   pub follows : Follows (bytes_of report.length) report.segments.items reading.joining records c
 
 -- what is answered, for some input
@@ -44,36 +45,37 @@ pub as-answer : (report : Report) (start : Device) (result : Result Verdict Read
 as-answer report start result a = (a.input, a.left, a.answers)
 
 -- a record is not read, or not taken
-pub read-fails : (report : Report) (start now : Device) (given : List Segment) (why : ReadFault) → StopsReading report.tolerance start now given why → IsAnswered report start (Err why)
+pub read-fails : (report : Report) (start now : Device) (given : List Segment) (why : ReadFault) → StopsReading (settings_by report) start now given why → IsAnswered report start (Err why)
 read-fails report start now given (fault.Input f) h = record { input = h.0.input; left = h.0.left; answers = record { records = h.0.records; first = h.0.first } }
 read-fails report start now given fault.Read h = record { input = h.0.input; left = h.0.left; answers = record { records = h.0.records; rest = h.0.rest; are_read = h.0.are_read } }
 read-fails report start now given fault.Memory h = record { input = h.0.input; left = h.0.left; answers = record { records = h.0.records; rest = h.0.rest; are_read = h.0.are_read } }
 
-pub read-tells : (tolerance : ℕ) (start now : Device) (given : List Segment) (why : ReadFault) → StopsReading tolerance start now given why → IsErrOf {T = Verdict} (Err why) fault.Read ↔ HasFailed start now
-read-tells tolerance start now given (fault.Input f) h = ((λ e. absurd cc), (λ failed. absurd (steady-sound start now h.1 failed)))
-read-tells tolerance start now given fault.Read h = ((λ e. h.1), (λ failed. refl))
-read-tells tolerance start now given fault.Memory h = ((λ e. absurd cc), (λ failed. absurd (steady-sound start now h.1 failed)))
+pub read-tells : (settings : Settings) (start now : Device) (given : List Segment) (why : ReadFault) → StopsReading settings start now given why → IsErrOf {T = Verdict} (Err why) fault.Read ↔ HasFailed start now
+read-tells settings start now given (fault.Input f) h = ((λ e. absurd cc), (λ failed. absurd (steady-sound start now h.1 failed)))
+read-tells settings start now given fault.Read h = ((λ e. h.1), (λ failed. refl))
+read-tells settings start now given fault.Memory h = ((λ e. absurd cc), (λ failed. absurd (steady-sound start now h.1 failed)))
 
 -- there is no memory for a run
-pub memory-fails : (report : Report) (start now : Device) (reading : Reading) (records : List Record) (given : List Segment) (why : ReadFault) → HasRead start now reading records given → reading.joining.tolerance ≡ report.tolerance → why ≡ fault.Memory → IsAnswered report start (Err why)
-memory-fails report start now reading records given why h tolerance memory =
+pub memory-fails : (report : Report) (start now : Device) (reading : Reading) (records : List Record) (given : List Segment) (why : ReadFault) → HasRead start now reading records given → settings_of reading ≡ settings_by report → why ≡ fault.Memory → IsAnswered report start (Err why)
+memory-fails report start now reading records given why h settings memory =
+    let tolerance = ap (λ (s : Settings). s.tolerance) settings in
     let p = h.came.begins (left-of now).0 (left-of now).1 in
     rw memory (record {
       input = p.0;
       left = p.1;
-      answers = record { records = records; rest = reading.waiting ++ (left-of now).0; are_read = record { begins = p.2; in_range = rw tolerance at h.in_range } };
+      answers = record { records = records; rest = reading.waiting ++ (left-of now).0; are_read = record { begins = p.2; in_range = rw tolerance at h.in_range; agree = λ t. absurd cc } };
     })
 
 -- the records and the parts by which a report shows the fewest records are those of the input
-same-parts : (report : Report) (input : List ℕ) (records : List Record) (parts : List Part) (h : ShowsLeast report input) → AreRead report.tolerance input records [] → IsDivision report.tolerance (rows_of_records records) parts → (h.records ≡ records) × (h.parts ≡ parts)
+same-parts : (report : Report) (input : List ℕ) (records : List Record) (parts : List Part) (h : ShowsLeast report input) → AreRead (settings_by report) input records [] → IsDivision report.tolerance (rows_of_records records) parts → (h.records ≡ records) × (h.parts ≡ parts)
 same-parts report input records parts h are d =
-    let first : IsReadable report.tolerance input h.records (map segment_of h.parts) = record { are_read = h.are_read; are_segments = record { parts = h.parts; division = h.division; each = refl } } in
-    let second : IsReadable report.tolerance input records (map segment_of parts) = record { are_read = are; are_segments = record { parts = parts; division = d; each = refl } } in
-    let same = (one_list_of_records report.tolerance input h.records records (map segment_of h.parts) (map segment_of parts) first second).0 in
+    let first : IsReadable (settings_by report) input h.records (map segment_of h.parts) = record { are_read = h.are_read; are_segments = record { parts = h.parts; division = h.division; each = refl } } in
+    let second : IsReadable (settings_by report) input records (map segment_of parts) = record { are_read = are; are_segments = record { parts = parts; division = d; each = refl } } in
+    let same = (one_list_of_records (settings_by report) input h.records records (map segment_of h.parts) (map segment_of parts) first second).0 in
     let division : IsDivision report.tolerance (rows_of_records records) h.parts = subst (λ (rs : List Record). IsDivision report.tolerance (rows_of_records rs) h.parts) same h.division in
     (same, one_division report.tolerance (rows_of_records records) h.parts parts division d)
 
-same-shown : (report : Report) (input : List ℕ) (records : List Record) (parts : List Part) → ShowsLeast report input → AreRead report.tolerance input records [] → IsDivision report.tolerance (rows_of_records records) parts → All (IsFull (bytes_of report.length)) records × AreShownBy (bytes_of report.length) parts report.segments.items
+same-shown : (report : Report) (input : List ℕ) (records : List Record) (parts : List Part) → ShowsLeast report input → AreRead (settings_by report) input records [] → IsDivision report.tolerance (rows_of_records records) parts → All (IsFull (bytes_of report.length)) records × AreShownBy (bytes_of report.length) parts report.segments.items
 same-shown report input records parts h are d =
     let same = same-parts report input records parts h are d in
     (subst (λ (rs : List Record). All (IsFull (bytes_of report.length)) rs) same.0 h.full, subst (λ (ps : List Part). AreShownBy (bytes_of report.length) ps report.segments.items) same.1 h.shown)
@@ -82,7 +84,7 @@ none-left : {X : Type 0} (left : List X) → length left ≡ 0 → left ≡ []
 none-left [] e = refl
 none-left (x ∷ left) e = absurd (omega arith)
 
-verdict-answers : (report : Report) (input : List ℕ) (records : List Record) (parts : List Part) (c : Compared) (verdict : Verdict) → AreRead report.tolerance input records [] → IsDivision report.tolerance (rows_of_records records) parts → IsCompared (bytes_of report.length) report.segments.items records parts [] c → (verdict ≡ Least) ↔ ((c.agrees ≡ true) × (c.place ≡ length report.segments.items)) → Answers report input (Ok verdict)
+verdict-answers : (report : Report) (input : List ℕ) (records : List Record) (parts : List Part) (c : Compared) (verdict : Verdict) → AreRead (settings_by report) input records [] → IsDivision report.tolerance (rows_of_records records) parts → IsCompared (bytes_of report.length) report.segments.items records parts [] c → (verdict ≡ Least) ↔ ((c.agrees ≡ true) × (c.place ≡ length report.segments.items)) → Answers report input (Ok verdict)
 verdict-answers report input records parts c Least are d compared exact =
     let both = exact.0 refl in
     let a = compared.agrees both.0 in
@@ -113,10 +115,11 @@ verdict-answers report input records parts c NotShown are d compared exact = rec
 }
 
 -- all was read
-pub done : (report : Report) (start now : Device) (reading : Reading) (records : List Record) (given : List Segment) (old new : Compared) (last : Option Segment) (verdict : Verdict) → HasRead start now reading records given → reading.joining.tolerance ≡ report.tolerance → Follows (bytes_of report.length) report.segments.items reading.joining records old → reading.waiting ≡ [] → reading.ended ≡ true → last ≡ reading.joining.current → ComparesEnded (bytes_of report.length) report.segments.items old last new → IfSome last (λ segment. length segment.samples < 2 ^ 64) → (verdict ≡ Least) ↔ ((new.agrees ≡ true) × (new.place ≡ length report.segments.items)) → IsAnswered report start (Ok verdict)
-done report start now reading records given old new last verdict read tolerance f none ended last_is k few exact =
+pub done : (report : Report) (start now : Device) (reading : Reading) (records : List Record) (given : List Segment) (old new : Compared) (last : Option Segment) (verdict : Verdict) → HasRead start now reading records given → settings_of reading ≡ settings_by report → Follows (bytes_of report.length) report.segments.items reading.joining records old → reading.waiting ≡ [] → reading.ended ≡ true → last ≡ reading.joining.current → ComparesEnded (bytes_of report.length) report.segments.items old last new → IfSome last (λ segment. length segment.samples < 2 ^ 64) → (verdict ≡ Least) ↔ ((new.agrees ≡ true) × (new.place ≡ length report.segments.items)) → IsAnswered report start (Ok verdict)
+done report start now reading records given old new last verdict read settings f none ended last_is k few exact =
+    let tolerance = ap (λ (s : Settings). s.tolerance) settings in
     let came = read.came.begins [] (read.came.end ended) in
-    let are : AreRead report.tolerance came.0 records [] = record { begins = rw none at came.2; in_range = rw tolerance at read.in_range } in
+    let are : AreRead (settings_by report) came.0 records [] = record { begins = rw none at came.2; in_range = rw tolerance at read.in_range; agree = λ t. absurd cc } in
     let d : IsDivision report.tolerance (rows_of_records records) (f.parts ++ option_to_list f.last) = rw tolerance at f.has_parts.division in
     let compared = compare-last (bytes_of report.length) report.segments.items records f.parts f.last last old new f.compared (last_is ∙ f.has_parts.current) k few in
     record {

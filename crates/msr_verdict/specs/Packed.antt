@@ -1,5 +1,5 @@
 -- When a report shows that every segment of packed records stands in the fewest records.
-use Rattle.std.specs.Prelude.{◌≡◌, ℕ, ◌+◌, ◌≤◌, List, [], ◌∷◌, length, All, IsSome, Result, Ok, Err}
+use Rattle.std.specs.Prelude.{◌≡◌, ℕ, ◌+◌, ◌≤◌, false, List, [], ◌∷◌, length, All, IsSome, Result, Ok, Err}
 use Rattle.msr_words.specs.declared.kinds.Run.{Run}
 use Rattle.msr_words.specs.Lengths.{bytes_of}
 use Rattle.msr_words.specs.Packing.{IsPacking, IsSeparating}
@@ -10,6 +10,7 @@ use Rattle.msr_segments.specs.declared.joiner.Segment.{Segment}
 use Rattle.msr_report.specs.declared.report.SegmentLine.{SegmentLine}
 use Rattle.msr_report.specs.declared.report.Report.{Report}
 use Rattle.msr_input.specs.Input.{AreRead, IsReadable, IsFirstFault, rows_of_records}
+use Rattle.msr_input.specs.declared.settings.Settings.{Settings}
 use Rattle.msr_input.specs.declared.fault.Fault.{Fault}
 use Rattle.msr_input.specs.declared.fault.ReadFault.{ReadFault}
 use Rattle.msr_input.specs.declared.fault.ReadFault.TheVariants.{Input, Read, Memory}
@@ -51,12 +52,16 @@ pub record IsFull (size : ℕ) (found : Record) : Type 0 where
   pub length_is : found.length ≡ size
   pub some : IsSome found.row
 
+-- how the records are read: with the report's tolerance, and not strictly
+abbrev pub settings_by : Report → Settings
+settings_by report = record { tolerance = report.tolerance; strict = false }
+
 -- The report shows that every segment of the input stands in the fewest records: the input is readable, each of
 -- its records has the report's length and some samples, and its segments are shown by the report's lines in order.
 pub record ShowsLeast (report : Report) (input : List ℕ) : Type 0 where
   pub records : List Record
   pub parts : List Part
-  pub are_read : AreRead report.tolerance input records []
+  pub are_read : AreRead (settings_by report) input records []
   pub division : IsDivision report.tolerance (rows_of_records records) parts
   pub full : All (IsFull (bytes_of report.length)) records
   pub shown : AreShownBy (bytes_of report.length) parts report.segments.items
@@ -65,27 +70,27 @@ pub record ShowsLeast (report : Report) (input : List ℕ) : Type 0 where
 pub record DoesNotShow (report : Report) (input : List ℕ) : Type 0 where
   pub records : List Record
   pub segments : List Segment
-  pub readable : IsReadable report.tolerance input records segments
+  pub readable : IsReadable (settings_by report) input records segments
   pub none : ShowsLeast report input → ⊥
 
 -- The input has this first fault.
-pub record IsRefusedAt (tolerance : ℕ) (input : List ℕ) (fault : Fault) : Type 0 where
+pub record IsRefusedAt (settings : Settings) (input : List ℕ) (fault : Fault) : Type 0 where
   pub records : List Record
-  pub first : IsFirstFault tolerance input records fault
+  pub first : IsFirstFault settings input records fault
 
 -- Some first records of the input are read, none of them refused.
-pub record BeginsReadable (tolerance : ℕ) (input : List ℕ) : Type 0 where
+pub record BeginsReadable (settings : Settings) (input : List ℕ) : Type 0 where
   pub records : List Record
   pub rest : List ℕ
-  pub are_read : AreRead tolerance input records rest
+  pub are_read : AreRead settings input records rest
 
 -- what an answer says of the input
 abbrev pub Answers : Report → List ℕ → Result Verdict ReadFault → Type 0
 Answers report input (Ok Least) = ShowsLeast report input
 Answers report input (Ok NotShown) = DoesNotShow report input
-Answers report input (Err (Input fault)) = IsRefusedAt report.tolerance input fault
-Answers report input (Err Read) = BeginsReadable report.tolerance input
-Answers report input (Err Memory) = BeginsReadable report.tolerance input
+Answers report input (Err (Input fault)) = IsRefusedAt (settings_by report) input fault
+Answers report input (Err Read) = BeginsReadable (settings_by report) input
+Answers report input (Err Memory) = BeginsReadable (settings_by report) input
 
 -- No packing of the part's segment has fewer records than it stands in, nor than the line says.
 pub record StandsInFewest (size : ℕ) (part : Part) (line : SegmentLine) : Type 0 where
@@ -103,7 +108,7 @@ AllStandInFewest size (part ∷ parts) (line ∷ lines) = StandsInFewest size pa
 abbrev pub ShownIsFewest : Type 0
 ShownIsFewest =
     (report : Report) (input : List ℕ) (records : List Record) (parts : List Part) → ShowsLeast report input
-    → AreRead report.tolerance input records []
+    → AreRead (settings_by report) input records []
     → IsDivision report.tolerance (rows_of_records records) parts
     → AllStandInFewest (bytes_of report.length) parts report.segments.items
 
@@ -111,4 +116,4 @@ ShownIsFewest =
 abbrev pub ShownIsReadable : Type 0
 ShownIsReadable =
     (report : Report) (input : List ℕ) → ShowsLeast report input
-    → (records : List Record) × (segments : List Segment) × IsReadable report.tolerance input records segments
+    → (records : List Record) × (segments : List Segment) × IsReadable (settings_by report) input records segments

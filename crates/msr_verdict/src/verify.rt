@@ -7,13 +7,14 @@ use crate::comparing::Comparing;
 use crate::piece::piece_of;
 use crate::verdict::Verdict;
 use msr_devices::Source;
-use msr_input::{ReadFault, SegmentReader};
+use msr_input::{ReadFault, SegmentReader, Settings};
 use msr_report::Report;
 use std::alloc::Global;
 
 /// Reads all records of the source, and says whether the report shows that each of their segments stands in the
 /// fewest records of its length. Of the input it keeps one segment and that segment's runs.
 ///
+/// A reverse constant that does not agree refuses no record: strict reading is asked for where an input is repacked.
 /// The counts of the report are of another input, the one that was packed, and are not looked at.
 pub fn verify_packed<R: Source>(
     alloc: Global,
@@ -30,7 +31,11 @@ pub fn verify_packed<R: Source>(
     ensures read { IsErrOf result ReadFault.Read ↔ HasFailed (R.device source.old) (R.device source.new) }
     ensures few { CountsFew (R.device source.old) (R.device source.new) }
 {
-    let mut reader = SegmentReader::new(alloc, report.tolerance);
+    let settings = Settings {
+        tolerance: report.tolerance,
+        strict: false,
+    };
+    let mut reader = SegmentReader::new(alloc, settings);
     let mut comparing = Comparing::new(alloc);
     'records: while let Some(found) = reader.next_record(source)? {
         let piece = piece_of(&found, report.length);

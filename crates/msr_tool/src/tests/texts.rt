@@ -3,7 +3,7 @@ use crate::tests::fixtures::{Edits, Outcome, PLAIN, choice, edited, input_of, re
 use crate::{
     Counts, Fault, Options, TestSink, TestSource, ToolFault, list_segments, one_refusal,
     one_repacking, read_report, readable_is_listed, readable_is_repacked, repacked_is_least,
-    repacked_is_shown,
+    repacked_is_shown, strict_writes_the_same,
 };
 use msr_header::HeaderFault;
 use msr_record::FaultKind;
@@ -113,6 +113,7 @@ fn laws_are_callable() {
     readable_is_repacked();
     repacked_is_shown();
     repacked_is_least();
+    strict_writes_the_same();
 }
 
 #[test]

@@ -30,7 +30,7 @@ returns-then-has_ended-2-clause-refused g c =
       | then-has_ended-2-via-then-has_ended-2 w ↦ absurd cc
       | then-has_ended-2-via-else-has_ended-2+then-not-may_change w ↦ rw c.bytes-bytes.ensures at (sym w.may_change.ensures ∙ w.if-not-may_change.true)
     ] in
-    rw c.fault_at.ensures (decoding-stops window c.args.offset c.in-Err.kind are refused (λ e. memory (wraps e)) some decided)
+    rw c.fault_at.ensures (decoding-stops c.args.strict window c.args.offset c.in-Err.kind are refused (λ e. memory (wraps e)) some decided)
 
 pub bytes-init : goal.bytes-init
 bytes-init g c = record {
@@ -46,7 +46,7 @@ bytes-preserved g c =
     let unended : c.bytes.buffer.ended ≡ false = cc in
     let more = c.in_ok-fill.ensures.filled in
     let at_hand = rw c.bytes-bytes.ensures at more in
-    let none = none-held c.bytes.buffer.bytes c.in-Err.kind (length c.bytes-bytes.result.now) (sym c.may_change.ensures ∙ c.if-not-may_change.false) (rw c.bytes-bytes.ensures at c.in-Err.ensures.refused) in
+    let none = none-held c.args.strict c.bytes.buffer.bytes c.in-Err.kind (length c.bytes-bytes.result.now) (sym c.may_change.ensures ∙ c.if-not-may_change.false) (rw c.bytes-bytes.ensures at c.in-Err.ensures.refused) in
     record {
       filled = filled-more (g.R.Source.device c.args.source.now) (g.R.Source.device c.bytes.source) (g.R.Source.device c.fill.new.source) c.args.buffer.now c.bytes.buffer c.fill.new.self 0 (length c.bytes-bytes.result.now + 1) c.bytes.invariant.filled unended more;
       room = room-more c.args.buffer.now.room (g.R.Source.device c.bytes.source) (g.R.Source.device c.fill.new.source) c.bytes.buffer c.fill.new.self c.bytes.invariant.room none at_hand (rw c.bytes-bytes.ensures at c.fill.ensures.room);

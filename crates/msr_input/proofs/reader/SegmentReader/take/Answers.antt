@@ -2,6 +2,7 @@ use Rattle.std.proofs.Common.{◌≡◌, arith, length-drop}
 use Rattle.std.proofs.lemmas.Result.{err_from_is_err_and}
 use Rattle.msr_record.specs.Records.{IsRecordOf}
 use Rattle.msr_record.proofs.Shown.{record_fits}
+use Rattle.msr_input.specs.Input.{Agrees}
 use Rattle.msr_input.specs.declared.fault.ReadFault.TheVariants.{Memory, Read}
 use Rattle.msr_input.proofs.Coming.{CountsOneMore, Passes, come-passed}
 use Rattle.msr_input.proofs.Histories.{at_place, read-taken, join-stops, join-memory, join-failure}
@@ -12,7 +13,8 @@ returns-in_err-ended-clause-read c =
     let p = err_from_is_err_and c.from_residual.result c.from_residual.ensures.1 in
     let old = at_place c.self.inside.records c.self.inside.joiner in
     let is : IsRecordOf old.waiting c.args.found = rw (← c.self.view_is) at c.requires.is_record in
-    rw (p.1, p.2, ← c.self.view_is) (λ start now records given has. join-stops start now old records given c.args.found c.in_err-ended.field-0.0 has is (rw c.offset.ensures at c.in_err-ended.ensures.refused))
+    let agrees : Agrees old.strict c.args.found = rw (← c.self.view_is) at c.requires.agrees in
+    rw (p.1, p.2, ← c.self.view_is) (λ start now records given has. join-stops start now old records given c.args.found c.in_err-ended.field-0.0 has is agrees (rw c.offset.ensures at c.in_err-ended.ensures.refused))
 
 pub returns-in_err-ended-clause-memory : goal.returns-in_err-ended-clause-memory
 returns-in_err-ended-clause-memory c =
@@ -35,15 +37,17 @@ pub returns-clause-read : goal.returns-clause-read
 returns-clause-read c =
     let old = c.self.inside.records in
     let is : IsRecordOf old.waiting c.args.found = rw (← c.self.view_is) at c.requires.is_record in
+    let agrees : Agrees old.strict c.args.found = rw (← c.self.view_is) at c.requires.agrees in
     let counted : CountsOneMore old.counts c.counted-counts.result c.args.found = rw c.counts.ensures at c.counted-counts.ensures in
     let passes : Passes old c.pass.new.self c.args.found c.counted-counts.result = record {
       waiting = c.pass.ensures.waiting;
       ended = c.pass.ensures.ended;
+      strict = c.pass.ensures.strict;
       counted = c.pass.ensures.counts;
       offset = c.pass.ensures.offset;
     } in
     rw (← c.self.view_is) (λ start now records given has.
-    let come = come-passed start now old c.pass.new.self records c.args.found c.counted-counts.result has.came is counted passes in
+    let come = come-passed start now old c.pass.new.self records c.args.found c.counted-counts.result has.came is agrees counted passes in
     read-taken start now old c.pass.new.self c.self.inside.joiner c.join.new.joiner records given c.args.found c.in_ok-ended.ended has is c.in_ok-ended.ensures.joined come)
 
 pub returns-clause-fewer : goal.returns-clause-fewer

@@ -1,5 +1,5 @@
 use Rattle.msr_input.proofs.Coming.{come-none}
 use Rattle.msr_input.proofs.record_reader.RecordReader.new.Goals as goal
 
-pub returns : goal.returns
-returns c = rw c.new.ensures (λ start. come-none start 0)
+pub returns-clause-none : goal.returns-clause-none
+returns-clause-none c = rw c.new.ensures (λ start. come-none c.args.strict start 0)

@@ -10,6 +10,7 @@ abbrev pub invariant-records : goal.invariant-records
 invariant-records g l = record {
   read : (start : Device) (records : List Record) (answers : List Step) → HasReadRows start (g.R.Source.device l.fn.source) l.fn.self records answers → ReadsNoRow start (g.R.Source.device l.source) l.self records answers;
   following : l.self.following ≡ l.fn.self.following;
+  strict : l.self.position.strict ≡ l.fn.self.position.strict;
   left : left_with (g.R.Source.device l.source) l.self.position.waiting ≤ left_with (g.R.Source.device l.fn.source) l.fn.self.position.waiting;
   steady : IsSteady (g.R.Source.device l.fn.source) (g.R.Source.device l.source);
 }

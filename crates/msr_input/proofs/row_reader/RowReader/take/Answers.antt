@@ -2,6 +2,7 @@ use Rattle.std.proofs.Common.{arith, length-drop}
 use Rattle.std.proofs.lemmas.Result.{err_from_is_err_and}
 use Rattle.msr_record.specs.Records.{IsRecordOf}
 use Rattle.msr_record.proofs.Shown.{record_fits}
+use Rattle.msr_input.specs.Input.{Agrees}
 use Rattle.msr_input.proofs.Coming.{CountsOneMore, Passes, come-passed}
 use Rattle.msr_input.proofs.Rows.{follow-stops, row-given, rows-passed}
 use Rattle.msr_input.proofs.row_reader.RowReader.take.Goals as goal
@@ -11,7 +12,8 @@ returns-in_err-next-clause-read c =
     let p = err_from_is_err_and c.from_residual.result c.from_residual.ensures.1 in
     let old = c.self.inside.records in
     let is : IsRecordOf old.waiting c.args.found = rw (← c.self.view_is) at c.requires.is_record in
-    rw (p.1, p.2, ← c.self.view_is) (λ start now records answers has. follow-stops start now (record { position = old; following = c.self.inside.follow }) records answers c.args.found c.in_err-next.field-0.0 has is (rw c.offset.ensures at c.in_err-next.ensures.refused))
+    let agrees : Agrees old.strict c.args.found = rw (← c.self.view_is) at c.requires.agrees in
+    rw (p.1, p.2, ← c.self.view_is) (λ start now records answers has. follow-stops start now (record { position = old; following = c.self.inside.follow }) records answers c.args.found c.in_err-next.field-0.0 has is agrees (rw c.offset.ensures at c.in_err-next.ensures.refused))
 
 pub pass-requires : goal.pass-requires
 pass-requires c =
@@ -22,15 +24,17 @@ pub returns-clause-read : goal.returns-clause-read
 returns-clause-read c =
     let old = c.self.inside.records in
     let is : IsRecordOf old.waiting c.args.found = rw (← c.self.view_is) at c.requires.is_record in
+    let agrees : Agrees old.strict c.args.found = rw (← c.self.view_is) at c.requires.agrees in
     let counted : CountsOneMore old.counts c.counted-counts.result c.args.found = rw c.counts.ensures at c.counted-counts.ensures in
     let passes : Passes old c.pass.new.self c.args.found c.counted-counts.result = record {
       waiting = c.pass.ensures.waiting;
       ended = c.pass.ensures.ended;
+      strict = c.pass.ensures.strict;
       counted = c.pass.ensures.counts;
       offset = c.pass.ensures.offset;
     } in
     rw (← c.self.view_is) (λ start now records answers has.
-    let come = come-passed start now old c.pass.new.self records c.args.found c.counted-counts.result has.came is counted passes in
+    let come = come-passed start now old c.pass.new.self records c.args.found c.counted-counts.result has.came is agrees counted passes in
     rows-passed start now old c.pass.new.self c.self.inside.follow c.follow.new.follow records answers c.args.found c.in_ok-next.next has is c.in_ok-next.ensures.followed come)
 
 pub returns-clause-fewer : goal.returns-clause-fewer

@@ -1,0 +1,148 @@
+//! Strict reading, and inputs that are cut anywhere: what a repack and a list answer.
+use crate::tests::fixtures::{Edits, PLAIN, choice, edited, input_of, repacked, steim};
+use crate::{
+    Options, TestSink, TestSource, ToolFault, Verdict, check_packed, list_segments,
+    repack_and_report,
+};
+use msr_time::Rate;
+use std::alloc::Global;
+use std::process::Abort;
+use std::test::Fail;
+
+// A repack and a list of the input both stop with this text, or both succeed where it is empty.
+fn both_tell(
+    rt: &impl Abort,
+    alloc: Global,
+    input: &[u8],
+    options: Options,
+    want: &str,
+) -> Result<(), Fail> {
+    let mut lines = TestSink::new(Vec::new(alloc), PLAIN);
+    let mut source = TestSource::new(input, PLAIN);
+    let faults: [Option<ToolFault>; 2] = [
+        repacked(alloc, input, options).answer.err(),
+        list_segments(alloc, &mut source, &mut lines, options).err(),
+    ];
+    for fault in faults {
+        let text = match fault {
+            Some(fault) => format!(in alloc; "{fault}")?,
+            None => String::new(alloc),
+        };
+        assert_eq!(rt; text.as_str(), want);
+    }
+    Ok(())
+}
+
+// The reverse constant of the record is not its last sample,
+const DIFFERS: (usize, &[u8]) = (72, &[0x00, 0x00, 0x00, 0x01]);
+
+// and the record ends in the year behind the last one.
+const LATE: (usize, &[u8]) = (
+    20,
+    &[0x08, 0x34, 0x01, 0x6d, 0x17, 0x3b, 0x3b, 0x00, 0x00, 0x00],
+);
+
+// Edits of the one record, and why it is refused by a reading that is not strict and by one that is.
+#[test]
+fn reverse_constants(rt: HostRuntime) -> Result<(), Fail> {
+    let alloc = rt.alloc();
+    let options = choice(&rt, 256, 1000);
+    let rows: [(Edits, &str, &str); 7] = [
+        (&[], "", ""),
+        (&[DIFFERS], "", "18 ReverseMismatch"),
+        (&[LATE], "17 TimeRange", "17 TimeRange"),
+        (&[DIFFERS, LATE], "17 TimeRange", "18 ReverseMismatch"),
+        (
+            &[DIFFERS, (30, &[0x01, 0x2e])],
+            "12 DataShort",
+            "12 DataShort",
+        ),
+        (
+            &[DIFFERS, LATE, (32, &[0x00, 0x00])],
+            "14 NoRate",
+            "14 NoRate",
+        ),
+        (&[DIFFERS, (30, &[0x00, 0x00])], "", ""),
+    ];
+    for (edits, lenient, strict) in rows {
+        let first = steim(&rt, edits);
+        let second = edited(&rt, alloc, &[&[], edits])?;
+        for (is_strict, kind) in [(false, lenient), (true, strict)] {
+            let asked = options.strict(is_strict);
+            for (input, offset) in [(first.as_slice(), 0), (second.as_slice(), 256)] {
+                let want = if kind.is_empty() {
+                    String::new(alloc)
+                } else {
+                    format!(in alloc; "offset {offset}: {kind}")?
+                };
+                both_tell(&rt, alloc, input, asked, want.as_str())?;
+            }
+        }
+    }
+    Ok(())
+}
+
+// What a reading that is not strict says of the record, and that its check is never strict.
+#[test]
+fn mismatches_are_counted_and_checked(rt: HostRuntime) -> Result<(), Fail> {
+    let alloc = rt.alloc();
+    let options = choice(&rt, 256, 1000);
+    let differs = steim(&rt, &[DIFFERS]);
+    let Ok(report) = repacked(alloc, &differs, options).answer else {
+        panic!(rt; "refused")
+    };
+    assert_eq!(rt; (report.counts.read, report.counts.mismatched), (1, 1));
+    let mut records = TestSink::new(Vec::new(alloc), PLAIN);
+    let mut text = TestSink::new(Vec::new(alloc), PLAIN);
+    let agrees = steim(&rt, &[]);
+    let mut source = TestSource::new(&agrees, PLAIN);
+    let asked = options.strict(true);
+    assert!(rt; repack_and_report(alloc, &mut source, &mut records, &mut text, asked).is_ok());
+    let verdict = check_packed(
+        alloc,
+        &mut TestSource::new(&differs, PLAIN),
+        &mut TestSource::new(text.bytes(), PLAIN),
+    );
+    assert_eq!(rt; verdict, Ok(Verdict::Least));
+    Ok(())
+}
+
+// A flag that is set alone.
+#[test]
+fn strict_options(rt: HostRuntime) {
+    let options = choice(&rt, 4096, 77);
+    assert!(rt; !options.is_strict());
+    let strict = options.strict(true);
+    assert!(rt; strict.is_strict());
+    assert_eq!(rt; (strict.length().bytes(), strict.tolerance()), (4096, 77));
+    assert_eq!(rt; strict.strict(false), options);
+}
+
+// From how many to how many bytes of two records are there, and why they are refused.
+#[test]
+fn inputs_that_are_cut(rt: HostRuntime) -> Result<(), Fail> {
+    let alloc = rt.alloc();
+    let options = choice(&rt, 256, 1000);
+    let rate = Rate::new(20, 1).ok_or("no rate")?;
+    let written = repacked(alloc, &input_of(&rt, alloc, rate, &[0; 302])?, options).sink;
+    let rows: [(usize, usize, &str); 9] = [
+        (0, 0, ""),
+        (1, 47, "offset 0: 1 Truncated"),
+        (48, 63, "offset 0: 4 BadChain"),
+        (64, 255, "offset 0: 10 RecordCut"),
+        (256, 256, ""),
+        (257, 303, "offset 256: 1 Truncated"),
+        (304, 319, "offset 256: 4 BadChain"),
+        (320, 511, "offset 256: 10 RecordCut"),
+        (512, 512, ""),
+    ];
+    for (first, last, want) in rows {
+        for length in first..=last {
+            let Some(shown) = written.bytes().get(..length) else {
+                panic!(rt; "no {length} bytes")
+            };
+            both_tell(&rt, alloc, shown, options, want)?;
+        }
+    }
+    Ok(())
+}
