@@ -156,7 +156,7 @@ pub const PACKED: &str = "The file with the packed records";
 pub const REPORT: &str = "The file with their report";
 
 pub const LENGTH: &str =
-    "Length of the records written, in bytes: 256, 512, 1024, 2048, 4096, 8192, 16384 or 32768";
+    "Bytes of each record written: 256, 512, 1024, 2048, 4096, 8192, 16384, 32768 or 65536";
 
 pub const TOLERANCE: &str =
     "Microseconds by which a record may be early or late and still join a segment: 1 to 1000000";

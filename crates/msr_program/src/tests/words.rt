@@ -198,7 +198,7 @@ fn refuses_with_a_text_of_its_own(rt: HostRuntime) -> Result<(), Fail> {
         (&["msrepack", "repack", "--length", "300", "a"], length),
         (&["msrepack", "repack", "--length", "0", "a"], length),
         (&["msrepack", "repack", "--length", "128", "a"], length),
-        (&["msrepack", "repack", "--length", "65536", "a"], length),
+        (&["msrepack", "repack", "--length", "131072", "a"], length),
         (
             &["msrepack", "repack", "--length", "4294967295", "a"],
             length,
@@ -371,7 +371,7 @@ fn helps(rt: HostRuntime) -> Result<(), Fail> {
         ),
         (
             &["msrepack", "repack", "--help"],
-            "256, 512, 1024, 2048, 4096, 8192, 16384 or 32768\n          \n          [default: 512]\n",
+            "256, 512, 1024, 2048, 4096, 8192, 16384, 32768 or 65536\n          \n          [default: 512]\n",
         ),
         (
             &["msrepack", "repack", "-h"],

@@ -1,8 +1,9 @@
 //! Packed records that are checked with reports typed by hand: each answer but those of sources that fail.
-use crate::tests::fixtures::{PLAIN, joined, plain, steim};
+use crate::tests::fixtures::{Outcome, PLAIN, choice, input_of, joined, plain, repacked, steim};
 use crate::tests::texts::{NO_SEGMENTS, ONE_SEGMENT};
-use crate::{TestSource, ToolFault, Verdict, check_packed};
+use crate::{TestSink, TestSource, ToolFault, Verdict, check_packed};
 use msr_devices::Behavior;
+use msr_time::Rate;
 use std::alloc::{AllocError, Global};
 use std::process::Abort;
 use std::test::Fail;
@@ -86,6 +87,27 @@ fn verdicts(rt: HostRuntime) -> Result<(), Fail> {
         let text = report_of(alloc, length, samples, records, separators)?;
         let found = checked(alloc, &two, text.as_bytes());
         assert_eq!(rt; found, Ok(verdict), "{text}");
+    }
+    Ok(())
+}
+
+// What is repacked is checked with the report that was printed, of the longest records and of shorter ones.
+#[test]
+fn what_was_repacked_is_least(rt: HostRuntime) -> Result<(), Fail> {
+    let alloc = rt.alloc();
+    let rate = Rate::new(20, 1).ok_or("no rate")?;
+    let zeros = vec![in alloc; 0; 65_536]?;
+    for (bytes, count) in [(32_768, 53_641), (65_536, 65_536)] {
+        assert!(rt; count <= zeros.len());
+        let input = input_of(&rt, alloc, rate, &zeros[..count])?;
+        let Outcome { answer, sink } = repacked(alloc, &input, choice(&rt, bytes, 1000));
+        let Ok(report) = answer else {
+            panic!(rt; "refused")
+        };
+        let mut text = TestSink::new(Vec::new(alloc), PLAIN);
+        assert!(rt; report.write_text(alloc, &mut text).is_ok());
+        let verdict = checked(alloc, sink.bytes(), text.bytes());
+        assert_eq!(rt; verdict, Ok(Verdict::Least), "{bytes}");
     }
     Ok(())
 }

@@ -182,6 +182,90 @@ fn fewest_records(rt: HostRuntime) -> Result<(), Fail> {
     Ok(())
 }
 
+// 16369 samples, in turn the least and the greatest.
+fn extremes() -> [i32; 16_369] {
+    let mut samples = [i32::MIN; 16_369];
+    for pair in 0..8184 {
+        samples[2 * pair + 1] = i32::MAX;
+    }
+    samples
+}
+
+// The data area of 65535 samples of 0, of 65472 bytes: 9362 words of seven differences and one of one, in 625 frames,
+// of which the first has thirteen and the last has five.
+fn area_of_zeros(alloc: Global) -> Result<Vec<u8>, AllocError> {
+    let seven = 0x8000_0000u32;
+    let mut words = Vec::new(alloc);
+    for frame in 0..625 {
+        let (codes, constants, sevens) = match frame {
+            0 => (0x03ff_ffff, 2, 13),
+            624 => (0x3fe0_0000, 0, 4),
+            _ => (0x3fff_ffff, 0, 15),
+        };
+        words.push(codes)?;
+        for _ in 0..constants {
+            words.push(0)?;
+        }
+        for _ in 0..sevens {
+            words.push(seven)?;
+        }
+    }
+    words.push(0x4000_0000)?;
+    let mut area = Vec::new(alloc);
+    for word in &words {
+        area.extend_from_slice(&word.to_be_bytes())?;
+    }
+    area.resize(65_472, 0)?;
+    Ok(area)
+}
+
+// The longest record has room for 107401 differences of Steim-2, and its header counts 65535 samples.
+#[test]
+fn as_many_as_are_counted(rt: HostRuntime) -> Result<(), Fail> {
+    let alloc = rt.alloc();
+    let mut zeros = vec![in alloc; 0; 65_535]?;
+    let counted = Worked {
+        name: "as many samples as a header counts",
+        factor: 20,
+        multiplier: 1,
+        bytes: 65_536,
+        read: 66,
+        records: &[(65_535, STEIM2)],
+        separators: &[0],
+    };
+    let one_more = Worked {
+        name: "one sample more than a header counts",
+        records: &[(65_535, STEIM2), (1, STEIM2)],
+        separators: &[0, 65_535],
+        ..counted
+    };
+    let written = packed(&rt, alloc, counted, &zeros)?;
+    assert!(rt; written.get(30..32) == Some([0xff, 0xff].as_slice()));
+    zeros.push(0)?;
+    let written = packed(&rt, alloc, one_more, &zeros)?;
+    // the second starts at 00:54:36 and 7500 ten thousandths, with no microseconds
+    assert!(rt;
+        written.get(65_560..65_566) == Some([0x00, 0x36, 0x24, 0x00, 0x1d, 0x4c].as_slice())
+    );
+    assert_eq!(rt; written.get(65_597).copied(), Some(0));
+    assert_eq!(rt;
+        written.get(63).copied(),
+        Some(0),
+        "more frames than a byte counts"
+    );
+    let area = area_of_zeros(alloc)?;
+    assert!(rt; written.get(64..65_536) == Some(area.as_slice()));
+    let whole = Worked {
+        name: "differences of 33 bits in the longest record",
+        read: 17,
+        records: &[(16_368, INT32), (1, INT32)],
+        separators: &[0, 16_368],
+        ..counted
+    };
+    packed(&rt, alloc, whole, &extremes())?;
+    Ok(())
+}
+
 // 301 samples of 0, and one more.
 const FULL: Worked = Worked {
     name: "one full record",

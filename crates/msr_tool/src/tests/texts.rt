@@ -118,7 +118,7 @@ fn laws_are_callable() {
 
 #[test]
 fn choices(rt: HostRuntime) -> Result<(), Fail> {
-    for bytes in [256, 512, 1024, 2048, 4096, 8192, 16_384, 32_768] {
+    for bytes in [256, 512, 1024, 2048, 4096, 8192, 16_384, 32_768, 65_536] {
         let length = Length::new(bytes).ok_or("no length")?;
         for (tolerance, taken) in [
             (0, false),
