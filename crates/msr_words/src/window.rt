@@ -84,6 +84,7 @@ impl Window {
         ensures window { IsWindow samples.now first self.new }
         ensures first { self.new.first ≡ first }
         ensures end { self.new.end ≡ first + 64 }
+        ensures until { self.new.until ≡ first + 58 }
     {
         for place in 0..PLACES {
             let before = samples[first + place - 1];
@@ -105,6 +106,8 @@ impl Window {
         ensures window { IsWindow samples.now at self.new }
         ensures some { IsTrue result → 0 < at }
         ensures seven { IsTrue result → at + 7 ≤ self.new.end }
+        ensures until { IsTrue result → at < self.new.until }
+        ensures always { 0 < at → 64 < length samples.now → at + 7 ≤ length samples.now → IsTrue result }
     {
         if at < self.until {
             return true;
