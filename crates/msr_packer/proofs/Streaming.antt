@@ -8,8 +8,7 @@ use Rattle.msr_words.specs.declared.lengths.Length.{Length}
 use Rattle.msr_words.specs.Segment.{run_points}
 use Rattle.msr_words.specs.Fit.{Fits, FitsAny, IsRun, IsFirstKind}
 use Rattle.msr_words.specs.Laws.{most_any}
-use Rattle.msr_words.specs.declared.kinds.Kind.TheVariants.{Int16, Int32, Steim1, Steim2}
-use Rattle.msr_words.specs.Lemmas.KindLaws.{back_step_any, empty_int16, empty_int32, empty_steim}
+use Rattle.msr_words.specs.Lemmas.KindLaws.{back_step_any, empty_kind}
 use Rattle.msr_words.specs.Packing.{IsCanonical, IsStep}
 use Rattle.msr_words.proofs.Runs.{run_points_none}
 use Rattle.msr_packer.specs.Live.{Follows, IsLive, IsTracked, kind_of_tracker}
@@ -75,14 +74,8 @@ live_less bytes held g g' k live live' is small frontier start tracker =
 pub begun : (bytes : ℕ) → 256 ≤ bytes → (samples : List ℤ) (start : ℕ) (tracker : KindTracker) → Follows bytes [] tracker → IsTracked bytes samples start start tracker
 begun bytes enough samples start tracker follows = record {
   follows = rw run_points_none follows;
-  fits = rw run_points_none (none_fit (kind_of_tracker tracker));
+  fits = rw run_points_none (empty_kind (kind_of_tracker tracker) bytes (omega arith));
 }
-  where
-    none_fit : (kind : Kind) → Fits kind bytes []
-    none_fit Int16 = empty_int16 bytes (omega arith)
-    none_fit Int32 = empty_int32 bytes (omega arith)
-    none_fit Steim1 = empty_steim _ bytes (omega arith)
-    none_fit Steim2 = empty_steim _ bytes (omega arith)
 
 -- where the step is found that ends with the samples
 pub live_of : (bytes : ℕ) → 256 ≤ bytes → (samples : List ℤ) (g h a : ℕ) (live : Live) → g ≤ h → h ≡ length samples → IsStep (FitsAny bytes) samples g h a → live.start ≡ a → IsTracked bytes samples a (length samples) live.tracker → IsLive bytes samples g (length samples) live
