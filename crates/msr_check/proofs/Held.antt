@@ -2,7 +2,7 @@
 use Rattle.std.proofs.Common.{◌≡◌, ◌↔◌, ℕ, ◌+◌, ◌-◌, ◌<◌, ◌≤◌, min, Bool, true, false, ◌||◌, IsTrue, IsFalse, ℤ, List, length, arith, refl, inl, inr}
 use Rattle.std.proofs.lemmas.Bool.{cases_lt}
 use Rattle.msr_words.specs.declared.kinds.Kind.{Kind}
-use Rattle.msr_words.specs.declared.kinds.Kind.TheVariants.{Int16, Int32, Steim1, Steim2}
+use Rattle.msr_words.specs.declared.kinds.Kind.TheVariants.{Int16, Int24, Int32, Steim1, Steim2}
 use Rattle.msr_words.specs.Segment.{run_points}
 use Rattle.msr_words.specs.Fit.{Fits}
 use Rattle.msr_words.specs.Laws.{look_back_of}
@@ -36,15 +36,8 @@ module _ (bytes : ℕ) (samples : List ℤ) (first second : ℕ) (order : first 
     ]
 
   -- no run of any kind
-  pub none_of_any : (Holds Steim2 bytes samples first second → ⊥) → (Holds Steim1 bytes samples first second → ⊥) → (Holds Int16 bytes samples first second → ⊥) →
-      (Holds Int32 bytes samples first second → ⊥) → NoneHolds bytes samples first second
-  none_of_any two one short long = record { none = λ a b run p q r s. each run.2.0 (record { start = a; end = b; run = (run.0, run.1, run.2.1); from = p; past = s }) }
-    where
-      each : (kind : Kind) → Holds kind bytes samples first second → ⊥
-      each Int16 holds = short holds
-      each Int32 holds = long holds
-      each Steim1 holds = one holds
-      each Steim2 holds = two holds
+  pub none_of_any : ((kind : Kind) → Holds kind bytes samples first second → ⊥) → NoneHolds bytes samples first second
+  none_of_any none = record { none = λ a b run p q r s. none run.2.0 (record { start = a; end = b; run = (run.0, run.1, run.2.1); from = p; past = s }) }
 
   pub some_of_any : (kind : Kind) → Holds kind bytes samples first second → NoneHolds bytes samples first second → ⊥
   some_of_any kind holds none =
@@ -56,24 +49,33 @@ module _ (bytes : ℕ) (samples : List ℤ) (first second : ℕ) (order : first 
   Says answer kind = IsTrue answer ↔ Holds kind bytes samples first second
 
   -- none of the answers for each kind is yes exactly where no run holds both
-  pub none_says : (two one short long : Bool) → (IsTrue two ↔ Holds Steim2 bytes samples first second) → (IsTrue one ↔ Holds Steim1 bytes samples first second) →
-      (IsTrue short ↔ Holds Int16 bytes samples first second) → (IsTrue long ↔ Holds Int32 bytes samples first second) →
-      (IsFalse (((two || one) || short) || long) ↔ NoneHolds bytes samples first second)
+  pub none_says : (two one short middle long : Bool) → (IsTrue two ↔ Holds Steim2 bytes samples first second) → (IsTrue one ↔ Holds Steim1 bytes samples first second) →
+      (IsTrue short ↔ Holds Int16 bytes samples first second) → (IsTrue middle ↔ Holds Int24 bytes samples first second) → (IsTrue long ↔ Holds Int32 bytes samples first second) →
+      (IsFalse ((((two || one) || short) || middle) || long) ↔ NoneHolds bytes samples first second)
   unfolding Says
-  none_says two one short long p q r s = (say two one short long p q r s, hear two one short long p q r s)
+  none_says two one short middle long p q r m s = (say two one short middle long p q r m s, hear two one short middle long p q r m s)
     where
       not : (answer : Bool) (kind : Kind) → Says answer kind → answer ≡ false → Holds kind bytes samples first second → ⊥
       not answer kind says e holds = let t = says.1 holds in cc
 
-      say : (two one short long : Bool) → Says two Steim2 → Says one Steim1 → Says short Int16 → Says long Int32 → IsFalse (((two || one) || short) || long) → NoneHolds bytes samples first second
-      say true one short long p q r s h = absurd cc
-      say false true short long p q r s h = absurd cc
-      say false false true long p q r s h = absurd cc
-      say false false false long p q r s h = none_of_any (not false Steim2 p refl) (not false Steim1 q refl) (not false Int16 r refl) (not long Int32 s h)
+      say : (two one short middle long : Bool) → Says two Steim2 → Says one Steim1 → Says short Int16 → Says middle Int24 → Says long Int32 → IsFalse ((((two || one) || short) || middle) || long) → NoneHolds bytes samples first second
+      say true one short middle long p q r m s h = absurd cc
+      say false true short middle long p q r m s h = absurd cc
+      say false false true middle long p q r m s h = absurd cc
+      say false false false true long p q r m s h = absurd cc
+      say false false false false long p q r m s h = none_of_any none
+        where
+          none : (kind : Kind) → Holds kind bytes samples first second → ⊥
+          none Steim2 = not false Steim2 p refl
+          none Steim1 = not false Steim1 q refl
+          none Int16 = not false Int16 r refl
+          none Int24 = not false Int24 m refl
+          none Int32 = not long Int32 s h
 
-      hear : (two one short long : Bool) → Says two Steim2 → Says one Steim1 → Says short Int16 → Says long Int32 → NoneHolds bytes samples first second → IsFalse (((two || one) || short) || long)
-      hear true one short long p q r s none = absurd (some_of_any Steim2 (p.0 refl) none)
-      hear false true short long p q r s none = absurd (some_of_any Steim1 (q.0 refl) none)
-      hear false false true long p q r s none = absurd (some_of_any Int16 (r.0 refl) none)
-      hear false false false true p q r s none = absurd (some_of_any Int32 (s.0 refl) none)
-      hear false false false false p q r s none = refl
+      hear : (two one short middle long : Bool) → Says two Steim2 → Says one Steim1 → Says short Int16 → Says middle Int24 → Says long Int32 → NoneHolds bytes samples first second → IsFalse ((((two || one) || short) || middle) || long)
+      hear true one short middle long p q r m s none = absurd (some_of_any Steim2 (p.0 refl) none)
+      hear false true short middle long p q r m s none = absurd (some_of_any Steim1 (q.0 refl) none)
+      hear false false true middle long p q r m s none = absurd (some_of_any Int16 (r.0 refl) none)
+      hear false false false true long p q r m s none = absurd (some_of_any Int24 (m.0 refl) none)
+      hear false false false false true p q r m s none = absurd (some_of_any Int32 (s.0 refl) none)
+      hear false false false false false p q r m s none = refl

@@ -40,6 +40,7 @@ fn some_holds_both(samples: &[i32], record_length: Length, first: usize, second:
     holds_both(Kind::Steim2, samples, record_length, first, second)
         | holds_both(Kind::Steim1, samples, record_length, first, second)
         | holds_both(Kind::Int16, samples, record_length, first, second)
+        | holds_both(Kind::Int24, samples, record_length, first, second)
         | holds_both(Kind::Int32, samples, record_length, first, second)
 }
 

@@ -145,6 +145,44 @@ fn which_packings_are_shown_to_be_least(rt: HostRuntime) -> Result<(), Fail> {
     Ok(())
 }
 
+/// 65 samples, 8388607 and -8388608 in turn: a record of 256 bytes holds 64 of them as 24-bit integers, and 48 as 32-bit
+/// ones.
+#[test]
+fn samples_of_24_bits(rt: HostRuntime) -> Result<(), Fail> {
+    let record_length = Length::new(256).ok_or("a length")?;
+    let mut samples = Vec::new(rt.alloc());
+    for place in 0..65 {
+        samples.push(if place % 2 == 0 {
+            8_388_607
+        } else {
+            -8_388_608
+        })?;
+    }
+    for (cut, kind, wanted) in [
+        (64, Kind::Int24, true),
+        (65, Kind::Int24, false),
+        (48, Kind::Int32, false),
+    ] {
+        let runs = [
+            Run {
+                start: 0,
+                end: cut,
+                kind,
+            },
+            Run {
+                start: cut,
+                end: 65,
+                kind: Kind::Steim2,
+            },
+        ];
+        let answer = shows_least(samples.as_slice(), record_length, &runs, &[0, cut]);
+        assert_eq!(rt; answer, wanted, "{cut}");
+    }
+    assert!(rt; separates(samples.as_slice(), record_length, &[0, 64]));
+    assert!(rt; !separates(samples.as_slice(), record_length, &[0, 63]));
+    Ok(())
+}
+
 /// Two samples may stand far apart: no record is long enough to hold both.
 #[test]
 fn a_long_way_between_separators(rt: HostRuntime) -> Result<(), Fail> {

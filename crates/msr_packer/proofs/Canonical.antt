@@ -1,29 +1,12 @@
 -- The canonical packing is determined.
-use Rattle.std.proofs.Common.{◌≡◌, ℕ, zero, suc, ap, ℤ, List, [], ◌∷◌, length, refl, sym, ◌∙◌, subst, arith, inl, inr}
+use Rattle.std.proofs.Common.{◌≡◌, ℕ, ℤ, List, [], ◌∷◌, length, refl, sym, ◌∙◌, subst, arith, inl, inr}
 use Rattle.std.proofs.lemmas.Bool.{cases_lt}
 use Rattle.msr_words.specs.declared.kinds.Kind.{Kind}
-use Rattle.msr_words.specs.declared.kinds.Kind.TheVariants.{Int16, Int32, Steim1, Steim2}
 use Rattle.msr_words.specs.declared.kinds.Run.{Run}
 use Rattle.msr_words.specs.Segment.{run_points}
 use Rattle.msr_words.specs.Fit.{FitsAny, IsRun, rank, IsFirstKind}
 use Rattle.msr_words.specs.Packing.{Joins, IsStep, CanonicalTo, IsCanonical}
-
--- the kind of a rank
-of_rank : ℕ → Kind
-of_rank zero = Steim2
-of_rank (suc zero) = Steim1
-of_rank (suc (suc zero)) = Int16
-of_rank (suc (suc (suc n))) = Int32
-
-of_its_rank : (kind : Kind) → of_rank (rank kind) ≡ kind
-unfolding of_rank
-of_its_rank Steim2 = refl
-of_its_rank Steim1 = refl
-of_its_rank Int16 = refl
-of_its_rank Int32 = refl
-
-rank_same : (k l : Kind) → rank k ≡ rank l → k ≡ l
-rank_same k l e = sym (of_its_rank k) ∙ ap of_rank e ∙ of_its_rank l
+use Rattle.msr_words.proofs.Exist.{rank_same}
 
 first_same : (bytes : ℕ) (run : List (ℤ × ℤ)) (k l : Kind) → IsFirstKind bytes run k → IsFirstKind bytes run l → k ≡ l
 first_same bytes run k l first other =

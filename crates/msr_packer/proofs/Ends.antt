@@ -1,22 +1,23 @@
 -- The ends of runs from a frontier, by kind.
-use Rattle.std.proofs.Common.{◌≡◌, ℕ, ◌+◌, ◌-◌, ◌*◌, ◌<◌, ◌≤◌, ◌⊎◌, min, ℤ, pos, List, [], ◌∷◌, ◌++◌, length, map, arith, refl, sym, ap, ◌∙◌, subst, inl, inr}
+use Rattle.std.proofs.Common.{◌≡◌, ℕ, ◌+◌, ◌-◌, ◌*◌, ◌<◌, ◌≤◌, ◌⊎◌, max, min, ℤ, pos, List, [], ◌∷◌, ◌++◌, length, map, arith, refl, sym, ap, ◌∙◌, subst, inl, inr}
 use Rattle.std.specs.Prelude.{slice_index_or, cond, count_by}
 use Rattle.std.proofs.lemmas.Bool.{cases_lt}
 use Rattle.std.proofs.lemmas.List.{map-append}
 use Rattle.std.proofs.lemmas.List.Sums.{sum_by-append, sum_by_push}
 use Rattle.msr_words.specs.declared.kinds.Kind.{Kind}
-use Rattle.msr_words.specs.declared.kinds.Kind.TheVariants.{Int16, Int32, Steim1, Steim2}
+use Rattle.msr_words.specs.declared.kinds.Kind.TheVariants.{Int16, Int24, Int32, Steim1, Steim2}
 use Rattle.msr_words.specs.Bounds.{BeginsWithFour, IsEnd, is_wide}
 use Rattle.msr_words.specs.Fit.{Fits, IsRun, IsFirstKind, rank}
-use Rattle.msr_words.specs.Laws.{BackStepLaw, most_of}
+use Rattle.msr_words.specs.Laws.{BackStepLaw, look_back_of, most_of}
 use Rattle.msr_words.specs.RecordLength.{words_of}
 use Rattle.msr_words.specs.Segment.{difference_at, run_points}
 use Rattle.msr_words.specs.Lemmas.KindLaws.{back_step_kind, empty_kind, prefix_kind, size_kind}
 use Rattle.msr_words.proofs.Runs.{back_step_run, length_run_points, prefix_run, run_points_cut, run_points_more, run_points_none}
+use Rattle.msr_words.proofs.Exist.{few_kinds, rank_same}
 use Rattle.msr_words.proofs.WordRoom.{rest_of_run}
 use Rattle.msr_packer.specs.declared.step.Ends.{Ends}
-use Rattle.msr_packer.specs.Steps.{AreEnds, IsStepAmong, NonePast}
-use Rattle.msr_packer.proofs.Better.{one_kind}
+use Rattle.msr_packer.specs.Steps.{Among, AreEnds, AreEndsAmong, IsStepAmong, NonePast, end_of, every_kind, longer_kinds}
+use Rattle.msr_packer.proofs.Better.{each_kind, one_kind}
 use Rattle.msr_packer.proofs.Search.{IsBest, best_first, step_found}
 
 pub no_wide : (samples : List ℤ) (a : ℕ) → 0 ≡ count_by is_wide (map (λ p. p.1) (run_points samples a a))
@@ -55,17 +56,26 @@ module _ (bytes : ℕ) (samples : List ℤ) (g : ℕ) where
       let up = run.0 in
       omega arith
 
-  pub longest_int32 : (left : ℕ) → 64 ≤ bytes → g ≤ length samples → left ≡ min (length samples - g) (most_of Int32 bytes) → IsStepAmong (Int32 ∷ []) bytes samples g (record { start = g; end = g + left; kind = Int32 })
-  longest_int32 left header within is =
+  -- a run that is as long as it can be from the frontier
+  pub longest_step : (kind : Kind) (h : ℕ) → look_back_of kind ≡ 0 → IsEnd kind bytes samples g h → IsStepAmong (kind ∷ []) bytes samples g (record { start = g; end = h; kind = kind })
+  longest_step kind h alone is =
+      let run = is.fits in
+      one_kind bytes samples g (Fits kind bytes) kind kind (λ r. (λ f. f, λ f. f)) refl h g run.0
+      (step_found (Fits kind bytes) samples g 0 (subst (λ places. BackStepLaw places (Fits kind bytes)) alone (back_step_kind kind bytes)) 1 h g (omega arith) (best_first (Fits kind bytes) samples g h run is.furthest))
+
+  pub int32_is_end : (left : ℕ) → 64 ≤ bytes → g ≤ length samples → left ≡ min (length samples - g) (most_of Int32 bytes) → IsEnd Int32 bytes samples g (g + left)
+  int32_is_end left header within is =
       let l = length_run_points samples g (g + left) (omega arith) (omega arith) in
       let run : IsRun (Fits Int32 bytes) samples g (g + left) = (omega arith, omega arith, (omega arith, omega arith)) in
-      one_kind bytes samples g (Fits Int32 bytes) Int32 Int32 (λ r. (λ f. f, λ f. f)) refl (g + left) g (omega arith)
-      (step_found (Fits Int32 bytes) samples g 0 (back_step_kind Int32 bytes) 1 (g + left) g (omega arith) (best_first (Fits Int32 bytes) samples g (g + left) run (λ b r.
-      let size = size_kind Int32 bytes (run_points samples g b) r.2 in
-      let k = length_run_points samples g b r.0 r.1 in
-      let up = r.0 in
-      let in' = r.1 in
-      omega arith)))
+      record {
+        fits = run;
+        furthest = λ b r.
+            let size = size_kind Int32 bytes (run_points samples g b) r.2 in
+            let k = length_run_points samples g b r.0 r.1 in
+            let up = r.0 in
+            let in' = r.1 in
+            omega arith;
+      }
 
   -- no record has room for more wide differences than two a word, where that holds of its kind
   pub none_with_wide : (kind : Kind) → ((run : List (ℤ × ℤ)) → Fits kind bytes run → count_by is_wide (map (λ p. p.1) run) ≤ 2 * words_of bytes) → (e : ℕ) → g ≤ e →
@@ -80,12 +90,6 @@ module _ (bytes : ℕ) (samples : List ℤ) (g : ℕ) where
         let sum = ap (count_by is_wide) parts ∙ sum_by-append (λ d. cond (is_wide d) 1 0) (map (λ p. p.1) (run_points samples s g)) (map (λ p. p.1) (run_points samples g e)) in
         absurd (omega arith)
   ]
-
-  -- the step with records of 16-bit integers
-  pub longest_int16 : (h : ℕ) → IsRun (Fits Int16 bytes) samples g h → ((b : ℕ) → IsRun (Fits Int16 bytes) samples g b → b ≤ h) → IsStepAmong (Int16 ∷ []) bytes samples g (record { start = g; end = h; kind = Int16 })
-  longest_int16 h run most =
-      one_kind bytes samples g (Fits Int16 bytes) Int16 Int16 (λ r. (λ f. f, λ f. f)) refl h g run.0
-      (step_found (Fits Int16 bytes) samples g 0 (back_step_kind Int16 bytes) 1 h g (omega arith) (best_first (Fits Int16 bytes) samples g h run most))
 
   -- Steim-1 from the frontier, and from the sample before it
   module _ (end : ℕ) (is : IsEnd Steim1 bytes samples g end) where
@@ -128,78 +132,118 @@ module _ (bytes : ℕ) (samples : List ℤ) (g : ℕ) where
 
 -- ---- what the ends tell
 
+-- they are tried first
+longer_rank : (kind : Kind) → Among longer_kinds kind → rank kind < 3
+longer_rank kind among = elim among [
+  | inl one ↦ subst (λ k. rank k < 3) (sym one) (omega arith)
+  | inr others ↦ elim others [
+    | inl sixteen ↦ subst (λ k. rank k < 3) (sym sixteen) (omega arith)
+    | inr last ↦ elim last [
+      | inl two ↦ subst (λ k. rank k < 3) (sym two) (omega arith)
+      | inr none ↦ absurd none
+    ]
+  ]
+]
+
 module _ (bytes : ℕ) (samples : List ℤ) (g : ℕ) where
-  pub ends_without : (best end e2 e16 : ℕ) → best ≤ end → IsRun (Fits Steim2 bytes) samples g e2 → ((b : ℕ) → IsRun (Fits Steim2 bytes) samples g b → b ≤ e2) →
-      IsRun (Fits Int16 bytes) samples g e16 → NonePast Int16 bytes samples g e16 e2 → 64 ≤ bytes →
-      ((s b : ℕ) → s ≤ g → IsRun (Fits Steim1 bytes) samples s b → (b ≤ e2) ⊎ (b + 1 < best)) → AreEnds bytes samples g end (record { steim2 = e2; steim1 = g; int16 = e16 })
-  ends_without best end e2 e16 over two most sixteen past header short = record {
-    steim2 = two;
-    steim1 = (let up = two.0 in let in' = two.1 in empty_run bytes samples g Steim1 header (omega arith));
-    int16 = sixteen;
-    past_steim2 = λ c near run. most c run;
-    past_steim1 = λ c near run. elim (short g c (omega arith) run) [
-      | inl m ↦ inr m
-      | inr m ↦ absurd (omega arith)
-    ];
-    past_int16 = λ c near run. past g c (omega arith) run;
-  }
+  -- of the kinds of which records are longer than those of 24-bit integers can be
+  pub longer_ends : (end e2 e1 e16 : ℕ) → IsRun (Fits Steim2 bytes) samples g e2 → IsRun (Fits Steim1 bytes) samples g e1 → IsRun (Fits Int16 bytes) samples g e16 →
+      ((c : ℕ) → end ≤ c + 1 → IsRun (Fits Steim2 bytes) samples g c → c ≤ e2) → ((c : ℕ) → end ≤ c + 1 → IsRun (Fits Steim1 bytes) samples g c → (c ≤ e1) ⊎ (c ≤ e2)) →
+      ((c : ℕ) → end ≤ c + 1 → IsRun (Fits Int16 bytes) samples g c → (c ≤ e16) ⊎ (c ≤ e2)) → (ends : Ends) → ends.steim2 ≡ e2 → ends.steim1 ≡ e1 → ends.int16 ≡ e16 → AreEndsAmong longer_kinds bytes samples g end ends
+  longer_ends end e2 e1 e16 two one sixteen past_two past_one past_sixteen ends is2 is1 is16 = record { fit = fit; past = past }
+    where
+      fit : (kind : Kind) → Among longer_kinds kind → IsRun (Fits kind bytes) samples g (end_of ends kind)
+      fit Steim2 among = rw is2 two
+      fit Steim1 among = rw is1 one
+      fit Int16 among = rw is16 sixteen
+      fit Int24 among = absurd (let r = longer_rank Int24 among in omega arith)
+      fit Int32 among = absurd (let r = longer_rank Int32 among in omega arith)
 
-  pub ends_with : (end e2 e16 e1 : ℕ) → IsRun (Fits Steim2 bytes) samples g e2 → ((b : ℕ) → IsRun (Fits Steim2 bytes) samples g b → b ≤ e2) →
-      IsRun (Fits Int16 bytes) samples g e16 → NonePast Int16 bytes samples g e16 e2 → IsRun (Fits Steim1 bytes) samples g e1 → ((b : ℕ) → IsRun (Fits Steim1 bytes) samples g b → b ≤ e1) →
-      AreEnds bytes samples g end (record { steim2 = e2; steim1 = e1; int16 = e16 })
-  ends_with end e2 e16 e1 two most sixteen past one furthest = record {
-    steim2 = two;
-    steim1 = one;
-    int16 = sixteen;
-    past_steim2 = λ c near run. most c run;
-    past_steim1 = λ c near run. inl (furthest c run);
-    past_int16 = λ c near run. past g c (omega arith) run;
-  }
+      past : (kind : Kind) → Among longer_kinds kind → (c : ℕ) → end ≤ c + 1 → IsRun (Fits kind bytes) samples g c → (other : Kind) × Among longer_kinds other × (rank other ≤ rank kind) × (c ≤ end_of ends other)
+      past Steim2 among c near run = (Steim2, among, omega arith, rw is2 (past_two c near run))
+      past Steim1 among c near run = elim (past_one c near run) [
+        | inl m ↦ (Steim1, among, omega arith, rw is1 m)
+        | inr m ↦ (Steim2, inr (inr (inl refl)), omega arith, rw is2 m)
+      ]
+      past Int16 among c near run = elim (past_sixteen c near run) [
+        | inl m ↦ (Int16, among, omega arith, rw is16 m)
+        | inr m ↦ (Steim2, inr (inr (inl refl)), omega arith, rw is2 m)
+      ]
+      past Int24 among c near run = absurd (let r = longer_rank Int24 among in omega arith)
+      past Int32 among c near run = absurd (let r = longer_rank Int32 among in omega arith)
 
-  pub ends_integers : (end e16 : ℕ) → e16 ≤ end → g < e16 → IsRun (Fits Int16 bytes) samples g e16 → ((b : ℕ) → IsRun (Fits Int16 bytes) samples g b → b ≤ e16) → 64 ≤ bytes →
-      ((s b : ℕ) → s ≤ g → IsRun (Fits Steim2 bytes) samples s b → b < e16 - 1) → ((s b : ℕ) → s ≤ g → IsRun (Fits Steim1 bytes) samples s b → b < e16 - 1) →
-      AreEnds bytes samples g end (record { steim2 = g; steim1 = g; int16 = e16 })
-  ends_integers end e16 over some sixteen furthest header none2 none1 = record {
-    steim2 = (let in' = sixteen.1 in empty_run bytes samples g Steim2 header (omega arith));
-    steim1 = (let in' = sixteen.1 in empty_run bytes samples g Steim1 header (omega arith));
-    int16 = sixteen;
-    past_steim2 = λ c near run. (let less = none2 g c (omega arith) run in absurd (omega arith));
-    past_steim1 = λ c near run. (let less = none1 g c (omega arith) run in absurd (omega arith));
-    past_int16 = λ c near run. inl (furthest c run);
-  }
+  -- a run of one of them reaches to the greatest of their ends
+  pub reached_by : (end reached : ℕ) (ends : Ends) → reached ≡ max (max ends.steim2 ends.steim1) ends.int16 → AreEndsAmong longer_kinds bytes samples g end ends → (kind : Kind) × Among longer_kinds kind × IsRun (Fits kind bytes) samples g reached
+  reached_by end reached ends is are = elim (cases_lt (max ends.steim2 ends.steim1) ends.int16) [
+    | inl sixteen ↦ at Int16 (inr (inl refl)) (omega arith)
+    | inr not ↦ elim (cases_lt ends.steim2 ends.steim1) [
+      | inl one ↦ at Steim1 (inl refl) (omega arith)
+      | inr two ↦ at Steim2 (inr (inr (inl refl))) (omega arith)
+    ]
+  ]
+    where
+      at : (kind : Kind) → Among longer_kinds kind → end_of ends kind ≡ reached → (kind : Kind) × Among longer_kinds kind × IsRun (Fits kind bytes) samples g reached
+      at kind among same = (kind, among, subst (IsRun (Fits kind bytes) samples g) same (are.fit kind among))
+
+  -- and of all kinds
+  pub all_ends : (end last reached : ℕ) (ends all : Ends) → reached ≡ max (max ends.steim2 ends.steim1) ends.int16 → end ≤ last → AreEndsAmong longer_kinds bytes samples g end ends → all.steim2 ≡ ends.steim2 → all.steim1 ≡ ends.steim1 → all.int16 ≡ ends.int16 →
+      IsRun (Fits Int24 bytes) samples g all.int24 → NonePast Int24 bytes samples g all.int24 reached → IsEnd Int32 bytes samples g all.int32 → AreEnds bytes samples g last all
+  all_ends end last reached ends all greatest over are is2 is1 is16 run24 past24 end32 = record { fit = fit; past = past }
+    where
+      same : (kind : Kind) → Among longer_kinds kind → end_of all kind ≡ end_of ends kind
+      same Steim2 among = is2
+      same Steim1 among = is1
+      same Int16 among = is16
+      same Int24 among = absurd (let r = longer_rank Int24 among in omega arith)
+      same Int32 among = absurd (let r = longer_rank Int32 among in omega arith)
+
+      fit : (kind : Kind) → Among every_kind kind → IsRun (Fits kind bytes) samples g (end_of all kind)
+      fit Int32 among = end32.fits
+      fit Int24 among = run24
+      fit Steim1 among = rw is1 (are.fit Steim1 (inl refl))
+      fit Int16 among = rw is16 (are.fit Int16 (inr (inl refl)))
+      fit Steim2 among = rw is2 (are.fit Steim2 (inr (inr (inl refl))))
+
+      longer : (kind : Kind) → Among longer_kinds kind → (c : ℕ) → last ≤ c + 1 → IsRun (Fits kind bytes) samples g c → (other : Kind) × Among every_kind other × (rank other ≤ rank kind) × (c ≤ end_of all other)
+      longer kind among c near run = let p = are.past kind among c (omega arith) run in (p.0, inr (inr p.1), p.2, rw (same p.0 p.1) p.3)
+
+      past : (kind : Kind) → Among every_kind kind → (c : ℕ) → last ≤ c + 1 → IsRun (Fits kind bytes) samples g c → (other : Kind) × Among every_kind other × (rank other ≤ rank kind) × (c ≤ end_of all other)
+      past Int32 among c near run = (Int32, among, omega arith, end32.furthest c run)
+      past Int24 among c near run = elim (past24 g c (omega arith) run) [
+        | inl m ↦ (Int24, among, omega arith, m)
+        | inr m ↦ elim (cases_lt ends.steim2 c) [
+          | inr two ↦ (Steim2, each_kind Steim2, omega arith, omega arith)
+          | inl more ↦ elim (cases_lt ends.steim1 c) [
+            | inr one ↦ (Steim1, each_kind Steim1, omega arith, omega arith)
+            | inl most ↦ (Int16, each_kind Int16, omega arith, omega arith)
+          ]
+        ]
+      ]
+      past Steim1 among c near run = longer Steim1 (inl refl) c near run
+      past Int16 among c near run = longer Int16 (inr (inl refl)) c near run
+      past Steim2 among c near run = longer Steim2 (inr (inr (inl refl))) c near run
 
 -- ---- the kind of a run that is cut
 
 module _ (bytes : ℕ) (samples : List ℤ) (g end : ℕ) (ends : Ends) (are : AreEnds bytes samples g end ends) (c : ℕ) (near : end ≤ c + 1) (order : g ≤ c) (within : c ≤ length samples) where
-  up_to : (kind : Kind) (e : ℕ) → IsRun (Fits kind bytes) samples g e → c ≤ e → Fits kind bytes (run_points samples g c)
-  up_to kind e run le = (prefix_run (Fits kind bytes) (prefix_kind kind bytes) samples g c e order le run).2
+  -- the first kind of which the end is not before the cut
+  pub first_by_ends : (kind : Kind) → ((other : Kind) → rank other < rank kind → end_of ends other < c) → c ≤ end_of ends kind → IsFirstKind bytes (run_points samples g c) kind
+  first_by_ends kind before le = (
+    (prefix_run (Fits kind bytes) (prefix_kind kind bytes) samples g c (end_of ends kind) order le (are.fit kind (each_kind kind))).2,
+    λ other less fits.
+        let p = are.past other (each_kind other) c near (order, within, fits) in
+        let lower = p.2 in
+        let up = p.3 in
+        let short = before p.0 (omega arith) in
+        omega arith,
+  )
 
-  not_steim2 : ends.steim2 < c → Fits Steim2 bytes (run_points samples g c) → ⊥
-  not_steim2 past fits = let m = are.past_steim2 c near (order, within, fits) in omega arith
-
-  not_steim1 : ends.steim2 < c → ends.steim1 < c → Fits Steim1 bytes (run_points samples g c) → ⊥
-  not_steim1 past over fits = elim (are.past_steim1 c near (order, within, fits)) [
-    | inl m ↦ omega arith
-    | inr m ↦ omega arith
-  ]
-
-  pub steim2_first : c ≤ ends.steim2 → IsFirstKind bytes (run_points samples g c) Steim2
-  steim2_first le = (up_to Steim2 ends.steim2 are.steim2 le, λ other less fits. absurd (omega arith))
-
-  pub steim1_first : ends.steim2 < c → c ≤ ends.steim1 → IsFirstKind bytes (run_points samples g c) Steim1
-  steim1_first past le = (up_to Steim1 ends.steim1 are.steim1 le, none)
+  -- a run that fits some kind, and reaches past the end of each but the last
+  pub last_by_ends : (some : Kind) → Fits some bytes (run_points samples g c) → ((other : Kind) → rank other < rank Int32 → end_of ends other < c) → IsFirstKind bytes (run_points samples g c) Int32
+  last_by_ends some fits before = first_by_ends Int32 before (reached (are.past some (each_kind some) c near (order, within, fits)))
     where
-      none : (other : Kind) → rank other < 1 → Fits other bytes (run_points samples g c) → ⊥
-      none Steim2 less fits = not_steim2 past fits
-      none Steim1 less fits = omega arith
-      none Int16 less fits = omega arith
-      none Int32 less fits = omega arith
-
-  pub int16_first : ends.steim2 < c → ends.steim1 < c → c ≤ ends.int16 → IsFirstKind bytes (run_points samples g c) Int16
-  int16_first past over le = (up_to Int16 ends.int16 are.int16 le, none)
-    where
-      none : (other : Kind) → rank other < 2 → Fits other bytes (run_points samples g c) → ⊥
-      none Steim2 less fits = not_steim2 past fits
-      none Steim1 less fits = not_steim1 past over fits
-      none Int16 less fits = omega arith
-      none Int32 less fits = omega arith
+      reached : (other : Kind) × Among every_kind other × (rank other ≤ rank some) × (c ≤ end_of ends other) → c ≤ end_of ends Int32
+      reached p = elim (cases_lt (rank p.0) (rank Int32)) [
+        | inl lower ↦ let short = before p.0 lower in let up = p.3 in absurd (omega arith)
+        | inr last ↦ subst (λ k. c ≤ end_of ends k) (rank_same p.0 Int32 (let few = few_kinds p.0 in omega arith)) p.3
+      ]

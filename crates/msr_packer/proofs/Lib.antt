@@ -6,9 +6,9 @@ pub mod Holding
 pub mod InBlocks
 pub mod Least
 pub mod Narrow
+pub mod OfBits
 pub mod Reach
 pub mod Search
-pub mod SixteenBits
 pub mod Steim1Sizes
 pub mod Streaming
 pub mod Windows

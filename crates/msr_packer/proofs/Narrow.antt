@@ -1,5 +1,5 @@
 -- A step of Steim-2 that met narrow differences alone.
-use Rattle.std.proofs.Common.{◌≡◌, ℕ, ◌+◌, ◌<◌, ◌≤◌, min, ℤ, List, [], ◌∷◌, length, get_or, arith, refl, sym, subst, inl, inr}
+use Rattle.std.proofs.Common.{◌≡◌, ℕ, ◌+◌, ◌<◌, ◌≤◌, min, ℤ, List, length, get_or, arith, sym, subst, inl, inr}
 use Rattle.std.proofs.lemmas.Bool.{cases_lt}
 use Rattle.std.proofs.lemmas.List.Elements.{All-nil, All-push}
 use Rattle.std.specs.Prelude.{pos, slice_index_or}
@@ -7,12 +7,10 @@ use Rattle.msr_words.specs.declared.kinds.Kind.TheVariants.{Steim1, Steim2}
 use Rattle.msr_words.specs.Fit.{Fits, IsRun}
 use Rattle.msr_words.specs.Laws.{IsNarrow}
 use Rattle.msr_words.specs.Segment.{difference_at, run_points}
-use Rattle.msr_words.specs.Lemmas.KindLaws.{back_step_kind, prefix_kind}
+use Rattle.msr_words.specs.Lemmas.KindLaws.{prefix_kind}
 use Rattle.msr_words.proofs.Dominance.{steim2_dominates}
 use Rattle.msr_words.proofs.Runs.{prefix_run, run_points_cut, run_points_more, run_points_none}
-use Rattle.msr_packer.specs.Steps.{AreNarrow, AreNarrowThrough, IsStepAmong}
-use Rattle.msr_packer.proofs.Better.{one_kind}
-use Rattle.msr_packer.proofs.Search.{best_first, step_found}
+use Rattle.msr_packer.specs.Steps.{AreNarrow, AreNarrowThrough}
 
 pub none_narrow : (samples : List ℤ) (a : ℕ) → AreNarrow samples a a
 none_narrow samples a = rw run_points_none (All-nil (λ (p : ℤ × ℤ). IsNarrow p.1))
@@ -23,11 +21,6 @@ one_narrow samples a i le less here all =
     (All-push (λ (p : ℤ × ℤ). IsNarrow p.1) (run_points samples a i) (slice_index_or samples i (pos 0), difference_at samples i) all here)
 
 module _ (bytes : ℕ) (samples : List ℤ) (g h : ℕ) (run : IsRun (Fits Steim2 bytes) samples g h) (most : (b : ℕ) → IsRun (Fits Steim2 bytes) samples g b → b ≤ h) where
-  pub steim2_alone : IsStepAmong (Steim2 ∷ []) bytes samples g (record { start = g; end = h; kind = Steim2 })
-  steim2_alone =
-      one_kind bytes samples g (Fits Steim2 bytes) Steim2 Steim2 (λ r. (λ f. f, λ f. f)) refl h g run.0
-      (step_found (Fits Steim2 bytes) samples g 0 (back_step_kind Steim2 bytes) 1 h g (omega arith) (best_first (Fits Steim2 bytes) samples g h run most))
-
   module _ (narrow : AreNarrowThrough samples g h) where
     pub no_further : (s b : ℕ) → s ≤ g → IsRun (Fits Steim1 bytes) samples s b → b ≤ h
     no_further s b le one = elim (cases_lt h b) [

@@ -6,10 +6,10 @@ use Rattle.msr_words.specs.Fit.{Fits, FitsAny, IsRun}
 use Rattle.msr_words.specs.Packing.{IsStep}
 use Rattle.msr_words.specs.RecordLength.{words_of}
 use Rattle.msr_words.specs.Segment.{run_points}
-use Rattle.msr_words.specs.Trackers.{FollowsInt16, FollowsInt32, FollowsSteim1, FollowsSteim2}
+use Rattle.msr_words.specs.Trackers.{FollowsInt16, FollowsInt24, FollowsInt32, FollowsSteim1, FollowsSteim2}
 use Rattle.msr_packer.specs.Steps.{AreEnds}
 use Rattle.msr_packer.specs.declared.live.KindTracker.{KindTracker}
-use Rattle.msr_packer.specs.declared.live.KindTracker.TheVariants.{Int16, Int32, Steim1, Steim2}
+use Rattle.msr_packer.specs.declared.live.KindTracker.TheVariants.{Int16, Int24, Int32, Steim1, Steim2}
 use Rattle.msr_packer.specs.declared.live.Live.{Live}
 use Rattle.msr_packer.specs.declared.step.Found.{Found}
 
@@ -18,6 +18,7 @@ abbrev pub kind_of_tracker : KindTracker → Kind
 kind_of_tracker (Steim2 t) = kinds.Steim2
 kind_of_tracker (Steim1 t) = kinds.Steim1
 kind_of_tracker (Int16 t) = kinds.Int16
+kind_of_tracker (Int24 t) = kinds.Int24
 kind_of_tracker (Int32 t) = kinds.Int32
 
 -- the run was pushed to the tracker
@@ -25,6 +26,7 @@ abbrev pub Follows : ℕ → List (ℤ × ℤ) → KindTracker → Type 0
 Follows bytes run (Steim2 t) = FollowsSteim2 bytes run t.left t.count t.most t.more t.fits
 Follows bytes run (Steim1 t) = FollowsSteim1 (words_of bytes) (map (λ p. p.1) run) t.words t.counts t.fits
 Follows bytes run (Int16 t) = FollowsInt16 bytes run t.left t.fits
+Follows bytes run (Int24 t) = FollowsInt24 bytes run t.left t.fits
 Follows bytes run (Int32 t) = FollowsInt32 bytes run t.left t.fits
 
 -- the samples `start` to n-1 were pushed to the tracker, and fit

@@ -1,9 +1,9 @@
 -- Steps from a frontier with records of some kinds.
 use Rattle.std.specs.Prelude.{◌≡◌, ℕ, ◌+◌, ◌<◌, ◌≤◌, ◌⊎◌, min, ℤ, List, [], ◌∷◌, length, All}
+use Rattle.msr_words.specs.Bounds.{IsOfBits}
 use Rattle.msr_words.specs.declared.kinds.Kind.{Kind}
-use Rattle.msr_words.specs.declared.kinds.Kind.TheVariants.{Int16, Steim1, Steim2}
-use Rattle.msr_words.specs.Bounds.{IsInt16}
-use Rattle.msr_words.specs.Fit.{Fits, IsRun}
+use Rattle.msr_words.specs.declared.kinds.Kind.TheVariants.{Int16, Int24, Int32, Steim1, Steim2}
+use Rattle.msr_words.specs.Fit.{Fits, IsRun, rank}
 use Rattle.msr_words.specs.Laws.{IsNarrow}
 use Rattle.msr_words.specs.Segment.{run_points}
 use Rattle.msr_packer.specs.declared.step.Ends.{Ends}
@@ -38,16 +38,32 @@ AreNarrowThrough samples a b = AreNarrow samples a (min (b + 1) (length samples)
 abbrev pub NonePast : Kind → ℕ → List ℤ → ℕ → ℕ → ℕ → Type 0
 NonePast kind bytes samples g end other = (s b : ℕ) → s ≤ g → IsRun (Fits kind bytes) samples s b → (b ≤ end) ⊎ (b ≤ other)
 
--- Runs from the frontier g to these ends fit. Where a step reaches to `end`, a run from g to there, or to the sample
--- before it, fits a kind only where it ends at or before the end of that kind, or of one that is tried before it.
-pub record AreEnds (bytes : ℕ) (samples : List ℤ) (g end : ℕ) (ends : Ends) : Type 0 where
-  pub steim2 : IsRun (Fits Steim2 bytes) samples g ends.steim2
-  pub steim1 : IsRun (Fits Steim1 bytes) samples g ends.steim1
-  pub int16 : IsRun (Fits Int16 bytes) samples g ends.int16
-  pub past_steim2 : (c : ℕ) → end ≤ c + 1 → IsRun (Fits Steim2 bytes) samples g c → c ≤ ends.steim2
-  pub past_steim1 : (c : ℕ) → end ≤ c + 1 → IsRun (Fits Steim1 bytes) samples g c → (c ≤ ends.steim1) ⊎ (c ≤ ends.steim2)
-  pub past_int16 : (c : ℕ) → end ≤ c + 1 → IsRun (Fits Int16 bytes) samples g c → (c ≤ ends.int16) ⊎ (c ≤ ends.steim2)
+-- the end of a run of each kind
+abbrev pub end_of : Ends → Kind → ℕ
+end_of ends Steim2 = ends.steim2
+end_of ends Steim1 = ends.steim1
+end_of ends Int16 = ends.int16
+end_of ends Int24 = ends.int24
+end_of ends Int32 = ends.int32
 
--- the samples a to b-1 are of 16 bits
-abbrev pub AreInt16 : List ℤ → ℕ → ℕ → Type 0
-AreInt16 samples a b = All (λ p. IsInt16 p.0) (run_points samples a b)
+-- Runs of these kinds from the frontier g to their ends fit. Where a step reaches to `end`, a run from g to there, or to
+-- the sample before it, fits one of them only where it ends at or before the end of that kind, or of one that is tried
+-- before it.
+pub record AreEndsAmong (kinds : List Kind) (bytes : ℕ) (samples : List ℤ) (g end : ℕ) (ends : Ends) : Type 0 where
+  pub fit : (kind : Kind) → Among kinds kind → IsRun (Fits kind bytes) samples g (end_of ends kind)
+  pub past : (kind : Kind) → Among kinds kind → (c : ℕ) → end ≤ c + 1 → IsRun (Fits kind bytes) samples g c
+      → (other : Kind) × Among kinds other × (rank other ≤ rank kind) × (c ≤ end_of ends other)
+
+-- the kinds of which records are longer than those of 24-bit integers can be
+abbrev pub longer_kinds : List Kind
+longer_kinds = Steim1 ∷ Int16 ∷ Steim2 ∷ []
+
+abbrev pub every_kind : List Kind
+every_kind = Int32 ∷ Int24 ∷ longer_kinds
+
+abbrev pub AreEnds : ℕ → List ℤ → ℕ → ℕ → Ends → Type 0
+AreEnds bytes samples g end ends = AreEndsAmong every_kind bytes samples g end ends
+
+-- the samples a to b-1 are of so many bits
+abbrev pub AreOfBits : ℕ → List ℤ → ℕ → ℕ → Type 0
+AreOfBits bits samples a b = All (λ p. IsOfBits bits p.0) (run_points samples a b)

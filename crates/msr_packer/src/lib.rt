@@ -59,6 +59,8 @@ fn kind_of(
         Kind::Steim1
     } else if end <= found.ends.int16 {
         Kind::Int16
+    } else if end <= found.ends.int24 {
+        Kind::Int24
     } else {
         Kind::Int32
     }

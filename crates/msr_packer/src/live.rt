@@ -8,7 +8,7 @@ ghost use Rattle.msr_words.specs.Segment.{difference_at, run_points};
 ghost use Rattle.msr_packer.specs.Live.{Follows, IsDecided, IsLive, IsTracked, kind_of_tracker};
 
 use crate::step::{Found, next_step};
-use msr_words::{Int16, Int32, Kind, Length, Steim1, Steim2, Tracker};
+use msr_words::{Int16, Int24, Int32, Kind, Length, Steim1, Steim2, Tracker};
 
 /// A tracker of one of the kinds.
 #[derive(Clone, Copy, Debug)]
@@ -16,6 +16,7 @@ pub enum KindTracker {
     Steim2(Steim2),
     Steim1(Steim1),
     Int16(Int16),
+    Int24(Int24),
     Int32(Int32),
 }
 
@@ -66,6 +67,7 @@ impl KindTracker {
             Kind::Steim2 => KindTracker::Steim2(Steim2::start(record_length)),
             Kind::Steim1 => KindTracker::Steim1(Steim1::start(record_length)),
             Kind::Int16 => KindTracker::Int16(Int16::start(record_length)),
+            Kind::Int24 => KindTracker::Int24(Int24::start(record_length)),
             Kind::Int32 => KindTracker::Int32(Int32::start(record_length)),
         }
     }
@@ -86,6 +88,9 @@ impl KindTracker {
                 Some(KindTracker::Steim1(all_taken(tracker, samples, from)?))
             }
             KindTracker::Int16(tracker) => Some(KindTracker::Int16(all_taken(
+                tracker, samples, from,
+            )?)),
+            KindTracker::Int24(tracker) => Some(KindTracker::Int24(all_taken(
                 tracker, samples, from,
             )?)),
             KindTracker::Int32(tracker) => Some(KindTracker::Int32(all_taken(

@@ -2,19 +2,19 @@
 
 ghost use Rattle.std.specs.Prelude.{pos, slice_index_or, ◌≡◌, ℕ, ◌+◌, ◌<◌, ◌≤◌, ◌⊎◌, ◌∷◌, [], length, List, IsTrue, IsFalse, IfSome, map, count_by};
 ghost use Rattle.msr_words.specs.declared.kinds.Kind.{Kind};
-ghost use Rattle.msr_words.specs.declared.kinds.Kind.TheVariants.{Int16 as Integers16, Int32 as Integers32, Steim1 as FirstSteim, Steim2 as SecondSteim};
-ghost use Rattle.msr_words.specs.Bounds.{BeginsWithFour, IsEnd, IsInt16, is_wide};
+ghost use Rattle.msr_words.specs.declared.kinds.Kind.TheVariants.{Int32 as Integers32, Steim1 as FirstSteim, Steim2 as SecondSteim};
+ghost use Rattle.msr_words.specs.Bounds.{AreIntegers, BeginsWithFour, IsEnd, IsOfBits, is_wide};
 ghost use Rattle.msr_words.specs.Lengths.{bytes_of};
 ghost use Rattle.msr_words.specs.Fit.{Fits, FitsAny, IsRun};
 ghost use Rattle.msr_words.specs.Packing.{IsStep};
-ghost use Rattle.msr_words.specs.Laws.{IsNarrow};
+ghost use Rattle.msr_words.specs.Laws.{IsNarrow, look_back_of};
 ghost use Rattle.msr_words.specs.Segment.{difference_at, run_points};
 ghost use Rattle.msr_words.specs.Window.{IsSize};
-ghost use Rattle.msr_packer.specs.Steps.{AreEnds, AreInt16, AreNarrowThrough, IsStepAmong, NonePast, NotLess};
+ghost use Rattle.msr_packer.specs.Steps.{AreEnds, AreEndsAmong, AreNarrowThrough, AreOfBits, IsStepAmong, NonePast, NotLess, longer_kinds};
 
 use crate::steim1::steim1_reach;
 use msr_words::{
-    Int16, Int32, Kind, Length, Steim2, Tracker, Window, difference, fits_bits, is_narrow,
+    Int32, Kind, Length, Steim2, Tracker, Window, difference, fits_bits, is_narrow,
     steim2_greedy_reach, wide_one,
 };
 
@@ -47,6 +47,8 @@ pub struct Ends {
     pub steim2: usize,
     pub steim1: usize,
     pub int16: usize,
+    pub int24: usize,
+    pub int32: usize,
 }
 
 /// A step, with the ends that tell the kind of its run where that is cut.
@@ -113,30 +115,34 @@ fn size_of(sample: i32) -> u32
     }
 }
 
-/// Whether the bits of the samples from `start` to `end - 1` tell together that each of them is of 16 bits.
-fn all_int16(samples: &[i32], start: usize, end: usize) -> bool
+/// Whether the bits of the samples from `start` to `end - 1` tell together that each of them is of so many bits.
+fn all_of_bits(samples: &[i32], start: usize, end: usize, bits: u32) -> bool
     requires order { start ≤ end }
     requires within { end ≤ length samples.now }
-    ensures { IsTrue result → AreInt16 samples.now start end }
+    requires positive { 0 < bits }
+    requires small { bits ≤ 32 }
+    ensures { IsTrue result → AreOfBits bits samples.now start end }
 {
     let mut sizes = 0;
     for at in start..end {
         sizes |= size_of(samples[at]);
     }
-    sizes < 32_768
+    fits_bits(i64::from(sizes), bits)
 }
 
-/// The first sample from `start` on that is not of 16 bits, or `end`.
-fn first_wider(samples: &[i32], start: usize, end: usize) -> usize
+/// The first sample from `start` on that is not of so many bits, or `end`.
+fn first_wider(samples: &[i32], start: usize, end: usize, bits: u32) -> usize
     requires order { start ≤ end }
     requires within { end ≤ length samples.now }
+    requires positive { 0 < bits }
+    requires small { bits ≤ 32 }
     ensures from { start ≤ result }
     ensures to { result ≤ end }
-    ensures before { AreInt16 samples.now start result }
-    ensures there { result < end → IsInt16 (slice_index_or samples.now result (pos 0)) → ⊥ }
+    ensures before { AreOfBits bits samples.now start result }
+    ensures there { result < end → IsOfBits bits (slice_index_or samples.now result (pos 0)) → ⊥ }
 {
     for at in start..end {
-        if !fits_bits(i64::from(samples[at]), 16) {
+        if !fits_bits(i64::from(samples[at]), bits) {
             return at;
         }
     }
@@ -146,51 +152,70 @@ fn first_wider(samples: &[i32], start: usize, end: usize) -> usize
 /// How many samples are tried together.
 const TOGETHER: usize = 64;
 
-/// The greatest end of a run of 16-bit integers from `start` on.
-fn furthest_int16(samples: &[i32], record_length: Length, start: usize) -> usize
-    requires { start ≤ length samples.now }
-    ensures fits { IsRun (Fits Integers16 (bytes_of record_length)) samples.now start result }
-    ensures furthest { (end : ℕ) → IsRun (Fits Integers16 (bytes_of record_length)) samples.now start end → end ≤ result }
+/// The greatest end of a run of integers of so many bits from `start` on. The first sample is tried by itself, since
+/// it mostly tells that all are wider.
+fn furthest_integers(
+    samples: &[i32],
+    record_length: Length,
+    start: usize,
+    kind: Kind,
+    bits: u32,
+) -> usize
+    requires within { start ≤ length samples.now }
+    requires are { AreIntegers kind bits (bytes_of record_length) }
+    requires positive { 0 < bits }
+    requires small { bits ≤ 32 }
+    ensures { IsEnd kind (bytes_of record_length) samples.now start result }
 {
-    let end = start + Int16::most(record_length).min(samples.len() - start);
+    let end = start + kind.most(record_length).min(samples.len() - start);
     let mut at = start;
+    let mut together: usize = 1;
     while at < end {
-        let next = at + TOGETHER.min(end - at);
-        if !all_int16(samples, at, next) {
-            let wider = first_wider(samples, at, next);
+        let next = at + together.min(end - at);
+        if !all_of_bits(samples, at, next, bits) {
+            let wider = first_wider(samples, at, next, bits);
             if wider < next {
                 return wider;
             }
         }
         at = next;
+        together = TOGETHER;
     }
     end
 }
 
-/// The end of a run of 16-bit integers from the frontier on; where none is long enough to reach behind `end`, the frontier.
-fn int16_end(samples: &[i32], record_length: Length, frontier: usize, end: usize) -> usize
+/// The end of a run of integers of so many bits from the frontier on; where none is long enough to reach behind `end`, the
+/// frontier.
+fn integers_end(
+    samples: &[i32],
+    record_length: Length,
+    frontier: usize,
+    end: usize,
+    kind: Kind,
+    bits: u32,
+) -> usize
     requires order { frontier ≤ end }
     requires within { end ≤ length samples.now }
-    ensures fits { IsRun (Fits Integers16 (bytes_of record_length)) samples.now frontier result }
-    ensures past { NonePast Integers16 (bytes_of record_length) samples.now frontier result end }
+    requires are { AreIntegers kind bits (bytes_of record_length) }
+    requires alone { look_back_of kind ≡ 0 }
+    requires positive { 0 < bits }
+    requires small { bits ≤ 32 }
+    ensures fits { IsRun (Fits kind (bytes_of record_length)) samples.now frontier result }
+    ensures past { NonePast kind (bytes_of record_length) samples.now frontier result end }
 {
-    if end - frontier >= Int16::most(record_length) {
+    if end - frontier >= kind.most(record_length) {
         return frontier;
     }
-    furthest_int16(samples, record_length, frontier)
+    furthest_integers(samples, record_length, frontier, kind, bits)
 }
 
-/// The step from the frontier with records of 32-bit integers.
-fn int32_step(samples: &[i32], record_length: Length, frontier: usize) -> Step
+/// The greatest end of a run of 32-bit integers from the frontier on.
+fn int32_end(samples: &[i32], record_length: Length, frontier: usize) -> usize
     requires { frontier ≤ length samples.now }
-    ensures { IsStepAmong (Integers32 ∷ []) (bytes_of record_length) samples.now frontier result }
+    ensures { IsEnd Integers32 (bytes_of record_length) samples.now frontier result }
 {
     let left = samples.len() - frontier;
-    Step {
-        start: frontier,
-        end: frontier + left.min(Int32::most(record_length)),
-        kind: Kind::Int32,
-    }
+    frontier + left.min(Int32::most(record_length))
 }
 
 /// Whether no Steim-1 record that starts at or before the frontier reaches behind the end of Steim-2 and close to `end`.
@@ -274,6 +299,47 @@ fn has_more_wide(samples: &[i32], start: usize, end: usize, most: usize) -> bool
     wide > most
 }
 
+/// The better of a step and those with records of 24-bit and 32-bit integers, where the ends of the kinds of which records
+/// are longer are known.
+fn with_wide_integers(
+    samples: &[i32],
+    record_length: Length,
+    frontier: usize,
+    step: Step,
+    ends: Ends,
+) -> Found
+    requires within { frontier ≤ length samples.now }
+    requires step { IsStepAmong longer_kinds (bytes_of record_length) samples.now frontier step }
+    requires ends { AreEndsAmong longer_kinds (bytes_of record_length) samples.now frontier step.end ends }
+    ensures step { IsStep (FitsAny (bytes_of record_length)) samples.now frontier result.step.end result.step.start }
+    ensures kind { IsRun (Fits result.step.kind (bytes_of record_length)) samples.now result.step.start result.step.end }
+    ensures ends { AreEnds (bytes_of record_length) samples.now frontier result.step.end result.ends }
+{
+    let reached = ends.steim2.max(ends.steim1).max(ends.int16);
+    let int24 = integers_end(samples, record_length, frontier, reached, Kind::Int24, 24);
+    let by_int24 = Step {
+        start: frontier,
+        end: int24,
+        kind: Kind::Int24,
+    };
+    let int32 = int32_end(samples, record_length, frontier);
+    let by_int32 = Step {
+        start: frontier,
+        end: int32,
+        kind: Kind::Int32,
+    };
+    Found {
+        step: step.or(by_int24).or(by_int32),
+        ends: Ends {
+            steim2: ends.steim2,
+            steim1: ends.steim1,
+            int16: ends.int16,
+            int24,
+            int32,
+        },
+    }
+}
+
 /// The step from a frontier with records of integers alone, where those of 16 bits reach so far that too many of the
 /// differences up to there are of more than 10 bits for a record of differences.
 fn integers_alone(samples: &[i32], record_length: Length, frontier: usize) -> Option<Found>
@@ -282,7 +348,7 @@ fn integers_alone(samples: &[i32], record_length: Length, frontier: usize) -> Op
     ensures kind { IfSome result (λ found. IsRun (Fits found.step.kind (bytes_of record_length)) samples.now found.step.start found.step.end) }
     ensures ends { IfSome result (λ found. AreEnds (bytes_of record_length) samples.now frontier found.step.end found.ends) }
 {
-    let int16 = furthest_int16(samples, record_length, frontier);
+    let int16 = furthest_integers(samples, record_length, frontier, Kind::Int16, 16);
     if int16 == frontier {
         return None;
     }
@@ -295,14 +361,14 @@ fn integers_alone(samples: &[i32], record_length: Length, frontier: usize) -> Op
         end: int16,
         kind: Kind::Int16,
     };
-    Some(Found {
-        step: by_int16.or(int32_step(samples, record_length, frontier)),
-        ends: Ends {
-            steim2: frontier,
-            steim1: frontier,
-            int16,
-        },
-    })
+    let ends = Ends {
+        steim2: frontier,
+        steim1: frontier,
+        int16,
+        int24: frontier,
+        int32: frontier,
+    };
+    Some(with_wide_integers(samples, record_length, frontier, by_int16, ends))
 }
 
 /// The step from a frontier. `likely` is the kind that is tried first where it is Int16; the step is the same whatever it is.
@@ -329,7 +395,7 @@ pub fn step_from(samples: &[i32], record_length: Length, frontier: usize) -> Fou
     ensures ends { AreEnds (bytes_of record_length) samples.now frontier result.step.end result.ends }
 {
     let reach = steim2_reach(samples, record_length, frontier);
-    let int16 = int16_end(samples, record_length, frontier, reach.end);
+    let int16 = integers_end(samples, record_length, frontier, reach.end, Kind::Int16, 16);
     let by_steim2 = Step {
         start: frontier,
         end: reach.end,
@@ -341,25 +407,17 @@ pub fn step_from(samples: &[i32], record_length: Length, frontier: usize) -> Fou
         kind: Kind::Int16,
     };
     let best = by_steim2.or(by_int16);
-    let by_int32 = int32_step(samples, record_length, frontier);
+    let mut ends = Ends {
+        steim2: reach.end,
+        steim1: frontier,
+        int16,
+        int24: frontier,
+        int32: frontier,
+    };
     if steim1_is_short(samples, record_length, frontier, reach, best.end) {
-        return Found {
-            step: best.or(by_int32),
-            ends: Ends {
-                steim2: reach.end,
-                steim1: frontier,
-                int16,
-            },
-        };
+        return with_wide_integers(samples, record_length, frontier, best, ends);
     }
-    let steim1 = steim1_reach(samples, record_length, frontier);
-    let by_steim1 = steim1_step(samples, record_length, frontier, steim1);
-    Found {
-        step: best.or(by_steim1).or(by_int32),
-        ends: Ends {
-            steim2: reach.end,
-            steim1,
-            int16,
-        },
-    }
+    ends.steim1 = steim1_reach(samples, record_length, frontier);
+    let by_steim1 = steim1_step(samples, record_length, frontier, ends.steim1);
+    with_wide_integers(samples, record_length, frontier, best.or(by_steim1), ends)
 }

@@ -4,8 +4,8 @@ ghost use Rattle.std.specs.Prelude.{◌≡◌};
 ghost use Rattle.msr_packer.specs.Blocks.{pushed};
 
 use crate::{BlockPacker, Packing, Piece, Run, StreamPacker, pack};
-use Made::{Extremes, Noise, Signs, Swings, Turns, Zeros};
-use msr_words::Kind::{self, Int16, Int32, Steim1, Steim2};
+use Made::{Bounds, Extremes, Noise, Signs, Swings, Turns, Zeros};
+use msr_words::Kind::{self, Int16, Int24, Int32, Steim1, Steim2};
 use msr_words::Length;
 use std::alloc::{AllocError, Global};
 use std::test::Fail;
@@ -18,6 +18,8 @@ enum Made {
     Signs(usize),
     /// So many: 1000000 at even places and 1020000 at odd ones, but this one at the places from 84 to 88.
     Swings(usize, i32),
+    /// 8388607 at even places and -8388608 at odd ones.
+    Bounds(usize),
     /// The two samples that lie furthest apart, in turn.
     Extremes(usize),
     /// So many, by a seed, of noise of that height.
@@ -42,7 +44,11 @@ fn of_height(number: u64, height: u32) -> i32 {
 impl Made {
     fn count(self) -> usize {
         match self {
-            Zeros(count) | Signs(count) | Swings(count, _) | Extremes(count) => count,
+            Zeros(count)
+            | Signs(count)
+            | Swings(count, _)
+            | Bounds(count)
+            | Extremes(count) => count,
             Noise(count, _, _) | Turns(count, _, _, _, _) => count,
         }
     }
@@ -69,6 +75,7 @@ impl Made {
                     1_020_000
                 }
             }
+            Bounds(_) => { if even { 8_388_607 } else { -8_388_608 } }
             Extremes(_) => { if even { -2_147_483_648 } else { 2_147_483_647 } }
             Noise(_, _, height) => of_height(number, height),
             Turns(_, _, calm, loud, stretch) => {
@@ -93,7 +100,7 @@ impl Made {
 type Row = (u32, Made, &'static [(u64, Kind)], &'static [u64]);
 
 /// Those of noise were found by a search over all cuts, starts and divisions into groups.
-const ROWS: [Row; 23] = [
+const ROWS: [Row; 24] = [
     // 43 words of seven differences
     (256, Zeros(301), &[(301, Steim2)], &[0]),
     (256, Zeros(302), &[(301, Steim2), (302, Steim2)], &[0, 301]),
@@ -116,6 +123,8 @@ const ROWS: [Row; 23] = [
     ),
     // 96 places of 16 bits
     (256, Signs(97), &[(96, Int16), (97, Steim2)], &[0, 96]),
+    // 64 places of 24 bits
+    (256, Bounds(65), &[(64, Int24), (65, Steim2)], &[0, 64]),
     // where each record starts at the frontier, three are needed
     (
         256,
@@ -201,8 +210,8 @@ const ROWS: [Row; 23] = [
     (
         256,
         Turns(200, 42, 1_000, 70_000, 90),
-        &[(96, Int16), (159, Steim1), (200, Steim2)],
-        &[0, 96, 159],
+        &[(96, Int16), (160, Int24), (200, Steim2)],
+        &[0, 96, 160],
     ),
     // differences of more than 32 bits
     (

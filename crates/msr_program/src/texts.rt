@@ -12,8 +12,8 @@ report can check that again. Fewest is over records as msrepack writes them: 64 
 before the data, the first difference taken from the sample before, none wrapped.
 
 It reads records with blockette 1000, with or without blockette 1001, in either byte
-order: 16-bit and 32-bit integers, Steim-1 and Steim-2. A file with anything else is
-refused with the place and the reason. No record that has samples is skipped.";
+order: 16-bit, 24-bit and 32-bit integers, Steim-1 and Steim-2. A file with anything
+else is refused with the place and the reason. No record that has samples is skipped.";
 
 pub const AFTER: &str = "With no words msrepack does what `msrepack repack -` does.
 
@@ -36,9 +36,9 @@ pub const REPACK_LONG_ABOUT: &str =
 
 The records go to OUT, the report to standard output. The records are big-endian,
 have blockettes 1000 and 1001 and 64 bytes before the data, and hold their samples as
-Steim-2, or else as Steim-1, 16-bit or 32-bit integers, whichever first fits. The time
-of each record is that of its first sample, counted from the start of its segment and
-rounded to the microsecond.
+Steim-2, or else as Steim-1, 16-bit, 24-bit or 32-bit integers, whichever first fits.
+The time of each record is that of its first sample, counted from the start of its
+segment and rounded to the microsecond.
 
 The report has the length and the tolerance, how many records were read, how many of
 them had no samples, and in how many the last sample was not the reverse constant;

@@ -12,12 +12,14 @@ use Rattle.msr_header.specs.declared.header.Order.TheVariants.{Big}
 use Rattle.msr_steim.specs.Area.{differences as joined, CarriesSteim, ReverseAgrees as FramesAgree}
 use Rattle.msr_steim.specs.Frames.{differences_after, frame_bytes}
 use Rattle.msr_steim.proofs.Filled.{filled_carries, filled_reverse}
+use Rattle.msr_plain.specs.Plain.{FitsThreeBytes}
 use Rattle.msr_steim.specs.Word.{AreGroups, FitsBits}
 use Rattle.msr_steim.specs.declared.word.Version.{Version}
 use Rattle.msr_words.specs.Fit.{Fits}
 use Rattle.msr_words.specs.RecordLength.{least_exponent, most_exponent, words_of}
 use Rattle.msr_words.specs.Segment.{differences, points, points_after}
 use Rattle.msr_words.specs.declared.kinds.Kind.{Kind}
+use Rattle.msr_words.specs.declared.kinds.Kind.TheVariants.{Int16, Int24, Int32, Steim1, Steim2}
 
 -- the points of some samples have the samples
 after_samples : (before : ℤ) (xs : List ℤ) → map (λ (p : ℤ × ℤ). p.0) (points_after before xs) ≡ xs
@@ -36,11 +38,20 @@ fits_16 : (z : ℤ) → FitsBits 16 z → FitsSigned w16 z
 fits_16 (pos n) h = omega (arith, ints, h)
 fits_16 (negsuc n) h = omega (arith, ints, h)
 
--- the samples of points of 16 bits
+fits_24 : (z : ℤ) → FitsBits 24 z → FitsThreeBytes z
+fits_24 (pos n) h = h
+fits_24 (negsuc n) h = h
+
+-- the samples of points of so many bits
+all_of_bits : (bits : ℕ) (before : Option ℤ) (xs : List ℤ) → All (λ (p : ℤ × ℤ). FitsBits bits p.0) (points before xs) → All (FitsBits bits) xs
+all_of_bits bits before xs h =
+    All-same (FitsBits bits) xs (map (λ (p : ℤ × ℤ). p.0) (points before xs)) (sym (points_samples before xs)) (All-map (FitsBits bits) (λ (p : ℤ × ℤ). p.0) (points before xs) h)
+
 pub all_16 : (before : Option ℤ) (xs : List ℤ) → All (λ (p : ℤ × ℤ). FitsBits 16 p.0) (points before xs) → All (FitsSigned w16) xs
-all_16 before xs h =
-    All-weaker (FitsBits 16) (FitsSigned w16) fits_16 xs
-    (All-same (FitsBits 16) xs (map (λ (p : ℤ × ℤ). p.0) (points before xs)) (sym (points_samples before xs)) (All-map (FitsBits 16) (λ (p : ℤ × ℤ). p.0) (points before xs) h))
+all_16 before xs h = All-weaker (FitsBits 16) (FitsSigned w16) fits_16 xs (all_of_bits 16 before xs h)
+
+pub all_24 : (before : Option ℤ) (xs : List ℤ) → All (λ (p : ℤ × ℤ). FitsBits 24 p.0) (points before xs) → All FitsThreeBytes xs
+all_24 before xs h = All-weaker (FitsBits 24) FitsThreeBytes fits_24 xs (all_of_bits 24 before xs h)
 
 -- the differences of a run are those from the sample before it, or from its first sample
 after_differences : (before : ℤ) (xs : List ℤ) → map (λ (p : ℤ × ℤ). p.1) (points_after before xs) ≡ differences_after before xs

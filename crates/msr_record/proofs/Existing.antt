@@ -14,7 +14,7 @@ use Rattle.msr_header.specs.declared.header.Header.{Header}
 use Rattle.msr_header.specs.declared.header.Order.TheVariants.{Big}
 use Rattle.msr_header.proofs.WrittenLemmas.{HasLengths, HasRanges, header_length, reads_back}
 use Rattle.msr_plain.specs.declared.Width.{Width}
-use Rattle.msr_plain.specs.declared.Width.TheVariants.{Two as TwoBytes, Four as FourBytes}
+use Rattle.msr_plain.specs.declared.Width.TheVariants.{Two as TwoBytes, Three as ThreeBytes, Four as FourBytes}
 use Rattle.msr_plain.specs.Plain.{CarriesPlain, FitsWidth, bytes_of_all, size_of}
 use Rattle.msr_plain.proofs.CarriedLemmas.{carried, length-bytes_of_all}
 use Rattle.msr_steim.specs.declared.word.Version.{Version}
@@ -28,13 +28,13 @@ use Rattle.msr_words.specs.Fit.{Fits}
 use Rattle.msr_words.specs.RecordLength.{IsRecordLength, words_of}
 use Rattle.msr_words.specs.Segment.{differences, points}
 use Rattle.msr_words.specs.declared.kinds.Kind.{Kind}
-use Rattle.msr_words.specs.declared.kinds.Kind.TheVariants.{Int16, Int32, Steim1, Steim2}
+use Rattle.msr_words.specs.declared.kinds.Kind.TheVariants.{Int16, Int24, Int32, Steim1, Steim2}
 use Rattle.msr_words.proofs.Exist.{has_division}
 use Rattle.msr_record.specs.Area.{Carries, ReverseAgrees}
 use Rattle.msr_record.specs.Correction.{is_pending}
 use Rattle.msr_record.specs.Written.{AppendsRecord, AreFrames, AreNumbers, IsKey, IsWrittenArea, frame_count, header_for}
 use Rattle.msr_record.specs.declared.row.Key.{Key}
-use Rattle.msr_record.proofs.AreaLemmas.{all_16, few_samples, frames_carry, frames_end, length-points, room_for, whole_frames}
+use Rattle.msr_record.proofs.AreaLemmas.{all_16, all_24, few_samples, frames_carry, frames_end, length-points, room_for, whole_frames}
 use Rattle.msr_record.proofs.WritingLemmas.{appends_record}
 
 -- ---- the data area
@@ -100,6 +100,9 @@ record HasArea (kind : Kind) (before : Option ℤ) (samples : List ℤ) (size : 
 area_of : (kind : Kind) (before : Option ℤ) (samples : List ℤ) (size : ℕ) → IsRecordLength size → 1 ≤ length samples → All (FitsSigned w32) samples → Fits kind size (points before samples) → HasArea kind before samples (size - 64)
 area_of Int16 before samples size power some fit fits =
     let n = numbers_of TwoBytes samples (size - 64) (all_16 before samples fits.1.0) (omega (arith, fits.1.1, length-points before samples)) in
+    record { frames = 0; area = n.area; is_area = n.are; long = n.long; carries = n.carries; agrees = tt }
+area_of Int24 before samples size power some fit fits =
+    let n = numbers_of ThreeBytes samples (size - 64) (all_24 before samples fits.0) (omega (arith, fits.1, length-points before samples)) in
     record { frames = 0; area = n.area; is_area = n.are; long = n.long; carries = n.carries; agrees = tt }
 area_of Int32 before samples size power some fit fits =
     let n = numbers_of FourBytes samples (size - 64) fit (omega (arith, fits.1, length-points before samples)) in

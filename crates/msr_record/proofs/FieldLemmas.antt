@@ -8,7 +8,7 @@ use Rattle.msr_record.specs.Kinds.{kind_of_code}
 use Rattle.msr_record.specs.Records.{has_rate, has_area, field_faults, first_fault}
 use Rattle.msr_words.specs.Fit.{code_of}
 use Rattle.msr_words.specs.declared.kinds.Kind.{Kind}
-use Rattle.msr_words.specs.declared.kinds.Kind.TheVariants.{Int16, Int32, Steim1, Steim2}
+use Rattle.msr_words.specs.declared.kinds.Kind.TheVariants.{Int16, Int24, Int32, Steim1, Steim2}
 use Rattle.msr_record.specs.declared.fault.FaultKind.TheVariants.{NoRate, OtherEncoding, BadDataOffset}
 
 -- the test of a number against 0
@@ -52,12 +52,14 @@ area_within h e = let p = and_parts _ _ e in (leb-true _ _ p.0, leb-true _ _ p.1
 -- the kind of an encoding is the one that has it
 pub kind_is_of_code : (code : ℕ) (found : Option Kind) → ((kind : Kind) → (found ≡ Some kind ↔ code_of kind ≡ code)) → found ≡ kind_of_code code
 kind_is_of_code code (Some Int16) h = let e = (h Int16).0 refl in rw (← e) refl
+kind_is_of_code code (Some Int24) h = let e = (h Int24).0 refl in rw (← e) refl
 kind_is_of_code code (Some Int32) h = let e = (h Int32).0 refl in rw (← e) refl
 kind_is_of_code code (Some Steim1) h = let e = (h Steim1).0 refl in rw (← e) refl
 kind_is_of_code code (Some Steim2) h = let e = (h Steim2).0 refl in rw (← e) refl
 kind_is_of_code code None h =
     let a : code ≢ 1 = λ e. (let s : ◌≡◌ {A = Option Kind} None (Some Int16) = (h Int16).1 (sym e) in cc) in
+    let f : code ≢ 2 = λ e. (let s : ◌≡◌ {A = Option Kind} None (Some Int24) = (h Int24).1 (sym e) in cc) in
     let b : code ≢ 3 = λ e. (let s : ◌≡◌ {A = Option Kind} None (Some Int32) = (h Int32).1 (sym e) in cc) in
     let c : code ≢ 10 = λ e. (let s : ◌≡◌ {A = Option Kind} None (Some Steim1) = (h Steim1).1 (sym e) in cc) in
     let d : code ≢ 11 = λ e. (let s : ◌≡◌ {A = Option Kind} None (Some Steim2) = (h Steim2).1 (sym e) in cc) in
-    grind (arith, a, b, c, d)
+    grind (arith, a, b, c, d, f)

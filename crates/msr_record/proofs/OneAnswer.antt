@@ -8,7 +8,7 @@ use Rattle.msr_header.specs.declared.header.Order.{Order}
 use Rattle.msr_header.specs.declared.fault.HeaderFault.{HeaderFault}
 use Rattle.msr_plain.specs.Plain.{CarriesPlain, size_of}
 use Rattle.msr_plain.specs.declared.Width.{Width}
-use Rattle.msr_plain.specs.declared.Width.TheVariants.{Two as TwoBytes, Four as FourBytes}
+use Rattle.msr_plain.specs.declared.Width.TheVariants.{Two as TwoBytes, Three as ThreeBytes, Four as FourBytes}
 use Rattle.msr_steim.specs.Area.{CarriesSteim, EndsBefore, IsUndefinedBefore}
 use Rattle.msr_steim.specs.declared.word.Version.{Version}
 use Rattle.msr_steim.specs.declared.word.Version.TheVariants.{One, Two}
@@ -19,7 +19,7 @@ use Rattle.msr_record.specs.Area.{Carries, AreaHasFault, IntegersHaveFault, Fram
 use Rattle.msr_record.specs.Records.{data_area, HasSamples, HasArea, IsRowOf, RowIsInTime, FieldsAreRefused, AreaIsRefused, IsOutOfTime, IsRefused, IsRecordOf, AgreesAtEnd}
 use Rattle.msr_record.specs.Reverse.{HasReverse, IsRefusedBeforeTime}
 use Rattle.msr_words.specs.declared.kinds.Kind.{Kind}
-use Rattle.msr_words.specs.declared.kinds.Kind.TheVariants.{Int16, Int32, Steim1, Steim2}
+use Rattle.msr_words.specs.declared.kinds.Kind.TheVariants.{Int16, Int24, Int32, Steim1, Steim2}
 use Rattle.msr_record.specs.declared.row.Key.{Key}
 use Rattle.msr_record.specs.declared.row.Row.{Row}
 use Rattle.msr_record.specs.declared.row.Record.{Record}
@@ -32,6 +32,7 @@ integers_one width order area xs ys p q e = ext_get_or (pos 0) xs ys e (λ i h. 
 
 samples_one : (kind : Kind) (order : Order) (area : List ℕ) (xs ys : List ℤ) → Carries kind order area xs → Carries kind order area ys → length xs ≡ length ys → xs ≡ ys
 samples_one Int16 order area xs ys p q e = integers_one TwoBytes order area xs ys p q e
+samples_one Int24 order area xs ys p q e = integers_one ThreeBytes order area xs ys p q e
 samples_one Int32 order area xs ys p q e = integers_one FourBytes order area xs ys p q e
 samples_one Steim1 order area xs ys p q e = carries_one One order area xs ys p q e
 samples_one Steim2 order area xs ys p q e = carries_one Two order area xs ys p q e
@@ -62,6 +63,7 @@ frames_not version order area xs fault p (undefined word e h) = not_undefined ve
 -- an area that carries the samples has no fault
 area_not : (kind : Kind) (order : Order) (area : List ℕ) (xs : List ℤ) (fault : FaultKind) → Carries kind order area xs → AreaHasFault kind order area (length xs) fault → ⊥
 area_not Int16 order area xs fault p f = integers_not TwoBytes order area xs fault p f
+area_not Int24 order area xs fault p f = integers_not ThreeBytes order area xs fault p f
 area_not Int32 order area xs fault p f = integers_not FourBytes order area xs fault p f
 area_not Steim1 order area xs fault p f = frames_not One order area xs fault p (frame_fault One order area (length xs) fault f)
 area_not Steim2 order area xs fault p f = frames_not Two order area xs fault p (frame_fault Two order area (length xs) fault f)
@@ -75,6 +77,7 @@ frames_one version order area count f g (undefined word e h) (undefined word' d 
 -- an area has one fault
 area_one : (kind : Kind) (order : Order) (area : List ℕ) (count : ℕ) (f g : FaultKind) → AreaHasFault kind order area count f → AreaHasFault kind order area count g → f ≡ g
 area_one Int16 order area count f g p q = (integer_fault TwoBytes area count f p).0 ∙ sym (integer_fault TwoBytes area count g q).0
+area_one Int24 order area count f g p q = (integer_fault ThreeBytes area count f p).0 ∙ sym (integer_fault ThreeBytes area count g q).0
 area_one Int32 order area count f g p q = (integer_fault FourBytes area count f p).0 ∙ sym (integer_fault FourBytes area count g q).0
 area_one Steim1 order area count f g p q = frames_one One order area count f g (frame_fault One order area count f p) (frame_fault One order area count g q)
 area_one Steim2 order area count f g p q = frames_one Two order area count f g (frame_fault Two order area count f p) (frame_fault Two order area count g q)

@@ -11,7 +11,7 @@ use Rattle.msr_steim.specs.declared.word.Version.TheVariants.{One, Two}
 use Rattle.msr_words.proofs.Choosing.{one_chosen}
 use Rattle.msr_words.specs.Segment.{differences}
 use Rattle.msr_words.specs.declared.kinds.Kind.{Kind}
-use Rattle.msr_words.specs.declared.kinds.Kind.TheVariants.{Int16, Int32, Steim1, Steim2}
+use Rattle.msr_words.specs.declared.kinds.Kind.TheVariants.{Int16, Int24, Int32, Steim1, Steim2}
 use Rattle.msr_record.specs.Written.{AreFrames, AreNumbers, IsWritten, IsWrittenArea, frame_count, header_for}
 use Rattle.msr_record.specs.declared.row.Key.{Key}
 
@@ -39,6 +39,7 @@ frames_one version before samples size f g a b p q =
 
 area_one : (kind : Kind) (before : Option ℤ) (samples : List ℤ) (size f g : ℕ) (a b : List ℕ) → IsWrittenArea kind before samples size f a → IsWrittenArea kind before samples size g b → (f ≡ g) × (a ≡ b)
 area_one Int16 before samples size f g a b p q = numbers_one _ samples size f g a b p q
+area_one Int24 before samples size f g a b p q = numbers_one _ samples size f g a b p q
 area_one Int32 before samples size f g a b p q = numbers_one _ samples size f g a b p q
 area_one Steim1 before samples size f g a b p q = frames_one One before samples size f g a b p q
 area_one Steim2 before samples size f g a b p q = frames_one Two before samples size f g a b p q

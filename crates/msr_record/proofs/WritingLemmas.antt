@@ -17,7 +17,7 @@ use Rattle.msr_header.specs.declared.header.Header.{Header}
 use Rattle.msr_words.specs.RecordLength.{least_exponent, most_exponent}
 use Rattle.msr_words.specs.Fit.{code_of}
 use Rattle.msr_words.specs.declared.kinds.Kind.{Kind}
-use Rattle.msr_words.specs.declared.kinds.Kind.TheVariants.{Int16, Int32, Steim1, Steim2}
+use Rattle.msr_words.specs.declared.kinds.Kind.TheVariants.{Int16, Int24, Int32, Steim1, Steim2}
 use Rattle.msr_record.specs.Kinds.{kind_of_code}
 use Rattle.msr_record.specs.Correction.{key_of, start_of, is_pending, correction_micros}
 use Rattle.msr_record.specs.Area.{Carries, ReverseAgrees}
@@ -29,6 +29,7 @@ use Rattle.msr_record.proofs.FieldLemmas.{has_rate-true, fields_pass}
 
 kind_back : (kind : Kind) → kind_of_code (code_of kind) ≡ Some kind
 kind_back Int16 = refl
+kind_back Int24 = refl
 kind_back Int32 = refl
 kind_back Steim1 = refl
 kind_back Steim2 = refl

@@ -3,18 +3,19 @@ use Rattle.std.specs.Prelude.{◌<◌, ℕ, ◌*◌, ℤ, List, length}
 use Rattle.msr_header.specs.declared.header.Order.{Order}
 use Rattle.msr_plain.specs.Plain.{size_of, CarriesPlain}
 use Rattle.msr_plain.specs.declared.Width.{Width}
-use Rattle.msr_plain.specs.declared.Width.TheVariants.{Two as TwoBytes, Four as FourBytes}
+use Rattle.msr_plain.specs.declared.Width.TheVariants.{Two as TwoBytes, Three as ThreeBytes, Four as FourBytes}
 use Rattle.msr_steim.specs.Area.{CarriesSteim, ReverseAgrees as FramesAgree, EndsBefore, IsUndefinedBefore}
 use Rattle.msr_steim.specs.declared.word.Version.{Version}
 use Rattle.msr_steim.specs.declared.word.Version.TheVariants.{One, Two}
 use Rattle.msr_words.specs.declared.kinds.Kind.{Kind}
-use Rattle.msr_words.specs.declared.kinds.Kind.TheVariants.{Int16, Int32, Steim1, Steim2}
+use Rattle.msr_words.specs.declared.kinds.Kind.TheVariants.{Int16, Int24, Int32, Steim1, Steim2}
 use Rattle.msr_record.specs.declared.fault.FaultKind.{FaultKind}
 use Rattle.msr_record.specs.declared.fault.FaultKind.TheVariants.{DataShort, BadCode}
 
 -- the area carries these samples
 abbrev pub Carries : Kind → Order → List ℕ → List ℤ → Type 0
 Carries Int16 order area samples = CarriesPlain TwoBytes order area samples
+Carries Int24 order area samples = CarriesPlain ThreeBytes order area samples
 Carries Int32 order area samples = CarriesPlain FourBytes order area samples
 Carries Steim1 order area samples = CarriesSteim One order area samples
 Carries Steim2 order area samples = CarriesSteim Two order area samples
@@ -33,6 +34,7 @@ FramesHaveFault version order area count _ = ⊥
 -- why the area does not carry so many samples
 abbrev pub AreaHasFault : Kind → Order → List ℕ → ℕ → FaultKind → Type 0
 AreaHasFault Int16 order area count fault = IntegersHaveFault TwoBytes area count fault
+AreaHasFault Int24 order area count fault = IntegersHaveFault ThreeBytes area count fault
 AreaHasFault Int32 order area count fault = IntegersHaveFault FourBytes area count fault
 AreaHasFault Steim1 order area count fault = FramesHaveFault One order area count fault
 AreaHasFault Steim2 order area count fault = FramesHaveFault Two order area count fault
@@ -40,6 +42,7 @@ AreaHasFault Steim2 order area count fault = FramesHaveFault Two order area coun
 -- the last sample is the reverse constant, where the kind has one
 abbrev pub ReverseAgrees : Kind → Order → List ℕ → List ℤ → Type 0
 ReverseAgrees Int16 order area samples = Unit {0}
+ReverseAgrees Int24 order area samples = Unit {0}
 ReverseAgrees Int32 order area samples = Unit {0}
 ReverseAgrees Steim1 order area samples = FramesAgree order area samples
 ReverseAgrees Steim2 order area samples = FramesAgree order area samples

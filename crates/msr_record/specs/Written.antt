@@ -8,7 +8,7 @@ use Rattle.msr_header.specs.declared.header.Header.{Header}
 use Rattle.msr_header.specs.Writing.{header_bytes}
 use Rattle.msr_plain.specs.Plain.{bytes_of_all, size_of}
 use Rattle.msr_plain.specs.declared.Width.{Width}
-use Rattle.msr_plain.specs.declared.Width.TheVariants.{Two as TwoBytes, Four as FourBytes}
+use Rattle.msr_plain.specs.declared.Width.TheVariants.{Two as TwoBytes, Three as ThreeBytes, Four as FourBytes}
 use Rattle.msr_steim.specs.Frames.{frame_bytes}
 use Rattle.msr_steim.specs.declared.word.Version.{Version}
 use Rattle.msr_steim.specs.declared.word.Version.TheVariants.{One, Two}
@@ -17,7 +17,7 @@ use Rattle.msr_words.specs.Fit.{Fits, code_of}
 use Rattle.msr_words.specs.RecordLength.{IsRecordLength}
 use Rattle.msr_words.specs.Segment.{differences, points}
 use Rattle.msr_words.specs.declared.kinds.Kind.{Kind}
-use Rattle.msr_words.specs.declared.kinds.Kind.TheVariants.{Int16, Int32, Steim1, Steim2}
+use Rattle.msr_words.specs.declared.kinds.Kind.TheVariants.{Int16, Int24, Int32, Steim1, Steim2}
 use Rattle.msr_header.specs.Reading.{is_quality}
 use Rattle.msr_record.specs.Correction.{is_pending}
 use Rattle.msr_record.specs.Records.{IsRowOf, IsRecordOf, IsInTime}
@@ -74,6 +74,7 @@ pub record AreFrames (version : Version) (before : Option ℤ) (samples : List �
 -- the data area of so many bytes that is written for these samples, with the frame count for it
 abbrev pub IsWrittenArea : Kind → Option ℤ → List ℤ → ℕ → ℕ → List ℕ → Type 0
 IsWrittenArea Int16 before samples size frames area = AreNumbers TwoBytes samples size frames area
+IsWrittenArea Int24 before samples size frames area = AreNumbers ThreeBytes samples size frames area
 IsWrittenArea Int32 before samples size frames area = AreNumbers FourBytes samples size frames area
 IsWrittenArea Steim1 before samples size frames area = AreFrames One before samples size frames area
 IsWrittenArea Steim2 before samples size frames area = AreFrames Two before samples size frames area

@@ -74,6 +74,7 @@ pub(crate) fn decode_area(
 {
     match kind {
         Kind::Int16 => decode_integers(alloc, Width::Two, order, area, count),
+        Kind::Int24 => decode_integers(alloc, Width::Three, order, area, count),
         Kind::Int32 => decode_integers(alloc, Width::Four, order, area, count),
         Kind::Steim1 => decode_frames(alloc, Version::One, order, area, count),
         Kind::Steim2 => decode_frames(alloc, Version::Two, order, area, count),

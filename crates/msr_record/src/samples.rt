@@ -158,6 +158,7 @@ pub(crate) fn view_area<'a>(
 {
     match kind {
         Kind::Int16 => view_integers(Width::Two, order, area, count),
+        Kind::Int24 => view_integers(Width::Three, order, area, count),
         Kind::Int32 => view_integers(Width::Four, order, area, count),
         Kind::Steim1 => view_frames(Version::One, order, area, count),
         Kind::Steim2 => view_frames(Version::Two, order, area, count),

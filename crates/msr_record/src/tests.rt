@@ -111,7 +111,7 @@ fn text(rt: &impl Abort, alloc: Global, bytes: &[u8], want: &str) -> Result<(), 
 
 #[test]
 fn refusals(rt: HostRuntime) -> Result<(), Fail> {
-    let rows: [(usize, &[(usize, &[u8])], &str); 21] = [
+    let rows: [(usize, &[(usize, &[u8])], &str); 22] = [
         (47, &[], "1 Truncated"),
         (256, &[(6, &[0x58])], "2 NotARecord"),
         (256, &[(20, &[0x07, 0xe3, 0x01, 0x6e])], "3 BadTime"),
@@ -137,6 +137,7 @@ fn refusals(rt: HostRuntime) -> Result<(), Fail> {
         (256, &[(32, &[0x00, 0x00])], "14 NoRate"),
         (256, &[(52, &[0x04])], "15 OtherEncoding 4"),
         (256, &[(44, &[0x00, 0x3f])], "16 BadDataOffset"),
+        (256, &[(52, &[0x02])], "12 DataShort"),
         (256, &[(30, &[0x01, 0x2e])], "12 DataShort"),
         (
             256,
@@ -292,6 +293,22 @@ fn plain_samples(rt: HostRuntime) {
     ];
     let row = read(&rt, rt.alloc(), &plain(&rt, &HEADER, &little));
     assert!(rt; row.samples.as_slice() == [-32768, 32767].as_slice());
+    let three: [(usize, &[u8]); 3] = [
+        (30, &[0, 2]),
+        (52, &[2]),
+        (64, &[0x80, 0, 0, 0x7f, 0xff, 0xff]),
+    ];
+    let row = read(&rt, rt.alloc(), &plain(&rt, &HEADER, &three));
+    assert!(rt; row.samples.as_slice() == [-8388608, 8388607].as_slice());
+    assert!(rt; row.kind == Kind::Int24);
+    let little: [(usize, &[u8]); 4] = [
+        (30, &[0, 2]),
+        (52, &[2]),
+        (53, &[0]),
+        (64, &[0, 0, 0x80, 0xff, 0xff, 0x7f]),
+    ];
+    let row = read(&rt, rt.alloc(), &plain(&rt, &HEADER, &little));
+    assert!(rt; row.samples.as_slice() == [-8388608, 8388607].as_slice());
 }
 
 #[test]
@@ -331,6 +348,7 @@ fn written_records(rt: HostRuntime) -> Result<(), Fail> {
     let zeros = [0; 301];
     let ends = [-2147483648, 2147483647];
     let shorts = [-32768, 32767];
+    let bounds = [8388607, -8388608];
     let alternating = alternating();
     let cut: [(usize, &[u8]); 5] = [
         (5, &[0x32]),
@@ -375,8 +393,14 @@ fn written_records(rt: HostRuntime) -> Result<(), Fail> {
         (63, &[0]),
         (64, &[0x80, 0, 0x7f, 0xff]),
     ];
+    let threes: [(usize, &[u8]); 4] = [
+        (30, &[0, 2]),
+        (52, &[2]),
+        (63, &[0]),
+        (64, &[0x7f, 0xff, 0xff, 0x80, 0, 0]),
+    ];
     // start, sequence number, sample before, run, kind, bytes
-    let rows: [(i64, u32, Option<i32>, &[i32], Kind, [u8; 256]); 6] = [
+    let rows: [(i64, u32, Option<i32>, &[i32], Kind, [u8; 256]); 7] = [
         (START, 1, None, &zeros, Kind::Steim2, steim(&rt, &[])),
         (
             START + 15_050_000,
@@ -417,6 +441,14 @@ fn written_records(rt: HostRuntime) -> Result<(), Fail> {
             &shorts,
             Kind::Int16,
             plain(&rt, &HEADER, &halves),
+        ),
+        (
+            START,
+            1,
+            None,
+            &bounds,
+            Kind::Int24,
+            plain(&rt, &HEADER, &threes),
         ),
     ];
     let Some(rate) = Rate::new(20, 1) else {

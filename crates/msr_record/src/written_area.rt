@@ -102,6 +102,10 @@ pub(crate) fn fill_area(
             fill_plain(Width::Two, run, area);
             Ok(0)
         },
+        Kind::Int24 => {
+            fill_plain(Width::Three, run, area);
+            Ok(0)
+        }
         Kind::Int32 => {
             fill_plain(Width::Four, run, area);
             Ok(0)

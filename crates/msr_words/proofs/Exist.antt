@@ -202,7 +202,7 @@ its_rank (suc (suc zero)) = omega arith
 its_rank (suc (suc (suc zero))) = omega arith
 its_rank (suc (suc (suc (suc n)))) = omega arith
 
-few_kinds : (kind : Kind) → rank kind < 5
+pub few_kinds : (kind : Kind) → rank kind < 5
 few_kinds Steim2 = omega arith
 few_kinds Steim1 = omega arith
 few_kinds Int16 = omega arith

@@ -1,7 +1,7 @@
 //! Prints how many samples a second each tracker of msr_words takes, over a day of made-up samples.
 #![tactic(auto)]
 
-use msr_words::{AnyKind, Codec, Int16, Int32, Length, Steim1, Steim2, Tracker};
+use msr_words::{AnyKind, Codec, Int16, Int24, Int32, Length, Steim1, Steim2, Tracker};
 use std::alloc::{AllocError, Global};
 use std::time::Instant;
 use std::{env, io};
@@ -109,6 +109,9 @@ fn main(rt: HostRuntime) -> io::Result<()> {
     let points = make_day(rt.alloc())?;
     if chosen("Int16") {
         measure_kind::<Int16>(&rt, "Int16", &points, record_length, rounds)?;
+    }
+    if chosen("Int24") {
+        measure_kind::<Int24>(&rt, "Int24", &points, record_length, rounds)?;
     }
     if chosen("Int32") {
         measure_kind::<Int32>(&rt, "Int32", &points, record_length, rounds)?;

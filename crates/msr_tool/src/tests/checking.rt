@@ -112,6 +112,51 @@ fn what_was_repacked_is_least(rt: HostRuntime) -> Result<(), Fail> {
     Ok(())
 }
 
+// 65 samples, 8388607 and -8388608 in turn, of which the first record has 48 as 32-bit integers. As 24-bit integers one
+// record holds 64 of them.
+#[test]
+fn records_from_before_24_bits(rt: HostRuntime) -> Result<(), Fail> {
+    let alloc = rt.alloc();
+    let mut first = plain(&rt, &[(30, &[0x00, 0x30]), (52, &[0x03]), (63, &[0x00])]);
+    for pair in 0..24 {
+        first[8 * pair + 64..8 * pair + 72].copy_from_slice(&[
+            0x00, 0x7f, 0xff, 0xff, 0xff, 0x80, 0x00, 0x00,
+        ]);
+    }
+    let mut second = plain(
+        &rt,
+        &[
+            (5, &[0x32]),
+            (26, &[0x02, 0x00, 0x0f, 0xa0]),
+            (30, &[0x00, 0x11]),
+            (63, &[0x02]),
+            (64, &[0x02, 0xaa, 0xaa, 0xaa, 0x00, 0x7f, 0xff, 0xff]),
+            (72, &[0x00, 0x7f, 0xff, 0xff]),
+            (128, &[0x2a, 0x80, 0x00, 0x00]),
+        ],
+    );
+    for place in 0..17 {
+        let at = if place < 13 {
+            76 + 4 * place
+        } else {
+            80 + 4 * place
+        };
+        let word = if place % 2 == 0 {
+            [0x40, 0xff, 0xff, 0xff]
+        } else {
+            [0x7f, 0x00, 0x00, 0x01]
+        };
+        second[at..at + 4].copy_from_slice(&word);
+    }
+    let packed = joined(alloc, &[first, second])?;
+    let text = report_of(alloc, "256", 65, 2, " 0 48")?;
+    assert_eq!(rt;
+        checked(alloc, &packed, text.as_bytes()),
+        Ok(Verdict::NotShown)
+    );
+    Ok(())
+}
+
 // The records come from a source that fails at its first call, so that none is read.
 #[test]
 fn texts_that_are_no_reports(rt: HostRuntime) -> Result<(), Fail> {

@@ -10,6 +10,8 @@ use std::test::Fail;
 
 const INT16: u8 = 1;
 
+const INT24: u8 = 2;
+
 const INT32: u8 = 3;
 
 const STEIM1: u8 = 10;
@@ -383,6 +385,28 @@ fn three_differences_and_whole_numbers(rt: HostRuntime) -> Result<(), Fail> {
     );
     let written = packed(&rt, alloc, whole, &[i32::MIN, i32::MAX])?;
     assert!(rt; written.as_slice() == want.as_slice());
+    Ok(())
+}
+
+// 65 samples, 8388607 and -8388608 in turn: 64 of them stand in the first record, three bytes for each.
+#[test]
+fn numbers_of_24_bits(rt: HostRuntime) -> Result<(), Fail> {
+    let mut samples = [8_388_607; 65];
+    for pair in 0..32 {
+        samples[2 * pair + 1] = -8_388_608;
+    }
+    let bounds = Worked {
+        name: "numbers of 24 bits",
+        records: &[(64, INT24), (1, STEIM2)],
+        separators: &[0, 64],
+        ..FULL
+    };
+    let written = packed(&rt, rt.alloc(), bounds, &samples)?;
+    let mut first = plain(&rt, &[(30, &[0x00, 0x40]), (52, &[0x02]), (63, &[0x00])]);
+    for pair in 0..32 {
+        first[6 * pair + 64..6 * pair + 70].copy_from_slice(&[0x7f, 0xff, 0xff, 0x80, 0x00, 0x00]);
+    }
+    assert!(rt; written.get(..256) == Some(first.as_slice()));
     Ok(())
 }
 

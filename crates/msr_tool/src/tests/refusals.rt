@@ -28,7 +28,7 @@ fn records_that_are_refused(rt: HostRuntime) -> Result<(), Fail> {
     let alloc = rt.alloc();
     let options = choice(&rt, 256, 1000);
     let good = steim(&rt, &[]);
-    let rows: [(usize, Edits, &str); 21] = [
+    let rows: [(usize, Edits, &str); 22] = [
         (47, &[], "1 Truncated"),
         (256, &[(6, &[0x58])], "2 NotARecord"),
         (256, &[(20, &[0x07, 0xe3, 0x01, 0x6e])], "3 BadTime"),
@@ -54,6 +54,7 @@ fn records_that_are_refused(rt: HostRuntime) -> Result<(), Fail> {
         (256, &[(32, &[0x00, 0x00])], "14 NoRate"),
         (256, &[(52, &[0x04])], "15 OtherEncoding 4"),
         (256, &[(44, &[0x00, 0x3f])], "16 BadDataOffset"),
+        (256, &[(52, &[0x02])], "12 DataShort"),
         (256, &[(30, &[0x01, 0x2e])], "12 DataShort"),
         (
             256,

@@ -1,5 +1,5 @@
 use Rattle.std.proofs.Common.{arith}
-use Rattle.msr_record.proofs.AreaLemmas.{all_16, length-points}
+use Rattle.msr_record.proofs.AreaLemmas.{all_16, all_24, length-points}
 use Rattle.msr_record.proofs.written_area.fill_area.Goals as goal
 
 pub fill_plain-requires-clause-fit : goal.fill_plain-requires-clause-fit
@@ -11,6 +11,16 @@ pub fill_plain-requires-clause-room : goal.fill_plain-requires-clause-room
 fill_plain-requires-clause-room c =
     let fits = rw c.in-Int16.is at c.requires.fits in
     omega (arith, fits.1.1, length-points c.args.before c.args.run.now, c.requires.size)
+
+pub fill_plain-requires-in-Int24-clause-fit : goal.fill_plain-requires-in-Int24-clause-fit
+fill_plain-requires-in-Int24-clause-fit c =
+    let fits = rw c.in-Int24.is at c.requires.fits in
+    all_24 c.args.before c.args.run.now fits.0
+
+pub fill_plain-requires-in-Int24-clause-room : goal.fill_plain-requires-in-Int24-clause-room
+fill_plain-requires-in-Int24-clause-room c =
+    let fits = rw c.in-Int24.is at c.requires.fits in
+    omega (arith, fits.1, length-points c.args.before c.args.run.now, c.requires.size)
 
 pub fill_plain-requires-in-Int32-clause-room : goal.fill_plain-requires-in-Int32-clause-room
 fill_plain-requires-in-Int32-clause-room c =

@@ -1,8 +1,0 @@
-use Rattle.std.proofs.Common.{arith}
-use Rattle.msr_packer.proofs.Ends.{longest_int32}
-use Rattle.msr_packer.proofs.step.int32_step.Goals as goal
-
-pub returns : goal.returns
-returns c =
-    longest_int32 c.args.record_length.bytes c.args.samples.now c.args.frontier c.min.result (omega arith) c.requires
-    (let m = c.min.ensures in let o = c.most.ensures in omega arith)
