@@ -27,10 +27,20 @@ fn decided_records_are_written_before_each_read(rt: HostRuntime) -> Result<(), F
             fails_at: Some(reads),
         };
         let mut source = TestSource::new(&input, behavior);
-        let mut sink = TestSink::new(Vec::new(alloc), Behavior { most: 100, fails_at: None, ..behavior });
+        let mut sink = TestSink::new(
+            Vec::new(alloc),
+            Behavior {
+                most: 100,
+                fails_at: None,
+                ..behavior
+            },
+        );
         let fault = feed(alloc, &mut source, &mut sink, options).err();
         assert_eq!(&rt; fault, Some(ToolFault::Read));
-        assert!(&rt; sink.bytes() == &input[..256 * records], "behind {reads} reads");
+        assert!(&rt;
+            sink.bytes() == &input[..256 * records],
+            "behind {reads} reads"
+        );
     }
     Ok(())
 }
@@ -49,8 +59,18 @@ fn the_output_is_that_of_a_repack(rt: HostRuntime) -> Result<(), Fail> {
         };
         let mut fed = TestSink::new(Vec::new(alloc), behavior);
         let mut packed = TestSink::new(Vec::new(alloc), behavior);
-        let one = feed(alloc, &mut TestSource::new(&input, behavior), &mut fed, options);
-        let other = repack(alloc, &mut TestSource::new(&input, behavior), &mut packed, options);
+        let one = feed(
+            alloc,
+            &mut TestSource::new(&input, behavior),
+            &mut fed,
+            options,
+        );
+        let other = repack(
+            alloc,
+            &mut TestSource::new(&input, behavior),
+            &mut packed,
+            options,
+        );
         let (Ok(one), Ok(other)) = (one, other) else {
             panic!(&rt; "refused at {most}")
         };
