@@ -152,6 +152,8 @@ def judged(case, calm, calls, at, fault, outcome, hit):
     if not told(outcome, lines, call.kind == "writing" and fault.row == 0):
         return f"status {outcome.status}, {outcome.complained[-200:]!r}, where it is to be: {' or '.join(sorted(lines))}"
     cut = next((n for n, it in enumerate(calls) if it.kind == "cutting"), len(calls))
+    if at > cut and case.words[0] == "feed" and outcome.records:
+        return f"REPORT has {len(outcome.records)} bytes, and is to be empty"
     if at > cut:
         return prefixes(outcome, calm, set())
     return prefixes(outcome, calm, {OLD} if fault.row else {OLD, b""})
@@ -254,13 +256,16 @@ def cases_of(bench, title, name):
         to.write(it.read().replace(b"start 2020,001", b"start 2020,002", 1))
     with open(name, "rb") as it, open(cut, "wb") as to:
         to.write(it.read()[:-1])
-    repack = ["repack", "--length", "256"]
+    repack, feed = ["repack", "--length", "256"], ["feed", "--length", "256"]
     return [
         Case(f"{title}: repack IN OUT > FILE", [*repack, name, bench.out], None, False),
         Case(f"{title}: repack IN OUT | ..", [*repack, name, bench.out], None, True),
         Case(f"{title}: repack - OUT < IN", [*repack, "-", bench.out], name, False),
         Case(f"{title}: repack IN > FILE", [*repack, name], None, False),
         Case(f"{title}: repack of a file that is cut", [*repack, cut, bench.out], None, False),
+        Case(f"{title}: feed REPORT < IN > FILE", [*feed, bench.out], name, False),
+        Case(f"{title}: feed REPORT < IN | ..", [*feed, bench.out], name, True),
+        Case(f"{title}: feed of an input that is cut", [*feed, bench.out], cut, True),
         Case(f"{title}: list IN > FILE", ["list", name], None, False),
         Case(f"{title}: list - < IN | ..", ["list", "-"], name, True),
         Case(f"{title}: check, least", ["check", packed, report], None, False),

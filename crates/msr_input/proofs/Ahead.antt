@@ -1,5 +1,5 @@
 -- Bytes that are read ahead, one read after another.
-use Rattle.std.proofs.Common.{inl, inr, take, length-take, ◌≡◌, ℕ, ◌+◌, ◌<◌, ◌≤◌, false, List, [], length, refl, sym, ap, ◌∙◌, arith, length-append}
+use Rattle.std.proofs.Common.{inl, inr, ◌⊎◌, take, length-take, ◌≡◌, ℕ, ◌+◌, ◌<◌, ◌≤◌, Bool, true, false, List, [], ◌∷◌, ◌++◌, length, refl, sym, ap, ◌∙◌, arith, length-append}
 use Rattle.std.proofs.lemmas.List.{append-nil, take-append-le, take_all}
 use Rattle.std.proofs.lemmas.List.{take-take}
 use Rattle.std.proofs.lemmas.Bool.{cases_lt, le-leb, lt-leb}
@@ -7,10 +7,13 @@ use Rattle.msr_record.specs.Records.{IsRecordOf}
 use Rattle.msr_record.specs.declared.row.Record.{Record}
 use Rattle.msr_record.proofs.FirstBytes.{own_record}
 use Rattle.msr_input.specs.Reading.{HoldsRecord, room_with}
-use Rattle.msr_input.proofs.Seen.{held-some}
+use Rattle.msr_input.specs.Steps.{CameBefore, StopsDecoding, fault_of_fill}
+use Rattle.msr_input.proofs.Seen.{held-some, open-or-ended}
 use Rattle.msr_devices.specs.Device.{Device, GivesOnto}
-use Rattle.msr_devices.specs.ReadBuffer.{Window, IsFilled, room_for}
-use Rattle.msr_devices.proofs.Chaining.{calm-same, calm-calm, steady-steady, onto-more}
+use Rattle.msr_devices.specs.ReadBuffer.{Window, IsFilled, StopsFilling, room_for}
+use Rattle.msr_devices.specs.declared.read_buffer.FillFault.{FillFault}
+use Rattle.msr_devices.specs.declared.read_buffer.FillFault.TheVariants as filling
+use Rattle.msr_devices.proofs.Chaining.{calm-same, calm-calm, calm-failed, steady-steady, onto-more}
 
 -- before the first read
 pub filled-none : (a : Device) (w : Window) → IsFilled 0 a a w w
@@ -46,6 +49,36 @@ filled-more a b c w w' w'' m n first unended second =
       calm = λ still. calm-calm a b c (first.calm unended) (second.calm still);
       steady = steady-steady a b c first.steady second.steady;
     }
+
+-- where a read failed there are no more bytes than before, or there was no memory for them
+unended-before : (before after : Bool) → (before ≡ true → after ≡ true) → after ≡ false → (before ≡ true) ⊎ (before ≡ false) → before ≡ false
+unended-before before after stays still (inl ended) = let e = stays ended in absurd cc
+unended-before before after stays still (inr unended) = unended
+
+none-more : (w w' more : List ℕ) → w' ≡ w ++ more → length w' < length w + 1 → w' ≡ w
+none-more w w' [] whole few = whole ∙ append-nil w
+none-more w w' (x ∷ more) whole few = absurd (omega (arith, ap length whole, length-append w (x ∷ more), few))
+
+pub came-short : (a b c : Device) (w w' w'' : Window) (n : ℕ) (fill : FillFault) → IsFilled 0 a b w w' → w'.ended ≡ false → StopsFilling n b c w' w'' fill → CameBefore a c w w'' (fault_of_fill fill)
+came-short a b c w w' w'' n filling.Read first unended stops =
+    let one = first.fills.onto in
+    let two = stops.1.onto in (
+      calm-failed a b c (first.calm unended) stops.0,
+      unended-before w.ended w'.ended first.stays unended (open-or-ended w.ended),
+      onto-more a b c w.bytes w'.bytes w''.bytes two.more (length two.more) one two.came refl two.moved two.whole,
+    )
+came-short a b c w w' w'' n filling.Memory first unended stops = rw (stops.0, stops.1) first
+
+pub refused-short : (strict : Bool) (b c : Device) (w' w'' : Window) (offset : ℕ) (fill : FillFault) → (HoldsRecord w'.bytes → ⊥) → StopsFilling (length w'.bytes + 1) b c w' w'' fill → StopsDecoding strict w'' offset (fault_of_fill fill)
+refused-short strict b c w' w'' offset filling.Read none stops =
+    let same : w''.bytes ≡ w'.bytes = none-more w'.bytes w''.bytes stops.1.onto.more stops.1.onto.whole stops.4 in
+    λ holds. none (rw same at holds)
+refused-short strict b c w' w'' offset filling.Memory none stops = inl (rw stops.1 (omega (arith, stops.2)))
+
+-- no read was made
+pub record IsUnread (a b : Device) (w w' : Window) : Type 0 where
+  pub source : b ≡ a
+  pub bytes : w'.bytes ≡ w.bytes
 
 -- there is no more room than a record would need that is longer than some first bytes
 pub record HasRoom (before : ℕ) (w : Window) : Type 0 where

@@ -11,7 +11,7 @@ use Rattle.msr_devices.proofs.Chaining.{calm-same, calm-calm, calm-failed, stead
 use Rattle.msr_report.specs.declared.report.Counts.{Counts}
 use Rattle.msr_input.specs.Input.{Agrees, AllAgree, BeginsWith, IsRefusedAlone, counts_of}
 use Rattle.msr_input.specs.Reading.{HoldsRecord, TakesMemoryFor}
-use Rattle.msr_input.specs.Records.{Position, HaveCome, HasGiven, IsRefusedAfter, StopsRecords}
+use Rattle.msr_input.specs.Records.{Position, HaveCome, HaveComeShort, HasGiven, IsRefusedAfter, StopsRecords}
 use Rattle.msr_input.specs.Steps.{CameBefore, StopsDecoding}
 use Rattle.msr_input.specs.declared.fault.Fault.{Fault}
 use Rattle.msr_input.specs.declared.fault.ReadFault.{ReadFault}
@@ -128,6 +128,20 @@ come-keeps s a b strict w w' counts offset records (Ok next) come came = tt
 come-keeps s a b strict w w' counts offset records (Err (fault.Input f)) come came = λ other. come-filled s a b strict w w' counts offset 0 records come came
 come-keeps s a b strict w w' counts offset records (Err fault.Read) come came = λ other. absurd (other refl)
 come-keeps s a b strict w w' counts offset records (Err fault.Memory) come came = λ other. come-filled s a b strict w w' counts offset 0 records come came
+
+-- where it did, so many bytes came
+pub come-short : (s a b : Device) (strict : Bool) (w w' : Window) (counts : Counts) (offset : ℕ) (records : List Record) (result : Result (Option Record) ReadFault) → HaveCome s a (at_window strict w counts offset) records → MatchResult result (λ _. IsFilled 0 a b w w') (CameBefore a b w w')
+    → result ≡ Err fault.Read → HaveComeShort s b records w'.bytes
+come-short s a b strict w w' counts offset records (Ok next) come came e = absurd cc
+come-short s a b strict w w' counts offset records (Err why) come came e =
+    let same : why ≡ fault.Read = cc in
+    let read = subst (λ (found : ReadFault). CameBefore a b w w' found) same came in
+    let onto : GivesOnto a b w.bytes w'.bytes = read.2 in
+    let size : length w'.bytes ≡ length w.bytes + length onto.more = omega (arith, ap length onto.whole, length-append w.bytes onto.more) in
+    record {
+      begins = λ rest left. begins-more a b s records w.bytes w'.bytes rest onto come.begins left;
+      moved = omega (arith, come.moved, onto.moved, size);
+    }
 
 -- why it stopped
 pub at-memory : (strict : Bool) (window : Window) (offset : ℕ) (result : Result (Option Record) ReadFault) → IfErr result (StopsDecoding strict window offset) → result ≡ Err fault.Memory → TakesMemoryFor window.bytes window.room

@@ -18,7 +18,7 @@ use Rattle.msr_segments.proofs.Histories.{followed_none, followed_step}
 use Rattle.msr_input.specs.Input.{Agrees, NoneOverruns, HaveBegun, rows_of_records}
 use Rattle.msr_input.specs.Records.{Position, HaveCome, StopsRecords}
 use Rattle.msr_input.specs.Reading.{GaveReadable, IsWritable, StopsReading}
-use Rattle.msr_input.specs.Rows.{RowReading, HasReadRows, ReadsRow, ReadsNoRow, StopsRows, AllRowsAreReadable, row_settings}
+use Rattle.msr_input.specs.Rows.{RowReading, HasReadRows, ReadsRow, ReadsNoRow, ReadsToEnd, StepsTo, StopsRows, AllRowsAreReadable, row_settings}
 use Rattle.msr_input.specs.Steps.{CanJoin, FollowsRecord, FollowsRow, OverrunsWith, StopsFollowing}
 use Rattle.msr_input.specs.declared.settings.Settings.{Settings}
 use Rattle.msr_input.specs.declared.fault.ReadFault.{ReadFault}
@@ -196,3 +196,15 @@ all_rows_are_readable start now reading records answers joining given end joined
     let all = subst (λ (rows : List Row). HasJoined joining rows given) (sym end.none.rows) joined in
     subst (λ (t : ℕ). GaveReadable start (record { tolerance = t; strict = reading.position.strict }) (given ++ option_to_list joining.current) reading.position.counts) same
     (readable-at-end start now reading.position joining end.none.after given end.none.read.came end.none_wait end.ended none all)
+
+pub end-behind : (s a b : Device) (reading new : RowReading) (records : List Record) (answers : List Step) (none : ReadsNoRow s a reading records answers) → ReadsToEnd s b new none.after answers → ReadsToEnd s b new records answers
+end-behind s a b reading new records answers none end = record {
+  none = none-behind s a b reading new records answers none end.none;
+  none_wait = end.none_wait;
+  ended = end.ended;
+}
+
+-- what a record does with a follower, by what is told of its row
+pub steps-to : (old new : Following) (row : Option Row) (next : Option NextRow) → FollowsRecord old row next new → StepsTo old next new
+steps-to old new None next follows = rw follows.0 follows.1
+steps-to old new (Some row) next follows = rw follows.told follows.step

@@ -35,6 +35,11 @@ pub record HaveCome (start now : Device) (position : Position) (records : List R
   pub calm : position.ended ≡ false → IsCalm start now
   pub steady : IsSteady start now
 
+-- From the one state of the source to the other these records came, and these bytes behind them.
+pub record HaveComeShort (start now : Device) (records : List Record) (waiting : List ℕ) : Type 0 where
+  pub begins : (rest : List ℕ) → HasLeft now rest → (input : List ℕ) × HasLeft start input × BeginsWith records input (waiting ++ rest)
+  pub moved : now.moved ≡ start.moved + (bytes_of_records records + length waiting)
+
 -- The source's bytes begin with these records, none of which is refused by itself.
 pub record HasGiven (strict : Bool) (start : Device) (records : List Record) : Type 0 where
   pub input : List ℕ

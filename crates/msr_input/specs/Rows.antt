@@ -1,9 +1,10 @@
 -- What a reader of rows shows, and what reading them does.
-use Rattle.std.specs.Prelude.{◌≡◌, true, List, [], ◌∷◌, ◌++◌}
+use Rattle.std.specs.Prelude.{◌≡◌, true, List, [], ◌∷◌, ◌++◌, Option, None, Some, MatchOption}
 use Rattle.std.specs.Option.{option_to_list}
 use Rattle.msr_record.specs.declared.row.Record.{Record}
 use Rattle.msr_devices.specs.Device.{Device}
-use Rattle.msr_segments.specs.Spans.{Following}
+use Rattle.msr_segments.specs.Spans.{Following, IsStep}
+use Rattle.msr_segments.specs.Segments.{row_span}
 use Rattle.msr_segments.specs.Joining.{Joining, HasJoined, HasFollowed}
 use Rattle.msr_segments.specs.declared.follow.Step.{Step}
 use Rattle.msr_segments.specs.declared.joiner.Segment.{Segment}
@@ -12,6 +13,7 @@ use Rattle.msr_input.specs.Records.{Position, HaveCome}
 use Rattle.msr_input.specs.Reading.{StopsReading, GaveReadable}
 use Rattle.msr_input.specs.declared.settings.Settings.{Settings}
 use Rattle.msr_input.specs.declared.fault.ReadFault.{ReadFault}
+use Rattle.msr_input.specs.declared.row_reader.NextRecord.{NextRecord}
 use Rattle.msr_input.specs.declared.row_reader.NextRow.{NextRow}
 
 -- what a reader of rows shows: its place in the input, and its follower
@@ -41,6 +43,16 @@ pub record ReadsNoRow (start now : Device) (reading : RowReading) (records : Lis
   pub after : List Record
   pub rows : rows_of_records after ≡ rows_of_records records
   pub read : HasReadRows start now reading after answers
+
+-- One record more came: without a row, or with this one, which does what is told.
+abbrev pub ReadsRecord : Device → Device → RowReading → List Record → List Step → NextRecord → Type 0
+ReadsRecord start now reading records answers next =
+    MatchOption next.row (ReadsNoRow start now reading records answers) (ReadsRow start now reading records answers)
+
+-- what a record does with a follower: nothing, where it has no row
+abbrev pub StepsTo : Following → Option NextRow → Following → Type 0
+StepsTo old None new = new ≡ old
+StepsTo old (Some next) new = IsStep old (row_span next.row) next.step new
 
 -- The same, and no record is left: the input has ended.
 pub record ReadsToEnd (start now : Device) (reading : RowReading) (records : List Record) (answers : List Step) : Type 0 where

@@ -4,7 +4,7 @@ use Rattle.msr_time.specs.Instant.{IsInstant}
 use Rattle.msr_record.specs.declared.row.Row.{Row}
 use Rattle.msr_record.specs.declared.fault.FaultKind.{FaultKind}
 use Rattle.msr_record.specs.declared.fault.FaultKind.TheVariants as refusal
-use Rattle.msr_devices.specs.Device.{Device, HasFailed}
+use Rattle.msr_devices.specs.Device.{Device, GivesOnto, HasFailed}
 use Rattle.msr_devices.specs.ReadBuffer.{Window, IsFilled}
 use Rattle.msr_devices.specs.declared.read_buffer.FillFault.{FillFault}
 use Rattle.msr_devices.specs.declared.read_buffer.FillFault.TheVariants as filling
@@ -36,10 +36,10 @@ may_change (refusal.Header reason) size = nat_lt size 1_048_576
 may_change kind size = false
 
 -- which bytes came before reading stopped: as many as there were, or some before the source failed, which had not
--- ended
+-- ended, behind those that stood there
 abbrev pub CameBefore : Device → Device → Window → Window → ReadFault → Type 0
 CameBefore old new before after (fault.Input f) = IsFilled 0 old new before after
-CameBefore old new before after fault.Read = HasFailed old new × (before.ended ≡ false)
+CameBefore old new before after fault.Read = HasFailed old new × (before.ended ≡ false) × GivesOnto old new before.bytes after.bytes
 CameBefore old new before after fault.Memory = IsFilled 0 old new before after
 
 -- Why no record was given from the bytes that came: the one at that offset is refused, whatever more comes behind

@@ -19,7 +19,7 @@ pub use laws::{
     one_list_of_records, readable_has_no_fault,
 };
 pub use reader::SegmentReader;
-pub use row_reader::{NextRow, RowReader};
+pub use row_reader::{NextRecord, NextRow, RowReader};
 pub use settings::Settings;
 
 #[cfg(test)]

@@ -2,6 +2,7 @@
 use crate::fault::ReadFault;
 use crate::step::read_record;
 use msr_devices::{ReadBuffer, Source};
+use msr_header::read_header;
 use msr_record::Record;
 use msr_report::Counts;
 use std::alloc::Global;
@@ -29,12 +30,12 @@ impl Model for RecordReader {
 }
 
 impl RecordReader {
-    ghost use Rattle.std.specs.Prelude.{◌≡◌, ◌≢◌, ◌≤◌, ◌<◌, ◌+◌, ◌^◌, List, [], drop, length, true, OnOk, IfOk, IfErr, IsErrOf, IfSome, MatchResult, MatchOption};
+    ghost use Rattle.std.specs.Prelude.{◌≡◌, ◌≢◌, ◌↔◌, ◌≤◌, ◌<◌, ◌+◌, ◌^◌, List, [], drop, length, true, IsTrue, OnOk, IfOk, IfErr, IsErrOf, IfSome, MatchResult, MatchOption};
     ghost use Rattle.msr_devices.specs.Device.{Device, CanCountCall, CountsFew, IsSteady};
     ghost use Rattle.msr_record.specs.Records.{IsRecordOf};
     ghost use Rattle.msr_record.specs.declared.row.Record.{Record as Found};
     ghost use Rattle.msr_input.specs.Input.{Agrees};
-    ghost use Rattle.msr_input.specs.Records.{HaveCome, StopsRecords, left_with};
+    ghost use Rattle.msr_input.specs.Records.{HaveCome, HaveComeShort, StopsRecords, left_with};
     ghost use Rattle.msr_input.specs.Reading.{HoldsRecord, TakesMemoryFor, room_with};
     ghost use Rattle.msr_input.specs.Steps.{CanJoin};
 
@@ -75,6 +76,10 @@ impl RecordReader {
             → HaveCome start (R.device source.new) self.new records) }
         ensures memory { IsErrOf result ReadFault.Memory → TakesMemoryFor self.new.waiting self.new.room }
         ensures awaited { IsErrOf result ReadFault.Read → HoldsRecord self.new.waiting → ⊥ }
+        ensures unread { HoldsRecord self.old.waiting → R.device source.new ≡ R.device source.old }
+        ensures failed { (start : Device) (records : List Found) → HaveCome start (R.device source.old) self.old records
+            → IsErrOf result ReadFault.Read
+            → HaveComeShort start (R.device source.new) records self.new.waiting }
         ensures room { IfOk result (λ next. IfSome next (λ found.
             self.new.room ≤ room_with found.length self.old.room)) }
         ensures strict { self.new.strict ≡ self.old.strict }
@@ -90,6 +95,13 @@ impl RecordReader {
             self.strict,
             self.offset,
         )
+    }
+
+    /// Whether the bytes of the next record have come, by its header.
+    pub fn holds_record(&self) -> bool
+        ensures { IsTrue result ↔ HoldsRecord self.now.waiting }
+    {
+        read_header(self.buffer.bytes()).is_ok()
     }
 
     /// Passes a record of so many bytes; the counts are those with it.

@@ -18,6 +18,13 @@ pub struct NextRow {
     pub row: Row,
 }
 
+/// The next record.
+#[derive(Debug, Drop)]
+pub struct NextRecord {
+    /// `None` where it has no samples.
+    pub row: Option<NextRow>,
+}
+
 /// Reads records from a source, and says of each row whether it begins a segment. It holds no samples.
 /// All calls take the same source.
 #[derive(Drop)]
@@ -35,17 +42,17 @@ impl Model for RowReader {
 }
 
 impl RowReader {
-    ghost use Rattle.std.specs.Prelude.{◌≡◌, ◌≢◌, ◌≤◌, ◌<◌, List, [], ◌∷◌, ◌++◌, length, None, OnOk, OnErr, IfOk, IfErr, IsErrOf, IfSome, MatchResult, MatchOption};
-    ghost use Rattle.msr_devices.specs.Device.{Device, CanCountCall, CountsFew};
+    ghost use Rattle.std.specs.Prelude.{◌≡◌, ◌≢◌, ◌↔◌, ◌≤◌, ◌<◌, List, [], ◌∷◌, ◌++◌, length, None, IsTrue, OnOk, OnErr, IfOk, IfErr, IsErrOf, IfSome, MatchResult, MatchOption};
+    ghost use Rattle.msr_devices.specs.Device.{Device, CanCountCall, CountsFew, IsSteady};
     ghost use Rattle.msr_record.specs.Records.{IsRecordOf};
     ghost use Rattle.msr_record.specs.declared.row.Record.{Record as Found};
     ghost use Rattle.msr_segments.specs.Spans.{IsInBounds, IsStep};
     ghost use Rattle.msr_segments.specs.Segments.{row_span, row_segment};
     ghost use Rattle.msr_segments.specs.declared.follow.Step.{Step as Answer};
     ghost use Rattle.msr_input.specs.Input.{Agrees};
-    ghost use Rattle.msr_input.specs.Records.{left_with};
+    ghost use Rattle.msr_input.specs.Records.{HaveComeShort, left_with};
     ghost use Rattle.msr_input.specs.Reading.{HoldsRecord, IsWritable, TakesMemoryFor};
-    ghost use Rattle.msr_input.specs.Rows.{HasReadRows, ReadsRow, ReadsNoRow, ReadsToEnd, StopsRows, row_settings};
+    ghost use Rattle.msr_input.specs.Rows.{HasReadRows, ReadsRecord, ReadsRow, ReadsNoRow, ReadsToEnd, StepsTo, StopsRows, row_settings};
     ghost use Rattle.msr_input.specs.Steps.{CanJoin, FollowsRecord};
 
     /// A reader before the first record, with a tolerance in its range. It takes no memory yet.
@@ -97,12 +104,70 @@ impl RowReader {
             < left_with (R.device source.old) self.old.position.waiting)) }
         ensures few { CountsFew (R.device source.old) (R.device source.new) }
     {
-        'records: while let Some(found) = self.records.next(source)? {
-            if let Some(next) = self.take(found)? {
+        'records: while let Some(NextRecord { row }) = self.next_record(source)? {
+            if let Some(next) = row {
                 return Ok(Some(next));
             }
         }
         Ok(None)
+    }
+
+    /// The next record, with or without a row; `None` where the input has ended, and with it the last segment. No
+    /// read is made where its bytes have come ([`holds_record`](Self::holds_record)). At an `Err` but `Read` the
+    /// reader stands before it, as `next_row` says.
+    pub fn next_record<R: Source>(
+        &mut self,
+        source: &mut R,
+    ) -> Result<Option<NextRecord>, ReadFault>
+        requires { CanCountCall (R.device source.old) }
+        ensures read { (start : Device) (records : List Found) (answers : List Answer)
+            → HasReadRows start (R.device source.old) self.old records answers
+            → MatchResult result
+            (λ next. MatchOption next
+            (ReadsToEnd start (R.device source.new) self.new records answers)
+            (ReadsRecord start (R.device source.new) self.new records answers))
+            (StopsRows (row_settings self.old) start (R.device source.new) records) }
+        ensures kept { (start : Device) (records : List Found) (answers : List Answer)
+            → HasReadRows start (R.device source.old) self.old records answers
+            → IfErr result (λ fault. fault ≢ ReadFault.Read
+            → HasReadRows start (R.device source.new) self.new records answers) }
+
+        // What the row does, and what rows are given.
+        ensures step { IfOk result (λ next. IfSome next (λ given.
+            StepsTo self.old.following given.row self.new.following)) }
+        ensures row { IfOk result (λ next. IfSome next (λ given. IfSome given.row (λ found.
+            CanJoin found.row × IsWritable (row_segment found.row)))) }
+        ensures in_bounds { IfOk result (λ next. IfSome next (λ given. IfSome given.row (λ _.
+            IsInBounds self.new.following.current))) }
+        ensures settings { row_settings self.new ≡ row_settings self.old }
+        ensures memory { IsErrOf result ReadFault.Memory
+            → TakesMemoryFor self.new.position.waiting self.new.position.room }
+
+        // Which reads are made, and what had come where one failed.
+        ensures unread { HoldsRecord self.old.position.waiting → R.device source.new ≡ R.device source.old }
+        ensures awaited { IsErrOf result ReadFault.Read → HoldsRecord self.new.position.waiting → ⊥ }
+        ensures failed { (start : Device) (records : List Found) (answers : List Answer)
+            → HasReadRows start (R.device source.old) self.old records answers
+            → IsErrOf result ReadFault.Read
+            → HaveComeShort start (R.device source.new) records self.new.position.waiting }
+        ensures less { IfOk result (λ next. IfSome next (λ _.
+            left_with (R.device source.new) self.new.position.waiting
+            < left_with (R.device source.old) self.old.position.waiting)) }
+        ensures steady { OnOk result (IsSteady (R.device source.old) (R.device source.new)) }
+        ensures few { CountsFew (R.device source.old) (R.device source.new) }
+    {
+        let Some(found) = self.records.next(source)? else {
+            return Ok(None);
+        };
+        let row = self.take(found)?;
+        Ok(Some(NextRecord { row }))
+    }
+
+    /// Whether the bytes of the next record have come, by its header.
+    pub fn holds_record(&self) -> bool
+        ensures { IsTrue result ↔ HoldsRecord self.now.position.waiting }
+    {
+        self.records.holds_record()
     }
 
     // Takes the record that was read, and says what its row does, where it has one.

@@ -6,7 +6,7 @@ ghost use Rattle.msr_devices.specs.Device.{CanCountCall, CountsFew};
 ghost use Rattle.msr_devices.specs.ReadBuffer.{IsFilled};
 ghost use Rattle.msr_segments.specs.Spans.{IsInBounds};
 ghost use Rattle.msr_input.specs.Input.{Agrees, IsRefusedAlone, counts_of};
-ghost use Rattle.msr_input.specs.Reading.{room_with};
+ghost use Rattle.msr_input.specs.Reading.{HoldsRecord, room_with};
 ghost use Rattle.msr_input.specs.Steps.{CanJoin, CameBefore, FollowsRecord, JoinsRecord, StopsDecoding, StopsFollowing, StopsJoining, may_change};
 
 use crate::fault::{Fault, ReadFault, fault_at};
@@ -87,6 +87,7 @@ pub(crate) fn read_record<R: Source>(
     ensures refused { IfErr result (StopsDecoding strict buffer.new offset) }
     ensures room { IfOk result (λ next. IfSome next (λ found.
         buffer.new.room ≤ room_with found.length buffer.old.room)) }
+    ensures unread { HoldsRecord buffer.old.bytes → R.device source.new ≡ R.device source.old }
     ensures few { CountsFew (R.device source.old) (R.device source.new) }
 {
     'bytes: loop {

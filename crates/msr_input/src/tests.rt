@@ -258,6 +258,34 @@ fn rows_begin_and_join(rt: HostRuntime) {
     assert_eq!(rt; reader.counts().read, 3);
 }
 
+// Two records come with the first read, and the second one is given without another.
+#[test]
+fn records_at_hand_need_no_read(rt: HostRuntime) {
+    let bytes = two(&record(&rt, EMPTY), &record(&rt, &[]));
+    let once = Behavior {
+        most: 512,
+        interruptions: 0,
+        fails_at: Some(1),
+    };
+    let mut source = TestSource::new(&bytes, once);
+    let mut reader = RowReader::new(rt.alloc(), 10_000);
+    assert!(rt; !reader.holds_record());
+    let Ok(Some(empty)) = reader.next_record(&mut source) else {
+        panic!(rt; "no record")
+    };
+    assert!(rt; empty.row.is_none());
+    assert!(rt; reader.holds_record());
+    let Ok(Some(second)) = reader.next_record(&mut source) else {
+        panic!(rt; "no second record")
+    };
+    assert!(rt; second.row.is_some());
+    assert!(rt; !reader.holds_record());
+    assert_eq!(rt;
+        reader.next_record(&mut source).err(),
+        Some(ReadFault::Read)
+    );
+}
+
 #[test]
 fn no_bytes(rt: HostRuntime) {
     let counts = Counts {

@@ -7,3 +7,4 @@ pub mod Once
 pub mod Cutting
 pub mod Existing
 pub mod Begun
+pub mod Decided

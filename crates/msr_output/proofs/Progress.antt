@@ -68,6 +68,23 @@ written-segment start old now w packed rows one filled left next h is_packed a p
   calm = calm-calm start old now h.calm calm;
 }
 
+-- after some of what waited
+pub written-some : (start old now : Device) (w : Writing) (packed : List Packed) (rows : List Row) (left : List ℕ) → HasWritten start old w packed rows
+    → Passes old now w.waiting [] left
+    → IsCalm old now
+    → HasWritten start now (record { size = w.size; number = w.number; waiting = left }) packed rows
+written-some start old now w packed rows left h p calm = record {
+  bytes = h.bytes;
+  taken = h.taken ++ p.taken;
+  output = h.output;
+  next = h.next;
+  takes = takes-append start old now h.taken p.taken h.takes p.takes;
+  whole = sym (append-nil h.bytes) ∙ more-whole old now h.bytes h.taken w.waiting [] w.waiting left h.whole (sym (append-nil w.waiting)) p;
+  moved = omega (arith, h.moved, p.moved, length-append h.taken p.taken);
+  short = λ some. short-sum old.moved now.moved (2 ^ 64) (length h.taken) (length p.taken) p.moved h.short p.short (omega (arith, some, length-append h.taken p.taken));
+  calm = calm-calm start old now h.calm calm;
+}
+
 -- the sink failed in one more segment
 pub stopped-segment : (start old now : Device) (w : Writing) (packed : List Packed) (rows : List Row) (one : Packed) (filled left : List ℕ) (next : ℕ) → HasWritten start old w packed rows → IsPacked w.size one
     → (a : AppendsRecords w.size w.number (cuts_of one) w.waiting filled next)

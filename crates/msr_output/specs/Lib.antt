@@ -1,3 +1,4 @@
+pub mod Decided
 pub mod Opened
 pub mod Output
 pub mod Writing

@@ -308,6 +308,20 @@ fn a_segment_in_blocks(rt: HostRuntime) -> Result<(), Fail> {
     Ok(())
 }
 
+// What waits is in the sink behind a flush.
+#[test]
+fn what_waits_is_flushed(rt: HostRuntime) -> Result<(), Fail> {
+    let segment = zeros(&rt, rt.alloc(), 302)?;
+    assert!(rt; is_writable(&segment));
+    let mut sink = TestSink::new(Vec::new(rt.alloc()), behavior(100, None));
+    let mut writer = SegmentWriter::new(rt.alloc(), short_length(&rt));
+    assert!(rt; writer.write_segment(&mut sink, &segment).is_ok());
+    assert_eq!(rt; sink.bytes().len(), 0);
+    assert_eq!(rt; writer.flush(&mut sink), Ok(()));
+    assert_eq!(rt; sink.bytes().len(), 512);
+    Ok(())
+}
+
 #[test]
 fn texts_of_faults(rt: HostRuntime) -> Result<(), Fail> {
     for (fault, text) in [

@@ -44,15 +44,17 @@ impl SegmentWriter {
     ghost use Rattle.msr_output.specs.Output.{Packed, segment_of_packed};
     ghost use Rattle.msr_output.specs.Writing.{HasWritten, HasWrittenAll, WritesSegment, StopsWriting};
     ghost use Rattle.msr_time.specs.Instant.{IsInstant};
-    ghost use Rattle.msr_packer.specs.Blocks.{HoldsFew, pushed};
+    ghost use Rattle.msr_packer.specs.Blocks.{pushed};
     ghost use Rattle.msr_segments.specs.Spans.{SpanIsInTime, span_of};
     ghost use Rattle.msr_segments.specs.declared.joiner.Segment.{Segment as Whole};
-    ghost use Rattle.msr_output.specs.Opened.{CanGoOn, HasBegun, empty_segment, longer_by};
+    ghost use Rattle.msr_output.specs.Decided.{IsEncoded};
+    ghost use Rattle.msr_output.specs.Opened.{CanGoOn, HasBegun, Opened, empty_segment, longer_by};
 
     /// A writer before the first record. It takes no memory yet.
     pub fn new(alloc: Global, record_length: Length) -> SegmentWriter
         ensures size { result.size ≡ bytes_of record_length }
         ensures none { (start : Device) → HasWritten start start result [] [] }
+        ensures none_wait { result.waiting ≡ [] }
     {
         SegmentWriter {
             alloc,
@@ -140,7 +142,7 @@ impl SegmentWriter {
         ensures can { OnOk result (CanGoOn false segment.new) }
         ensures size { self.new.size ≡ self.old.size }
         ensures same { (segment.new.size ≡ segment.old.size) × (segment.new.key ≡ segment.old.key) × (segment.new.start ≡ segment.old.start) }
-        ensures few_held { OnOk result (HoldsFew segment.new.packer) }
+        ensures encoded { OnOk result (IsEncoded segment.new) }
         ensures few_wait { OnOk result (length self.new.waiting < 65536) }
         ensures number { OnOk result (pushed segment.new.packer ≡ pushed segment.old.packer + length samples.now) }
         ensures few { CountsFew (W.device sink.old) (W.device sink.new) }
@@ -174,6 +176,28 @@ impl SegmentWriter {
         self.number = segment.encode_runs(self.alloc, true, self.number, &mut self.buffer.bytes)?;
         self.buffer.flush_full(sink)?;
         Ok(segment.line())
+    }
+
+    /// Writes all that waits, while segments may still come.
+    pub fn flush<W: Sink>(&mut self, sink: &mut W) -> Result<(), WriteFault>
+        requires { CanCountCall (W.device sink.old) }
+        ensures written { (start : Device) (packed : List Packed) (rows : List Row) → HasWritten start (W.device sink.old) self.old packed rows
+            → MatchResult result
+            (λ _. HasWritten start (W.device sink.new) self.new packed rows)
+            (StopsWriting self.old.size start (W.device sink.new) (map segment_of_packed packed)) }
+
+        // The same where a segment is open.
+        ensures begun { (start : Device) (packed : List Packed) (before : Whole) (opened : Opened) → CanGoOn false opened
+            → HasBegun start (W.device sink.old) self.old packed before opened
+            → MatchResult result
+            (λ _. HasBegun start (W.device sink.new) self.new packed before opened)
+            (StopsWriting self.old.size start (W.device sink.new) (map segment_of_packed packed ++ before ∷ [])) }
+        ensures none_wait { OnOk result (self.new.waiting ≡ []) }
+        ensures size { self.new.size ≡ self.old.size }
+        ensures few { CountsFew (W.device sink.old) (W.device sink.new) }
+    {
+        self.buffer.flush(sink)?;
+        Ok(())
     }
 
     /// Writes all that waits.

@@ -15,16 +15,17 @@ use Rattle.msr_walk.specs.Walk.{IsWalk, Walks}
 use Rattle.msr_program.specs.declared.done.Done.{Done}
 use Rattle.msr_program.specs.declared.done.Done.TheVariants.{Written, Checked, Walked}
 use Rattle.msr_program.specs.declared.stop.Stop.{Stop}
-use Rattle.msr_program.specs.declared.stop.Stop.TheVariants.{CannotOpen, SameFile, Closed, Tool}
+use Rattle.msr_program.specs.declared.stop.Stop.TheVariants.{CannotOpen, SameFile, SameOutput, Closed, Tool}
 use Rattle.msr_program.specs.declared.words.Task.{Task}
-use Rattle.msr_program.specs.declared.words.Task.TheVariants.{Repack, List as Listing, Check, Archive}
-use Rattle.msr_program.specs.Ends.{Checks, Does, IsUncreated, IsUnopened, ListsNamed, Repacks, RepacksNamed, WalksArchive, days_asked}
+use Rattle.msr_program.specs.declared.words.Task.TheVariants.{Repack, List as Listing, Check, Archive, Feed}
+use Rattle.msr_program.specs.Ends.{Checks, Does, Feeds, FeedsTo, IsUncreated, IsUnopened, ListsNamed, Repacks, RepacksNamed, WalksArchive, choice_of, days_asked}
 
 -- a file that is needed cannot be opened
 
 pub check-unopened : (out : Device) (stop : Stop) → IsUnopened stop → Checks out out (Err stop)
 check-unopened out (CannotOpen name) is = record { input = []; text = []; printed = []; prints = takes-none out; ends = refl }
 check-unopened out SameFile is = absurd is
+check-unopened out SameOutput is = absurd is
 check-unopened out Closed is = absurd is
 check-unopened out (Tool why) is = absurd is
 
@@ -38,6 +39,7 @@ list-unopened tolerance name standard out (CannotOpen other) is = record {
   ends = refl;
 }
 list-unopened tolerance name standard out SameFile is = absurd is
+list-unopened tolerance name standard out SameOutput is = absurd is
 list-unopened tolerance name standard out Closed is = absurd is
 list-unopened tolerance name standard out (Tool why) is = absurd is
 
@@ -56,8 +58,40 @@ repack-uncreated choice source out SameFile is = record {
   prints = takes-none out;
   ends = refl;
 }
+repack-uncreated choice source out SameOutput is = record {
+  input = (left-of source).0;
+  printed = [];
+  left = (left-of source).1;
+  prints = takes-none out;
+  ends = refl;
+}
 repack-uncreated choice source out Closed is = absurd is
 repack-uncreated choice source out (Tool why) is = absurd is
+
+pub feed-uncreated : (choice : Choice) (source out : Device) (stop : Stop) → IsUncreated stop → Feeds choice source out out (Err stop)
+feed-uncreated choice source out (CannotOpen name) is = record {
+  input = (left-of source).0;
+  printed = [];
+  left = (left-of source).1;
+  prints = takes-none out;
+  ends = refl;
+}
+feed-uncreated choice source out SameFile is = record {
+  input = (left-of source).0;
+  printed = [];
+  left = (left-of source).1;
+  prints = takes-none out;
+  ends = refl;
+}
+feed-uncreated choice source out SameOutput is = record {
+  input = (left-of source).0;
+  printed = [];
+  left = (left-of source).1;
+  prints = takes-none out;
+  ends = refl;
+}
+feed-uncreated choice source out Closed is = absurd is
+feed-uncreated choice source out (Tool why) is = absurd is
 
 pub repack-unopened : (choice : Choice) (name : List ℕ) (standard out : Device) (stop : Stop) → IsUnopened stop →
     RepacksNamed choice name standard out out (Err stop)
@@ -69,6 +103,7 @@ repack-unopened choice name standard out (CannotOpen other) is = record {
   ends = refl;
 }
 repack-unopened choice name standard out SameFile is = absurd is
+repack-unopened choice name standard out SameOutput is = absurd is
 repack-unopened choice name standard out Closed is = absurd is
 repack-unopened choice name standard out (Tool why) is = absurd is
 
@@ -91,6 +126,13 @@ task-closed (Listing asked) standard out0 out none = record {
 }
 task-closed (Check asked) standard out0 out none = record { input = []; text = []; printed = []; prints = none; ends = refl }
 task-closed (Archive asked) standard out0 out none = record { printed = []; prints = none; ends = refl }
+task-closed (Feed asked) standard out0 out none = record {
+  input = (left-of standard).0;
+  printed = [];
+  left = (left-of standard).1;
+  prints = none;
+  ends = refl;
+}
 
 -- what was tried before prints nothing
 
@@ -122,6 +164,13 @@ then-does (Archive asked) standard out0 out1 out result none does = record {
   ends = does.ends;
   prints = takes-append out0 out1 out [] does.printed none does.prints;
 }
+then-does (Feed asked) standard out0 out1 out result none does = record {
+  input = does.input;
+  printed = does.printed;
+  left = does.left;
+  ends = does.ends;
+  prints = takes-append out0 out1 out [] does.printed none does.prints;
+}
 
 -- the engine succeeds, or stops
 
@@ -143,6 +192,59 @@ repack-stops choice source records0 records out0 out why does = record {
   left = does.left;
   prints = does.told_all;
   ends = record { written = does.written; answers = does.answers };
+}
+
+-- what was fed is a repack whose records are printed, and whose text goes to a file
+
+pub feed-done : (choice : Choice) (source out0 out text0 text : Device) (report : Report) →
+    Reports choice source out0 out text0 text (Ok report) → FeedsTo choice source out0 out (Ok tt)
+feed-done choice source out0 out text0 text report does = record {
+  input = does.input;
+  printed = does.written;
+  left = does.left;
+  prints = does.wrote;
+  answers = record { told = does.told; report = report; reported = does.answers };
+}
+
+pub feed-stops : (choice : Choice) (source out0 out text0 text : Device) (why : ToolFault) →
+    Reports choice source out0 out text0 text (Err why) → FeedsTo choice source out0 out (Err why)
+feed-stops choice source out0 out text0 text why does = record {
+  input = does.input;
+  printed = does.written;
+  left = does.left;
+  prints = does.wrote;
+  answers = record { told = does.told; answers = does.answers };
+}
+
+pub feed-unsettled : (choice : Choice) (source out0 out : Device) → FeedsTo choice source out0 out (Ok tt) →
+    FeedsTo choice source out0 out (Err fault.Write)
+feed-unsettled choice source out0 out does = record {
+  input = does.input;
+  printed = does.printed;
+  left = does.left;
+  prints = does.prints;
+  answers = record {
+    told = does.answers.told;
+    answers = inr (record { report = does.answers.report; rest = []; reported = rw append-nil does.answers.reported });
+  };
+}
+
+pub fed : (choice : Choice) (source out0 out : Device) → FeedsTo choice source out0 out (Ok tt) → Feeds choice source out0 out (Ok Written)
+fed choice source out0 out does = record {
+  input = does.input;
+  printed = does.printed;
+  left = does.left;
+  prints = does.prints;
+  ends = does.answers;
+}
+
+pub unfed : (choice : Choice) (source out0 out : Device) (why : ToolFault) → FeedsTo choice source out0 out (Err why) → Feeds choice source out0 out (Err (Tool why))
+unfed choice source out0 out why does = record {
+  input = does.input;
+  printed = does.printed;
+  left = does.left;
+  prints = does.prints;
+  ends = does.answers;
 }
 
 pub check-stops : (packed report out0 out : Device) (why : ToolFault) → Tells packed report out0 out (Err why) →
@@ -266,3 +368,15 @@ task-unsettled (Archive asked) standard out0 out (Walked refused) does =
       prints = does.prints;
       ends = record { entries = does.ends.0; rest = []; walk = subst P (sym (append-nil does.printed)) does.ends.1 };
     }
+task-unsettled (Feed asked) standard out0 out Written does = record {
+  input = does.input;
+  printed = does.printed;
+  left = does.left;
+  prints = does.prints;
+  ends = record {
+    told = does.ends.told;
+    answers = inr (record { report = does.ends.report; rest = []; reported = rw append-nil does.ends.reported });
+  };
+}
+task-unsettled (Feed asked) standard out0 out (Checked verdict) does = absurd does.ends
+task-unsettled (Feed asked) standard out0 out (Walked refused) does = absurd does.ends

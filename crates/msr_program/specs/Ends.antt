@@ -15,12 +15,12 @@ use Rattle.msr_walk.specs.Walk.{WalkEnds}
 use Rattle.msr_program.specs.declared.done.Done.{Done}
 use Rattle.msr_program.specs.declared.done.Done.TheVariants.{Written, Checked, Walked}
 use Rattle.msr_program.specs.declared.stop.Stop.{Stop}
-use Rattle.msr_program.specs.declared.stop.Stop.TheVariants.{CannotOpen, SameFile, Closed, Tool}
+use Rattle.msr_program.specs.declared.stop.Stop.TheVariants.{CannotOpen, SameFile, SameOutput, Closed, Tool}
 use Rattle.msr_program.specs.declared.words.Archiving.{Archiving}
 use Rattle.msr_program.specs.declared.words.NoTask.{NoTask}
 use Rattle.msr_program.specs.declared.words.NoTask.TheVariants.{Ending, Memory}
 use Rattle.msr_program.specs.declared.words.Task.{Task}
-use Rattle.msr_program.specs.declared.words.Task.TheVariants.{Repack, List as Listing, Check, Archive}
+use Rattle.msr_program.specs.declared.words.Task.TheVariants.{Repack, List as Listing, Check, Archive, Feed}
 use Rattle.msr_program.specs.Tasks.{HasStatus, IsDefault}
 
 -- 0 for what was written or is least, 3 for what is not shown, 1 for a walk on which an entry was refused
@@ -30,10 +30,11 @@ status_of_done (Checked Least) = 0
 status_of_done (Checked NotShown) = 3
 status_of_done (Walked refused) = if refused then 1 else 0
 
--- 2 where the output is the input, which is a wrong command line, and else 1
+-- 2 where the output is the input, or two outputs are one file, which is a wrong command line, and else 1
 abbrev pub status_of_stop : Stop → ℕ
 status_of_stop (CannotOpen name) = 1
 status_of_stop SameFile = 2
+status_of_stop SameOutput = 2
 status_of_stop Closed = 1
 status_of_stop (Tool fault) = 1
 
@@ -62,6 +63,7 @@ RepackEnds choice input printed (Ok (Checked verdict)) = ⊥
 RepackEnds choice input printed (Ok (Walked refused)) = ⊥
 RepackEnds choice input printed (Err (CannotOpen name)) = printed ≡ []
 RepackEnds choice input printed (Err SameFile) = printed ≡ []
+RepackEnds choice input printed (Err SameOutput) = printed ≡ []
 RepackEnds choice input printed (Err Closed) = printed ≡ []
 RepackEnds choice input printed (Err (Tool fault)) = StopsReport choice input printed fault
 
@@ -84,6 +86,7 @@ ListEnds tolerance input printed (Ok (Checked verdict)) = ⊥
 ListEnds tolerance input printed (Ok (Walked refused)) = ⊥
 ListEnds tolerance input printed (Err (CannotOpen name)) = printed ≡ []
 ListEnds tolerance input printed (Err SameFile) = ⊥
+ListEnds tolerance input printed (Err SameOutput) = ⊥
 ListEnds tolerance input printed (Err Closed) = printed ≡ []
 ListEnds tolerance input printed (Err (Tool fault)) = ListAnswers tolerance input printed (Err fault)
 
@@ -93,6 +96,7 @@ CheckEnds input text printed (Ok (Walked refused)) = ⊥
 CheckEnds input text printed (Ok (Checked verdict)) = VerdictAnswers input text printed (Ok verdict)
 CheckEnds input text printed (Err (CannotOpen name)) = printed ≡ []
 CheckEnds input text printed (Err SameFile) = ⊥
+CheckEnds input text printed (Err SameOutput) = ⊥
 CheckEnds input text printed (Err Closed) = printed ≡ []
 CheckEnds input text printed (Err (Tool fault)) = VerdictAnswers input text printed (Err fault)
 
@@ -118,13 +122,15 @@ OpensOutput out0 out (Err stop) = Takes out0 out [] × (stop ≡ Closed) × WasR
 abbrev pub IsUnopened : Stop → Type 0
 IsUnopened (CannotOpen name) = ⊤
 IsUnopened SameFile = ⊥
+IsUnopened SameOutput = ⊥
 IsUnopened Closed = ⊥
 IsUnopened (Tool fault) = ⊥
 
--- a file could not be made, or is the input
+-- a file could not be made, or is the input or another output
 abbrev pub IsUncreated : Stop → Type 0
 IsUncreated (CannotOpen name) = ⊤
 IsUncreated SameFile = ⊤
+IsUncreated SameOutput = ⊤
 IsUncreated Closed = ⊥
 IsUncreated (Tool fault) = ⊥
 
@@ -158,6 +164,7 @@ ArchiveEnds asked printed (Ok (Checked verdict)) = ⊥
 ArchiveEnds asked printed (Ok (Walked refused)) = WalkEnds asked printed (Ok refused)
 ArchiveEnds asked printed (Err (CannotOpen name)) = ⊥
 ArchiveEnds asked printed (Err SameFile) = ⊥
+ArchiveEnds asked printed (Err SameOutput) = ⊥
 ArchiveEnds asked printed (Err Closed) = printed ≡ []
 ArchiveEnds asked printed (Err (Tool fault)) = WalkEnds asked printed (Err fault)
 
@@ -167,6 +174,47 @@ pub record WalksArchive (asked : Asked) (out0 out : Device) (result : Result Don
   pub prints : Takes out0 out printed
   pub ends : ArchiveEnds asked printed result
 
+-- The input was repacked into what was printed, and this is the text of its report.
+pub record WritesRecords (choice : Choice) (input printed : List ℕ) : Type 0 where
+  pub told : List ℕ
+  pub report : Report
+  pub reported : IsReported choice input printed told report
+
+-- The engine stopped at this fault, or what it wrote was not stored, after this part of the report.
+pub record StopsRecords (choice : Choice) (input printed : List ℕ) (fault : ToolFault) : Type 0 where
+  pub told : List ℕ
+  pub answers : ReportAnswers choice input printed told (Err fault)
+
+abbrev pub FeedAnswers : Choice → (input printed : List ℕ) → Result (Unit {0}) ToolFault → Type 0
+FeedAnswers choice input printed (Ok fed) = WritesRecords choice input printed
+FeedAnswers choice input printed (Err fault) = StopsRecords choice input printed fault
+
+-- Repacking a source to standard output, and its report to a file.
+pub record FeedsTo (choice : Choice) (source out0 out : Device) (result : Result (Unit {0}) ToolFault) : Type 0 where
+  pub input : List ℕ
+  pub printed : List ℕ
+  pub left : HasLeft source input
+  pub prints : Takes out0 out printed
+  pub answers : FeedAnswers choice input printed result
+
+abbrev pub FeedEnds : Choice → (input printed : List ℕ) → Result Done Stop → Type 0
+FeedEnds choice input printed (Ok Written) = WritesRecords choice input printed
+FeedEnds choice input printed (Ok (Checked verdict)) = ⊥
+FeedEnds choice input printed (Ok (Walked refused)) = ⊥
+FeedEnds choice input printed (Err (CannotOpen name)) = printed ≡ []
+FeedEnds choice input printed (Err SameFile) = printed ≡ []
+FeedEnds choice input printed (Err SameOutput) = printed ≡ []
+FeedEnds choice input printed (Err Closed) = printed ≡ []
+FeedEnds choice input printed (Err (Tool fault)) = StopsRecords choice input printed fault
+
+-- Repacking standard input to standard output, and how it ends.
+pub record Feeds (choice : Choice) (standard out0 out : Device) (result : Result Done Stop) : Type 0 where
+  pub input : List ℕ
+  pub printed : List ℕ
+  pub left : HasLeft standard input
+  pub prints : Takes out0 out printed
+  pub ends : FeedEnds choice input printed result
+
 -- what doing a task reads and prints, and how it ends
 abbrev pub Does : Task → (standard out0 out : Device) → Result Done Stop → Type 0
 Does (Repack asked) standard out0 out result =
@@ -174,6 +222,7 @@ Does (Repack asked) standard out0 out result =
 Does (Listing asked) standard out0 out result = ListsNamed asked.tolerance asked.input.now standard out0 out result
 Does (Check asked) standard out0 out result = Checks out0 out result
 Does (Archive asked) standard out0 out result = WalksArchive (days_asked asked) out0 out result
+Does (Feed asked) standard out0 out result = Feeds (choice_of asked.length asked.tolerance) standard out0 out result
 
 -- The words ask for a task, with none for the default, and it ended with this status.
 pub record EndsTask (words : ℕ) (standard out0 out : Device) (status : ℕ) : Type 0 where

@@ -5,7 +5,7 @@ use Rattle.msr_words.specs.Lengths.{bytes_of}
 use Rattle.msr_program.specs.declared.words.Folders.{Folders}
 use Rattle.msr_program.specs.declared.words.Task.{Task}
 use Rattle.msr_program.specs.declared.words.Walking.{Walking}
-use Rattle.msr_program.specs.declared.words.Task.TheVariants.{Repack, List as Listing, Check, Archive}
+use Rattle.msr_program.specs.declared.words.Task.TheVariants.{Repack, List as Listing, Check, Archive, Feed}
 use Rattle.msr_program.specs.declared.words.NoTask.{NoTask}
 use Rattle.msr_program.specs.declared.words.NoTask.TheVariants.{Ending, Memory}
 
@@ -20,6 +20,7 @@ HasTolerance (Repack asked) = IsTolerance asked.tolerance
 HasTolerance (Listing asked) = IsTolerance asked.tolerance
 HasTolerance (Check asked) = ⊤
 HasTolerance (Archive asked) = IsTolerance asked.tolerance
+HasTolerance (Feed asked) = IsTolerance asked.tolerance
 
 -- the path begins with the folder's name and a slash
 abbrev pub IsBelow : (folder path : List ℕ) → Type 0
@@ -45,6 +46,7 @@ KeepsInput (Repack asked) = IfSome asked.output (λ name. name.now ≢ asked.inp
 KeepsInput (Listing asked) = ⊤
 KeepsInput (Check asked) = ⊤
 KeepsInput (Archive asked) = StandApart asked.folders
+KeepsInput (Feed asked) = ⊤
 
 -- a file is to be repacked with these choices
 abbrev pub IsRepacking : (bytes tolerance : ℕ) → (input : List ℕ) → (output : Option (List ℕ)) → Task → Type 0
@@ -52,12 +54,22 @@ IsRepacking bytes tolerance input output (Repack asked) = (bytes_of asked.length
 IsRepacking bytes tolerance input output (Listing asked) = ⊥
 IsRepacking bytes tolerance input output (Check asked) = ⊥
 IsRepacking bytes tolerance input output (Archive asked) = ⊥
+IsRepacking bytes tolerance input output (Feed asked) = ⊥
+
+-- standard input is to be repacked with these choices while it comes, its report going to this file
+abbrev pub IsFeeding : (bytes tolerance : ℕ) → (report : List ℕ) → Task → Type 0
+IsFeeding bytes tolerance report (Repack asked) = ⊥
+IsFeeding bytes tolerance report (Listing asked) = ⊥
+IsFeeding bytes tolerance report (Check asked) = ⊥
+IsFeeding bytes tolerance report (Archive asked) = ⊥
+IsFeeding bytes tolerance report (Feed asked) = (bytes_of asked.length ≡ bytes) × (asked.tolerance ≡ tolerance) × (asked.report.now ≡ report)
 
 -- the records of the first file are to be checked against the report in the second
 abbrev pub IsChecking : (packed report : Option (List ℕ)) → Task → Type 0
 IsChecking packed report (Repack asked) = ⊥
 IsChecking packed report (Listing asked) = ⊥
 IsChecking packed report (Archive asked) = ⊥
+IsChecking packed report (Feed asked) = ⊥
 IsChecking packed report (Check asked) = (packed ≡ Some asked.packed.now) × (report ≡ Some asked.report.now)
 
 -- the archive in these folders is to be repacked with these choices, and walked in this way
@@ -65,6 +77,7 @@ abbrev pub IsArchiving : (bytes tolerance : ℕ) → (folders : Folders) → (wa
 IsArchiving bytes tolerance folders walking (Repack asked) = ⊥
 IsArchiving bytes tolerance folders walking (Listing asked) = ⊥
 IsArchiving bytes tolerance folders walking (Check asked) = ⊥
+IsArchiving bytes tolerance folders walking (Feed asked) = ⊥
 IsArchiving bytes tolerance folders walking (Archive asked) = (bytes_of asked.length ≡ bytes) × (asked.tolerance ≡ tolerance) × (asked.folders ≡ folders) × (asked.walking ≡ walking)
 
 -- standard input is to be repacked to nowhere, with records of 512 bytes and a tolerance of 1000 microseconds
@@ -73,6 +86,7 @@ IsDefault (Repack asked) = (bytes_of asked.length ≡ 512) × (asked.tolerance �
 IsDefault (Listing asked) = ⊥
 IsDefault (Check asked) = ⊥
 IsDefault (Archive asked) = ⊥
+IsDefault (Feed asked) = ⊥
 
 -- a bad command line: the text to end with, and status 2, unless memory is refused
 abbrev pub IsWrong : (text : List ℕ) → NoTask → Type 0

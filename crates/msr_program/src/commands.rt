@@ -59,6 +59,16 @@ fn check<'a>(alloc: Global) -> Result<Command<'a>, AllocError> {
         .arg(file(alloc, "REPORT").help(texts::REPORT))
 }
 
+fn feed<'a>(alloc: Global) -> Result<Command<'a>, AllocError> {
+    Command::new(alloc, "feed")
+        .about(texts::FEED_ABOUT)
+        .long_about(texts::FEED_LONG_ABOUT)
+        .after_long_help(texts::FEED_AFTER)
+        .arg(length(alloc))?
+        .arg(tolerance(alloc))?
+        .arg(file(alloc, "REPORT").help(texts::FEED_REPORT))
+}
+
 fn below<'a>(alloc: Global) -> Arg<'a> {
     Arg::new(alloc, "below")
         .long("below")
@@ -107,5 +117,6 @@ pub fn command<'a>(alloc: Global) -> Result<Command<'a>, AllocError> {
         .subcommand(repack(alloc)?)?
         .subcommand(list(alloc)?)?
         .subcommand(check(alloc)?)?
-        .subcommand(archive(alloc)?)
+        .subcommand(archive(alloc)?)?
+        .subcommand(feed(alloc)?)
 }

@@ -59,8 +59,16 @@ pub fn id_of_standard_input<R: Files>(rt: &R) -> Option<FileId> {
     }
 }
 
-/// Creates the file with this name, or opens it and cuts it to nothing, unless it is the input by some name: then it
-/// is left as it is.
+/// Which file standard output is redirected to, where the system tells it.
+fn id_of_standard_output<R: Files>(rt: &R) -> Option<FileId> {
+    match fs::metadata(rt, "/dev/stdout") {
+        Ok(metadata) => id_of(&metadata),
+        Err(_) => None,
+    }
+}
+
+/// Creates the file with this name, or opens it and cuts it to nothing, unless it is the input by some name, or what
+/// standard output is redirected to: then it is left as it is.
 pub fn create_output<'a, R: Files>(
     rt: &R,
     name: &'a str,
@@ -79,6 +87,9 @@ pub fn create_output<'a, R: Files>(
     };
     if input == Some(id) {
         return Err(Stop::SameFile);
+    }
+    if id_of_standard_output(rt) == Some(id) {
+        return Err(Stop::SameOutput);
     }
     match file.set_len(0) {
         Ok(()) => Ok(file),

@@ -11,6 +11,9 @@ pub enum Stop<'a> {
     /// The output is the input, by another name or a link.
     #[error("the output is the input")]
     SameFile,
+    /// A file to be written is what standard output is redirected to.
+    #[error("two outputs are one file")]
+    SameOutput,
     /// Standard output is closed.
     #[error("write fault")]
     Closed,
@@ -29,7 +32,7 @@ impl<'a> Stop<'a> {
     {
         match self {
             Stop::CannotOpen(_) | Stop::Closed => 1,
-            Stop::SameFile => 2,
+            Stop::SameFile | Stop::SameOutput => 2,
             Stop::Tool(fault) => fault.status(),
         }
     }

@@ -3,20 +3,22 @@
 ghost use Rattle.std.specs.Prelude.{◌≡◌};
 ghost use Rattle.msr_devices.specs.Device.{CanCountCall};
 ghost use Rattle.msr_program.specs.Tasks.{IsTolerance, HasTolerance};
-ghost use Rattle.msr_program.specs.Ends.{choice_of, days_asked, Checks, Does, ListsNamed, OpensOutput, Repacks, RepacksNamed, WalksArchive};
+ghost use Rattle.msr_program.specs.Ends.{choice_of, days_asked, Checks, Does, Feeds, FeedsTo, ListsNamed, OpensOutput, Repacks, RepacksNamed, WalksArchive};
 
 use crate::done::Done;
 use crate::files::{
     FileId, create_output, id_of_standard_input, open_file, settle_standard_output,
 };
 use crate::stop::Stop;
-use crate::words::{Archiving, Checking, Listing, Repacking, Task, default_length};
+use crate::words::{Archiving, Checking, Feeding, Listing, Repacking, Task, default_length};
 use msr_tool::{
-    FromRead, FromWrite, Options, Sink, Source, check_and_tell, list_segments, repack_and_report,
+    FromRead, FromWrite, Options, Sink, Source, ToolFault, check_and_tell, feed_and_report,
+    list_segments, repack_and_report,
 };
 use msr_walk::{Archive, settle, walk};
 use msr_words::Length;
 use std::alloc::Global;
+use std::fs::OpenFile;
 use std::io;
 use std::rt::Files;
 
@@ -35,8 +37,11 @@ pub fn do_task<'a, R: Files, I: Source, O: Sink>(
     ensures { Does task.entry (I.device input.old) (O.device output.old) (O.device output.new) result }
 {
     require_open(output)?;
+    let feeds = matches!(task, Task::Feed(_));
     let done = do_open(rt, alloc, task, input, output)?;
-    settle_standard_output(rt)?;
+    if !feeds {
+        settle_standard_output(rt)?;
+    }
     Ok(done)
 }
 
@@ -58,6 +63,7 @@ fn do_open<'a, R: Files, I: Source, O: Sink>(
         Task::List(asked) => list_file(rt, alloc, asked, input, output),
         Task::Check(asked) => check_files(rt, alloc, asked, output),
         Task::Archive(asked) => repack_archive(rt, alloc, asked, output),
+        Task::Feed(asked) => feed_input(rt, alloc, asked, input, output),
     }
 }
 
@@ -127,6 +133,64 @@ fn repack_from<'a, R: Files, I: Source, O: Sink>(
     )?;
     settle(&file)?;
     Ok(Done::Written)
+}
+
+// Makes the report's file before anything is read. It stands empty after a fault.
+fn feed_input<'a, R: Files, I: Source, O: Sink>(
+    rt: &R,
+    alloc: Global,
+    asked: Feeding<'a>,
+    input: &mut I,
+    output: &mut O,
+) -> Result<Done, Stop<'a>>
+    requires tolerance { IsTolerance asked.tolerance }
+    requires input { CanCountCall (I.device input.old) }
+    requires output { CanCountCall (O.device output.old) }
+    ensures { Feeds (choice_of asked.entry.length asked.entry.tolerance) (I.device input.old)
+        (O.device output.old) (O.device output.new) result }
+{
+    let id = id_of_standard_input(rt);
+    let mut file = create_output(rt, asked.report, id)?;
+    let fed = feed_to(
+        rt,
+        alloc,
+        &mut file,
+        options_of(asked.length, asked.tolerance),
+        input,
+        output,
+    );
+    match fed {
+        Ok(()) => Ok(Done::Written),
+        Err(fault) => {
+            file.set_len(0).ok();
+            Err(Stop::Tool(fault))
+        }
+    }
+}
+
+// Feeds to the file of the report, and waits until the system has stored what was written.
+fn feed_to<R: Files, I: Source, O: Sink>(
+    rt: &R,
+    alloc: Global,
+    file: &mut R::File,
+    options: Options,
+    input: &mut I,
+    output: &mut O,
+) -> Result<(), ToolFault>
+    requires input { CanCountCall (I.device input.old) }
+    requires output { CanCountCall (O.device output.old) }
+    ensures { FeedsTo options (I.device input.old) (O.device output.old) (O.device output.new) result }
+{
+    feed_and_report(
+        alloc,
+        input,
+        output,
+        &mut FromWrite::new(&mut *file),
+        options,
+    )?;
+    settle_standard_output(rt)?;
+    settle(file)?;
+    Ok(())
 }
 
 fn list_file<'a, R: Files, I: Source, O: Sink>(

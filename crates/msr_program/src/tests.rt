@@ -1,5 +1,6 @@
 //! Command lines, and runs over files and streams.
 mod archive;
+mod feeding;
 mod fixtures;
 mod odd_folder;
 mod streams;

@@ -123,6 +123,25 @@ pub const ARCHIVE_AFTER: &str = "Examples:
   msrepack archive --length 4096 sds packed reports > log.txt
   msrepack archive --resume --check --below 2020/XX sds packed reports > log.txt";
 
+pub const FEED_ABOUT: &str = "Repacks standard input to standard output while it comes";
+
+pub const FEED_LONG_ABOUT: &str = "Repacks standard input to standard output while it comes.
+
+The records go to standard output, as `repack` writes them, and each as soon as it is
+decided: whenever msrepack waits for more input, every record that no later sample can
+change has been written. So at most the samples of two records of the length L are not
+yet in one. The last records of a segment come when a record begins another segment,
+or at the end of the input.
+
+The report goes to the file REPORT at the end. It is made, or cut to nothing, before
+anything is read, and it stands empty where standard input is refused, or a call fails:
+then one line on standard error says why, and the records are only the first ones.";
+
+pub const FEED_AFTER: &str = "Example:
+  nc station 18000 | msrepack feed --length 4096 report.txt > packed.mseed";
+
+pub const FEED_REPORT: &str = "The file to write the report to, at the end";
+
 pub const BELOW: &str = "Walk only this folder of the archive. May be repeated";
 
 pub const LONG_BELOW: &str =

@@ -4,7 +4,7 @@ ghost use Rattle.std.specs.Option.{option_map};
 ghost use Rattle.msr_words.specs.RecordLength.{IsRecordLength};
 ghost use Rattle.msr_words.specs.Lengths.{bytes_of};
 ghost use Rattle.clap.specs.Words.{first_value, found_of};
-ghost use Rattle.msr_program.specs.Tasks.{AreApart, HasStatus, HasTolerance, IsArchiving, IsBadLine, IsBelow, IsChecking, IsDefault, IsRepacking, IsTolerance, IsWrong, KeepsInput, Overlap, StandApart};
+ghost use Rattle.msr_program.specs.Tasks.{AreApart, HasStatus, HasTolerance, IsArchiving, IsBadLine, IsBelow, IsChecking, IsDefault, IsFeeding, IsRepacking, IsTolerance, IsWrong, KeepsInput, Overlap, StandApart};
 
 use crate::commands::command;
 use crate::texts;
@@ -25,6 +25,17 @@ pub struct Repacking<'a> {
     pub input: &'a str,
     /// Where the records go, or nowhere.
     pub output: Option<&'a str>,
+}
+
+/// Standard input, which is to be repacked to standard output while it comes.
+#[derive(Clone, Copy, Debug, PartialEq, Eq)]
+pub struct Feeding<'a> {
+    /// The length of the records that are written.
+    pub length: Length,
+    /// The tolerance in microseconds.
+    pub tolerance: u32,
+    /// The name of the file that gets the report.
+    pub report: &'a str,
 }
 
 /// A file whose segments are to be listed.
@@ -82,6 +93,7 @@ pub enum Task<'a> {
     List(Listing<'a>),
     Check(Checking<'a>),
     Archive(Archiving<'a>),
+    Feed(Feeding<'a>),
 }
 
 /// The text to end with, and the status.
@@ -193,6 +205,30 @@ fn repacking_of<'a>(
         tolerance,
         input,
         output,
+    }))
+}
+
+// Standard input to be repacked while it comes, exactly where the length is one of a record.
+fn feeding_of<'a>(
+    alloc: Global,
+    bytes: u32,
+    tolerance: u32,
+    report: &'a str,
+) -> Result<Task<'a>, NoTask>
+    requires { IsTolerance tolerance }
+    ensures ok { IsOk result ↔ IsRecordLength bytes }
+    ensures asked { IfOk result (IsFeeding bytes tolerance report.now) }
+    ensures tolerance { IfOk result HasTolerance }
+    ensures keeps_input { IfOk result KeepsInput }
+    ensures status { IfErr result IsBadLine }
+{
+    let Some(length) = Length::new(bytes) else {
+        return Err(wrong(alloc, texts::NOT_A_LENGTH));
+    };
+    Ok(Task::Feed(Feeding {
+        length,
+        tolerance,
+        report,
     }))
 }
 
@@ -335,6 +371,12 @@ fn task_of<'a>(alloc: Global, matches: &ArgMatches<'a>) -> Result<Task<'a>, NoTa
         let walking = walking_in(alloc, found)?;
         return match folders_in(found) {
             Some(folders) => archiving_of(alloc, bytes, tolerance, folders, walking),
+            None => Err(wrong(alloc, texts::NO_COMMAND)),
+        };
+    }
+    if name == "feed" {
+        return match found.get_str("REPORT") {
+            Some(report) => feeding_of(alloc, bytes, tolerance, report),
             None => Err(wrong(alloc, texts::NO_COMMAND)),
         };
     }

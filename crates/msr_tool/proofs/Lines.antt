@@ -14,6 +14,9 @@ use Rattle.msr_devices.specs.Device.{Device, IsCalm}
 use Rattle.msr_report.specs.declared.report.SegmentLine.{SegmentLine}
 use Rattle.msr_report.specs.Proper.{IsProperLine, records_of}
 use Rattle.msr_input.specs.Reading.{IsWritable}
+use Rattle.msr_input.specs.Rows.{StepsTo}
+use Rattle.msr_input.specs.Steps.{CanJoin}
+use Rattle.msr_input.specs.declared.row_reader.NextRow.{NextRow}
 use Rattle.msr_certificate.specs.Form.{IsFormLine, form_line}
 use Rattle.msr_certificate.proofs.Going.{all_more}
 use Rattle.msr_output.specs.Opened.{Opened, CanGoOn, HasBegun, count_of}
@@ -22,8 +25,11 @@ use Rattle.msr_output.specs.Writing.{Writing, IsLineOf, HasWritten, HasWrittenFr
 use Rattle.msr_output.specs.declared.fault.WriteFault.{WriteFault}
 use Rattle.msr_output.specs.declared.fault.WriteFault.TheVariants as write
 use Rattle.msr_tool.specs.Fault.{fault_of_writing}
+use Rattle.msr_output.specs.Decided.{IsEncoded}
 use Rattle.msr_output.proofs.Begun.{packs_count, refused_now, writable_now}
-use Rattle.msr_tool.specs.Writing.{Lined, HasLined, LinesMore, StandsWritten, GoesOn, CanGrow, CanTake, StopsLining, current_after, ended_by, segments_with}
+use Rattle.msr_output.proofs.Decided.{HasWrittenDecided, begun-decided, written-decided}
+use Rattle.msr_output.proofs.Existing.{enough_bytes}
+use Rattle.msr_tool.specs.Writing.{Lined, HasLined, LinesMore, StandsWritten, GoesOn, CanGrow, CanTake, CanTakeRow, StopsLining, current_after, ended_by, segments_with}
 use Rattle.msr_tool.specs.Answer.{AreLinesOf}
 use Rattle.msr_tool.specs.declared.fault.ToolFault.{ToolFault}
 use Rattle.msr_tool.specs.declared.fault.ToolFault.TheVariants.{Memory}
@@ -228,8 +234,65 @@ grows-so start now w packed (Some segment) (Some opened) at joined row is bounds
     record { number = omega (arith, count, most, few); in_time = rw (h.is_open.key, h.is_open.start, count) long }
 
 -- a row that joins is in time
-pub can-take : (start now : Device) (lined : Lined) (packed : List Packed) (current : Option Segment) (old new : Following) (row : Row) (step : Step) → HasLined start now lined packed current → old.current ≡ option_map segment_span current → IsInBounds old.current → IsStep old (row_span row) step new → length row.samples ≤ 65_535 → CanTake step lined.last row
+can-take : (start now : Device) (lined : Lined) (packed : List Packed) (current : Option Segment) (old new : Following) (row : Row) (step : Step) → HasLined start now lined packed current → old.current ≡ option_map segment_span current → IsInBounds old.current → IsStep old (row_span row) step new → length row.samples ≤ 65_535 → CanTake step lined.last row
 can-take start now lined packed current old new row Begins h is bounds k few = record { joins = λ e. absurd cc }
 can-take start now lined packed current old new row Joins h is bounds k few = record {
   joins = λ e. grows-so start now lined.writing packed current lined.last old.current k.segment row is bounds h.written k.current k.in_time few;
 }
+
+-- and can be taken
+pub can-take-row : (start now : Device) (lined : Lined) (packed : List Packed) (current : Option Segment) (old new : Following) (next : Option NextRow) → HasLined start now lined packed current → old.current ≡ option_map segment_span current → IsInBounds old.current → StepsTo old next new
+    → IfSome next (λ found. CanJoin found.row × IsWritable (row_segment found.row)) → IfSome next (CanTakeRow lined.last)
+can-take-row start now lined packed current old new None h is bounds k row = tt
+can-take-row start now lined packed current old new (Some next) h is bounds k row = record {
+  can = can-take start now lined packed current old new next.row next.step h is bounds k row.0.few;
+  writable = row.1;
+  few = row.0.few;
+}
+
+-- ---- what waits is written
+
+flushed-so : (start old now : Device) (w w' : Writing) (packed : List Packed) (current : Option Segment) (last : Option Opened) → IfSome last (GoesOn w.size)
+    → ((rows : List Row) → HasWritten start old w packed rows → HasWritten start now w' packed rows)
+    → ((segment : Segment) (opened : Opened) → CanGoOn false opened → HasBegun start old w packed segment opened → HasBegun start now w' packed segment opened)
+    → StandsWritten start old w packed current last → StandsWritten start now w' packed current last
+flushed-so start old now w w' packed None None goes none begun h = (h.0, none h.0 h.1)
+flushed-so start old now w w' packed None (Some opened) goes none begun h = absurd h
+flushed-so start old now w w' packed (Some segment) None goes none begun h = absurd h
+flushed-so start old now w w' packed (Some segment) (Some opened) goes none begun h = begun segment opened goes.can h
+
+pub lined-flushed : (start old now : Device) (lined : Lined) (w' : Writing) (packed : List Packed) (current : Option Segment) → IfSome lined.last (GoesOn lined.writing.size)
+    → ((rows : List Row) → HasWritten start old lined.writing packed rows → HasWritten start now w' packed rows)
+    → ((segment : Segment) (opened : Opened) → CanGoOn false opened → HasBegun start old lined.writing packed segment opened → HasBegun start now w' packed segment opened)
+    → HasLined start old lined packed current → HasLined start now (record { writing = w'; lines = lined.lines; last = lined.last }) packed current
+lined-flushed start old now lined w' packed current goes none begun h = record {
+  written = flushed-so start old now lined.writing w' packed current lined.last goes none begun h.written;
+  are_lines = h.are_lines;
+  forms = h.forms;
+}
+
+stops-so : (start old now : Device) (w : Writing) (packed : List Packed) (current : Option Segment) (last : Option Opened) (fault : WriteFault) → IfSome last (GoesOn w.size)
+    → ((rows : List Row) → HasWritten start old w packed rows → StopsWriting w.size start now (map segment_of_packed packed) fault)
+    → ((segment : Segment) (opened : Opened) → CanGoOn false opened → HasBegun start old w packed segment opened → StopsWriting w.size start now (map segment_of_packed packed ++ segment ∷ []) fault)
+    → StandsWritten start old w packed current last → StopsLining w.size start now (map segment_of_packed packed ++ option_to_list current) (fault_of_writing fault)
+stops-so start old now w packed None None fault goes none begun h = rw (append-nil (map segment_of_packed packed)) (stops-lining w.size start now (map segment_of_packed packed) fault (none h.0 h.1))
+stops-so start old now w packed None (Some opened) fault goes none begun h = absurd h
+stops-so start old now w packed (Some segment) None fault goes none begun h = absurd h
+stops-so start old now w packed (Some segment) (Some opened) fault goes none begun h = stops-lining w.size start now (map segment_of_packed packed ++ segment ∷ []) fault (begun segment opened goes.can h)
+
+pub stops-flushing : (start old now : Device) (lined : Lined) (packed : List Packed) (current : Option Segment) (fault : WriteFault) → IfSome lined.last (GoesOn lined.writing.size)
+    → ((rows : List Row) → HasWritten start old lined.writing packed rows → StopsWriting lined.writing.size start now (map segment_of_packed packed) fault)
+    → ((segment : Segment) (opened : Opened) → CanGoOn false opened → HasBegun start old lined.writing packed segment opened → StopsWriting lined.writing.size start now (map segment_of_packed packed ++ segment ∷ []) fault)
+    → HasLined start old lined packed current → StopsLining lined.writing.size start now (map segment_of_packed packed ++ option_to_list current) (fault_of_writing fault)
+stops-flushing start old now lined packed current fault goes none begun h = stops-so start old now lined.writing packed current lined.last fault goes none begun h.written
+
+-- where nothing waits, all records that are decided were written
+decided-so : (start now : Device) (w : Writing) (packed : List Packed) (current : Option Segment) (last : Option Opened) → IfSome last (GoesOn w.size) → IfSome last IsEncoded → w.waiting ≡ [] → StandsWritten start now w packed current last → HasWrittenDecided w.size start now (map segment_of_packed packed ++ option_to_list current)
+decided-so start now w packed None None goes encoded none h = rw (append-nil (map segment_of_packed packed)) (written-decided start now w packed h.0 h.1 none)
+decided-so start now w packed None (Some opened) goes encoded none h = absurd h
+decided-so start now w packed (Some segment) None goes encoded none h = absurd h
+decided-so start now w packed (Some segment) (Some opened) goes encoded none h = begun-decided start now w packed segment opened (enough_bytes w.size (rw goes.same_size at goes.can.size)) h encoded none
+
+pub lined-decided : (start now : Device) (lined : Lined) (packed : List Packed) (current : Option Segment) → IfSome lined.last (GoesOn lined.writing.size) → IfSome lined.last IsEncoded → lined.writing.waiting ≡ [] → HasLined start now lined packed current
+    → HasWrittenDecided lined.writing.size start now (map segment_of_packed packed ++ option_to_list current)
+lined-decided start now lined packed current goes encoded none h = decided-so start now lined.writing packed current lined.last goes encoded none h.written

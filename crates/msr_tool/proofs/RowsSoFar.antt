@@ -1,5 +1,5 @@
 -- The rows so far, and the segments that a joiner at the follower's place makes of them.
-use Rattle.std.proofs.Common.{◌≡◌, ℕ, List, [], ◌∷◌, ◌++◌, ◌∙◌, arith, append_assoc, refl, sym, ap, subst, All, Option, None}
+use Rattle.std.proofs.Common.{◌≡◌, ℕ, List, [], ◌∷◌, ◌++◌, ◌∙◌, arith, append_assoc, refl, sym, ap, subst, All, Option, Some, None, IfSome, MatchOption}
 use Rattle.std.proofs.lemmas.List.{append-nil}
 use Rattle.std.specs.Option.{option_to_list}
 use Rattle.msr_record.specs.declared.row.Record.{Record}
@@ -8,7 +8,7 @@ use Rattle.msr_segments.specs.declared.follow.Step.{Step}
 use Rattle.msr_segments.specs.declared.follow.Step.TheVariants.{Begins, Joins}
 use Rattle.msr_segments.specs.declared.joiner.Segment.{Segment}
 use Rattle.msr_segments.specs.Spans.{Following, IsInBounds, IsStep}
-use Rattle.msr_segments.specs.Segments.{row_segment, row_span}
+use Rattle.msr_segments.specs.Segments.{AreSegments, row_segment, row_span}
 use Rattle.msr_segments.specs.Joining.{Joining, HasJoined, BeginsRow, JoinsRow, IsPush, following_of}
 use Rattle.msr_segments.proofs.Histories.{joined_none}
 use Rattle.msr_segments.proofs.StepLaws.{pushes_grow, steps_push}
@@ -16,14 +16,16 @@ use Rattle.msr_devices.specs.Device.{Device}
 use Rattle.msr_report.specs.declared.report.Counts.{Counts}
 use Rattle.msr_input.specs.Input.{HaveBegun, rows_of_records}
 use Rattle.msr_input.specs.Reading.{GaveReadable, IsWritable, StopsAfter, StopsReading}
-use Rattle.msr_input.specs.Rows.{RowReading, HasReadRows, ReadsRow, ReadsToEnd, StopsRows, row_settings}
+use Rattle.msr_input.specs.Rows.{RowReading, HasReadRows, ReadsNoRow, ReadsRecord, ReadsRow, ReadsToEnd, StepsTo, StopsRows, row_settings}
 use Rattle.msr_input.specs.declared.settings.Settings.{Settings}
 use Rattle.msr_input.specs.declared.fault.ReadFault.{ReadFault}
+use Rattle.msr_input.specs.Steps.{CanJoin}
+use Rattle.msr_input.specs.declared.row_reader.NextRecord.{NextRecord}
 use Rattle.msr_input.specs.declared.row_reader.NextRow.{NextRow}
 use Rattle.msr_input.proofs.Coming.{come-given}
 use Rattle.msr_input.proofs.Histories.{push-writable, stops-after}
 use Rattle.msr_input.proofs.Rows.{all_rows_are_readable}
-use Rattle.msr_tool.specs.Writing.{current_after, ended_by, longer_current, segments_with}
+use Rattle.msr_tool.specs.Writing.{all_with, current_after, current_with, ended_by, ended_with, longer_current}
 
 -- A joiner of the rows so far stands where the follower does: these segments have ended, and it has the last one.
 pub record RowsSoFar (settings : Settings) (source0 source : Device) (reading : RowReading) (given : List Segment) (joining : Joining) : Type 0 where
@@ -103,11 +105,47 @@ row-more settings source0 source source' reading reading' given joining next u r
       current = t.current;
     }
 
+-- one record more
+pub record RecordMore (settings : Settings) (source0 source : Device) (reading : RowReading) (given : List Segment) (joining : Joining) (next : Option NextRow) : Type 0 where
+  pub new : Joining
+  pub rows : RowsSoFar settings source0 source reading (given ++ option_to_list (ended_with next joining.current)) new
+  pub current : new.current ≡ current_with next joining.current
+
+record-more-so : (settings : Settings) (source0 source source' : Device) (reading reading' : RowReading) (given : List Segment) (joining : Joining) (next : Option NextRow) (u : RowsSoFar settings source0 source reading given joining)
+    → MatchOption next (ReadsNoRow source0 source' reading' u.records u.answers) (ReadsRow source0 source' reading' u.records u.answers)
+    → StepsTo reading.following next reading'.following → row_settings reading' ≡ row_settings reading → IfSome next (λ row. IsInBounds reading'.following.current) → IfSome next (λ found. CanJoin found.row × IsWritable (row_segment found.row)) → RecordMore settings source0 source' reading' given joining next
+record-more-so settings source0 source source' reading reading' given joining None u reads step still bounds row = record {
+  new = joining;
+  rows = subst (λ (segments : List Segment). RowsSoFar settings source0 source' reading' segments joining) (sym (append-nil given)) (record {
+    records = reads.after;
+    answers = u.answers;
+    has_read = reads.read;
+    joined = subst (λ (rows : List Row). HasJoined joining rows given) (sym reads.rows) u.joined;
+    stands = step ∙ u.stands;
+    in_bounds = rw step u.in_bounds;
+    same = still ∙ u.same;
+    writable = u.writable;
+  });
+  current = refl;
+}
+record-more-so settings source0 source source' reading reading' given joining (Some next) u reads step still bounds row =
+    let m = row-more settings source0 source source' reading reading' given joining next u reads step still bounds row.1 in
+    record { new = m.new; rows = m.rows; current = m.current }
+
+pub record-more : (settings : Settings) (source0 source source' : Device) (reading reading' : RowReading) (given : List Segment) (joining : Joining) (next : NextRecord) (u : RowsSoFar settings source0 source reading given joining) → ReadsRecord source0 source' reading' u.records u.answers next
+    → StepsTo reading.following next.row reading'.following → row_settings reading' ≡ row_settings reading → IfSome next.row (λ row. IsInBounds reading'.following.current) → IfSome next.row (λ found. CanJoin found.row × IsWritable (row_segment found.row)) → RecordMore settings source0 source' reading' given joining next.row
+record-more settings source0 source source' reading reading' given joining next u reads step still bounds row =
+    record-more-so settings source0 source source' reading reading' given joining next.row u reads step still bounds row
+
 -- all segments so far, with the one that has not ended
 begun-all : (settings : Settings) (source0 source : Device) (reading : RowReading) (given : List Segment) (joining : Joining) (u : RowsSoFar settings source0 source reading given joining) → HaveBegun reading.following.tolerance u.records (given ++ option_to_list joining.current)
 begun-all settings source0 source reading given joining u =
     subst (λ (t : ℕ). HaveBegun t u.records (given ++ option_to_list joining.current)) (sym (ap (λ (f : Following). f.tolerance) u.stands))
     (record { others = []; are_segments = rw (append-nil (given ++ option_to_list joining.current)) u.joined.segments })
+
+pub rows-begun : (settings : Settings) (source0 source : Device) (reading : RowReading) (given : List Segment) (joining : Joining) (u : RowsSoFar settings source0 source reading given joining) → AreSegments settings.tolerance (rows_of_records u.records) (given ++ option_to_list joining.current)
+rows-begun settings source0 source reading given joining u =
+    subst (λ (t : ℕ). AreSegments t (rows_of_records u.records) (given ++ option_to_list joining.current)) (sym (ap (λ (f : Following). f.tolerance) u.stands) ∙ ap (λ (s : Settings). s.tolerance) u.same) u.joined.segments
 
 -- they are read
 pub rows-read : (settings : Settings) (source0 source : Device) (reading : RowReading) (given : List Segment) (joining : Joining) → RowsSoFar settings source0 source reading given joining → StopsAfter settings source0 (given ++ option_to_list joining.current)
@@ -130,9 +168,9 @@ given-read settings source0 source reading given joining u =
       };
     }
 
-pub more-read : (settings : Settings) (source0 source : Device) (reading : RowReading) (given : List Segment) (joining : Joining) (next : NextRow) → RowMore settings source0 source reading given joining next → StopsAfter settings source0 (given ++ segments_with next.step joining.current next.row)
+pub more-read : (settings : Settings) (source0 source : Device) (reading : RowReading) (given : List Segment) (joining : Joining) (next : Option NextRow) → RecordMore settings source0 source reading given joining next → StopsAfter settings source0 (given ++ all_with next joining.current)
 more-read settings source0 source reading given joining next m =
-    let ended = option_to_list (ended_by next.step joining.current) in
+    let ended = option_to_list (ended_with next joining.current) in
     let all = append_assoc given ended (option_to_list m.new.current) ∙ ap (λ (current : Option Segment). given ++ (ended ++ option_to_list current)) m.current in
     subst (λ (segments : List Segment). StopsAfter settings source0 segments) all (rows-read settings source0 source reading (given ++ ended) m.new m.rows)
 

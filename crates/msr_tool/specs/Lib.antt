@@ -2,6 +2,7 @@ pub mod Choice
 pub mod Fault
 pub mod Answer
 pub mod Writing
+pub mod Live
 pub mod Listing
 pub mod ListWriting
 pub mod Laws

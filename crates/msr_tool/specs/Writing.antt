@@ -1,5 +1,5 @@
 -- What writing the rows as segments with their lines does.
-use Rattle.std.specs.Prelude.{◌≡◌, ℕ, ◌+◌, ◌<◌, ◌^◌, false, ℤ, List, ◌++◌, length, map, All, Option, None, Some, IfSome}
+use Rattle.std.specs.Prelude.{◌≡◌, ℕ, ◌+◌, ◌<◌, ◌≤◌, ◌^◌, false, ℤ, List, ◌++◌, length, map, All, Option, None, Some, IfSome}
 use Rattle.std.specs.Option.{option_to_list}
 use Rattle.msr_devices.specs.Device.{Device, HasFailed, IsSteady}
 use Rattle.msr_record.specs.declared.row.Row.{Row}
@@ -8,6 +8,8 @@ use Rattle.msr_segments.specs.Segments.{row_segment}
 use Rattle.msr_segments.specs.declared.follow.Step.{Step}
 use Rattle.msr_segments.specs.declared.follow.Step.TheVariants.{Begins, Joins}
 use Rattle.msr_segments.specs.declared.joiner.Segment.{Segment}
+use Rattle.msr_input.specs.Reading.{IsWritable}
+use Rattle.msr_input.specs.declared.row_reader.NextRow.{NextRow}
 use Rattle.msr_report.specs.declared.report.SegmentLine.{SegmentLine}
 use Rattle.msr_certificate.specs.Form.{IsFormLine, form_line}
 use Rattle.msr_output.specs.Opened.{Opened, CanGoOn, HasBegun, count_of, longer_by}
@@ -39,6 +41,18 @@ current_after Joins current row = longer_current current row.samples
 -- the segments that the row ends or makes longer
 abbrev pub segments_with : Step → Option Segment → Row → List Segment
 segments_with step current row = option_to_list (ended_by step current) ++ option_to_list (current_after step current row)
+
+-- the same for a record, which may have no row
+abbrev pub ended_with : Option NextRow → Option Segment → Option Segment
+ended_with None current = None
+ended_with (Some next) current = ended_by next.step current
+
+abbrev pub current_with : Option NextRow → Option Segment → Option Segment
+current_with None current = current
+current_with (Some next) current = current_after next.step current next.row
+
+abbrev pub all_with : Option NextRow → Option Segment → List Segment
+all_with next current = option_to_list (ended_with next current) ++ option_to_list (current_with next current)
 
 -- The records of these segments were written, and the first ones of the segment that has not ended, where there is one.
 abbrev pub StandsWritten : Device → Device → Writing → List Packed → Option Segment → Option Opened → Type 0
@@ -84,6 +98,12 @@ pub record CanGrow (more : ℕ) (opened : Opened) : Type 0 where
 -- so it is with the row's, where it joins
 pub record CanTake (step : Step) (last : Option Opened) (row : Row) : Type 0 where
   pub joins : step ≡ Joins → IfSome last (CanGrow (length row.samples))
+
+-- the row can be taken
+pub record CanTakeRow (last : Option Opened) (next : NextRow) : Type 0 where
+  pub can : CanTake next.step last next.row
+  pub writable : IsWritable (row_segment next.row)
+  pub few : length next.row.samples ≤ 65_535
 
 -- The sink failed, and the first holds; or memory was refused, the sink did not fail, and the second holds.
 abbrev pub StopsSink : Type 0 → Type 0 → Device → Device → ToolFault → Type 0

@@ -1,7 +1,9 @@
-// Repacking an input.
-ghost use Rattle.std.specs.Prelude.{◌≡◌, ◌↔◌, List, ℕ, IsErrOf};
+//! Repacking an input, whole or while it comes.
+ghost use Rattle.std.specs.Prelude.{◌≡◌, ◌↔◌, List, ℕ, IsErrOf, false};
 ghost use Rattle.msr_devices.specs.Device.{CanCountCall, CountsFew, HasFailed, HasLeft, Takes};
+ghost use Rattle.msr_input.specs.Reading.{HoldsRecord};
 ghost use Rattle.msr_tool.specs.Answer.{Answers};
+ghost use Rattle.msr_tool.specs.Live.{IsLive};
 
 use crate::fault::ToolFault;
 use crate::options::Options;
@@ -11,6 +13,15 @@ use msr_input::RowReader;
 use msr_output::{output_has_size, output_keeps_segments};
 use msr_report::Report;
 use std::alloc::Global;
+
+/// When the records that wait are written.
+#[derive(Clone, Copy, Debug, PartialEq, Eq)]
+enum Flush {
+    /// Where they are 64 KiB or more.
+    Full,
+    /// Before each read of the source, too.
+    Live,
+}
 
 /// Reads all records of the source, joins their rows into segments, and writes each segment again in the fewest
 /// records of the length that is asked for, while its samples come. It holds no segment, and a line for each.
@@ -32,10 +43,69 @@ pub fn repack<R: Source, W: Sink>(
     ensures few_source { CountsFew (R.device source.old) (R.device source.new) }
     ensures few_sink { CountsFew (W.device sink.old) (W.device sink.new) }
 {
+    repack_with(alloc, source, sink, options, Flush::Full)
+}
+
+/// Repacks as `repack` does, a source whose bytes come little by little: whenever it reads, all records are written
+/// that are decided by then.
+pub fn feed<R: Source, W: Sink>(
+    alloc: Global,
+    source: &mut R,
+    sink: &mut W,
+    options: Options,
+) -> Result<Report, ToolFault>
+    requires source { CanCountCall (R.device source.old) }
+    requires sink { CanCountCall (W.device sink.old) }
+
+    // What was written and what is answered, for the bytes that the source has.
+    ensures answer { (input : List ℕ) × (written : List ℕ) × HasLeft (R.device source.old) input × Takes (W.device sink.old) (W.device sink.new) written × Answers options input written result }
+
+    // A failure of a device is answered as such, and nothing else is.
+    ensures read { IsErrOf result ToolFault.Read ↔ HasFailed (R.device source.old) (R.device source.new) }
+    ensures write { IsErrOf result ToolFault.Write ↔ HasFailed (W.device sink.old) (W.device sink.new) }
+
+    // Where a read fails, which may be any, all that is decided by the records that came before it was written.
+    ensures live { IsErrOf result ToolFault.Read → IsLive options (R.device source.old) (R.device source.new) (W.device sink.old) (W.device sink.new) }
+    ensures few_source { CountsFew (R.device source.old) (R.device source.new) }
+    ensures few_sink { CountsFew (W.device sink.old) (W.device sink.new) }
+{
+    repack_with(alloc, source, sink, options, Flush::Live)
+}
+
+// Whether what waits is to be written now, since the next step may read.
+fn must_flush(flush: Flush, reader: &RowReader) -> bool
+    ensures { flush ≡ Flush.Live → result ≡ false → HoldsRecord reader.now.position.waiting }
+{
+    flush == Flush::Live && !reader.holds_record()
+}
+
+fn repack_with<R: Source, W: Sink>(
+    alloc: Global,
+    source: &mut R,
+    sink: &mut W,
+    options: Options,
+    flush: Flush,
+) -> Result<Report, ToolFault>
+    requires source { CanCountCall (R.device source.old) }
+    requires sink { CanCountCall (W.device sink.old) }
+
+    // What was written and what is answered, for the bytes that the source has.
+    ensures answer { (input : List ℕ) × (written : List ℕ) × HasLeft (R.device source.old) input × Takes (W.device sink.old) (W.device sink.new) written × Answers options input written result }
+
+    // A failure of a device is answered as such, and nothing else is.
+    ensures read { IsErrOf result ToolFault.Read ↔ HasFailed (R.device source.old) (R.device source.new) }
+    ensures write { IsErrOf result ToolFault.Write ↔ HasFailed (W.device sink.old) (W.device sink.new) }
+    ensures live { flush ≡ Flush.Live → IsErrOf result ToolFault.Read → IsLive options (R.device source.old) (R.device source.new) (W.device sink.old) (W.device sink.new) }
+    ensures few_source { CountsFew (R.device source.old) (R.device source.new) }
+    ensures few_sink { CountsFew (W.device sink.old) (W.device sink.new) }
+{
     let mut reader = RowReader::new(alloc, options.settings());
     let mut writer = LinedWriter::new(alloc, options.length());
-    'rows: while let Some(next) = reader.next_row(source)? {
-        writer.take(sink, &next)?;
+    'records: while let Some(next) = reader.next_record(source)? {
+        writer.take(sink, next)?;
+        if must_flush(flush, &reader) {
+            writer.flush(sink)?;
+        }
     }
     let counts = reader.counts();
     let segments = writer.finish(sink)?;

@@ -14,7 +14,7 @@ mod output;
 mod tasks;
 
 pub use check::check_packed;
-pub use engine::repack;
+pub use engine::{feed, repack};
 pub use fault::ToolFault;
 pub use laws::{
     one_refusal, one_repacking, readable_is_listed, readable_is_repacked, repacked_is_least,
@@ -27,7 +27,7 @@ pub use msr_input::Fault;
 pub use msr_report::{Counts, Report, SegmentLine, TextFault};
 pub use msr_verdict::Verdict;
 pub use options::Options;
-pub use tasks::{check_and_tell, repack_and_report};
+pub use tasks::{check_and_tell, feed_and_report, repack_and_report};
 
 #[cfg(test)]
 mod tests;

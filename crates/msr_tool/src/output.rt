@@ -2,7 +2,7 @@
 use crate::fault::ToolFault;
 use msr_certificate::line_has_form;
 use msr_devices::Sink;
-use msr_input::NextRow;
+use msr_input::{NextRecord, NextRow};
 use msr_output::{OpenSegment, SegmentWriter};
 use msr_record::Row;
 use msr_report::SegmentLine;
@@ -36,15 +36,17 @@ impl LinedWriter {
     ghost use Rattle.msr_segments.specs.Segments.{row_segment};
     ghost use Rattle.msr_segments.specs.declared.joiner.Segment.{Segment};
     ghost use Rattle.msr_input.specs.Reading.{IsWritable};
+    ghost use Rattle.msr_output.specs.Decided.{IsEncoded};
     ghost use Rattle.msr_output.specs.Opened.{empty_segment};
     ghost use Rattle.msr_output.specs.Output.{Packed, segment_of_packed};
-    ghost use Rattle.msr_tool.specs.Writing.{CanGrow, CanTake, GoesOn, HasLined, LinesAll, LinesMore, StopsLining, current_after, ended_by, longer_current, segments_with};
+    ghost use Rattle.msr_tool.specs.Writing.{CanGrow, CanTakeRow, GoesOn, HasLined, LinesAll, LinesMore, StopsLining, all_with, current_after, current_with, ended_by, ended_with, longer_current, segments_with};
 
     /// A writer before the first row.
     pub fn new(alloc: Global, length: Length) -> LinedWriter
         ensures size { result.writing.size ≡ bytes_of length }
         ensures last { result.last ≡ None }
         ensures none { (start : Device) → HasLined start start result [] None }
+        ensures none_wait { result.writing.waiting ≡ [] }
     {
         LinedWriter {
             writer: SegmentWriter::new(alloc, length),
@@ -103,6 +105,7 @@ impl LinedWriter {
             (StopsLining self.old.writing.size start (W.device sink.new)
             (map segment_of_packed packed ++ option_to_list (longer_current current samples.now))) }
         ensures last { OnOk result (IfSome self.new.last (GoesOn self.new.writing.size)) }
+        ensures encoded { OnOk result (IfSome self.new.last IsEncoded) }
         ensures size { self.new.writing.size ≡ self.old.writing.size }
         ensures few { CountsFew (W.device sink.old) (W.device sink.new) }
     {
@@ -115,13 +118,11 @@ impl LinedWriter {
         }
     }
 
-    /// Takes the next row. One that begins a segment ends the one before it, whose line is kept.
-    pub fn take<W: Sink>(&mut self, sink: &mut W, next: &NextRow) -> Result<(), ToolFault>
+    // Takes the next row. One that begins a segment ends the one before it, whose line is kept.
+    fn take_row<W: Sink>(&mut self, sink: &mut W, next: &NextRow) -> Result<(), ToolFault>
         requires count { CanCountCall (W.device sink.old) }
         requires last { IfSome self.old.last (GoesOn self.old.writing.size) }
-        requires joins { CanTake next.now.step self.old.last next.now.row }
-        requires writable { IsWritable (row_segment next.now.row) }
-        requires row { length next.now.row.samples ≤ 65_535 }
+        requires row { CanTakeRow self.old.last next.now }
         ensures written { (start : Device) (packed : List Packed) (current : Option Segment)
             → HasLined start (W.device sink.old) self.old packed current
             → MatchResult result
@@ -130,6 +131,7 @@ impl LinedWriter {
             (StopsLining self.old.writing.size start (W.device sink.new)
             (map segment_of_packed packed ++ segments_with next.now.step current next.now.row)) }
         ensures last { OnOk result (IfSome self.new.last (GoesOn self.new.writing.size)) }
+        ensures encoded { OnOk result (IfSome self.new.last IsEncoded) }
         ensures size { self.new.writing.size ≡ self.old.writing.size }
         ensures few { CountsFew (W.device sink.old) (W.device sink.new) }
     {
@@ -141,6 +143,48 @@ impl LinedWriter {
             }
             Step::Joins => self.push(sink, next.row.samples.as_slice()),
         }
+    }
+
+    /// Takes the next record. One whose row begins a segment ends the segment before it, whose line is kept.
+    pub fn take<W: Sink>(&mut self, sink: &mut W, next: NextRecord) -> Result<(), ToolFault>
+        requires count { CanCountCall (W.device sink.old) }
+        requires last { IfSome self.old.last (GoesOn self.old.writing.size) }
+        requires row { IfSome next.row (CanTakeRow self.old.last) }
+        ensures written { (start : Device) (packed : List Packed) (current : Option Segment)
+            → HasLined start (W.device sink.old) self.old packed current
+            → MatchResult result
+            (λ _. LinesMore start (W.device sink.new) self.new packed (option_to_list (ended_with next.row current))
+            (current_with next.row current))
+            (StopsLining self.old.writing.size start (W.device sink.new)
+            (map segment_of_packed packed ++ all_with next.row current)) }
+        ensures last { OnOk result (IfSome self.new.last (GoesOn self.new.writing.size)) }
+        ensures encoded { IfSome self.old.last IsEncoded → OnOk result (IfSome self.new.last IsEncoded) }
+        ensures size { self.new.writing.size ≡ self.old.writing.size }
+        ensures few { CountsFew (W.device sink.old) (W.device sink.new) }
+    {
+        match next.row {
+            Some(row) => self.take_row(sink, &row),
+            None => Ok(()),
+        }
+    }
+
+    /// Writes all that waits, while records may still come.
+    pub fn flush<W: Sink>(&mut self, sink: &mut W) -> Result<(), ToolFault>
+        requires count { CanCountCall (W.device sink.old) }
+        requires last { IfSome self.old.last (GoesOn self.old.writing.size) }
+        ensures written { (start : Device) (packed : List Packed) (current : Option Segment)
+            → HasLined start (W.device sink.old) self.old packed current
+            → MatchResult result
+            (λ _. HasLined start (W.device sink.new) self.new packed current)
+            (StopsLining self.old.writing.size start (W.device sink.new)
+            (map segment_of_packed packed ++ option_to_list current)) }
+        ensures none_wait { OnOk result (self.new.writing.waiting ≡ []) }
+        ensures last { self.new.last ≡ self.old.last }
+        ensures size { self.new.writing.size ≡ self.old.writing.size }
+        ensures few { CountsFew (W.device sink.old) (W.device sink.new) }
+    {
+        self.writer.flush(sink)?;
+        Ok(())
     }
 
     /// Ends the last segment, writes all that waits, and gives the lines.

@@ -3,10 +3,11 @@ ghost use Rattle.std.specs.Prelude.{◌≡◌, ◌⊎◌, ◌↔◌, ℕ, IsErrO
 ghost use Rattle.msr_devices.specs.Device.{CanCountCall, CountsFew, HasFailed, IsCalm};
 ghost use Rattle.msr_input.specs.declared.fault.Fault.{Fault as FirstFault};
 ghost use Rattle.msr_tool.specs.Checking.{GivesReport};
+ghost use Rattle.msr_tool.specs.Live.{IsLive};
 ghost use Rattle.msr_tool.specs.Tasks.{Reports, Tells};
 
 use crate::check::check_packed;
-use crate::engine::repack;
+use crate::engine::{feed, repack};
 use crate::fault::ToolFault;
 use crate::options::Options;
 use msr_devices::{Sink, Source, write_all};
@@ -47,6 +48,44 @@ pub fn repack_and_report<R: Source, W: Sink, T: Sink>(
     let report = repack(alloc, source, records, options)?;
     report.write_text(alloc, text)?;
     Ok(report)
+}
+
+/// The same as `feed` repacks: whenever it reads, all records that are decided were written.
+pub fn feed_and_report<R: Source, W: Sink, T: Sink>(
+    alloc: Global,
+    source: &mut R,
+    records: &mut W,
+    text: &mut T,
+    options: Options,
+) -> Result<Report, ToolFault>
+    requires source { CanCountCall (R.device source.old) }
+    requires records { CanCountCall (W.device records.old) }
+    requires text { CanCountCall (T.device text.old) }
+
+    // What was written and what is answered, for the bytes that the source has.
+    ensures answer { Reports options (R.device source.old) (W.device records.old) (W.device records.new)
+        (T.device text.old) (T.device text.new) result }
+
+    // A failure of a device is answered as such, and nothing else is.
+    ensures read { IsErrOf result ToolFault.Read ↔ HasFailed (R.device source.old) (R.device source.new) }
+    ensures write { IsErrOf result ToolFault.Write ↔ (HasFailed (W.device records.old) (W.device records.new)
+        ⊎ HasFailed (T.device text.old) (T.device text.new)) }
+
+    // Where the input or its device is at fault, or the records are, no call was made for the text.
+    ensures untold_at_fault { (fault : FirstFault) → result ≡ Err (ToolFault.Input fault) → text.new ≡ text.old }
+    ensures untold_at_read { HasFailed (R.device source.old) (R.device source.new) → text.new ≡ text.old }
+    ensures untold_at_write { HasFailed (W.device records.old) (W.device records.new) → text.new ≡ text.old }
+
+    // Where a read fails, all that is decided by the records that came before it was written.
+    ensures live { IsErrOf result ToolFault.Read → IsLive options (R.device source.old) (R.device source.new)
+        (W.device records.old) (W.device records.new) }
+    ensures few_source { CountsFew (R.device source.old) (R.device source.new) }
+    ensures few_records { CountsFew (W.device records.old) (W.device records.new) }
+    ensures few_text { CountsFew (T.device text.old) (T.device text.new) }
+{
+    let fed = feed(alloc, source, records, options)?;
+    fed.write_text(alloc, text)?;
+    Ok(fed)
 }
 
 /// Checks as `check_packed` does, and then writes the line of the verdict to `out`.

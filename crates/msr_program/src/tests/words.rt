@@ -1,6 +1,6 @@
 //! What command lines are read as, and the text and status that the others end with.
 use crate::words::{
-    Archiving, Checking, Ending, Folders, Listing, NoTask, Repacking, Task, Walking,
+    Archiving, Checking, Ending, Feeding, Folders, Listing, NoTask, Repacking, Task, Walking,
     default_length, read_words,
 };
 use msr_words::Length;
@@ -79,6 +79,31 @@ fn reads_list(rt: HostRuntime) -> Result<(), Fail> {
     ];
     for (words, tolerance, input) in rows {
         let want = Some(Task::List(Listing { tolerance, input }));
+        assert_eq!(&rt; read_words(rt.alloc(), words).ok(), want, "at {words:?}");
+    }
+    Ok(())
+}
+
+// The report is a file, also where its name is `-`.
+#[test]
+fn reads_feed(rt: HostRuntime) -> Result<(), Fail> {
+    let rows: [(&'static [&'static str], u32, u32, &'static str); 3] = [
+        (&["msrepack", "feed", "a"], 512, 1000, "a"),
+        (&["msrepack", "feed", "-"], 512, 1000, "-"),
+        (
+            &["msrepack", "feed", "--length=4096", "--tolerance", "7", "a"],
+            4096,
+            7,
+            "a",
+        ),
+    ];
+    for (words, bytes, tolerance, report) in rows {
+        let length = Length::new(bytes).ok_or("no length")?;
+        let want = Some(Task::Feed(Feeding {
+            length,
+            tolerance,
+            report,
+        }));
         assert_eq!(&rt; read_words(rt.alloc(), words).ok(), want, "at {words:?}");
     }
     Ok(())
@@ -194,7 +219,7 @@ fn refuses_with_a_text_of_its_own(rt: HostRuntime) -> Result<(), Fail> {
     let length = "msrepack: not a record length\n";
     let same = "msrepack: the output is the input\n";
     let overlap = "msrepack: the folders overlap\n";
-    let rows: [(&'static [&'static str], &'static str); 16] = [
+    let rows: [(&'static [&'static str], &'static str); 17] = [
         (&["msrepack", "repack", "--length", "300", "a"], length),
         (&["msrepack", "repack", "--length", "0", "a"], length),
         (&["msrepack", "repack", "--length", "128", "a"], length),
@@ -211,6 +236,7 @@ fn refuses_with_a_text_of_its_own(rt: HostRuntime) -> Result<(), Fail> {
             &["msrepack", "archive", "--length=300", "a", "a", "a"],
             length,
         ),
+        (&["msrepack", "feed", "--length=300", "a"], length),
         (&["msrepack", "archive", "a", "a/b", "c"], overlap),
         (&["msrepack", "archive", "a/b", "a", "c"], overlap),
         (&["msrepack", "archive", "a", "b", "a/c"], overlap),
@@ -278,8 +304,8 @@ fn refuses_with_the_text_of_clap(rt: HostRuntime) -> Result<(), Fail> {
             "error: the following required arguments were not provided:\n  <REPORTS>\n",
         ),
         (
-            &["msrepack", "feed", "a"],
-            "error: unrecognized subcommand 'feed'\n",
+            &["msrepack", "split", "a"],
+            "error: unrecognized subcommand 'split'\n",
         ),
         (
             &["msrepack", "--strict"],
@@ -354,7 +380,7 @@ fn refuses_with_the_text_of_clap(rt: HostRuntime) -> Result<(), Fail> {
 
 #[test]
 fn helps(rt: HostRuntime) -> Result<(), Fail> {
-    let rows: [(&'static [&'static str], &'static str); 15] = [
+    let rows: [(&'static [&'static str], &'static str); 16] = [
         (&["msrepack", "--help"], "Usage: msrepack <COMMAND>\n"),
         (&["msrepack", "--help"], "\nStatuses:\n  0  done\n"),
         (
@@ -404,6 +430,10 @@ fn helps(rt: HostRuntime) -> Result<(), Fail> {
         (
             &["msrepack", "help", "archive"],
             "\nfiles N skipped N refused N\n",
+        ),
+        (
+            &["msrepack", "feed", "--help"],
+            "Usage: msrepack feed [OPTIONS] <REPORT>\n",
         ),
         (&["msrepack", "--version"], "msrepack 0.1.0\n"),
     ];

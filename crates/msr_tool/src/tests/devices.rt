@@ -10,7 +10,7 @@ use crate::tests::fixtures::{
 use crate::tests::texts::{LIST, LISTED, NO_SEGMENTS, ONE_SEGMENT};
 use crate::{
     FromRead, FromWrite, Sink, TestSink, TestSource, ToolFault, check_and_tell, check_packed,
-    list_segments, repack, repack_and_report,
+    feed_and_report, list_segments, repack, repack_and_report,
 };
 use msr_devices::Behavior;
 use msr_time::Rate;
@@ -24,6 +24,7 @@ enum Call {
     List,
     Check,
     RepackAndReport,
+    FeedAndReport,
     CheckAndTell,
 }
 
@@ -123,6 +124,9 @@ fn ended(rt: &impl Abort, alloc: Global, worked: Worked<'_>, odd: Odd) -> Left {
         Call::Check => check_packed(alloc, &mut records, &mut report).err(),
         Call::RepackAndReport => {
             repack_and_report(alloc, &mut records, &mut written, &mut told, options).err()
+        }
+        Call::FeedAndReport => {
+            feed_and_report(alloc, &mut records, &mut written, &mut told, options).err()
         }
         Call::CheckAndTell => check_and_tell(alloc, &mut records, &mut report, &mut told).err(),
     };
@@ -227,11 +231,12 @@ fn each_call_in_turn(rt: HostRuntime) -> Result<(), Fail> {
     let (input, packed, listed) = (input.as_slice(), packed.as_slice(), listed.as_slice());
     let none: &[u8] = &[];
     // The call, the records and the report that it reads, the bytes and the text that it writes.
-    let rows: [(Call, &[u8], &str, &[u8], &str); 6] = [
+    let rows: [(Call, &[u8], &str, &[u8], &str); 7] = [
         (Call::Repack, input, "", packed, ""),
         (Call::List, listed, "", LIST.as_bytes(), ""),
         (Call::Check, packed, ONE_SEGMENT, none, ""),
         (Call::RepackAndReport, input, "", packed, ONE_SEGMENT),
+        (Call::FeedAndReport, input, "", packed, ONE_SEGMENT),
         (Call::CheckAndTell, packed, ONE_SEGMENT, none, "least\n"),
         (Call::CheckAndTell, packed, NO_SEGMENTS, none, "not shown\n"),
     ];

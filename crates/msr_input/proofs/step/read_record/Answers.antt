@@ -1,11 +1,12 @@
-use Rattle.std.proofs.Common.{◌≡◌, ◌+◌, ◌<◌, ◌∙◌, rules, arith, ap, sym, Bool, true, false, ℕ, List, [], ◌∷◌, length, Result, Err}
+use Rattle.std.proofs.Common.{refl, ◌≡◌, ◌+◌, ◌<◌, ◌∙◌, rules, arith, ap, sym, Bool, true, false, ℕ, List, [], ◌∷◌, length, Result, Err}
+use Rattle.std.proofs.lemmas.Result.{err_from_is_err_and}
 use Rattle.std.specs.Prelude.{◌==◌}
 use Rattle.msr_header.proofs.ShownLemmas.{AreBytes}
 use Rattle.msr_record.specs.declared.row.Record.{Record}
 use Rattle.msr_record.specs.declared.fault.FaultKind.{FaultKind}
 use Rattle.msr_record.specs.declared.fault.FaultKind.TheVariants.{Memory}
 use Rattle.msr_input.specs.Steps.{may_change}
-use Rattle.msr_input.proofs.Ahead.{filled-none, filled-more, room-none, room-more, room-found}
+use Rattle.msr_input.proofs.Ahead.{came-short, filled-none, filled-more, refused-short, room-none, room-more, room-found}
 use Rattle.msr_input.proofs.Seen.{decoding-stops, none-held}
 use Rattle.msr_input.proofs.step.read_record.Goals.{else-is_empty-via-then-is_empty+else-has_ended, else-is_empty-via-else-is_empty, then-has_ended-2-via-then-has_ended-2, then-has_ended-2-via-else-has_ended-2+then-not-may_change}
 use Rattle.msr_input.proofs.step.read_record.Goals as goal
@@ -36,6 +37,7 @@ pub bytes-init : goal.bytes-init
 bytes-init g c = record {
   filled = filled-none (g.R.Source.device c.args.source.now) c.args.buffer.now;
   room = room-none c.args.buffer.now;
+  unread = λ holds. record { source = refl; bytes = refl };
 }
 
 pub returns-in-Ok-clause-room : goal.returns-in-Ok-clause-room
@@ -50,4 +52,18 @@ bytes-preserved g c =
     record {
       filled = filled-more (g.R.Source.device c.args.source.now) (g.R.Source.device c.bytes.source) (g.R.Source.device c.fill.new.source) c.args.buffer.now c.bytes.buffer c.fill.new.self 0 (length c.bytes-bytes.result.now + 1) c.bytes.invariant.filled unended more;
       room = room-more c.args.buffer.now.room (g.R.Source.device c.bytes.source) (g.R.Source.device c.fill.new.source) c.bytes.buffer c.fill.new.self c.bytes.invariant.room none at_hand (rw c.bytes-bytes.ensures at c.fill.ensures.room);
+      unread = λ holds. let same = c.bytes.invariant.unread holds in absurd (none (rw same.bytes holds));
     }
+
+pub returns-in_err-fill-clause-came : goal.returns-in_err-fill-clause-came
+returns-in_err-fill-clause-came g c =
+    let p = err_from_is_err_and c.from_residual.result c.from_residual.ensures.1 in
+    let unended : c.bytes.buffer.ended ≡ false = cc in
+    rw (p.1, p.2) (came-short (g.R.Source.device c.args.source.now) (g.R.Source.device c.bytes.source) (g.R.Source.device c.fill.new.source) c.args.buffer.now c.bytes.buffer c.fill.new.self (length c.bytes-bytes.result.now + 1) c.in_err-fill.field-0.0 c.bytes.invariant.filled unended c.in_err-fill.ensures.filled)
+
+pub returns-in_err-fill-clause-refused : goal.returns-in_err-fill-clause-refused
+returns-in_err-fill-clause-refused g c =
+    let p = err_from_is_err_and c.from_residual.result c.from_residual.ensures.1 in
+    let at_hand = rw c.bytes-bytes.ensures at c.in_err-fill.ensures.filled in
+    let none = none-held c.args.strict c.bytes.buffer.bytes c.in-Err.kind (length c.bytes-bytes.result.now) (sym c.may_change.ensures ∙ c.if-not-may_change.false) (rw c.bytes-bytes.ensures at c.in-Err.ensures.refused) in
+    rw (p.1, p.2) (refused-short c.args.strict (g.R.Source.device c.bytes.source) (g.R.Source.device c.fill.new.source) c.bytes.buffer c.fill.new.self c.args.offset c.in_err-fill.field-0.0 none at_hand)

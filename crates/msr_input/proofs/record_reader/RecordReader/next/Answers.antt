@@ -1,4 +1,4 @@
-use Rattle.msr_input.proofs.Coming.{at-failure, at-memory, come-keeps, come-next}
+use Rattle.msr_input.proofs.Coming.{at-failure, at-memory, come-keeps, come-next, come-short}
 use Rattle.msr_input.proofs.record_reader.RecordReader.next.Goals as goal
 
 pub returns-clause-came : goal.returns-clause-came
@@ -16,3 +16,8 @@ returns-clause-memory g c = at-memory c.self.inside.strict c.read_record.new.buf
 
 pub returns-clause-awaited : goal.returns-clause-awaited
 returns-clause-awaited g c = at-failure c.self.inside.strict c.read_record.new.buffer c.self.inside.offset c.read_record.result c.read_record.ensures.refused
+
+pub returns-clause-failed : goal.returns-clause-failed
+returns-clause-failed g c =
+    let old = c.self.inside in
+    rw (← c.self.view_is) (λ start records come. come-short start (g.R.Source.device c.args.source.now) (g.R.Source.device c.read_record.new.source) old.strict old.buffer c.read_record.new.buffer old.counts old.offset records c.read_record.result come c.read_record.ensures.came)

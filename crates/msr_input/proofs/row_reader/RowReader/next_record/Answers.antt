@@ -1,0 +1,59 @@
+use Rattle.std.proofs.Common.{◌≡◌, refl}
+use Rattle.std.proofs.lemmas.Result.{err_from_is_err_and}
+use Rattle.msr_input.specs.declared.fault.ReadFault.TheVariants as fault
+use Rattle.msr_input.specs.Rows.{RowReading}
+use Rattle.msr_input.proofs.Rows.{rows-come, rows-stop, steps-to}
+use Rattle.msr_input.proofs.row_reader.RowReader.next_record.Goals as goal
+
+pub returns-in_err-found-clause-read : goal.returns-in_err-found-clause-read
+returns-in_err-found-clause-read g c =
+    let p = err_from_is_err_and c.from_residual.result c.from_residual.ensures.1 in
+    rw (p.1, p.2, ← c.self.view_is) (λ start records answers has.
+    rows-stop (record { tolerance = c.self.inside.follow.tolerance; strict = c.self.inside.records.strict }) start (g.R.Source.device c.next.new.source) records c.in_err-found.field-0.0 (c.in_err-found.ensures.came start records has.came) has.in_range)
+
+pub returns-in_err-found-clause-kept : goal.returns-in_err-found-clause-kept
+returns-in_err-found-clause-kept g c =
+    let p = err_from_is_err_and c.from_residual.result c.from_residual.ensures.1 in
+    let at : RowReading = record { position = c.self.inside.records; following = c.self.inside.follow } in
+    rw (p.1, p.2, ← c.self.view_is) (λ start records answers has other.
+    rows-come start (g.R.Source.device c.args.source.now) (g.R.Source.device c.next.new.source) at c.next.new.self records answers has (c.in_err-found.ensures.kept start records has.came other))
+
+pub returns-in_err-found-clause-failed : goal.returns-in_err-found-clause-failed
+returns-in_err-found-clause-failed g c =
+    let p = err_from_is_err_and c.from_residual.result c.from_residual.ensures.1 in
+    rw (p.1, p.2, ← c.self.view_is) (λ start records answers has e.
+    let same : c.in_err-found.field-0.0 ≡ fault.Read = cc in
+    c.in_err-found.ensures.failed start records has.came (rw same refl))
+
+pub returns-in_default-clause-read : goal.returns-in_default-clause-read
+returns-in_default-clause-read g c =
+    let at : RowReading = record { position = c.self.inside.records; following = c.self.inside.follow } in
+    let end = rw c.in_default.is at c.in_ok-found.ensures.next in
+    rw (← c.self.view_is) (λ start records answers has.
+    let filled = rows-come start (g.R.Source.device c.args.source.now) (g.R.Source.device c.next.new.source) at c.next.new.self records answers has (c.in_ok-found.ensures.came start records has.came) in
+    record { none = record { after = records; rows = refl; read = filled }; none_wait = end.0; ended = end.1 })
+
+pub returns-in_err-row-clause-read : goal.returns-in_err-row-clause-read
+returns-in_err-row-clause-read g c =
+    let p = err_from_is_err_and c.from_residual-in_err-row.result c.from_residual-in_err-row.ensures.1 in
+    let at : RowReading = record { position = c.self.inside.records; following = c.self.inside.follow } in
+    rw (p.1, p.2, ← c.self.view_is) (λ start records answers has.
+    let filled = rows-come start (g.R.Source.device c.args.source.now) (g.R.Source.device c.next.new.source) at c.next.new.self records answers has (c.in_ok-found.ensures.came start records has.came) in
+    c.in_err-row.ensures.read start (g.R.Source.device c.next.new.source) records answers filled)
+
+pub returns-in_err-row-clause-kept : goal.returns-in_err-row-clause-kept
+returns-in_err-row-clause-kept g c =
+    let p = err_from_is_err_and c.from_residual-in_err-row.result c.from_residual-in_err-row.ensures.1 in
+    let at : RowReading = record { position = c.self.inside.records; following = c.self.inside.follow } in
+    rw (p.1, p.2, c.in_err-row.ensures.unchanged, ← c.self.view_is) (λ start records answers has other.
+    rows-come start (g.R.Source.device c.args.source.now) (g.R.Source.device c.next.new.source) at c.next.new.self records answers has (c.in_ok-found.ensures.came start records has.came))
+
+pub returns-clause-read : goal.returns-clause-read
+returns-clause-read g c =
+    let at : RowReading = record { position = c.self.inside.records; following = c.self.inside.follow } in
+    rw (← c.self.view_is) (λ start records answers has.
+    let filled = rows-come start (g.R.Source.device c.args.source.now) (g.R.Source.device c.next.new.source) at c.next.new.self records answers has (c.in_ok-found.ensures.came start records has.came) in
+    c.in_ok-row.ensures.read start (g.R.Source.device c.next.new.source) records answers filled)
+
+pub returns-clause-step : goal.returns-clause-step
+returns-clause-step g c = rw (← c.self.view_is) (steps-to c.self.inside.follow c.take.new.self.following c.in-Some.found.row c.in_ok-row.row c.in_ok-row.ensures.step)

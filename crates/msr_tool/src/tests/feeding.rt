@@ -1,0 +1,82 @@
+//! A source whose bytes come little by little: what stands in the sink wherever a read fails.
+use crate::tests::fixtures::{Edits, choice, edited};
+use crate::{TestSink, TestSource, ToolFault, feed, repack};
+use msr_devices::Behavior;
+use std::test::Fail;
+
+// Full records of 301 samples of 0, each behind the one before it, and one without samples before the last.
+const RECORDS: [Edits<'static>; 5] = [
+    &[],
+    &[(5, &[0x32]), (26, &[0x0f, 0x00, 0x01, 0xf4])],
+    &[(5, &[0x33]), (26, &[0x1e, 0x00, 0x03, 0xe8])],
+    &[(5, &[0x34]), (30, &[0x00, 0x00])],
+    &[(5, &[0x35]), (26, &[0x2d, 0x00, 0x05, 0xdc])],
+];
+
+// A read gives one record. The first record that is written ends where the second can begin at the latest, and where
+// that one ends is known once a sample behind it is there: with the third record, and so on.
+#[test]
+fn decided_records_are_written_before_each_read(rt: HostRuntime) -> Result<(), Fail> {
+    let alloc = rt.alloc();
+    let input = edited(&rt, alloc, &RECORDS)?;
+    let options = choice(&rt, 256, 1000);
+    for (reads, records) in [(0, 0), (1, 0), (2, 0), (3, 1), (4, 1), (5, 2)] {
+        let behavior = Behavior {
+            most: 256,
+            interruptions: 0,
+            fails_at: Some(reads),
+        };
+        let mut source = TestSource::new(&input, behavior);
+        let mut sink = TestSink::new(
+            Vec::new(alloc),
+            Behavior {
+                most: 100,
+                fails_at: None,
+                ..behavior
+            },
+        );
+        let fault = feed(alloc, &mut source, &mut sink, options).err();
+        assert_eq!(&rt; fault, Some(ToolFault::Read));
+        assert!(&rt;
+            sink.bytes() == &input[..256 * records],
+            "behind {reads} reads"
+        );
+    }
+    Ok(())
+}
+
+// In the end the output is that of a repack, also where nothing is decided before.
+#[test]
+fn the_output_is_that_of_a_repack(rt: HostRuntime) -> Result<(), Fail> {
+    let alloc = rt.alloc();
+    let input = edited(&rt, alloc, &RECORDS)?;
+    let options = choice(&rt, 256, 1000);
+    for most in [1, 100, 256, 2000] {
+        let behavior = Behavior {
+            most,
+            interruptions: 0,
+            fails_at: None,
+        };
+        let mut fed = TestSink::new(Vec::new(alloc), behavior);
+        let mut packed = TestSink::new(Vec::new(alloc), behavior);
+        let one = feed(
+            alloc,
+            &mut TestSource::new(&input, behavior),
+            &mut fed,
+            options,
+        );
+        let other = repack(
+            alloc,
+            &mut TestSource::new(&input, behavior),
+            &mut packed,
+            options,
+        );
+        let (Ok(one), Ok(other)) = (one, other) else {
+            panic!(&rt; "refused at {most}")
+        };
+        assert_eq!(&rt; one.counts, other.counts);
+        assert_eq!(&rt; one.segments.len(), other.segments.len());
+        assert!(&rt; fed.bytes() == packed.bytes(), "at {most}");
+    }
+    Ok(())
+}
