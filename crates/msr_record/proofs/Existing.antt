@@ -102,7 +102,7 @@ area_of Int16 before samples size power some fit fits =
     let n = numbers_of TwoBytes samples (size - 64) (all_16 before samples fits.1.0) (omega (arith, fits.1.1, length-points before samples)) in
     record { frames = 0; area = n.area; is_area = n.are; long = n.long; carries = n.carries; agrees = tt }
 area_of Int24 before samples size power some fit fits =
-    let n = numbers_of ThreeBytes samples (size - 64) (all_24 before samples fits.0) (omega (arith, fits.1, length-points before samples)) in
+    let n = numbers_of ThreeBytes samples (size - 64) (all_24 before samples fits.1.0) (omega (arith, fits.1.1, length-points before samples)) in
     record { frames = 0; area = n.area; is_area = n.are; long = n.long; carries = n.carries; agrees = tt }
 area_of Int32 before samples size power some fit fits =
     let n = numbers_of FourBytes samples (size - 64) fit (omega (arith, fits.1, length-points before samples)) in

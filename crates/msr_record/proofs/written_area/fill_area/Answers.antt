@@ -15,12 +15,12 @@ fill_plain-requires-clause-room c =
 pub fill_plain-requires-in-Int24-clause-fit : goal.fill_plain-requires-in-Int24-clause-fit
 fill_plain-requires-in-Int24-clause-fit c =
     let fits = rw c.in-Int24.is at c.requires.fits in
-    all_24 c.args.before c.args.run.now fits.0
+    all_24 c.args.before c.args.run.now fits.1.0
 
 pub fill_plain-requires-in-Int24-clause-room : goal.fill_plain-requires-in-Int24-clause-room
 fill_plain-requires-in-Int24-clause-room c =
     let fits = rw c.in-Int24.is at c.requires.fits in
-    omega (arith, fits.1, length-points c.args.before c.args.run.now, c.requires.size)
+    omega (arith, fits.1.1, length-points c.args.before c.args.run.now, c.requires.size)
 
 pub fill_plain-requires-in-Int32-clause-room : goal.fill_plain-requires-in-Int32-clause-room
 fill_plain-requires-in-Int32-clause-room c =

@@ -1,8 +1,9 @@
-use Rattle.std.proofs.Common.{◌≡◌, refl}
+use Rattle.std.proofs.Common.{◌≡◌, refl, subst}
 use Rattle.std.proofs.lemmas.Result.{err_from_is_err_and}
 use Rattle.msr_input.specs.declared.fault.ReadFault.TheVariants as fault
-use Rattle.msr_input.specs.Rows.{RowReading}
-use Rattle.msr_input.proofs.Rows.{rows-come, rows-stop, steps-to}
+use Rattle.msr_input.specs.Rows.{RowReading, StopsRows}
+use Rattle.msr_input.specs.declared.settings.Settings.{Settings}
+use Rattle.msr_input.proofs.Rows.{rows-come, rows-stop, same-row-settings, steps-to}
 use Rattle.msr_input.proofs.row_reader.RowReader.next_record.Goals as goal
 
 pub returns-in_err-found-clause-read : goal.returns-in_err-found-clause-read
@@ -36,10 +37,14 @@ returns-in_default-clause-read g c =
 pub returns-in_err-row-clause-read : goal.returns-in_err-row-clause-read
 returns-in_err-row-clause-read g c =
     let p = err_from_is_err_and c.from_residual-in_err-row.result c.from_residual-in_err-row.ensures.1 in
+    let why = c.in_err-row.field-0.0 in
     let at : RowReading = record { position = c.self.inside.records; following = c.self.inside.follow } in
+    let after : RowReading = record { position = c.next.new.self; following = c.self.inside.follow } in
+    let same = same-row-settings after at refl c.next.ensures.strict in
     rw (p.1, p.2, ← c.self.view_is) (λ start records answers has.
     let filled = rows-come start (g.R.Source.device c.args.source.now) (g.R.Source.device c.next.new.source) at c.next.new.self records answers has (c.in_ok-found.ensures.came start records has.came) in
-    c.in_err-row.ensures.read start (g.R.Source.device c.next.new.source) records answers filled)
+    subst (λ (settings : Settings). StopsRows settings start (g.R.Source.device c.next.new.source) records why) same
+    (c.in_err-row.ensures.read start (g.R.Source.device c.next.new.source) records answers filled))
 
 pub returns-in_err-row-clause-kept : goal.returns-in_err-row-clause-kept
 returns-in_err-row-clause-kept g c =
