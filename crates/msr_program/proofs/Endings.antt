@@ -5,8 +5,8 @@ use Rattle.msr_devices.proofs.Chaining.{left-of, takes-append, takes-none}
 use Rattle.msr_report.specs.declared.report.Counts.{Counts}
 use Rattle.msr_report.specs.declared.report.Report.{Report}
 use Rattle.msr_verdict.specs.declared.verdict.Verdict.{Verdict}
-use Rattle.msr_tool.specs.Choice.{Choice}
-use Rattle.msr_tool.specs.Listing.{IsListed, ListAnswers}
+use Rattle.msr_tool.specs.Choice.{Choice, settings_of}
+use Rattle.msr_tool.specs.Listing.{ListAnswers}
 use Rattle.msr_tool.specs.Tasks.{Reports, Tells}
 use Rattle.msr_tool.specs.declared.fault.ToolFault.{ToolFault}
 use Rattle.msr_tool.specs.declared.fault.ToolFault.TheVariants as fault
@@ -29,19 +29,19 @@ check-unopened out SameOutput is = absurd is
 check-unopened out Closed is = absurd is
 check-unopened out (Tool why) is = absurd is
 
-pub list-unopened : (tolerance : ℕ) (name : List ℕ) (standard out : Device) (stop : Stop) → IsUnopened stop →
-    ListsNamed tolerance name standard out out (Err stop)
-list-unopened tolerance name standard out (CannotOpen other) is = record {
+pub list-unopened : (tolerance : ℕ) (strict : Bool) (name : List ℕ) (standard out : Device) (stop : Stop) → IsUnopened stop →
+    ListsNamed tolerance strict name standard out out (Err stop)
+list-unopened tolerance strict name standard out (CannotOpen other) is = record {
   input = (left-of standard).0;
   printed = [];
   left = λ same. (left-of standard).1;
   prints = takes-none out;
   ends = refl;
 }
-list-unopened tolerance name standard out SameFile is = absurd is
-list-unopened tolerance name standard out SameOutput is = absurd is
-list-unopened tolerance name standard out Closed is = absurd is
-list-unopened tolerance name standard out (Tool why) is = absurd is
+list-unopened tolerance strict name standard out SameFile is = absurd is
+list-unopened tolerance strict name standard out SameOutput is = absurd is
+list-unopened tolerance strict name standard out Closed is = absurd is
+list-unopened tolerance strict name standard out (Tool why) is = absurd is
 
 pub repack-uncreated : (choice : Choice) (source out : Device) (stop : Stop) → IsUncreated stop → Repacks choice source out out (Err stop)
 repack-uncreated choice source out (CannotOpen name) is = record {
@@ -265,26 +265,28 @@ archive-stops asked out0 out why does = record { printed = does.printed; prints 
 
 -- a file, and not standard input, was listed, or is at fault
 
-pub list-done : (asked tolerance : ℕ) (name : List ℕ) (standard out0 out : Device) (input printed : List ℕ) (counts : Counts) →
-    asked ≡ tolerance → (name ≡ codes "-" → ⊥) → Takes out0 out printed → ListAnswers asked input printed (Ok counts) →
-    ListsNamed tolerance name standard out0 out (Ok Written)
-list-done asked tolerance name standard out0 out input printed counts same other prints answers = record {
+pub list-done : (asked : Choice) (tolerance : ℕ) (strict : Bool) (name : List ℕ) (standard out0 out : Device) (input printed : List ℕ) (counts : Counts) →
+    asked.tolerance ≡ tolerance → asked.strict ≡ strict → (name ≡ codes "-" → ⊥) → Takes out0 out printed → ListAnswers (settings_of asked) input printed (Ok counts) →
+    ListsNamed tolerance strict name standard out0 out (Ok Written)
+list-done asked tolerance strict name standard out0 out input printed counts same_tolerance same_strict other prints answers = record {
   input = input;
   printed = printed;
   left = λ is. absurd (other is);
   prints = prints;
-  ends = record { counts = counts; listed = subst (λ (t : ℕ). IsListed t input printed counts) same answers };
+  ends = record { counts = counts; listed = rw (← same_tolerance, ← same_strict) answers };
 }
 
-pub list-stops : (asked tolerance : ℕ) (name : List ℕ) (standard out0 out : Device) (input printed : List ℕ) (why : ToolFault) →
-    asked ≡ tolerance → (name ≡ codes "-" → ⊥) → Takes out0 out printed → ListAnswers asked input printed (Err why) →
-    ListsNamed tolerance name standard out0 out (Err (Tool why))
-list-stops asked tolerance name standard out0 out input printed why same other prints answers = record {
+pub list-stops : (asked : Choice) (tolerance : ℕ) (strict : Bool) (name : List ℕ) (standard out0 out : Device) (input printed : List ℕ) (why : ToolFault) →
+    asked.tolerance ≡ tolerance → asked.strict ≡ strict → (name ≡ codes "-" → ⊥) → Takes out0 out printed → ListAnswers (settings_of asked) input printed (Err why) →
+    ListsNamed tolerance strict name standard out0 out (Err (Tool why))
+list-stops asked tolerance strict name standard out0 out input printed why same_tolerance same_strict other prints answers = record {
   input = input;
   printed = printed;
   left = λ is. absurd (other is);
   prints = prints;
-  ends = subst (λ (t : ℕ). ListAnswers t input printed (Err why)) same answers;
+  ends =
+      let tolerant = subst (λ (t : ℕ). ListAnswers (record { tolerance = t; strict = asked.strict }) input printed (Err why)) same_tolerance answers in
+      subst (λ (b : Bool). ListAnswers (record { tolerance = tolerance; strict = b }) input printed (Err why)) same_strict tolerant;
 }
 
 -- a source was repacked: standard input, or a file by another name

@@ -1,5 +1,5 @@
 -- How a task ends: what was read and printed, for what the files of the system hold.
-use Rattle.std.specs.Prelude.{if◌then◌else◌, ◌≡◌, ◌⊎◌, ◌<◌, ◌≤◌, ℕ, ⊤, List, [], codes, string_bytes, Result, Ok, Err}
+use Rattle.std.specs.Prelude.{if◌then◌else◌, ◌≡◌, ◌⊎◌, ◌<◌, ◌≤◌, ℕ, ⊤, Bool, List, [], codes, string_bytes, Result, Ok, Err}
 use Rattle.msr_words.specs.declared.lengths.Length.{Length}
 use Rattle.std.specs.declared.io.Error.{Error}
 use Rattle.msr_devices.specs.Device.{Device, CountsError, HasFailed, HasLeft, Takes}
@@ -42,9 +42,9 @@ abbrev pub status_of : Result Done Stop → ℕ
 status_of (Ok done) = status_of_done done
 status_of (Err stop) = status_of_stop stop
 
--- the length and the tolerance that are asked for
-abbrev pub choice_of : (record_length : Length) → (tolerance : ℕ) → Choice
-choice_of record_length tolerance = record { record_length = record_length; tolerance = tolerance }
+-- the length, the tolerance and the strictness that are asked for
+abbrev pub choice_of : (record_length : Length) → (tolerance : ℕ) → (strict : Bool) → Choice
+choice_of record_length tolerance strict = record { record_length = record_length; tolerance = tolerance; strict = strict }
 
 -- The input was repacked into some records, and what was printed is the text of its report.
 pub record WritesReport (choice : Choice) (input printed : List ℕ) : Type 0 where
@@ -76,19 +76,19 @@ pub record Repacks (choice : Choice) (source out0 out : Device) (result : Result
   pub ends : RepackEnds choice input printed result
 
 -- The input was listed with these counts.
-pub record WritesList (tolerance : ℕ) (input printed : List ℕ) : Type 0 where
+pub record WritesList (tolerance : ℕ) (strict : Bool) (input printed : List ℕ) : Type 0 where
   pub counts : Counts
-  pub listed : IsListed tolerance input printed counts
+  pub listed : IsListed (record { tolerance = tolerance; strict = strict }) input printed counts
 
-abbrev pub ListEnds : ℕ → (input printed : List ℕ) → Result Done Stop → Type 0
-ListEnds tolerance input printed (Ok Written) = WritesList tolerance input printed
-ListEnds tolerance input printed (Ok (Checked verdict)) = ⊥
-ListEnds tolerance input printed (Ok (Walked refused)) = ⊥
-ListEnds tolerance input printed (Err (CannotOpen name)) = printed ≡ []
-ListEnds tolerance input printed (Err SameFile) = ⊥
-ListEnds tolerance input printed (Err SameOutput) = ⊥
-ListEnds tolerance input printed (Err Closed) = printed ≡ []
-ListEnds tolerance input printed (Err (Tool fault)) = ListAnswers tolerance input printed (Err fault)
+abbrev pub ListEnds : (tolerance : ℕ) → (strict : Bool) → (input printed : List ℕ) → Result Done Stop → Type 0
+ListEnds tolerance strict input printed (Ok Written) = WritesList tolerance strict input printed
+ListEnds tolerance strict input printed (Ok (Checked verdict)) = ⊥
+ListEnds tolerance strict input printed (Ok (Walked refused)) = ⊥
+ListEnds tolerance strict input printed (Err (CannotOpen name)) = printed ≡ []
+ListEnds tolerance strict input printed (Err SameFile) = ⊥
+ListEnds tolerance strict input printed (Err SameOutput) = ⊥
+ListEnds tolerance strict input printed (Err Closed) = printed ≡ []
+ListEnds tolerance strict input printed (Err (Tool fault)) = ListAnswers (record { tolerance = tolerance; strict = strict }) input printed (Err fault)
 
 abbrev pub CheckEnds : (input text printed : List ℕ) → Result Done Stop → Type 0
 CheckEnds input text printed (Ok Written) = ⊥
@@ -143,17 +143,17 @@ pub record RepacksNamed (choice : Choice) (name : List ℕ) (standard out0 out :
   pub ends : RepackEnds choice input printed result
 
 -- Listing the file of a name.
-pub record ListsNamed (tolerance : ℕ) (name : List ℕ) (standard out0 out : Device) (result : Result Done Stop) : Type 0 where
+pub record ListsNamed (tolerance : ℕ) (strict : Bool) (name : List ℕ) (standard out0 out : Device) (result : Result Done Stop) : Type 0 where
   pub input : List ℕ
   pub printed : List ℕ
   pub left : name ≡ codes "-" → HasLeft standard input
   pub prints : Takes out0 out printed
-  pub ends : ListEnds tolerance input printed result
+  pub ends : ListEnds tolerance strict input printed result
 
 -- what is asked of each day of an archive
 abbrev pub days_asked : Archiving → Asked
 days_asked asked = record {
-  choice = choice_of asked.length asked.tolerance;
+  choice = choice_of asked.length asked.tolerance asked.strict;
   resume = asked.walking.resume;
   check = asked.walking.check;
 }
@@ -218,11 +218,11 @@ pub record Feeds (choice : Choice) (standard out0 out : Device) (result : Result
 -- what doing a task reads and prints, and how it ends
 abbrev pub Does : Task → (standard out0 out : Device) → Result Done Stop → Type 0
 Does (Repack asked) standard out0 out result =
-    RepacksNamed (choice_of asked.length asked.tolerance) asked.input.now standard out0 out result
-Does (Listing asked) standard out0 out result = ListsNamed asked.tolerance asked.input.now standard out0 out result
+    RepacksNamed (choice_of asked.length asked.tolerance asked.strict) asked.input.now standard out0 out result
+Does (Listing asked) standard out0 out result = ListsNamed asked.tolerance asked.strict asked.input.now standard out0 out result
 Does (Check asked) standard out0 out result = Checks out0 out result
 Does (Archive asked) standard out0 out result = WalksArchive (days_asked asked) out0 out result
-Does (Feed asked) standard out0 out result = Feeds (choice_of asked.length asked.tolerance) standard out0 out result
+Does (Feed asked) standard out0 out result = Feeds (choice_of asked.length asked.tolerance asked.strict) standard out0 out result
 
 -- The words ask for a task, with none for the default, and it ended with this status.
 pub record EndsTask (words : ℕ) (standard out0 out : Device) (status : ℕ) : Type 0 where

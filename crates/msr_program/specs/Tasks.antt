@@ -1,5 +1,5 @@
 -- What the words of a command line ask for.
-use Rattle.std.specs.Prelude.{◌≡◌, ◌≢◌, ◌⊎◌, ◌≤◌, ℕ, ⊤, List, ◌++◌, AllPairs, Option, None, Some, IfSome, codes, string_bytes}
+use Rattle.std.specs.Prelude.{◌≡◌, ◌≢◌, ◌⊎◌, ◌≤◌, ℕ, ⊤, Bool, false, List, ◌++◌, AllPairs, Option, None, Some, IfSome, codes, string_bytes}
 use Rattle.std.specs.Option.{option_map}
 use Rattle.msr_words.specs.Lengths.{bytes_of}
 use Rattle.msr_program.specs.declared.words.Folders.{Folders}
@@ -49,20 +49,20 @@ KeepsInput (Archive asked) = StandApart asked.folders
 KeepsInput (Feed asked) = ⊤
 
 -- a file is to be repacked with these choices
-abbrev pub IsRepacking : (bytes tolerance : ℕ) → (input : List ℕ) → (output : Option (List ℕ)) → Task → Type 0
-IsRepacking bytes tolerance input output (Repack asked) = (bytes_of asked.length ≡ bytes) × (asked.tolerance ≡ tolerance) × (asked.input.now ≡ input) × (option_map (λ name. name.now) asked.output ≡ output)
-IsRepacking bytes tolerance input output (Listing asked) = ⊥
-IsRepacking bytes tolerance input output (Check asked) = ⊥
-IsRepacking bytes tolerance input output (Archive asked) = ⊥
-IsRepacking bytes tolerance input output (Feed asked) = ⊥
+abbrev pub IsRepacking : (bytes tolerance : ℕ) → (strict : Bool) → (input : List ℕ) → (output : Option (List ℕ)) → Task → Type 0
+IsRepacking bytes tolerance strict input output (Repack asked) = (bytes_of asked.length ≡ bytes) × (asked.tolerance ≡ tolerance) × (asked.strict ≡ strict) × (asked.input.now ≡ input) × (option_map (λ name. name.now) asked.output ≡ output)
+IsRepacking bytes tolerance strict input output (Listing asked) = ⊥
+IsRepacking bytes tolerance strict input output (Check asked) = ⊥
+IsRepacking bytes tolerance strict input output (Archive asked) = ⊥
+IsRepacking bytes tolerance strict input output (Feed asked) = ⊥
 
 -- standard input is to be repacked with these choices while it comes, its report going to this file
-abbrev pub IsFeeding : (bytes tolerance : ℕ) → (report : List ℕ) → Task → Type 0
-IsFeeding bytes tolerance report (Repack asked) = ⊥
-IsFeeding bytes tolerance report (Listing asked) = ⊥
-IsFeeding bytes tolerance report (Check asked) = ⊥
-IsFeeding bytes tolerance report (Archive asked) = ⊥
-IsFeeding bytes tolerance report (Feed asked) = (bytes_of asked.length ≡ bytes) × (asked.tolerance ≡ tolerance) × (asked.report.now ≡ report)
+abbrev pub IsFeeding : (bytes tolerance : ℕ) → (strict : Bool) → (report : List ℕ) → Task → Type 0
+IsFeeding bytes tolerance strict report (Repack asked) = ⊥
+IsFeeding bytes tolerance strict report (Listing asked) = ⊥
+IsFeeding bytes tolerance strict report (Check asked) = ⊥
+IsFeeding bytes tolerance strict report (Archive asked) = ⊥
+IsFeeding bytes tolerance strict report (Feed asked) = (bytes_of asked.length ≡ bytes) × (asked.tolerance ≡ tolerance) × (asked.strict ≡ strict) × (asked.report.now ≡ report)
 
 -- the records of the first file are to be checked against the report in the second
 abbrev pub IsChecking : (packed report : Option (List ℕ)) → Task → Type 0
@@ -73,16 +73,17 @@ IsChecking packed report (Feed asked) = ⊥
 IsChecking packed report (Check asked) = (packed ≡ Some asked.packed.now) × (report ≡ Some asked.report.now)
 
 -- the archive in these folders is to be repacked with these choices, and walked in this way
-abbrev pub IsArchiving : (bytes tolerance : ℕ) → (folders : Folders) → (walking : Walking) → Task → Type 0
-IsArchiving bytes tolerance folders walking (Repack asked) = ⊥
-IsArchiving bytes tolerance folders walking (Listing asked) = ⊥
-IsArchiving bytes tolerance folders walking (Check asked) = ⊥
-IsArchiving bytes tolerance folders walking (Feed asked) = ⊥
-IsArchiving bytes tolerance folders walking (Archive asked) = (bytes_of asked.length ≡ bytes) × (asked.tolerance ≡ tolerance) × (asked.folders ≡ folders) × (asked.walking ≡ walking)
+abbrev pub IsArchiving : (bytes tolerance : ℕ) → (strict : Bool) → (folders : Folders) → (walking : Walking) → Task → Type 0
+IsArchiving bytes tolerance strict folders walking (Repack asked) = ⊥
+IsArchiving bytes tolerance strict folders walking (Listing asked) = ⊥
+IsArchiving bytes tolerance strict folders walking (Check asked) = ⊥
+IsArchiving bytes tolerance strict folders walking (Feed asked) = ⊥
+IsArchiving bytes tolerance strict folders walking (Archive asked) = (bytes_of asked.length ≡ bytes) × (asked.tolerance ≡ tolerance) × (asked.strict ≡ strict) × (asked.folders ≡ folders) × (asked.walking ≡ walking)
 
--- standard input is to be repacked to nowhere, with records of 512 bytes and a tolerance of 1000 microseconds
+-- standard input is to be repacked to nowhere, with records of 512 bytes and a tolerance of 1000 microseconds, and not
+-- strictly
 abbrev pub IsDefault : Task → Type 0
-IsDefault (Repack asked) = (bytes_of asked.length ≡ 512) × (asked.tolerance ≡ 1000) × (asked.input.now ≡ codes "-") × (asked.output ≡ None)
+IsDefault (Repack asked) = (bytes_of asked.length ≡ 512) × (asked.tolerance ≡ 1000) × (asked.strict ≡ false) × (asked.input.now ≡ codes "-") × (asked.output ≡ None)
 IsDefault (Listing asked) = ⊥
 IsDefault (Check asked) = ⊥
 IsDefault (Archive asked) = ⊥

@@ -22,6 +22,12 @@ fn length<'a>(alloc: Global) -> Arg<'a> {
         .help(texts::LENGTH)
 }
 
+fn strict<'a>(alloc: Global) -> Arg<'a> {
+    flag(alloc, "strict")
+        .help(texts::STRICT)
+        .long_help(texts::LONG_STRICT)
+}
+
 fn input<'a>(alloc: Global) -> Arg<'a> {
     file(alloc, "IN").help(texts::IN)
 }
@@ -37,6 +43,7 @@ fn repack<'a>(alloc: Global) -> Result<Command<'a>, AllocError> {
         .after_long_help(texts::REPACK_AFTER)
         .arg(length(alloc))?
         .arg(tolerance(alloc))?
+        .arg(strict(alloc))?
         .arg(input(alloc))?
         .arg(Arg::new(alloc, "OUT").help(texts::OUT))
 }
@@ -47,6 +54,7 @@ fn list<'a>(alloc: Global) -> Result<Command<'a>, AllocError> {
         .long_about(texts::LIST_LONG_ABOUT)
         .after_long_help(texts::LIST_AFTER)
         .arg(tolerance(alloc))?
+        .arg(strict(alloc))?
         .arg(input(alloc))
 }
 
@@ -66,6 +74,7 @@ fn feed<'a>(alloc: Global) -> Result<Command<'a>, AllocError> {
         .after_long_help(texts::FEED_AFTER)
         .arg(length(alloc))?
         .arg(tolerance(alloc))?
+        .arg(strict(alloc))?
         .arg(file(alloc, "REPORT").help(texts::FEED_REPORT))
 }
 
@@ -89,6 +98,7 @@ fn archive<'a>(alloc: Global) -> Result<Command<'a>, AllocError> {
         .after_long_help(texts::ARCHIVE_AFTER)
         .arg(length(alloc))?
         .arg(tolerance(alloc))?
+        .arg(strict(alloc))?
         .arg(below(alloc))?
         .arg(
             flag(alloc, "resume")

@@ -90,8 +90,8 @@ fn repack_file<'a, R: Files, I: Source, O: Sink>(
     requires tolerance { IsTolerance asked.tolerance }
     requires input { CanCountCall (I.device input.old) }
     requires output { CanCountCall (O.device output.old) }
-    ensures { RepacksNamed (choice_of asked.entry.length asked.entry.tolerance) asked.entry.input.now (I.device input.old)
-        (O.device output.old) (O.device output.new) result }
+    ensures { RepacksNamed (choice_of asked.entry.length asked.entry.tolerance asked.entry.strict) asked.entry.input.now
+        (I.device input.old) (O.device output.old) (O.device output.new) result }
 {
     if asked.input == "-" {
         let id = id_of_standard_input(rt);
@@ -114,10 +114,10 @@ fn repack_from<'a, R: Files, I: Source, O: Sink>(
     requires tolerance { IsTolerance asked.tolerance }
     requires source { CanCountCall (I.device source.old) }
     requires output { CanCountCall (O.device output.old) }
-    ensures { Repacks (choice_of asked.entry.length asked.entry.tolerance) (I.device source.old)
+    ensures { Repacks (choice_of asked.entry.length asked.entry.tolerance asked.entry.strict) (I.device source.old)
         (O.device output.old) (O.device output.new) result }
 {
-    let options = options_of(asked.length, asked.tolerance);
+    let options = options_of(asked.length, asked.tolerance, asked.strict);
     let Some(name) = asked.output else {
         let mut nowhere = FromWrite::new(io::sink());
         repack_and_report(alloc, source, &mut nowhere, output, options)?;
@@ -146,7 +146,7 @@ fn feed_input<'a, R: Files, I: Source, O: Sink>(
     requires tolerance { IsTolerance asked.tolerance }
     requires input { CanCountCall (I.device input.old) }
     requires output { CanCountCall (O.device output.old) }
-    ensures { Feeds (choice_of asked.entry.length asked.entry.tolerance) (I.device input.old)
+    ensures { Feeds (choice_of asked.entry.length asked.entry.tolerance asked.entry.strict) (I.device input.old)
         (O.device output.old) (O.device output.new) result }
 {
     let id = id_of_standard_input(rt);
@@ -155,7 +155,7 @@ fn feed_input<'a, R: Files, I: Source, O: Sink>(
         rt,
         alloc,
         &mut file,
-        options_of(asked.length, asked.tolerance),
+        options_of(asked.length, asked.tolerance, asked.strict),
         input,
         output,
     );
@@ -203,11 +203,11 @@ fn list_file<'a, R: Files, I: Source, O: Sink>(
     requires tolerance { IsTolerance asked.tolerance }
     requires input { CanCountCall (I.device input.old) }
     requires output { CanCountCall (O.device output.old) }
-    ensures { ListsNamed asked.entry.tolerance asked.entry.input.now (I.device input.old)
+    ensures { ListsNamed asked.entry.tolerance asked.entry.strict asked.entry.input.now (I.device input.old)
         (O.device output.old) (O.device output.new) result }
 {
     // No record is written, so any length serves.
-    let options = options_of(default_length(), asked.tolerance);
+    let options = options_of(default_length(), asked.tolerance, asked.strict);
     if asked.input == "-" {
         list_segments(alloc, input, output, options)?;
         return Ok(Done::Written);
@@ -247,7 +247,7 @@ fn repack_archive<'a, R: Files, O: Sink>(
         root: asked.folders.root,
         out: asked.folders.out,
         reports: asked.folders.reports,
-        options: options_of(asked.length, asked.tolerance),
+        options: options_of(asked.length, asked.tolerance, asked.strict),
         below: asked.walking.below.as_slice(),
         resume: asked.walking.resume,
         check: asked.walking.check,
@@ -256,9 +256,9 @@ fn repack_archive<'a, R: Files, O: Sink>(
     Ok(Done::Walked { refused })
 }
 
-fn options_of(length: Length, tolerance: u32) -> Options
+fn options_of(length: Length, tolerance: u32, strict: bool) -> Options
     requires { IsTolerance tolerance }
-    ensures { result ≡ choice_of length tolerance }
+    ensures { result ≡ choice_of length tolerance strict }
 {
-    Options::new(length, tolerance).unwrap()
+    Options::new(length, tolerance).unwrap().strict(strict)
 }

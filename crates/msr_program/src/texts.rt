@@ -185,6 +185,12 @@ pub const LONG_TOLERANCE: &str =
 1000000. The expected time is counted from the start of the segment, so that small
 errors do not add up";
 
+pub const STRICT: &str = "Refuse a record whose last sample is not its reverse constant";
+
+pub const LONG_STRICT: &str =
+    "Refuse a record whose last sample is not its reverse constant, as `18 ReverseMismatch`.
+Without it such records are read, and counted as mismatched";
+
 pub const IN: &str = "The file to read, or - for standard input";
 
 pub const OUT: &str = "The file to write the records to. Without it they are not kept";

@@ -21,6 +21,8 @@ pub struct Repacking<'a> {
     pub length: Length,
     /// The tolerance in microseconds.
     pub tolerance: u32,
+    /// Whether a record is refused whose last sample is not its reverse constant.
+    pub strict: bool,
     /// The name of a file, or `-` for standard input.
     pub input: &'a str,
     /// Where the records go, or nowhere.
@@ -34,6 +36,8 @@ pub struct Feeding<'a> {
     pub length: Length,
     /// The tolerance in microseconds.
     pub tolerance: u32,
+    /// Whether a record is refused whose last sample is not its reverse constant.
+    pub strict: bool,
     /// The name of the file that gets the report.
     pub report: &'a str,
 }
@@ -43,6 +47,8 @@ pub struct Feeding<'a> {
 pub struct Listing<'a> {
     /// The tolerance in microseconds.
     pub tolerance: u32,
+    /// Whether a record is refused whose last sample is not its reverse constant.
+    pub strict: bool,
     /// The name of a file, or `-` for standard input.
     pub input: &'a str,
 }
@@ -82,6 +88,8 @@ pub struct Archiving<'a> {
     pub length: Length,
     /// The tolerance in microseconds.
     pub tolerance: u32,
+    /// Whether a record is refused whose last sample is not its reverse constant.
+    pub strict: bool,
     pub folders: Folders<'a>,
     pub walking: Walking<'a>,
 }
@@ -136,6 +144,7 @@ fn default_task<'a>() -> Task<'a>
     Task::Repack(Repacking {
         length: default_length(),
         tolerance: 1000,
+        strict: false,
         input: "-",
         output: None,
     })
@@ -182,12 +191,13 @@ fn repacking_of<'a>(
     alloc: Global,
     bytes: u32,
     tolerance: u32,
+    strict: bool,
     input: &'a str,
     output: Option<&'a str>,
 ) -> Result<Task<'a>, NoTask>
     requires { IsTolerance tolerance }
     ensures ok { IsOk result ↔ (IsRecordLength bytes × IfSome output.entry (λ name. name.now ≢ input.now)) }
-    ensures asked { IfOk result (IsRepacking bytes tolerance input.now (option_map (λ name. name.now) output.entry)) }
+    ensures asked { IfOk result (IsRepacking bytes tolerance strict input.now (option_map (λ name. name.now) output.entry)) }
     ensures tolerance { IfOk result HasTolerance }
     ensures keeps_input { IfOk result KeepsInput }
     ensures status { IfErr result IsBadLine }
@@ -203,6 +213,7 @@ fn repacking_of<'a>(
     Ok(Task::Repack(Repacking {
         length,
         tolerance,
+        strict,
         input,
         output,
     }))
@@ -213,11 +224,12 @@ fn feeding_of<'a>(
     alloc: Global,
     bytes: u32,
     tolerance: u32,
+    strict: bool,
     report: &'a str,
 ) -> Result<Task<'a>, NoTask>
     requires { IsTolerance tolerance }
     ensures ok { IsOk result ↔ IsRecordLength bytes }
-    ensures asked { IfOk result (IsFeeding bytes tolerance report.now) }
+    ensures asked { IfOk result (IsFeeding bytes tolerance strict report.now) }
     ensures tolerance { IfOk result HasTolerance }
     ensures keeps_input { IfOk result KeepsInput }
     ensures status { IfErr result IsBadLine }
@@ -228,6 +240,7 @@ fn feeding_of<'a>(
     Ok(Task::Feed(Feeding {
         length,
         tolerance,
+        strict,
         report,
     }))
 }
@@ -315,12 +328,13 @@ fn archiving_of<'a>(
     alloc: Global,
     bytes: u32,
     tolerance: u32,
+    strict: bool,
     folders: Folders<'a>,
     walking: Walking<'a>,
 ) -> Result<Task<'a>, NoTask>
     requires { IsTolerance tolerance }
     ensures ok { IsOk result ↔ (IsRecordLength bytes × StandApart folders.entry) }
-    ensures asked { IfOk result (IsArchiving bytes tolerance folders.entry walking.entry) }
+    ensures asked { IfOk result (IsArchiving bytes tolerance strict folders.entry walking.entry) }
     ensures tolerance { IfOk result HasTolerance }
     ensures keeps_input { IfOk result KeepsInput }
     ensures status { IfErr result IsBadLine }
@@ -335,6 +349,7 @@ fn archiving_of<'a>(
     Ok(Task::Archive(Archiving {
         length,
         tolerance,
+        strict,
         folders,
         walking,
     }))
@@ -358,9 +373,14 @@ fn task_of<'a>(alloc: Global, matches: &ArgMatches<'a>) -> Result<Task<'a>, NoTa
     let Some(tolerance) = tolerance_in(found) else {
         return Err(wrong(alloc, texts::NO_COMMAND));
     };
+    let strict = found.get_flag("strict");
     if name == "list" {
         return match found.get_str("IN") {
-            Some(input) => Ok(Task::List(Listing { tolerance, input })),
+            Some(input) => Ok(Task::List(Listing {
+                tolerance,
+                strict,
+                input,
+            })),
             None => Err(wrong(alloc, texts::NO_COMMAND)),
         };
     }
@@ -370,18 +390,18 @@ fn task_of<'a>(alloc: Global, matches: &ArgMatches<'a>) -> Result<Task<'a>, NoTa
     if name == "archive" {
         let walking = walking_in(alloc, found)?;
         return match folders_in(found) {
-            Some(folders) => archiving_of(alloc, bytes, tolerance, folders, walking),
+            Some(folders) => archiving_of(alloc, bytes, tolerance, strict, folders, walking),
             None => Err(wrong(alloc, texts::NO_COMMAND)),
         };
     }
     if name == "feed" {
         return match found.get_str("REPORT") {
-            Some(report) => feeding_of(alloc, bytes, tolerance, report),
+            Some(report) => feeding_of(alloc, bytes, tolerance, strict, report),
             None => Err(wrong(alloc, texts::NO_COMMAND)),
         };
     }
     match found.get_str("IN") {
-        Some(input) => repacking_of(alloc, bytes, tolerance, input, found.get_str("OUT")),
+        Some(input) => repacking_of(alloc, bytes, tolerance, strict, input, found.get_str("OUT")),
         None => Err(wrong(alloc, texts::NO_COMMAND)),
     }
 }

@@ -108,13 +108,15 @@ IsRepackedDay asked (Err Listing) = ⊥
 IsRepackedDay asked (Err NotShown) = IsNotShown asked
 IsRepackedDay asked (Err (Tool fault)) = HasAnswer asked.choice (Err fault)
 
--- Some text is that of a report of these options, and the counts are those of this report.
+-- Some text is that of a report of these options, and the counts are those of this report. A report says no strictness:
+-- where reading is strict it counts no record whose reverse constant does not agree, as that of a strict repack does.
 pub record IsKept (choice : Choice) (repacked : Repacked) : Type 0 where
   pub text : List ℕ
   pub report : Report
   pub reads : IsReadFrom report text
   pub record_length : bytes_of report.length ≡ size_of choice
   pub tolerance : report.tolerance ≡ choice.tolerance
+  pub agree : IsTrue choice.strict → report.counts.mismatched ≡ 0
   pub read : repacked.read ≡ report.counts.read
   pub written : repacked.written ≡ records_of report.segments.items
 

@@ -43,7 +43,8 @@ pub fn repack_day_of<S: Source, W: Sink, T: Sink>(
     })
 }
 
-/// The counts of the report that the source has, where it is one of these options.
+/// The counts of the report that the source has, where it is one of these options. A report says no strictness, and a
+/// strict repack writes what any other does that counts no mismatch.
 pub fn counts_kept<S: Source>(alloc: Global, source: &mut S, options: Options) -> Option<Repacked>
     requires { CanCountCall (S.device source.old) }
     ensures { IfSome result (IsKept options) }
@@ -54,6 +55,9 @@ pub fn counts_kept<S: Source>(alloc: Global, source: &mut S, options: Options) -
     if report.length.bytes() != options.length().bytes()
         || report.tolerance != options.tolerance()
     {
+        return None;
+    }
+    if options.is_strict() && report.counts.mismatched != 0 {
         return None;
     }
     let written = records_written(&report);

@@ -1,6 +1,6 @@
 //! Walks over archives that the test makes.
 use crate::tests::fixtures::{
-    Folder, PLAIN, REPORT_OF_ZEROS, Ran, run_on, run_through, two_segments, zeros,
+    Folder, PLAIN, REPORT_OF_ZEROS, Ran, mismatched, run_on, run_through, two_segments, zeros,
 };
 use crate::tests::odd_folder::OddFolder;
 use msr_tool::Behavior;
@@ -355,6 +355,65 @@ fn days_that_are_done_otherwise(rt: HostRuntime) -> Result<(), Fail> {
     assert_eq!(&rt; ran.status, 1);
     let stamp = "2020/XX/TEST/BHZ.D/XX.TEST.00.BHZ.D.2020.001.from";
     assert!(&rt; !tree.has(&rt, "reports", stamp)?);
+    tree.remove(&rt)
+}
+
+// The words of a strict walk with an option more.
+fn strict_words<'a>(tree: &'a Tree, option: &'static str) -> [&'a str; 8] {
+    let [archive, length, bytes, root, out, reports] = tree.words();
+    [
+        archive, length, bytes, "--strict", option, root, out, reports,
+    ]
+}
+
+// A day that agrees, and one whose reverse constant does not.
+const STRICT_LINES: &str = " 2020/XX/TEST/BHZ.D/XX.TEST.00.BHZ.D.2020.001 read 1 written 2
+refused 2020/XX/TEST/BHZ.D/XX.TEST.00.BHZ.D.2020.002: offset 0: 18 ReverseMismatch
+channel XX.TEST.00.BHZ files 1 read 1 written 2
+files 1 skipped 0 refused 1
+";
+
+const LENIENT_LINES: &str = " 2020/XX/TEST/BHZ.D/XX.TEST.00.BHZ.D.2020.001 read 1 written 2
+done 2020/XX/TEST/BHZ.D/XX.TEST.00.BHZ.D.2020.002 read 1 written 1
+channel XX.TEST.00.BHZ files 2 read 2 written 3
+files 2 skipped 0 refused 0
+";
+
+// A day that is done is left alone, strictly or not, where each reverse constant in it agreed, and only then strictly.
+#[test]
+fn days_that_are_read_strictly(rt: HostRuntime) -> Result<(), Fail> {
+    let alloc = rt.alloc();
+    let tree = Tree::new(&rt)?;
+    tree.write(&rt, "sds", DAY_1, zeros(alloc)?.as_slice())?;
+    tree.write(&rt, "sds", DAY_2, mismatched(alloc)?.as_slice())?;
+    resumes(
+        &rt,
+        &tree,
+        format!(in alloc; "done{LENIENT_LINES}")?.as_str(),
+    )?;
+    let same = format!(in alloc; "same{STRICT_LINES}")?;
+    let ran = run_on(&rt, &strict_words(&tree, "--resume"), &[])?;
+    shows(&rt, &ran, 1, same.as_str());
+    assert!(&rt; tree.has(&rt, "out", DAY_1)? && !tree.has(&rt, "out", DAY_2)?);
+    let ran = run_on(&rt, &strict_words(&tree, "--check"), &[])?;
+    shows(
+        &rt,
+        &ran,
+        1,
+        format!(in alloc; "done{STRICT_LINES}")?.as_str(),
+    );
+    let ran = run_on(&rt, &strict_words(&tree, "--resume"), &[])?;
+    shows(
+        &rt,
+        &ran,
+        1,
+        format!(in alloc; "done{STRICT_LINES}")?.as_str(),
+    );
+    resumes(
+        &rt,
+        &tree,
+        format!(in alloc; "same{LENIENT_LINES}")?.as_str(),
+    )?;
     tree.remove(&rt)
 }
 

@@ -104,6 +104,17 @@ pub fn zeros(alloc: Global) -> Result<Vec<u8>, AllocError> {
     Ok(record)
 }
 
+/// A record of 4096 bytes with one sample of 0, whose reverse constant is 1.
+pub fn mismatched(alloc: Global) -> Result<Vec<u8>, AllocError> {
+    let mut record = zeros(alloc)?;
+    let bytes = record.as_mut_slice();
+    bytes[30..32].copy_from_slice(&[0, 1]);
+    bytes[52] = 11;
+    bytes[64] = 1;
+    bytes[75] = 1;
+    Ok(record)
+}
+
 // A wave that dies down, as the samples of each record of the second sample file.
 const WAVE: [i16; 100] = [
     0, 957, 1765, 2342, 2638, 2635, 2348, 1821, 1123, 338, -445, -1142, -1682, -2014, -2112, -1977,
@@ -151,6 +162,10 @@ pub const REPORT_OF_ZEROS: &str =
 /// The list of that record.
 pub const LIST_OF_ZEROS: &str =
     "segment XX.TEST_.00.BHZ D rate 20 1 flags 00 00 00 correction 0 timing 0 start 2020,001,00:00:00.000000 samples 302\nread 1 empty 0 mismatched 0\n";
+
+/// The list of the record whose reverse constant does not agree.
+pub const LIST_OF_MISMATCHED: &str =
+    "segment XX.TEST_.00.BHZ D rate 20 1 flags 00 00 00 correction 0 timing 0 start 2020,001,00:00:00.000000 samples 1\nread 1 empty 0 mismatched 1\n";
 
 /// The report of an input with no bytes, repacked to records of 512 bytes.
 pub const REPORT_OF_NOTHING: &str =

@@ -1,7 +1,7 @@
 //! The tasks over files that the test makes.
 use crate::tests::fixtures::{
-    Folder, LIST_OF_TWO, LIST_OF_ZEROS, REPORT_OF_NOTHING, REPORT_OF_ZEROS, run_on, two_segments,
-    zeros,
+    Folder, LIST_OF_MISMATCHED, LIST_OF_TWO, LIST_OF_ZEROS, REPORT_OF_NOTHING, REPORT_OF_ZEROS,
+    mismatched, run_on, two_segments, zeros,
 };
 use std::fs;
 use std::os::unix::fs::symlink;
@@ -219,5 +219,34 @@ fn the_output_is_never_the_input(rt: HostRuntime) -> Result<(), Fail> {
         REPORT_OF_NOTHING,
         "",
     )?;
+    folder.remove(&rt)
+}
+
+// A record whose reverse constant does not agree is refused where that is asked for, and counted where it is not; one
+// that agrees is read.
+#[test]
+fn strict_tasks(rt: HostRuntime) -> Result<(), Fail> {
+    let folder = Folder::new(&rt)?;
+    let input = folder.path("in.mseed")?;
+    let packed = folder.path("packed.mseed")?;
+    fs::write(&rt, input.as_str(), mismatched(rt.alloc())?.as_slice())?;
+    ends(&rt, &["list", input.as_str()], 0, LIST_OF_MISMATCHED, "")?;
+    let refused = "msrepack: offset 0: 18 ReverseMismatch\n";
+    let words = ["list", "--strict", input.as_str()];
+    ends(&rt, &words, 1, "", refused)?;
+    let words = ["repack", "--strict", input.as_str(), packed.as_str()];
+    ends(&rt, &words, 1, "", refused)?;
+    fs::write(&rt, input.as_str(), zeros(rt.alloc())?.as_slice())?;
+    let words = ["list", "--strict", input.as_str()];
+    ends(&rt, &words, 0, LIST_OF_ZEROS, "")?;
+    let words = [
+        "repack",
+        "--strict",
+        "--length",
+        "256",
+        input.as_str(),
+        packed.as_str(),
+    ];
+    ends(&rt, &words, 0, REPORT_OF_ZEROS, "")?;
     folder.remove(&rt)
 }

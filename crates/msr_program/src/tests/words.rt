@@ -29,6 +29,7 @@ fn repacking(
     Some(Task::Repack(Repacking {
         length,
         tolerance,
+        strict: false,
         input,
         output,
     }))
@@ -78,7 +79,11 @@ fn reads_list(rt: HostRuntime) -> Result<(), Fail> {
         (&["msrepack", "list", "--tolerance", "7", "a"], 7, "a"),
     ];
     for (words, tolerance, input) in rows {
-        let want = Some(Task::List(Listing { tolerance, input }));
+        let want = Some(Task::List(Listing {
+            tolerance,
+            strict: false,
+            input,
+        }));
         assert_eq!(&rt; read_words(rt.alloc(), words).ok(), want, "at {words:?}");
     }
     Ok(())
@@ -102,6 +107,7 @@ fn reads_feed(rt: HostRuntime) -> Result<(), Fail> {
         let want = Some(Task::Feed(Feeding {
             length,
             tolerance,
+        strict: false,
             report,
         }));
         assert_eq!(&rt; read_words(rt.alloc(), words).ok(), want, "at {words:?}");
@@ -201,6 +207,7 @@ fn reads_archive(rt: HostRuntime) -> Result<(), Fail> {
         let want = Some(Task::Archive(Archiving {
             length: default_length(),
             tolerance,
+            strict: false,
             folders: Folders { root, out, reports },
             walking: Walking {
                 below: below.to_vec(rt.alloc())?,
@@ -211,6 +218,43 @@ fn reads_archive(rt: HostRuntime) -> Result<(), Fail> {
         assert_eq!(&rt; read_words(rt.alloc(), words).ok(), want, "at {words:?}");
     }
     Ok(())
+}
+
+// Whether a task is strict; none where it cannot be.
+fn strictness(task: Task<'_>) -> Option<bool> {
+    match task {
+        Task::Repack(asked) => Some(asked.strict),
+        Task::List(asked) => Some(asked.strict),
+        Task::Archive(asked) => Some(asked.strict),
+        Task::Feed(asked) => Some(asked.strict),
+        Task::Check(_) => None,
+    }
+}
+
+#[test]
+fn reads_strict(rt: HostRuntime) {
+    let rows: [(&'static [&'static str], Option<bool>); 10] = [
+        (&["msrepack"], Some(false)),
+        (&["msrepack", "feed", "a"], Some(false)),
+        (&["msrepack", "feed", "--strict", "a"], Some(true)),
+        (&["msrepack", "repack", "a"], Some(false)),
+        (&["msrepack", "repack", "--strict", "a", "b"], Some(true)),
+        (&["msrepack", "list", "a", "--strict"], Some(true)),
+        (&["msrepack", "list", "--", "--strict"], Some(false)),
+        (
+            &["msrepack", "archive", "--strict", "a", "b", "c"],
+            Some(true),
+        ),
+        (
+            &["msrepack", "archive", "--resume", "a", "b", "c"],
+            Some(false),
+        ),
+        (&["msrepack", "check", "a", "b"], None),
+    ];
+    for (words, want) in rows {
+        let strict = read_words(rt.alloc(), words).ok().and_then(strictness);
+        assert_eq!(&rt; strict, want, "at {words:?}");
+    }
 }
 
 // Faults that clap finds come first, then a wrong length, then an output that is the input or folders that overlap.
@@ -293,7 +337,7 @@ fn refuses_folders(rt: HostRuntime) -> Result<(), Fail> {
 
 #[test]
 fn refuses_with_the_text_of_clap(rt: HostRuntime) -> Result<(), Fail> {
-    let rows: [(&'static [&'static str], &'static str); 18] = [
+    let rows: [(&'static [&'static str], &'static str); 20] = [
         (
             &["msrepack", "--"],
             "error: 'msrepack' requires a subcommand but one was not provided\n",
@@ -346,6 +390,14 @@ fn refuses_with_the_text_of_clap(rt: HostRuntime) -> Result<(), Fail> {
         (
             &["msrepack", "check", "a", "b", "--tolerance=5"],
             "error: unexpected argument '--tolerance' found\n",
+        ),
+        (
+            &["msrepack", "check", "--strict", "a", "b"],
+            "error: unexpected argument '--strict' found\n",
+        ),
+        (
+            &["msrepack", "list", "--strict", "--strict", "a"],
+            "error: the argument '--strict' cannot be used multiple times\n",
         ),
         (
             &["msrepack", "repack", "--tolerance", "1000001", "a"],

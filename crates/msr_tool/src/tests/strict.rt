@@ -1,5 +1,5 @@
 //! Strict reading, and inputs that are cut anywhere: what a repack and a list answer.
-use crate::tests::fixtures::{Edits, PLAIN, choice, edited, input_of, repacked, steim};
+use crate::tests::fixtures::{Edits, Outcome, PLAIN, choice, input_of, repacked, steim};
 use crate::{
     Options, TestSink, TestSource, ToolFault, Verdict, check_packed, list_segments,
     repack_and_report,
@@ -9,14 +9,20 @@ use std::alloc::Global;
 use std::process::Abort;
 use std::test::Fail;
 
-// A repack and a list of the input both stop with this text, or both succeed where it is empty.
+// A repack and a list of the input both refuse the record at that offset so, or both succeed where the kind is empty.
 fn both_tell(
     rt: &impl Abort,
     alloc: Global,
     input: &[u8],
     options: Options,
-    want: &str,
+    offset: usize,
+    kind: &str,
 ) -> Result<(), Fail> {
+    let want = if kind.is_empty() {
+        String::new(alloc)
+    } else {
+        format!(in alloc; "offset {offset}: {kind}")?
+    };
     let mut lines = TestSink::new(Vec::new(alloc), PLAIN);
     let mut source = TestSource::new(input, PLAIN);
     let faults: [Option<ToolFault>; 2] = [
@@ -28,7 +34,7 @@ fn both_tell(
             Some(fault) => format!(in alloc; "{fault}")?,
             None => String::new(alloc),
         };
-        assert_eq!(rt; text.as_str(), want);
+        assert_eq!(rt; text.as_str(), want.as_str());
     }
     Ok(())
 }
@@ -47,6 +53,7 @@ const LATE: (usize, &[u8]) = (
 fn reverse_constants(rt: HostRuntime) -> Result<(), Fail> {
     let alloc = rt.alloc();
     let options = choice(&rt, 256, 1000);
+    let good = steim(&rt, &[]);
     let rows: [(Edits, &str, &str); 7] = [
         (&[], "", ""),
         (&[DIFFERS], "", "18 ReverseMismatch"),
@@ -66,17 +73,12 @@ fn reverse_constants(rt: HostRuntime) -> Result<(), Fail> {
     ];
     for (edits, lenient, strict) in rows {
         let first = steim(&rt, edits);
-        let second = edited(&rt, alloc, &[&[], edits])?;
+        let mut second = good.to_vec(alloc)?;
+        second.extend_from_slice(&first)?;
         for (is_strict, kind) in [(false, lenient), (true, strict)] {
             let asked = options.strict(is_strict);
-            for (input, offset) in [(first.as_slice(), 0), (second.as_slice(), 256)] {
-                let want = if kind.is_empty() {
-                    String::new(alloc)
-                } else {
-                    format!(in alloc; "offset {offset}: {kind}")?
-                };
-                both_tell(&rt, alloc, input, asked, want.as_str())?;
-            }
+            both_tell(&rt, alloc, &first, asked, 0, kind)?;
+            both_tell(&rt, alloc, &second, asked, 256, kind)?;
         }
     }
     Ok(())
@@ -88,7 +90,8 @@ fn mismatches_are_counted_and_checked(rt: HostRuntime) -> Result<(), Fail> {
     let alloc = rt.alloc();
     let options = choice(&rt, 256, 1000);
     let differs = steim(&rt, &[DIFFERS]);
-    let Ok(report) = repacked(alloc, &differs, options).answer else {
+    let Outcome { answer, sink: _ } = repacked(alloc, &differs, options);
+    let Ok(report) = answer else {
         panic!(rt; "refused")
     };
     assert_eq!(rt; (report.counts.read, report.counts.mismatched), (1, 1));
@@ -124,24 +127,28 @@ fn inputs_that_are_cut(rt: HostRuntime) -> Result<(), Fail> {
     let alloc = rt.alloc();
     let options = choice(&rt, 256, 1000);
     let rate = Rate::new(20, 1).ok_or("no rate")?;
-    let written = repacked(alloc, &input_of(&rt, alloc, rate, &[0; 302])?, options).sink;
-    let rows: [(usize, usize, &str); 9] = [
-        (0, 0, ""),
-        (1, 47, "offset 0: 1 Truncated"),
-        (48, 63, "offset 0: 4 BadChain"),
-        (64, 255, "offset 0: 10 RecordCut"),
-        (256, 256, ""),
-        (257, 303, "offset 256: 1 Truncated"),
-        (304, 319, "offset 256: 4 BadChain"),
-        (320, 511, "offset 256: 10 RecordCut"),
-        (512, 512, ""),
+    let Outcome { answer: _, sink } = repacked(
+        alloc,
+        &input_of(&rt, alloc, rate, &[0; 302])?,
+        options,
+    );
+    let rows: [(usize, usize, usize, &str); 9] = [
+        (0, 0, 0, ""),
+        (1, 47, 0, "1 Truncated"),
+        (48, 63, 0, "4 BadChain"),
+        (64, 255, 0, "10 RecordCut"),
+        (256, 256, 0, ""),
+        (257, 303, 256, "1 Truncated"),
+        (304, 319, 256, "4 BadChain"),
+        (320, 511, 256, "10 RecordCut"),
+        (512, 512, 0, ""),
     ];
-    for (first, last, want) in rows {
+    for (first, last, offset, kind) in rows {
         for length in first..=last {
-            let Some(shown) = written.bytes().get(..length) else {
+            let Some(shown) = sink.bytes().get(..length) else {
                 panic!(rt; "no {length} bytes")
             };
-            both_tell(&rt, alloc, shown, options, want)?;
+            both_tell(&rt, alloc, shown, options, offset, kind)?;
         }
     }
     Ok(())

@@ -10,7 +10,7 @@ returns-in_default g c =
 pub returns-in_err-file : goal.returns-in_err-file
 returns-in_err-file g c =
     let p = err_from_is_err_and c.from_residual-in_err-file.result c.from_residual-in_err-file.ensures.1 in
-    rw (p.1, p.2) (repack-uncreated (choice_of c.args.asked.length c.args.asked.tolerance) (g.I.Source.device c.args.source.now) (g.O.Sink.device c.args.output.now) c.in_err-file.field-0.0 c.in_err-file.ensures)
+    rw (p.1, p.2) (repack-uncreated (choice_of c.args.asked.length c.args.asked.tolerance c.args.asked.strict) (g.I.Source.device c.args.source.now) (g.O.Sink.device c.args.output.now) c.in_err-file.field-0.0 c.in_err-file.ensures)
 
 pub returns-in_err-repack_and_report-2 : goal.returns-in_err-repack_and_report-2
 returns-in_err-repack_and_report-2 g c =

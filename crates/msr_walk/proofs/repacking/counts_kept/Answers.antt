@@ -1,5 +1,6 @@
 use Rattle.std.proofs.Common.{◌∙◌, ap, refl, sym}
 use Rattle.msr_words.specs.Lengths.{bytes_of}
+use Rattle.msr_walk.proofs.repacking.counts_kept.Goals.{else-is_strict-via-then-is_strict+else-report-ne0, else-is_strict-via-else-is_strict}
 use Rattle.msr_walk.proofs.repacking.counts_kept.Goals as goal
 
 pub returns : goal.returns
@@ -11,6 +12,10 @@ returns g c =
       reads = read.2;
       record_length = sym c.bytes.ensures.same ∙ c.if-bytes.false ∙ c.bytes-2.ensures.same ∙ ap bytes_of c.length.ensures.same;
       tolerance = c.if-report-tolerance.false ∙ c.tolerance.ensures.same;
+      agree = λ strict. elim c.else-is_strict.branch [
+        | else-is_strict-via-then-is_strict+else-report-ne0 w ↦ w.if-report-ne0.false
+        | else-is_strict-via-else-is_strict w ↦ (let lenient = sym c.is_strict.ensures ∙ w.if-is_strict.false in absurd cc)
+      ];
       read = refl;
       written = c.records_written-written.ensures;
     }
