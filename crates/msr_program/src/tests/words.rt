@@ -107,7 +107,7 @@ fn reads_feed(rt: HostRuntime) -> Result<(), Fail> {
         let want = Some(Task::Feed(Feeding {
             length,
             tolerance,
-        strict: false,
+            strict: false,
             report,
         }));
         assert_eq!(&rt; read_words(rt.alloc(), words).ok(), want, "at {words:?}");
