@@ -2,10 +2,12 @@
 small archive.
 
 Each run has the folders anew. In those of the records and the reports stand what an earlier run left of one day, what a
-run that was killed left beside it, and a file of which the archive knows nothing. Whatever fails, each line printed is
-that of the undisturbed run, or tells that this very entry is refused, by a text for such a fault; the totals and the
-status are those of the lines; a day that is told as done has its records and its report whole, a refused one has
-neither; records that have their name have their report; and no other file is touched.
+run that was killed left beside it, and a file of which the archive knows nothing; with --resume also what an earlier
+walk left whole of another day. Whatever fails, each line printed is that of the undisturbed run, or tells that this
+very entry is refused, by a text for such a fault; where a day is left alone it may be repacked, and where it is checked
+it may be told as not shown; the totals and the status are those of the lines; a day that is told as done or left alone
+has its records and its report whole, a refused one has neither; records that have their name have their report; the
+stamp of an input stands beside nothing that was not made from that input; and no other file is touched.
 """
 import collections
 import os
@@ -22,15 +24,11 @@ BELOW = "2020/XX/TEST"
 FIRST = f"{BELOW}/BHN.D/XX.TEST.00.BHN.D.2020.001"
 SECOND = f"{BELOW}/BHZ.D/XX.TEST.00.BHZ.D.2020.001"
 OTHER = f"{BELOW}/LOG.L/XX.TEST.00.LOG.L.2020.001"
-# What stands in the folders of the output before a walk.
-LEFT = {
-    f"out/{FIRST}": b"old records",
-    f"out/{FIRST}.part": b"of a run that was killed",
-    f"reports/{FIRST}.txt": b"old report",
-    f"reports/{FIRST}.txt.part": b"of a run that was killed",
-    "out/2019/kept": b"of a day that is no more",
-    "reports/notes": b"of somebody else",
-}
+# What stands in the folders of the output before a walk: files of its own, and of one day.
+OTHERS = {"out/2019/kept": b"of a day that is no more", "reports/notes": b"of somebody else"}
+OLD = (b"old records", b"old report", b"an old stamp\n")
+# When the files of the archive were changed, in nanoseconds: a stamp has it.
+CHANGED = 1_600_000_000_000_000_123
 # The texts by which a line, or the program where it stops, may tell that such a call failed.
 TEXTS = {
     "reading": {"read fault"},
@@ -54,15 +52,26 @@ Walked = collections.namedtuple("Walked", "status printed complained files")
 Failed = collections.namedtuple("Failed", "kinds texts silent", defaults=(False,))
 
 
+def names_of(path):
+    """The files of a day's records, of its report and of the stamp of its input."""
+    return f"out/{path}", f"reports/{path}.txt", f"reports/{path}.from"
+
+
 class Tree:
-    def __init__(self, bench, title, cut, pipes):
-        self.bench, self.title, self.cut, self.pipes = bench, title, cut, pipes
+    def __init__(self, bench, title, cut=False, pipes=False, options=()):
+        self.bench, self.title, self.cut, self.pipes, self.options = bench, title, cut, pipes, options
         self.top = f"{bench.folder}/tree"
+        self.earlier = {}
+        if "--resume" in options:
+            done = self.run(options=("--resume", "--below", os.path.dirname(FIRST))).files
+            self.earlier = {name: done[name] for name in names_of(FIRST)}
         self.calm = self.run()
 
     def make(self):
         shutil.rmtree(self.top, ignore_errors=True)
-        files = dict(LEFT)
+        files = {**OTHERS, **self.earlier}
+        for name, text in zip(names_of(SECOND if self.earlier else FIRST), OLD):
+            files[name], files[f"{name}.part"] = text, b"of a run that was killed"
         for path in (FIRST, SECOND, OTHER):
             with open(f"{day.ROOT}/examples/sds/{path}", "rb") as it:
                 files[f"sds/{path}"] = it.read()
@@ -72,13 +81,15 @@ class Tree:
             os.makedirs(os.path.dirname(f"{self.top}/{path}"), exist_ok=True)
             with open(f"{self.top}/{path}", "wb") as it:
                 it.write(text)
+            os.utime(f"{self.top}/{path}", ns=(CHANGED, CHANGED))
         return files
 
-    def run(self, before=(), limit=None):
+    def run(self, before=(), limit=None, options=None):
         """Walks the folders made anew; `before` are the words before the program's."""
         self.made = self.make()
         folders = [f"{self.top}/{name}" for name in ("sds", "out", "reports")]
-        words = [*before, self.bench.program, "archive", "--length", "256", *folders]
+        more = self.options if options is None else options
+        words = [*before, self.bench.program, "archive", "--length", "256", *more, *folders]
         name = f"{self.bench.folder}/printed"
         with open(name, "wb") as to:
             output = subprocess.PIPE if self.pipes else to
@@ -111,7 +122,8 @@ class Tree:
 
 def entries_of(printed):
     """The lines of entries of a whole walk."""
-    return [line for line in printed.splitlines() if line.split(" ")[0] in ("done", "skipped", "refused")]
+    words = ("done", "same", "skipped", "refused", "notshown")
+    return [line for line in printed.splitlines() if line.split(" ")[0] in words]
 
 
 def path_of(line):
@@ -126,24 +138,36 @@ def last_lines(told):
     """The lines that follow those of the entries."""
     channels, count = {}, collections.Counter(line.split(" ")[0] for line in told)
     for line in told:
-        found = re.fullmatch(r"done \S*/(\w+\.\w+\.\w*\.\w+)\.D\.\d+\.\d+ read (\d+) written (\d+)", line)
+        found = re.fullmatch(r"(?:done|same) \S*/(\w+\.\w+\.\w*\.\w+)\.D\.\d+\.\d+ read (\d+) written (\d+)", line)
         if found:
             files, read, written = channels.get(found[1], (0, 0, 0))
             channels[found[1]] = files + 1, read + int(found[2]), written + int(found[3])
     for name, (files, read, written) in channels.items():
         yield f"channel {name} files {files} read {read} written {written}"
-    yield f"files {count['done']} skipped {count['skipped']} refused {count['refused']}"
+    done, refused = count["done"] + count["same"], count["refused"] + count["notshown"]
+    yield f"files {done} skipped {count['skipped']} refused {refused}"
 
 
-def told_in(calm, printed, texts):
+def forms_of(tree, line, kinds):
+    """The lines that may tell of an entry that is not refused: that of the undisturbed run, and where looking at what an
+    earlier walk left failed, or reading what was written, what is told then."""
+    forms = [line]
+    if line.startswith("same ") and kinds & {"looking", "opening", "reading", "memory"}:
+        forms.append(line.replace("same ", "done ", 1))
+    if line.startswith(("same ", "done ")) and "--check" in tree.options and "reading" in kinds:
+        forms.append(f"notshown {path_of(line)}")
+    return forms
+
+
+def told_in(tree, printed, failed):
     """The lines of the entries that were told, and what may follow them: the next line, in one of these forms."""
-    ahead, told = entries_of(calm.printed), []
+    ahead, told, texts = entries_of(tree.calm.printed), [], failed.texts
     for line in printed.splitlines(keepends=True):
         if not ahead or not line.endswith("\n"):
             break
         path = path_of(line) if " " in line else ""
         refused = line.startswith("refused ") and line[len(f"refused {path}: ") : -1] in texts
-        if line[:-1] == ahead[0]:
+        if line[:-1] in forms_of(tree, ahead[0], failed.kinds):
             ahead = ahead[1:]
         elif refused and is_within(path_of(ahead[0]), path):
             ahead = [it for it in ahead if not is_within(path_of(it), path)]
@@ -155,18 +179,18 @@ def told_in(calm, printed, texts):
     parts = path_of(ahead[0]).split("/")
     places = [".", *("/".join(parts[:n]) for n in range(1, len(parts) + 1))]
     refusals = [f"refused {place}: {text}\n" for place in places for text in texts]
-    return told, [f"{ahead[0]}\n", *refusals]
+    return told, [*(f"{form}\n" for form in forms_of(tree, ahead[0], failed.kinds)), *refusals]
 
 
 def wrong_with(tree, walked, failed):
     """What is wrong with a run, or None."""
-    told, following = told_in(tree.calm, walked.printed, failed.texts)
+    told, following = told_in(tree, walked.printed, failed)
     rest = walked.printed[sum(len(line) + 1 for line in told) :]
     if not any(text.startswith(rest) for text in following):
         return f"printed {rest[-120:]!r} behind {told[-1:]}"
     whole = rest == following[0] and rest.startswith(("channel ", "files "))
     complaints = {f"msrepack: {text}\n" for text in failed.texts}
-    refused = any(line.startswith("refused ") for line in told)
+    refused = any(line.startswith(("refused ", "notshown ")) for line in told)
     if walked.status == KILLED:
         right = KILLED in failed.kinds
     elif walked.complained:
@@ -178,31 +202,48 @@ def wrong_with(tree, walked, failed):
     return files_wrong_with(tree, walked, told, failed.kinds)
 
 
+def day_wrong_with(tree, path, line, files, kinds):
+    """What is wrong with the files of a day of which this line was told, or none, or None. They are taken out of `files`."""
+    names, parts = names_of(path), [f"{name}.part" for name in names_of(path)]
+    has, beside = [files.pop(name, None) for name in names], [files.pop(name, None) for name in parts]
+    old, killed = [tree.made.get(name) for name in names], [tree.made.get(name) for name in parts]
+    new = [tree.calm.files.get(name) for name in names]
+    untouched = (has, beside) == (old, killed)
+    stays = KILLED in kinds or "removing" in kinds or not line or "looking" in kinds and untouched
+    if any(it not in (None, o, n) for it, o, n in zip(has, old, new)):
+        return "neither whole nor as it was"
+    if has[0] is not None and has[0] == new[0] and has[1] != new[1]:
+        return "records without their report"
+    if has[2] is not None and not any(has[2] == of[2] and all(map(same_or_none, has, of)) for of in (old, new)):
+        return "a stamp beside what was not made with it"
+    if line.startswith(("done ", "same ")) and (has[:2] != new[:2] or None in has[:2] or has[2] not in (None, new[2])):
+        return "done, and not as in the undisturbed run"
+    if line.startswith("same ") and has != new:
+        return "left alone, and touched"
+    if line.startswith("refused ") and path_of(line) != path and not untouched:
+        return "in a folder without a list, and touched"
+    if line.startswith(("refused ", "notshown ")) and path_of(line) == path and any(has) and not stays:
+        return "refused, and not removed"
+    if any(beside) and not stays and (path_of(line) == path or beside != killed):
+        return "something beside it is left"
+    return None
+
+
+def same_or_none(here, there):
+    return here in (None, there)
+
+
 def files_wrong_with(tree, walked, told, kinds):
     """What is wrong with the files that a run left, or None."""
-    files, made, calm = dict(walked.files), dict(tree.made), tree.calm.files
+    files, made = dict(walked.files), dict(tree.made)
     for path in (FIRST, SECOND):
-        records, report = f"out/{path}", f"reports/{path}.txt"
-        has = [files.pop(name, None) for name in (records, report)]
-        new = [calm.get(name) for name in (records, report)]
-        old = [made.pop(name, None) for name in (records, report)]
-        parts = [files.pop(f"{name}.part", None) for name in (records, report)]
-        killed = [made.pop(f"{name}.part", None) for name in (records, report)]
         line = next((it for it in told if is_within(path, path_of(it))), "")
-        untouched = (has, parts) == (old, killed)
-        stays = KILLED in kinds or "removing" in kinds or not line or "looking" in kinds and untouched
-        if any(it not in (None, o, n) for it, o, n in zip(has, old, new)):
-            return f"{path}: neither whole nor as it was"
-        if has[0] is not None and has[0] == new[0] and has[1] != new[1]:
-            return f"{path}: records without their report"
-        if line.startswith("done ") and (has != new or None in has):
-            return f"{path}: done, and not as in the undisturbed run"
-        if line.startswith("refused ") and path_of(line) != path and not untouched:
-            return f"{path}: in a folder without a list, and touched"
-        if line.startswith("refused ") and path_of(line) == path and has != [None, None] and not stays:
-            return f"{path}: refused, and not removed"
-        if parts != [None, None] and not stays and (path_of(line) == path or parts != killed):
-            return f"{path}: something beside it is left"
+        wrong = day_wrong_with(tree, path, line, files, kinds)
+        if wrong:
+            return f"{path}: {wrong}"
+        for name in names_of(path):
+            made.pop(name, None)
+            made.pop(f"{name}.part", None)
     return None if files == made else f"other files: {sorted(files.items() ^ made.items())}"
 
 
@@ -269,9 +310,15 @@ def limits(tree):
 
 
 def hold_trees(bench, only):
-    titles = {"archive > FILE": (False, False), "archive with a day that is cut | ..": (True, True)}
-    for title, (cut, pipes) in titles.items():
+    kinds_of_tree = {
+        "archive > FILE": {},
+        "archive with a day that is cut | ..": {"cut": True, "pipes": True},
+        "archive --check > FILE": {"options": ("--check",)},
+        "archive --resume, a day done before > FILE": {"options": ("--resume",)},
+        "archive --resume --check, a day done before | ..": {"pipes": True, "options": ("--resume", "--check")},
+    }
+    for title, words in kinds_of_tree.items():
         if only in title:
-            tree = Tree(bench, title, cut, pipes)
+            tree = Tree(bench, title, **words)
             each_call(tree)
             limits(tree)

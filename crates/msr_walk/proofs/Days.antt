@@ -1,9 +1,7 @@
 -- Answers about days.
-use Rattle.std.proofs.Common.{◌≡◌, ℕ, List, [], inr, Result, Ok, Err}
+use Rattle.std.proofs.Common.{ℕ, List, [], inr, Result, Ok, Err}
 use Rattle.std.proofs.lemmas.List.{append-nil}
 use Rattle.msr_devices.specs.Device.{Device}
-use Rattle.msr_report.specs.Proper.{records_of}
-use Rattle.msr_report.specs.declared.report.Report.{Report}
 use Rattle.msr_tool.specs.Choice.{Choice}
 use Rattle.msr_tool.specs.Tasks.{Reports}
 use Rattle.msr_tool.specs.declared.fault.ToolFault.{ToolFault}

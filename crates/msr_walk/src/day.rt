@@ -1,5 +1,5 @@
 //! One day file: from its file to the files of its records and its report.
-ghost use Rattle.std.specs.Prelude.{IfSome};
+ghost use Rattle.std.specs.Prelude.{◌≡◌, IfErr, IfSome};
 ghost use Rattle.msr_walk.specs.Day.{Asked, IsDayOutcome, IsKept, IsRepackedDay, IsShownWhere, asked_of};
 
 use crate::files::{NewFile, may_be_one_file, settle};
@@ -34,9 +34,7 @@ impl Day {
         })
     }
 
-    // Opens the input before anything is made. What is to be shown is shown before anything gets its name. An old stamp
-    // goes before that too, so that what has one was made whole; the report gets its name first, so that records that
-    // have theirs have a report.
+    // Opens the input before anything is made. What is to be shown is shown before anything gets its name.
     fn write<R: Files>(
         &self,
         rt: &R,
@@ -60,10 +58,18 @@ impl Day {
         settle(&records)?;
         settle(&report)?;
         self.hold(rt, alloc, archive.check)?;
+        self.keep(rt)?;
+        Ok(repacked)
+    }
+
+    // An old stamp goes before anything gets its name, so that what has one was made whole; the report gets its name
+    // first, so that records that have theirs have a report.
+    fn keep<R: Files>(&self, rt: &R) -> Result<(), Refusal>
+        ensures { IfErr result (λ why. why ≡ Refusal.CannotOpen) }
+    {
         self.stamp.clear(rt)?;
         self.report.keep(rt)?;
-        self.records.keep(rt)?;
-        Ok(repacked)
+        self.records.keep(rt)
     }
 
     // Reads the records and the report again that were written, and holds one against the other, where that is asked for.

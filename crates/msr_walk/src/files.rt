@@ -103,10 +103,11 @@ impl NewFile {
         }
     }
 
-    /// Removes an older file of its name, if there is one.
+    /// Removes an older file of its name, if there is one, and what a run that was killed left beside it.
     pub fn clear<R: Files>(&self, rt: &R) -> Result<(), Refusal>
         ensures { IfErr result (λ why. why ≡ Refusal.CannotOpen) }
     {
+        fs::remove_file(rt, self.part.as_str()).ok();
         match fs::remove_file(rt, self.path.as_str()) {
             Ok(()) => Ok(()),
             Err(error) => match error.kind() {

@@ -33,20 +33,10 @@ returns-in_err-hold g c =
     let p = err_from_is_err_and c.from_residual-in_err-hold.result c.from_residual-in_err-hold.ensures.1 in
     rw (p.1, p.2) (day-unkept (asked_of c.args.archive.now) _ _ _ _ _ _ c.in_err-hold.field-0.0 c.in_ok-repacked.ensures c.in_err-hold.ensures)
 
-pub returns-in_err-clear : goal.returns-in_err-clear
-returns-in_err-clear g c =
-    let p = err_from_is_err_and c.from_residual-in_err-clear.result c.from_residual-in_err-clear.ensures.1 in
-    rw (p.1, p.2, c.in_err-clear.ensures) tt
-
 pub returns-in_err-keep : goal.returns-in_err-keep
 returns-in_err-keep g c =
     let p = err_from_is_err_and c.from_residual-in_err-keep.result c.from_residual-in_err-keep.ensures.1 in
     rw (p.1, p.2, c.in_err-keep.ensures) tt
-
-pub returns-in_err-keep-2 : goal.returns-in_err-keep-2
-returns-in_err-keep-2 g c =
-    let p = err_from_is_err_and c.from_residual-in_err-keep-2.result c.from_residual-in_err-keep-2.ensures.1 in
-    rw (p.1, p.2, c.in_err-keep-2.ensures) tt
 
 pub returns : goal.returns
 returns g c = record { answer = day-answer _ _ _ _ _ _ _ c.in_ok-repacked.ensures; shown = c.in_ok-hold.ensures }
