@@ -48,6 +48,10 @@ def within_16_bits(count):
     return [max(-32768, min(32767, sample)) for sample in white_noise(9000)(count)]
 
 
+def within_24_bits(count):
+    return [max(-8388608, min(8388607, sample)) for sample in white_noise(2_400_000)(count)]
+
+
 def word_at(differences, at, end):
     """The code, the word and the size of the longest group from there to the end."""
     for size, (bits, code, top) in WORDS.items():
@@ -95,12 +99,17 @@ def write_int16(name, samples):
     day.write_plain(name, 512, 1, samples)
 
 
+def write_int32(name, samples):
+    day.write_plain(name, 4096, 3, samples)
+
+
 INPUTS = [
     ("microseism, Steim-2", microseism, write_steim2),
     ("strong motion, Steim-2", strong_motion, write_steim2),
     ("noise within 16 bits, 16-bit integers", within_16_bits, write_int16),
     ("noise of 1,000 counts, Steim-2", white_noise(1000), write_steim2),
     ("noise of 20,000 counts, Steim-2", white_noise(20_000), write_steim2),
+    ("noise within 24 bits, 32-bit integers", within_24_bits, write_int32),
 ]
 
 

@@ -120,9 +120,10 @@ def swings(count):
 
 
 def of_all_kinds(count):
-    """Stretches for which each of the four kinds of records is the smallest."""
-    quarter = count // 4
-    return kinds.microseism(quarter) + kinds.within_16_bits(quarter) + swings(quarter) + of_32_bits(quarter)
+    """Stretches for which each of the five kinds of records is the smallest."""
+    fifth = count // 5
+    narrow = kinds.microseism(fifth) + kinds.within_16_bits(fifth) + swings(fifth)
+    return narrow + kinds.within_24_bits(fifth) + of_32_bits(fifth)
 
 
 def recorded(name, _):
@@ -355,7 +356,6 @@ REFUSED = [
     ("rate factor 0", edited({32: "0000"}), True),
     ("rate multiplier 0", edited({34: "0000"}), True),
     ("encoding 0: text", edited({}, TEXT, Form(encoding=0, channel=b"LOG")), True),
-    ("encoding 2: 24-bit integers", edited({52: "02"}), True),
     ("encoding 4: floats", edited({}, [0.5] * 90, Form(encoding=4, channel=b"HHN")), True),
     ("encoding 5: doubles", edited({}, [0.5] * 50, Form(encoding=5, channel=b"HHN")), True),
     ("encoding 16 (CDSN) over 32-bit integers", edited({52: "10"}), True),

@@ -27,6 +27,8 @@ ROOT = os.path.dirname(HERE)
 PACKAGES = ["gcc", "libc6-dev", "libmseed-dev", "libmseed-doc", "mseed2sac"]
 LENGTHS = [256, 512, 1024, 2048, 4096, 8192, 16384, 32768, 65536]
 KINDS = {11: "Steim-2", 10: "Steim-1", 1: "16-bit", 2: "24-bit", 3: "32-bit"}
+# The encoding that the other readers do not know.
+UNREAD = 2
 TYPES = {"i": "integers", "f": "floats", "d": "doubles", "a": "characters"}
 SIZES = {"i": 4, "f": 4, "d": 8, "a": 1, "-": 0}
 CODES = {"i": "i", "f": "f", "d": "d", "a": "B"}
@@ -37,7 +39,7 @@ Trace = collections.namedtuple("Trace", "name start rate count type samples")
 # What libmseed finds in a file: its records, its traces.
 Found = collections.namedtuple("Found", "records traces")
 # What was found for an input; the last three list the lengths at which a reader found something else.
-Row = collections.namedtuple("Row", "input segments samples traces files apart kinds records_wrong traces_wrong files_wrong")
+Row = collections.namedtuple("Row", "input segments samples traces files apart kinds unread records_wrong traces_wrong files_wrong")
 
 
 def packages_there():
@@ -149,8 +151,8 @@ def apart(before, after):
     return max(farthest(starts[name], starts_after[name]) for name in starts)
 
 
-def kinds_of(records):
-    counts = collections.Counter(it.encoding for it in records)
+def kinds_of(encodings):
+    counts = collections.Counter(encodings)
     return ", ".join(f"{counts[code]:,} {kind}" for code, kind in KINDS.items() if counts[code])
 
 
@@ -161,17 +163,25 @@ def as_made(found, made):
 
 
 def repacked(bench, name, length):
-    """What libmseed and mseed2sac find in the file, repacked to this length."""
+    """The file repacked to this length: its records' encodings, what libmseed and mseed2sac find in it, and its segments.
+
+    They find nothing where a record has 24-bit integers, which they do not read.
+    """
     out, report = f"{bench.folder}/out", f"{bench.folder}/report"
     text = bench.said(bench.program, "repack", "--length", str(length), name, out)
     with open(report, "w", encoding="ascii") as it:
         it.write(text)
     if bench.said(bench.program, "check", out, report) != "least\n":
         sys.exit(f"check does not say least of {name} at {length}")
+    segments = int(re.search(r"^end (\d+) segments", text, re.M)[1])
+    with open(out, "rb") as it:
+        encodings = it.read()[52::length]
+    if UNREAD in encodings:
+        return encodings, None, None, segments
     found = bench.found(out)
     if {it.length for it in found.records} != {length}:
         sys.exit(f"libmseed finds records of another length than {length}")
-    return found, bench.sac(out), int(re.search(r"^end (\d+) segments", text, re.M)[1])
+    return encodings, found, bench.sac(out), segments
 
 
 def row_of(bench, each):
@@ -180,20 +190,26 @@ def row_of(bench, each):
     before, sac = bench.found(name), bench.sac(name)
     if not as_made(before, made):
         sys.exit(f"{each.title}: libmseed reads other samples from the input than were made")
-    row = Row(each, 0, sum(it.count for it in before.records), len(before.traces), len(sac[0]), 0, [], [], [], [])
+    row = Row(each, 0, sum(it.count for it in before.records), len(before.traces), len(sac[0]), 0, [], [], [], [], [])
     for length in LENGTHS:
-        after, sac_after, segments = repacked(bench, name, length)
+        encodings, after, sac_after, segments = repacked(bench, name, length)
+        row = row._replace(segments=segments)
+        row.kinds.append(kinds_of(encodings))
+        if after is None:
+            row.unread.append(length)
+            continue
         there = apart(before, after)
-        row = row._replace(segments=segments, apart=max(row.apart, there or 0))
-        row.kinds.append(kinds_of(after.records))
+        row = row._replace(apart=max(row.apart, there or 0))
         row.records_wrong.extend([length] * (there is None or there > each.apart))
         row.traces_wrong.extend([length] * (before.traces != after.traces))
         row.files_wrong.extend([length] * (not sac[0] or sac_after[:2] != sac[:2]))
     return row
 
 
-def yes(wrong):
-    return f"no, at {' '.join(map(str, wrong))}" if wrong else "yes"
+def yes(wrong, unread):
+    if wrong:
+        return f"no, at {' '.join(map(str, wrong))}"
+    return f"yes, but unread at {' '.join(map(str, unread))}" if unread else "yes"
 
 
 def is_wrong(row):
@@ -204,10 +220,10 @@ def print_rows(rows):
     print("| input | segments | samples | libmseed: same | µs apart | traces | same | mseed2sac: files | same |")
     print("|---|---|---|---|---|---|---|---|---|")
     for it in rows:
-        cells = [it.input.title, it.segments, f"{it.samples:,}", yes(it.records_wrong), f"{float(it.apart):.3g}"]
-        cells += [it.traces, yes(it.traces_wrong), it.files, yes(it.files_wrong)]
+        cells = [it.input.title, it.segments, f"{it.samples:,}", yes(it.records_wrong, it.unread), f"{float(it.apart):.3g}"]
+        cells += [it.traces, yes(it.traces_wrong, it.unread), it.files, yes(it.files_wrong, it.unread)]
         print(f"| {' | '.join(map(str, cells))} |")
-    print("\n### The kinds of records written, as libmseed reads them\n")
+    print("\n### The kinds of records written\n")
     print(f"| input | {' | '.join(map(str, LENGTHS))} |\n|---{'|---' * len(LENGTHS)}|")
     for it in rows:
         print(f"| {it.input.title} | {' | '.join(it.kinds)} |")
