@@ -1,7 +1,6 @@
 //! The Steim-2 words of a run, written in place.
 
-ghost use Rattle.std.specs.Prelude.{◌≡◌, ◌<◌, ◌≤◌, ◌+◌, ◌-◌, ◌*◌, ◌/◌, ◌%◌, ◌^◌, ◌++◌, ℕ, ℤ, List, Option, Some, length, drop, take, pos, slice_index_or};
-ghost use Rattle.std.specs.Int.{cast_unsigned, w32};
+ghost use Rattle.std.specs.Prelude.{◌≡◌, ◌<◌, ◌≤◌, ◌+◌, ◌-◌, ◌*◌, ◌/◌, ◌%◌, ◌^◌, ℤ, List, Some, length, drop, take};
 ghost use Rattle.std.specs.List.{AllByRecursion};
 ghost use Rattle.msr_steim.specs.declared.word.Version.TheVariants.{Two};
 ghost use Rattle.msr_steim.specs.Word.{FitsBits, group_code, group_top, group_width, group_word, joined_fields, twos_complement};
