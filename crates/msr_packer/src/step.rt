@@ -168,10 +168,12 @@ fn furthest_integers(
     ensures { IsEnd kind (bytes_of record_length) samples.now start result }
 {
     let end = start + kind.most(record_length).min(samples.len() - start);
+    if start < end && !fits_bits(i64::from(samples[start]), bits) {
+        return start;
+    }
     let mut at = start;
-    let mut together: usize = 1;
     while at < end {
-        let next = at + together.min(end - at);
+        let next = at + TOGETHER.min(end - at);
         if !all_of_bits(samples, at, next, bits) {
             let wider = first_wider(samples, at, next, bits);
             if wider < next {
@@ -179,7 +181,6 @@ fn furthest_integers(
             }
         }
         at = next;
-        together = TOGETHER;
     }
     end
 }

@@ -1,4 +1,4 @@
-use Rattle.std.specs.Prelude.{◌-◌, ◌<◌, ◌≤◌}
+use Rattle.std.specs.Prelude.{◌-◌, ◌≤◌}
 use Rattle.msr_packer.specs.Steps.{AreOfBits}
 use Rattle.msr_packer.proofs.step.furthest_integers.Given as goal
 
@@ -6,7 +6,6 @@ abbrev pub invariant-loop-at : goal.invariant-loop-at
 invariant-loop-at l = record {
   from : l.start ≤ l.at;
   to : l.at ≤ l.end;
-  some : 0 < l.together;
   all : AreOfBits l.bits l.samples l.start l.at;
 }
 
