@@ -45,12 +45,7 @@ impl Model for OpenSegment {
 /// A key has fields of the widths of a header's, and a rate of which neither part is 0.
 fn has_widths(key: Key)
     ensures { IsKey key }
-{
-    let _factor = key.rate.factor();
-    let _multiplier = key.rate.multiplier();
-    let _names = (key.network, key.station, key.location, key.channel);
-    let _correction = key.correction;
-}
+{}
 
 /// Where no sample is there yet, the times are those of the start.
 fn begins_in_time(key: &Key, start: i64)
