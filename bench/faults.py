@@ -80,7 +80,8 @@ def allowed(case, call, fault):
         "writing": {"write fault"},
         "opening": opened or {SAME},
         "looking": {SAME} if call.target.startswith("/dev/") else opened | {"write fault"},
-        "cutting": opened,
+        # A report is cut once more after a fault.
+        "cutting": opened if call.number == 1 else {SAME},
         "syncing": {"write fault"},
         "closing": {SAME},
         "memory": {SAME, "out of memory"},
