@@ -32,6 +32,7 @@ fn may_change(kind: FaultKind, len: usize) -> bool
 
 // Why a record is refused, where it has that fault by itself: before that of its time comes, where reading is strict,
 // that of its reverse constant.
+#[cold]
 fn fault_of(kind: FaultKind, bytes: &[u8], strict: bool) -> FaultKind
     requires { kind ≢ FaultKind.Memory → IsRefused bytes.now kind }
     ensures refused { result ≢ FaultKind.Memory → IsRefusedAlone strict bytes.now result }
@@ -50,6 +51,7 @@ fn fault_of(kind: FaultKind, bytes: &[u8], strict: bool) -> FaultKind
 }
 
 // The record that the bytes begin with, or why it is refused. Where reading is strict its reverse constant agrees.
+#[inline(always)]
 fn judge(alloc: Global, bytes: &[u8], strict: bool) -> Result<Record, FaultKind>
     ensures found { IfOk result (IsRecordOf bytes.now) }
     ensures can_join { IfOk result (λ found. IfSome found.row CanJoin) }
