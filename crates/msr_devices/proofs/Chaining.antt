@@ -3,7 +3,7 @@ use Rattle.std.proofs.Common.{[], Option, None, Some, refl, inl, inr, ◌⊎◌,
 use Rattle.std.proofs.lemmas.Bool.{cases_lt}
 use Rattle.std.proofs.Math.Seq.{take-append-add, take-add}
 use Rattle.std.proofs.lemmas.List.{append-nil, length-take-le, take-append-le, take_all}
-use Rattle.msr_devices.specs.Device.{Device, HasLeft, Gives, GivesOnto, Takes, Moves, HasFailed, IsCalm, IsSteady}
+use Rattle.msr_devices.specs.Device.{Device, HasLeft, Gives, GivesOnto, Takes, Moves, HasFailed, IsCalm, IsSteady, CountsFew, CanCountCall}
 
 pub gives-append : (a b c : Device) (xs ys : List ℕ) → Gives a b xs → Gives b c ys → Gives a c (xs ++ ys)
 gives-append a b c xs ys first second = record {
@@ -90,3 +90,10 @@ pub calm-failed : (a b c : Device) → IsCalm a b → HasFailed b c → HasFaile
 calm-failed a b c calm (inl failed) = inl (omega arith)
 calm-failed a b c calm (inr (inl still)) = inr (still-failed a b c calm still (cases_lt a.moved b.moved))
 calm-failed a b c calm (inr (inr moved)) = inr (inr (omega arith, omega arith))
+
+-- a device that is steady can count the next call, and few calls are counted with it
+pub steady-can_count : (a b : Device) → IsSteady a b → CanCountCall a → CanCountCall b
+steady-can_count a b steady can = (omega arith, grind arith)
+
+pub steady-then_few : (a b c : Device) → IsSteady a b → CountsFew b c → CountsFew a c
+steady-then_few a b c steady few = record { failures = omega arith; interruptions = grind arith }
