@@ -171,6 +171,7 @@ impl RowReader {
     }
 
     // Takes the record that was read, and says what its row does, where it has one.
+    #[inline(always)]
     fn take(&mut self, found: Record) -> Result<Option<NextRow>, ReadFault>
         requires is_record { IsRecordOf self.old.position.waiting found }
         requires can_join { IfSome found.row CanJoin }

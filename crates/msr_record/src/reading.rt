@@ -159,6 +159,7 @@ pub(crate) struct Opened {
 }
 
 /// Reads the header and the fields of the record that the bytes begin with.
+#[inline(always)]
 pub(crate) fn open_record(rest: &[u8]) -> Result<Opened, FaultKind>
     ensures opened { IfOk result (IsOpened rest.now) }
     ensures refused { IfErr result (IsRefused rest.now) }
