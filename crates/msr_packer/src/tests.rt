@@ -44,11 +44,8 @@ fn of_height(number: u64, height: u32) -> i32 {
 impl Made {
     fn count(self) -> usize {
         match self {
-            Zeros(count)
-            | Signs(count)
-            | Swings(count, _)
-            | Bounds(count)
-            | Extremes(count) => count,
+            Zeros(count) | Signs(count) | Swings(count, _) | Bounds(count) | Extremes(count) =>
+                count,
             Noise(count, _, _) | Turns(count, _, _, _, _) => count,
         }
     }
