@@ -268,7 +268,7 @@ fn records_at_hand_need_no_read(rt: HostRuntime) {
         fails_at: Some(1),
     };
     let mut source = TestSource::new(&bytes, once);
-    let mut reader = RowReader::new(rt.alloc(), 10_000);
+    let mut reader = RowReader::new(rt.alloc(), LENIENT);
     assert!(rt; !reader.holds_record());
     let Ok(Some(empty)) = reader.next_record(&mut source) else {
         panic!(rt; "no record")

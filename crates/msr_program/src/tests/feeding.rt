@@ -1,6 +1,6 @@
 //! Standard input that is repacked while it comes, and the file of its report.
 use crate::tests::fixtures::{
-    Folder, PLAIN, REPORT_OF_NOTHING, REPORT_OF_ZEROS, run_on, run_through, zeros,
+    Folder, HEADER, PLAIN, REPORT_OF_NOTHING, REPORT_OF_ZEROS, run_on, run_through, zeros,
 };
 use msr_tool::Behavior;
 use std::fs;
@@ -51,7 +51,7 @@ fn after_a_fault_the_report_stands_empty(rt: HostRuntime) -> Result<(), Fail> {
     };
     let rows: [(&[u8], Behavior, Behavior, &'static str); 3] = [
         (
-            &zeros[..47],
+            &HEADER[..47],
             PLAIN,
             PLAIN,
             "msrepack: offset 0: 1 Truncated\n",

@@ -90,7 +90,7 @@ impl Folder {
 }
 
 // 302 samples of 32 bits from 2020-01-01 00:00:00 on, 20 a second, in a record of 4096 bytes.
-const HEADER: [u8; 64] = [
+pub const HEADER: [u8; 64] = [
     0x30, 0x30, 0x30, 0x30, 0x30, 0x31, 0x44, 0x20, 0x54, 0x45, 0x53, 0x54, 0x20, 0x30, 0x30, 0x42,
     0x48, 0x5a, 0x58, 0x58, 0x07, 0xe4, 0x00, 0x01, 0x00, 0x00, 0x00, 0x00, 0x00, 0x00, 0x01, 0x2e,
     0x00, 0x14, 0x00, 0x01, 0x00, 0x00, 0x00, 0x02, 0x00, 0x00, 0x00, 0x00, 0x00, 0x40, 0x00, 0x30,
@@ -106,12 +106,15 @@ pub fn zeros(alloc: Global) -> Result<Vec<u8>, AllocError> {
 
 /// A record of 4096 bytes with one sample of 0, whose reverse constant is 1.
 pub fn mismatched(alloc: Global) -> Result<Vec<u8>, AllocError> {
-    let mut record = zeros(alloc)?;
-    let bytes = record.as_mut_slice();
-    bytes[30..32].copy_from_slice(&[0, 1]);
-    bytes[52] = 11;
-    bytes[64] = 1;
-    bytes[75] = 1;
+    let mut front = [0; 76];
+    front[..64].copy_from_slice(&HEADER);
+    front[30] = 0;
+    front[31] = 1;
+    front[52] = 11;
+    front[64] = 1;
+    front[75] = 1;
+    let mut record = vec![in alloc; 0; 4096]?;
+    record.as_mut_slice()[..76].copy_from_slice(&front);
     Ok(record)
 }
 

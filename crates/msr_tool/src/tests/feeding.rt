@@ -37,10 +37,8 @@ fn decided_records_are_written_before_each_read(rt: HostRuntime) -> Result<(), F
         );
         let fault = feed(alloc, &mut source, &mut sink, options).err();
         assert_eq!(&rt; fault, Some(ToolFault::Read));
-        assert!(&rt;
-            sink.bytes() == &input[..256 * records],
-            "behind {reads} reads"
-        );
+        assert_eq!(&rt; sink.bytes().len(), 256 * records, "behind {reads} reads");
+        assert!(&rt; input.starts_with(sink.bytes()), "behind {reads} reads");
     }
     Ok(())
 }
