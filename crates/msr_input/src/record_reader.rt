@@ -62,6 +62,7 @@ impl RecordReader {
     /// call gives the same record again. A record is given as soon as its own bytes have come, before a further
     /// read; so is a refusal of what stands behind its header. One of the header waits for the input's end or for
     /// as many bytes as the longest record has, since more could change it.
+    #[inline(always)]
     pub fn next<R: Source>(&mut self, source: &mut R) -> Result<Option<Record>, ReadFault>
         requires { CanCountCall (R.device source.old) }
         ensures came { (start : Device) (records : List Found) → HaveCome start (R.device source.old) self.old records

@@ -115,6 +115,7 @@ impl RowReader {
     /// The next record, with or without a row; `None` where the input has ended, and with it the last segment. No
     /// read is made where its bytes have come ([`holds_record`](Self::holds_record)). At an `Err` but `Read` the
     /// reader stands before it, as `next_row` says.
+    #[inline(always)]
     pub fn next_record<R: Source>(
         &mut self,
         source: &mut R,

@@ -72,6 +72,7 @@ fn judge(alloc: Global, bytes: &[u8], strict: bool) -> Result<Record, FaultKind>
 
 // The record that the bytes left begin with, which is the one at the offset; `None` where there are none. It is
 // given as soon as its own bytes are there; a refusal waits while more bytes might change it.
+#[inline(always)]
 pub(crate) fn read_record<R: Source>(
     alloc: Global,
     buffer: &mut ReadBuffer,

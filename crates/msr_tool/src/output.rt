@@ -146,6 +146,7 @@ impl LinedWriter {
     }
 
     /// Takes the next record. One whose row begins a segment ends the segment before it, whose line is kept.
+    #[inline(always)]
     pub fn take<W: Sink>(&mut self, sink: &mut W, next: NextRecord) -> Result<(), ToolFault>
         requires count { CanCountCall (W.device sink.old) }
         requires last { IfSome self.old.last (GoesOn self.old.writing.size) }
