@@ -3,7 +3,7 @@ use Rattle.std.proofs.Common.{◌≡◌, ◌∙◌, ap, sym, refl, rules, arith,
 use Rattle.std.proofs.lemmas.List.{append-nil}
 use Rattle.msr_report.specs.Proper.{records_of}
 use Rattle.msr_report.specs.Text.{segment_words, separators_line, end_line, counts_line}
-use Rattle.msr_report.specs.declared.report.Counts.{Counts}
+use Rattle.msr_base.specs.declared.counts.Counts.{Counts}
 use Rattle.msr_report.specs.declared.report.SegmentLine.{SegmentLine}
 use Rattle.msr_certificate.specs.Form.{Form, FormLine, IsForm, IsFirst, IsFormLine, IsFormLineText, AreFormLineTexts, IsOpening, form_records, form_line, first_then}
 use Rattle.msr_certificate.specs.Fault.{IsOneLine, AreLines, BeginsReport}

@@ -3,7 +3,7 @@ use Rattle.std.proofs.Common.{◌≡◌, ◌∙◌, ap, sym, refl, rules, arith,
 use Rattle.std.proofs.Math.Nat.{pow-le-pow_right}
 use Rattle.msr_words.specs.RecordLength.{IsRecordLength, most_exponent}
 use Rattle.msr_report.specs.Text.{counts_line, end_line}
-use Rattle.msr_report.specs.declared.report.Counts.{Counts}
+use Rattle.msr_base.specs.declared.counts.Counts.{Counts}
 use Rattle.msr_certificate.specs.Form.{Form, IsForm, IsFirst, IsFormText, form_records, first_then}
 use Rattle.msr_certificate.specs.Fault.{IsOneLine, AreLines, BeginsReport, IsFaultLine}
 use Rattle.msr_certificate.specs.Rest.{Begins, InFirst, AtLine, body_1, body_2, body_3, body_4, counts_body, tail_1, tail_2, tail_3, tail_4, tail_5}

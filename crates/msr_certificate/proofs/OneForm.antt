@@ -5,7 +5,7 @@ use Rattle.std.specs.Fmt.{signed_decimal}
 use Rattle.msr_time.specs.SampleRate.{SampleRate}
 use Rattle.msr_record.specs.declared.row.Key.{Key}
 use Rattle.msr_report.specs.Text.{separators_line, end_line, AreSegmentTexts, IsReportText}
-use Rattle.msr_report.specs.declared.report.Counts.{Counts}
+use Rattle.msr_base.specs.declared.counts.Counts.{Counts}
 use Rattle.msr_report.specs.declared.report.SegmentLine.{SegmentLine}
 use Rattle.msr_report.specs.declared.report.Report.{Report}
 use Rattle.msr_certificate.specs.Fields.{EndsNumber, name_then, rate_then, flags_then}

@@ -9,7 +9,7 @@ use Rattle.msr_header.specs.Reading.{is_quality}
 use Rattle.msr_words.specs.RecordLength.{IsRecordLength}
 use Rattle.msr_record.specs.declared.row.Key.{Key}
 use Rattle.msr_report.specs.Text.{IsTimeText, segment_words, separators_line, counts_line, end_line}
-use Rattle.msr_report.specs.declared.report.Counts.{Counts}
+use Rattle.msr_base.specs.declared.counts.Counts.{Counts}
 use Rattle.msr_report.specs.declared.report.SegmentLine.{SegmentLine}
 use Rattle.msr_report.specs.declared.report.Report.{Report}
 use Rattle.msr_words.specs.Lengths.{bytes_of}

@@ -2,7 +2,7 @@
 use Rattle.std.specs.Prelude.{◌≡◌, ℕ, ◌+◌, ◌<◌, ◌^◌, List, [], ◌∷◌, ◌++◌, length, codes}
 use Rattle.std.specs.Fmt.{decimal}
 use Rattle.msr_report.specs.Text.{counts_line, end_line}
-use Rattle.msr_report.specs.declared.report.Counts.{Counts}
+use Rattle.msr_base.specs.declared.counts.Counts.{Counts}
 use Rattle.msr_certificate.specs.Form.{Form, IsForm, IsFormText, AreFormLineTexts, form_records}
 use Rattle.msr_certificate.specs.Fault.{AreLines, BeginsReport}
 

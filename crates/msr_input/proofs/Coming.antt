@@ -8,7 +8,7 @@ use Rattle.msr_record.proofs.Shown.{record_fits, shown_record}
 use Rattle.msr_devices.specs.Device.{Device, HasLeft, GivesOnto, IsCalm}
 use Rattle.msr_devices.specs.ReadBuffer.{Window, IsFilled}
 use Rattle.msr_devices.proofs.Chaining.{calm-same, calm-calm, calm-failed, steady-steady, left-of}
-use Rattle.msr_report.specs.declared.report.Counts.{Counts}
+use Rattle.msr_base.specs.declared.counts.Counts.{Counts}
 use Rattle.msr_input.specs.Input.{Agrees, AllAgree, BeginsWith, IsRefusedAlone, counts_of}
 use Rattle.msr_input.specs.Reading.{HoldsRecord, TakesMemoryFor}
 use Rattle.msr_input.specs.Records.{Position, HaveCome, HaveComeShort, HasGiven, IsRefusedAfter, StopsRecords}

@@ -8,8 +8,8 @@ use Rattle.std.proofs.lemmas.List.{take-append-le}
 use Rattle.byteorder.specs.Numbers.{big_from-lt, little_from-lt}
 use Rattle.msr_header.specs.Layout.{number_at, order_of}
 use Rattle.msr_header.specs.Chain.{next_at, offsets_from}
-use Rattle.msr_header.specs.declared.header.Order.{Order}
-use Rattle.msr_header.specs.declared.header.Order.TheVariants.{Big, Little}
+use Rattle.msr_base.specs.declared.order.Order.{Order}
+use Rattle.msr_base.specs.declared.order.Order.TheVariants.{Big, Little}
 use Rattle.msr_header.proofs.ChainLemmas.{offsets_end, offsets_more}
 use Rattle.msr_header.proofs.FoundLemmas.{header_sound}
 use Rattle.msr_header.proofs.ShownLemmas.{AreBytes, AllWithin, Covers, SameFirst, header_alike}

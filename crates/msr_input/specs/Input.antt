@@ -10,7 +10,7 @@ use Rattle.msr_record.specs.declared.fault.FaultKind.{FaultKind}
 use Rattle.msr_record.specs.declared.fault.FaultKind.TheVariants.{TimeRange, ReverseMismatch, Memory}
 use Rattle.msr_segments.specs.Segments.{AreSegments, LastEndsOutOfRange}
 use Rattle.msr_segments.specs.declared.joiner.Segment.{Segment}
-use Rattle.msr_report.specs.declared.report.Counts.{Counts}
+use Rattle.msr_base.specs.declared.counts.Counts.{Counts}
 use Rattle.msr_input.specs.declared.fault.Fault.{Fault}
 use Rattle.msr_input.specs.declared.settings.Settings.{Settings}
 

@@ -10,7 +10,7 @@ use Rattle.msr_devices.specs.Device.{Device, HasLeft, HasFailed, IsSteady}
 use Rattle.msr_segments.specs.Segments.{SegmentIsInTime}
 use Rattle.msr_segments.specs.Joining.{Joining, HasJoined}
 use Rattle.msr_segments.specs.declared.joiner.Segment.{Segment}
-use Rattle.msr_report.specs.declared.report.Counts.{Counts}
+use Rattle.msr_base.specs.declared.counts.Counts.{Counts}
 use Rattle.msr_input.specs.Input.{AreRead, IsReadable, IsFirstFault, HaveBegun, NoneOverruns, rows_of_records, counts_of}
 use Rattle.msr_input.specs.Records.{Position, HaveCome, left_with}
 use Rattle.msr_input.specs.declared.settings.Settings.{Settings}

@@ -1,10 +1,10 @@
 //! Reading records one after another.
 use crate::fault::ReadFault;
 use crate::step::read_record;
+use msr_base::Counts;
 use msr_devices::{ReadBuffer, Source};
 use msr_header::read_header;
 use msr_record::Record;
-use msr_report::Counts;
 use std::alloc::Global;
 use std::marker::Model;
 

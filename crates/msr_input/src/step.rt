@@ -11,9 +11,9 @@ ghost use Rattle.msr_input.specs.Steps.{CanJoin, CameBefore, FollowsRecord, Join
 
 use crate::fault::{Fault, ReadFault, fault_at};
 use crate::row_reader::NextRow;
+use msr_base::Counts;
 use msr_devices::{ReadBuffer, Source};
 use msr_record::{FaultKind, Record, Row, decode_record, reverse_in};
-use msr_report::Counts;
 use msr_segments::{Follow, JoinFault, JoinKind, Joiner, OutOfRange, Segment};
 use std::alloc::Global;
 

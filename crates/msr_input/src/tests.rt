@@ -1,9 +1,9 @@
 //! What readers do, which no clause says: printed faults, sources that play, and each call once.
 use crate::{Fault, NextRow, ReadFault, RowReader, SegmentReader, Settings};
+use msr_base::Counts;
 use msr_devices::{Behavior, FillFault, TestSource};
 use msr_header::HeaderFault;
 use msr_record::FaultKind;
-use msr_report::Counts;
 use msr_segments::{Segment, Step};
 use std::alloc::Global;
 use std::process::Abort;

@@ -7,9 +7,9 @@ ghost use Rattle.msr_segments.specs.Segments.{SegmentIsInTime};
 
 use crate::records::encode_runs;
 use crate::{SegmentWriter, WriteFault, one_output, output_has_size, output_keeps_segments};
+use msr_base::Samples;
 use msr_devices::{Behavior, TestSink};
 use msr_packer::pack;
-use msr_plain::Samples;
 use msr_record::Key;
 use msr_segments::Segment;
 use msr_time::{Rate, is_instant};

@@ -11,8 +11,8 @@ use Rattle.std.proofs.lemmas.List.{append-nil, drop-drop, drop_all, drop_at, ext
 use Rattle.std.proofs.lemmas.List.Elements.{All-head, All-tail}
 use Rattle.byteorder.specs.Endian.{low_bytes, twos_complement}
 use Rattle.byteorder.specs.Numbers.{big_number-reads_back, length-bytes_high_first}
-use Rattle.msr_header.specs.declared.header.Order.{Order}
-use Rattle.msr_header.specs.declared.header.Order.TheVariants.{Big}
+use Rattle.msr_base.specs.declared.order.Order.{Order}
+use Rattle.msr_base.specs.declared.order.Order.TheVariants.{Big}
 use Rattle.msr_plain.specs.Plain.{CarriesPlain, FitsThreeBytes, FitsWidth, size_of, bytes_of, bytes_of_all, number_in, sample_at}
 use Rattle.msr_plain.specs.declared.Width.{Width}
 use Rattle.msr_plain.specs.declared.Width.TheVariants.{Two, Three, Four}

@@ -4,7 +4,7 @@ use Rattle.std.proofs.lemmas.List.{length-drop, take_all, drop-drop}
 use Rattle.std.specs.Prelude.{⊤}
 use Rattle.std.specs.Iterator.{MakesProgress, item_count}
 use Rattle.std.specs.Prelude.{Some}
-use Rattle.msr_header.specs.declared.header.Order.{Order}
+use Rattle.msr_base.specs.declared.order.Order.{Order}
 use Rattle.msr_plain.specs.Plain.{CarriesPlain, number_in, numbers_in, sample_at, size_of}
 use Rattle.msr_plain.specs.declared.Width.{Width}
 

@@ -5,7 +5,7 @@ ghost use Rattle.std.specs.Iterator.{YieldsFirst, item_count};
 ghost use Rattle.msr_plain.specs.Plain.{CarriesPlain, size_of};
 
 use crate::{Width, read_number};
-use msr_header::Order;
+use msr_base::Order;
 use std::alloc::AllocError;
 use std::marker::Model;
 

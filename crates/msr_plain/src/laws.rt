@@ -1,11 +1,11 @@
 //! What holds of every area of plain integers.
 
 ghost use Rattle.std.specs.Prelude.{◌≡◌, ◌<◌, ◌*◌, ◌++◌, ℕ, ℤ, All, List, length};
-ghost use Rattle.msr_header.specs.declared.header.Order.{Order};
+ghost use Rattle.msr_base.specs.declared.order.Order.{Order};
 ghost use Rattle.msr_plain.specs.declared.Width.{Width};
 ghost use Rattle.msr_plain.specs.Plain.{CarriesPlain, FitsWidth, bytes_of_all, size_of};
 
-use msr_header::Order;
+use msr_base::Order;
 
 /// The bytes of some samples carry these samples, whatever bytes follow.
 pub fn filled_area_carries()

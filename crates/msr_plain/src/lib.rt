@@ -1,4 +1,4 @@
-//! Data areas of plain integers, and the list of samples.
+//! Data areas of plain integers.
 #![tactic(auto)]
 
 ghost use Rattle.std.specs.Prelude.{◌≡◌, ◌<◌, ◌≤◌, ◌↔◌, ◌++◌, ◌-◌, ◌*◌, All, replicate, IfOk, IsErrOf, OnErr, OnOk, drop, length};
@@ -6,15 +6,14 @@ ghost use Rattle.msr_plain.specs.Plain.{CarriesPlain, FitsWidth, bytes_of, bytes
 
 mod borrowed;
 mod laws;
-mod samples;
 #[cfg(test)]
 mod tests;
 
 pub use borrowed::{PlainSamples, plain_samples};
 use byteorder::{BigEndian, ByteOrder, LittleEndian};
 pub use laws::{filled_area_carries, one_outcome};
-use msr_header::Order;
-pub use samples::Samples;
+use msr_base::Order;
+pub use msr_base::Samples;
 use std::alloc::{AllocError, Global};
 use thiserror::Error;
 

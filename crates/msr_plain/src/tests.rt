@@ -1,8 +1,6 @@
 // Areas from outside, and what no clause says: that a call succeeds, and the text of a fault.
-use crate::{
-    PlainFault, Samples, Width, decode_plain, decode_plain_into, fill_plain, plain_samples,
-};
-use msr_header::Order;
+use crate::{PlainFault, Width, decode_plain, decode_plain_into, fill_plain, plain_samples};
+use msr_base::Order;
 use std::test::Fail;
 
 #[test]
@@ -105,28 +103,6 @@ fn filled_areas(rt: HostRuntime) {
     let mut area = [9; 6];
     fill_plain(Width::Two, &[-32768, 32767], &mut area);
     assert!(rt; area[..] == [0x80, 0, 0x7f, 0xff, 0, 0]);
-}
-
-#[test]
-fn samples_grow(rt: HostRuntime) -> Result<(), Fail> {
-    let mut samples = Samples::new(rt.alloc());
-    assert!(rt; samples.is_empty());
-    samples.push(-1)?;
-    samples.extend_from_slice(&[2, -3])?;
-    assert_eq!(rt; samples.len(), 3);
-    let mut others = Samples::new(rt.alloc());
-    others.push(-1)?;
-    assert!(rt; samples != others);
-    others.extend_from_slice(&[2, -3])?;
-    assert!(rt; samples == others);
-    assert_eq!(rt;
-        format!(in rt.alloc(); "{samples:?}")?.as_str(),
-        "Samples { values: [-1, 2, -3] }"
-    );
-    let values = samples.into_vec();
-    assert_eq!(rt; values.as_slice(), [-1, 2, -3].as_slice());
-    assert!(rt; Samples::from_vec(values) == others);
-    Ok(())
 }
 
 #[test]

@@ -11,7 +11,7 @@ use Rattle.msr_time.proofs.Existing.{has_split}
 use Rattle.msr_header.specs.Reading.{is_quality}
 use Rattle.msr_header.specs.Writing.{header_bytes}
 use Rattle.msr_header.specs.declared.header.Header.{Header}
-use Rattle.msr_header.specs.declared.header.Order.TheVariants.{Big}
+use Rattle.msr_base.specs.declared.order.Order.TheVariants.{Big}
 use Rattle.msr_header.proofs.WrittenLemmas.{HasLengths, HasRanges, header_length, reads_back}
 use Rattle.msr_plain.specs.declared.Width.{Width}
 use Rattle.msr_plain.specs.declared.Width.TheVariants.{Two as TwoBytes, Three as ThreeBytes, Four as FourBytes}

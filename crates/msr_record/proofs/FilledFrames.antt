@@ -2,7 +2,7 @@
 use Rattle.std.proofs.Common.{◌≡◌, ◌<◌, ◌≤◌, ◌+◌, ◌-◌, ◌*◌, ◌/◌, ◌%◌, ◌^◌, ℕ, ℤ, pos, List, Option, length, get_or, w32, FitsSigned, arith, refl, subst}
 use Rattle.std.specs.Prelude.{All}
 use Rattle.std.proofs.lemmas.List.Elements.{All-get_or}
-use Rattle.msr_header.specs.declared.header.Order.TheVariants.{Big}
+use Rattle.msr_base.specs.declared.order.Order.TheVariants.{Big}
 use Rattle.msr_steim.specs.Area.{CarriesSteim, ReverseAgrees as FramesAgree}
 use Rattle.msr_steim.specs.Frames.{frame_bytes}
 use Rattle.msr_steim.specs.declared.word.Version.{Version}

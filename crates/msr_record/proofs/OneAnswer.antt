@@ -4,7 +4,7 @@ use Rattle.std.specs.Prelude.{◌↔◌, IsTrue, IfNone, IfSome}
 use Rattle.std.proofs.lemmas.List.{ext_get_or}
 use Rattle.msr_header.specs.Reading.{header_of}
 use Rattle.msr_header.specs.declared.header.Header.{Header}
-use Rattle.msr_header.specs.declared.header.Order.{Order}
+use Rattle.msr_base.specs.declared.order.Order.{Order}
 use Rattle.msr_header.specs.declared.fault.HeaderFault.{HeaderFault}
 use Rattle.msr_plain.specs.Plain.{CarriesPlain, size_of}
 use Rattle.msr_plain.specs.declared.Width.{Width}

@@ -12,7 +12,7 @@ use Rattle.msr_time.specs.declared.btime.BTime.{BTime}
 use Rattle.msr_time.specs.Instant.{IsSplit, instant_of}
 use Rattle.msr_header.specs.Reading.{header_of, is_sequence_byte, is_quality}
 use Rattle.msr_header.specs.Writing.{header_bytes, IsWritable, as_read}
-use Rattle.msr_header.specs.declared.header.Order.TheVariants.{Big}
+use Rattle.msr_base.specs.declared.order.Order.TheVariants.{Big}
 use Rattle.msr_header.specs.declared.header.Header.{Header}
 use Rattle.msr_words.specs.RecordLength.{least_exponent, most_exponent}
 use Rattle.msr_words.specs.Fit.{code_of}

@@ -1,6 +1,6 @@
 -- What the data area of a record carries, by the kind of its samples.
 use Rattle.std.specs.Prelude.{◌<◌, ℕ, ◌*◌, ℤ, List, length}
-use Rattle.msr_header.specs.declared.header.Order.{Order}
+use Rattle.msr_base.specs.declared.order.Order.{Order}
 use Rattle.msr_plain.specs.Plain.{size_of, CarriesPlain}
 use Rattle.msr_plain.specs.declared.Width.{Width}
 use Rattle.msr_plain.specs.declared.Width.TheVariants.{Two as TwoBytes, Three as ThreeBytes, Four as FourBytes}

@@ -3,7 +3,7 @@ use Rattle.std.specs.Prelude.{◌≡◌, ◌≢◌, ◌≤◌, ℕ, ◌+◌, ◌
 use Rattle.std.specs.Int.{w16, w32}
 use Rattle.msr_time.specs.declared.btime.BTime.{BTime}
 use Rattle.msr_time.specs.Instant.{IsInstant, IsSplit}
-use Rattle.msr_header.specs.declared.header.Order.TheVariants.{Big}
+use Rattle.msr_base.specs.declared.order.Order.TheVariants.{Big}
 use Rattle.msr_header.specs.declared.header.Header.{Header}
 use Rattle.msr_header.specs.Writing.{header_bytes}
 use Rattle.msr_plain.specs.Plain.{bytes_of_all, size_of}

@@ -9,7 +9,7 @@ use Rattle.msr_time.specs.declared.btime.BTime.{BTime}
 use Rattle.msr_words.specs.Lengths.{bytes_of}
 use Rattle.msr_record.specs.declared.row.Key.{Key}
 use Rattle.msr_report.specs.Proper.{records_of}
-use Rattle.msr_report.specs.declared.report.Counts.{Counts}
+use Rattle.msr_base.specs.declared.counts.Counts.{Counts}
 use Rattle.msr_report.specs.declared.report.SegmentLine.{SegmentLine}
 use Rattle.msr_report.specs.declared.report.Report.{Report}
 

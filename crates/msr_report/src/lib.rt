@@ -11,5 +11,6 @@ mod text;
 
 pub use laws::{has_text, one_text};
 pub use lines::{push_counts, push_list_line};
-pub use report::{Counts, Report, SegmentLine};
+pub use msr_base::Counts;
+pub use report::{Report, SegmentLine};
 pub use text::TextFault;

@@ -4,7 +4,8 @@ ghost use Rattle.msr_time.specs.Instant.{IsInstant};
 ghost use Rattle.msr_report.specs.Text.{IsTimeText, words_after_quality, segment_words, IsListLine, separators_line, IsSegmentText, counts_line, first_lines, end_line};
 
 use crate::fields::{name_string, settings_string, time_string};
-use crate::report::{Counts, Report, SegmentLine};
+use crate::report::{Report, SegmentLine};
+use msr_base::Counts;
 use msr_record::Key;
 use std::alloc::{AllocError, Global};
 

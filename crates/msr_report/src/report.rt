@@ -1,16 +1,6 @@
+use msr_base::Counts;
 use msr_record::Key;
 use msr_words::Length;
-
-/// How many records an input has.
-#[derive(Clone, Copy, Debug, PartialEq, Eq)]
-pub struct Counts {
-    /// All records, those without samples included.
-    pub read: u64,
-    /// Records without samples.
-    pub empty: u64,
-    /// Records whose reverse constant is not their last sample.
-    pub mismatched: u64,
-}
 
 /// A segment, and in how many records it was written.
 #[derive(Debug, Drop)]

@@ -3,7 +3,7 @@ ghost use Rattle.msr_segments.specs.Joining.{segment_at};
 
 use crate::follow::{Follow, Step};
 use crate::span::Span;
-use msr_plain::Samples;
+use msr_base::Samples;
 use msr_record::{Key, Row};
 use std::alloc::Global;
 use std::marker::Model;

@@ -7,7 +7,7 @@ use crate::{
     followers_stand_with_joiners, overruns_are_out_of_range, rows_have_one_division,
     steps_are_pushes,
 };
-use msr_plain::Samples;
+use msr_base::Samples;
 use msr_record::{Key, Kind, Row};
 use msr_time::{Rate, is_instant};
 use std::alloc::{AllocError, Global};

@@ -18,7 +18,7 @@ use Rattle.std.proofs.lemmas.List.FromFn.{length-map-range_with_len, get_or-map-
 use Rattle.std.proofs.lemmas.Grind.{flat_map-append}
 use Rattle.byteorder.specs.Endian.{big_bytes, big_number}
 use Rattle.byteorder.specs.Numbers.{big_number-reads_back}
-use Rattle.msr_header.specs.declared.header.Order.TheVariants.{Big}
+use Rattle.msr_base.specs.declared.order.Order.TheVariants.{Big}
 use Rattle.msr_steim.specs.declared.word.Version.{Version}
 use Rattle.msr_steim.specs.declared.word.Version.TheVariants.{One, Two}
 use Rattle.msr_steim.specs.Word.{AreGroups, FitsBits, Holds, IsGroup, IsInnerGroup, IsWordOf, as_read, division_of, group_code, group_width, group_word, joined_fields, padding_of}

@@ -8,7 +8,7 @@ use Rattle.std.specs.Ordering.{int_eq}
 use Rattle.std.specs.Prelude.{⊤}
 use Rattle.std.proofs.Math.Nat.{pow-zero, mod-lt}
 use Rattle.std.proofs.lemmas.List.{length-take}
-use Rattle.msr_header.specs.declared.header.Order.{Order}
+use Rattle.msr_base.specs.declared.order.Order.{Order}
 use Rattle.msr_steim.specs.declared.borrowed.Fields.{Fields}
 use Rattle.msr_steim.specs.declared.word.Version.{Version}
 use Rattle.msr_steim.specs.Area.{CarriesSteim, FirstWordsHold, IsUndefined, WordHolds, arranged_word, code_of, constant, differences, samples_of, sums_after, word_count}

@@ -5,7 +5,7 @@ use Rattle.std.specs.Prelude.{◌==◌, Bool, false, Result, Ok, Err, IsErrOf}
 use Rattle.std.proofs.lemmas.Bool.{cases_lt, le-ltb, ne_eqb}
 use Rattle.std.proofs.lemmas.Int.{ints, int_wrap-add_left, int_wrap_fits, wrapping_sub_is}
 use Rattle.std.proofs.lemmas.List.{append-nil, length-append, length-take, get_or-take, take_all}
-use Rattle.msr_header.specs.declared.header.Order.{Order}
+use Rattle.msr_base.specs.declared.order.Order.{Order}
 use Rattle.msr_steim.specs.declared.area.SteimFault.{SteimFault}
 use Rattle.msr_steim.specs.declared.area.SteimFault.TheVariants.{DataShort, BadCode, Memory}
 use Rattle.msr_steim.specs.declared.sums.Place.{Place}

@@ -2,8 +2,8 @@
 use Rattle.std.specs.Prelude.{◌≡◌, ◌<◌, ◌≤◌, ◌==◌, ◌||◌, nat_lt, ℕ, ◌+◌, ◌-◌, ◌*◌, ◌/◌, ◌%◌, ◌^◌, ℤ, ◌+ℤ◌, List, [], ◌∷◌, length, take, drop, slice_index_or, slice_get, flat_map, Some, if◌then◌else◌}
 use Rattle.std.specs.Int.{int_wrap, cast_signed, w32}
 use Rattle.byteorder.specs.Endian.{big_number, little_number}
-use Rattle.msr_header.specs.declared.header.Order.{Order}
-use Rattle.msr_header.specs.declared.header.Order.TheVariants.{Big, Little}
+use Rattle.msr_base.specs.declared.order.Order.{Order}
+use Rattle.msr_base.specs.declared.order.Order.TheVariants.{Big, Little}
 use Rattle.msr_steim.specs.declared.word.Version.{Version}
 use Rattle.msr_steim.specs.declared.word.Version.TheVariants.{One, Two}
 use Rattle.msr_steim.specs.Word.{Holds, IsUndefinedWord}

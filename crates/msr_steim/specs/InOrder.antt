@@ -1,6 +1,6 @@
 -- The samples of an area in order, one word after the other.
 use Rattle.std.specs.Prelude.{◌≡◌, ◌≤◌, ℕ, zero, suc, ◌-◌, ◌/◌, ◌^◌, ℤ, List, [], ◌∷◌, ◌++◌, length, Option, Some, None}
-use Rattle.msr_header.specs.declared.header.Order.{Order}
+use Rattle.msr_base.specs.declared.order.Order.{Order}
 use Rattle.msr_steim.specs.declared.borrowed.Fields.{Fields}
 use Rattle.msr_steim.specs.declared.word.Division.{Division}
 use Rattle.msr_steim.specs.declared.word.Version.{Version}

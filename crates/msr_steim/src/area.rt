@@ -1,7 +1,7 @@
 //! The samples that a data area of Steim frames carries.
 
 ghost use Rattle.std.specs.Prelude.{◌≡◌, ◌<◌, ◌≤◌, ◌↔◌, ℕ, ℤ, List, ◌+◌, ◌-◌, ◌*◌, IfOk, IsErrOf, IsTrue, OnOk, Some, length, slice_get};
-ghost use Rattle.msr_header.specs.declared.header.Order.{Order};
+ghost use Rattle.msr_base.specs.declared.order.Order.{Order};
 ghost use Rattle.msr_steim.specs.declared.word.Version.{Version};
 ghost use Rattle.msr_steim.specs.Area.{CarriesSteim, EndsBefore, IsUndefinedBefore, ReverseAgrees, arranged_word, constant, whole_word};
 
@@ -9,8 +9,7 @@ use crate::borrowed::before_first;
 use crate::sums::{Place, write_inner_word, write_last_word};
 use crate::word::Version;
 use byteorder::{BigEndian, ByteOrder, LittleEndian};
-use msr_header::Order;
-use msr_plain::Samples;
+use msr_base::{Order, Samples};
 use std::alloc::{AllocError, Global};
 use thiserror::Error;
 

@@ -9,7 +9,7 @@ ghost use Rattle.msr_steim.specs.Word.{numbers_in};
 
 use crate::area::{SteimFault, arranged_word_at, constant_at, whole_word_at};
 use crate::word::{Version, difference_at, division_for};
-use msr_header::Order;
+use msr_base::Order;
 use std::alloc::AllocError;
 use std::marker::Model;
 

@@ -2,7 +2,7 @@
 
 ghost use Rattle.std.specs.Prelude.{◌≡◌, ◌<◌, ◌≤◌, ℕ, ℤ, List, ◌+◌, ◌-◌, ◌*◌, ◌/◌, ◌%◌, ◌^◌, [], All, FitsSigned, MatchOption, Some, length, map, pos, slice_get, slice_index_or};
 ghost use Rattle.std.specs.Int.{w32};
-ghost use Rattle.msr_header.specs.declared.header.Order.{Order};
+ghost use Rattle.msr_base.specs.declared.order.Order.{Order};
 ghost use Rattle.msr_steim.specs.declared.word.Version.{Version};
 ghost use Rattle.msr_steim.specs.Area.{CarriesSteim, ReverseAgrees, constant, differences};
 ghost use Rattle.msr_steim.specs.Word.{AreGroups, group_word};

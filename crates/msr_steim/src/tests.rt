@@ -7,7 +7,7 @@ use crate::{
     is_group, read_word, steim_samples, write_word,
 };
 use byteorder::{BigEndian, ByteOrder};
-use msr_header::Order;
+use msr_base::Order;
 use std::alloc::AllocError;
 use std::test::Fail;
 

@@ -8,7 +8,7 @@ use Rattle.msr_devices.specs.Device.{Device, Takes, IsCalm}
 use Rattle.msr_devices.specs.WriteBuffer.{Passes}
 use Rattle.msr_devices.proofs.Chaining.{takes-append, calm-calm}
 use Rattle.msr_report.specs.Text.{IsListLine, counts_line}
-use Rattle.msr_report.specs.declared.report.Counts.{Counts}
+use Rattle.msr_base.specs.declared.counts.Counts.{Counts}
 use Rattle.msr_tool.specs.Listing.{AreListLines}
 use Rattle.msr_tool.specs.ListWriting.{HasListed, HasListedAll, HasListedFront, HasListedCut, IsLastLine, open_of}
 

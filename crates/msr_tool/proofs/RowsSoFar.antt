@@ -13,7 +13,7 @@ use Rattle.msr_segments.specs.Joining.{Joining, HasJoined, BeginsRow, JoinsRow, 
 use Rattle.msr_segments.proofs.Histories.{joined_none}
 use Rattle.msr_segments.proofs.StepLaws.{pushes_grow, steps_push}
 use Rattle.msr_devices.specs.Device.{Device}
-use Rattle.msr_report.specs.declared.report.Counts.{Counts}
+use Rattle.msr_base.specs.declared.counts.Counts.{Counts}
 use Rattle.msr_input.specs.Input.{HaveBegun, rows_of_records}
 use Rattle.msr_input.specs.Reading.{GaveReadable, IsWritable, StopsAfter, StopsReading}
 use Rattle.msr_input.specs.Rows.{RowReading, HasReadRows, ReadsNoRow, ReadsRecord, ReadsRow, ReadsToEnd, StepsTo, StopsRows, row_settings}

@@ -3,7 +3,7 @@ use Rattle.std.proofs.Common.{◌↔◌, ℕ, List, ◌++◌, refl, Result, Ok, 
 use Rattle.msr_segments.specs.declared.joiner.Segment.{Segment}
 use Rattle.msr_devices.specs.Device.{Device, HasLeft, Takes, HasFailed, IsSteady}
 use Rattle.msr_devices.proofs.Chaining.{steady-sound}
-use Rattle.msr_report.specs.declared.report.Counts.{Counts}
+use Rattle.msr_base.specs.declared.counts.Counts.{Counts}
 use Rattle.msr_report.specs.declared.report.Report.{Report}
 use Rattle.msr_input.specs.Reading.{StopsAfter, StopsReading}
 use Rattle.msr_input.specs.declared.settings.Settings.{Settings}

@@ -13,7 +13,7 @@ use Rattle.msr_segments.specs.Segments.{segment_span}
 use Rattle.msr_segments.specs.Joining.{Joining}
 use Rattle.msr_devices.specs.Device.{Device, HasLeft, Takes}
 use Rattle.msr_report.specs.Text.{counts_line}
-use Rattle.msr_report.specs.declared.report.Counts.{Counts}
+use Rattle.msr_base.specs.declared.counts.Counts.{Counts}
 use Rattle.msr_input.specs.Reading.{GaveReadable, StopsAfter, StopsReading}
 use Rattle.msr_input.specs.Rows.{RowReading, HasReadRows}
 use Rattle.msr_input.specs.declared.settings.Settings.{Settings}

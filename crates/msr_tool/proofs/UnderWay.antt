@@ -7,7 +7,7 @@ use Rattle.msr_segments.specs.declared.joiner.Segment.{Segment}
 use Rattle.msr_segments.specs.Joining.{Joining}
 use Rattle.msr_devices.specs.Device.{Device, HasFailed, IsCalm}
 use Rattle.msr_devices.proofs.Chaining.{left-of, steady-sound}
-use Rattle.msr_report.specs.declared.report.Counts.{Counts}
+use Rattle.msr_base.specs.declared.counts.Counts.{Counts}
 use Rattle.msr_report.specs.declared.report.Report.{Report}
 use Rattle.msr_report.specs.declared.report.SegmentLine.{SegmentLine}
 use Rattle.msr_report.specs.Proper.{IsProperLine}

@@ -7,7 +7,7 @@ use Rattle.msr_segments.specs.declared.follow.Step.{Step}
 use Rattle.msr_segments.specs.declared.follow.Step.TheVariants.{Begins, Joins}
 use Rattle.msr_segments.specs.declared.joiner.Segment.{Segment}
 use Rattle.msr_report.specs.Text.{IsListLine, counts_line}
-use Rattle.msr_report.specs.declared.report.Counts.{Counts}
+use Rattle.msr_base.specs.declared.counts.Counts.{Counts}
 use Rattle.msr_tool.specs.Writing.{StopsSink}
 use Rattle.msr_tool.specs.Listing.{AreListLines, IsFrontOfList}
 use Rattle.msr_tool.specs.declared.fault.ToolFault.{ToolFault}

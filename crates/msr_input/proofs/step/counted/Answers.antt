@@ -1,6 +1,6 @@
 use Rattle.std.proofs.Common.{◌≡◌, ◌∷◌, ◌++◌, [], length, arith, ap, refl, ◌∙◌, length-append, Bool}
 use Rattle.std.specs.Prelude.{is_some, if◌then◌else◌}
-use Rattle.msr_report.specs.declared.report.Counts.{Counts}
+use Rattle.msr_base.specs.declared.counts.Counts.{Counts}
 use Rattle.msr_input.specs.Input.{empty_count, mismatch_count}
 use Rattle.msr_input.proofs.Records.{one-most, empty-most, mismatch-most, empty-snoc, mismatch-snoc}
 use Rattle.msr_input.proofs.step.counted.Goals as goal

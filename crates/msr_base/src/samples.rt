@@ -1,3 +1,5 @@
+//! The list of samples.
+
 ghost use Rattle.std.specs.Prelude.{◌≡◌, ◌↔◌, ◌++◌, ◌∷◌, [], length, IsTrue, OnErr, OnOk};
 
 use std::alloc::{AllocError, Global};
