@@ -144,14 +144,3 @@ pub points_from_at : (before : Option ℤ) (samples : List ℤ) (i : ℕ) (d : �
 points_from_at None samples i d h = points_at samples i d h
 points_from_at (Some before) samples zero d h = points_after_at before samples zero d h
 points_from_at (Some before) samples (suc i) d h = points_after_at before samples (suc i) d h
-
--- the points of a run up to one sample more
-pub points_more : (before : Option ℤ) (samples : List ℤ) (i : ℕ) → i < length samples →
-    take (i + 1) (points before samples) ≡ take i (points before samples) ++ (slice_index_or samples i (pos 0), difference_from before samples i) ∷ []
-points_more before samples i h =
-    let d : ℤ × ℤ = (pos 0, pos 0) in
-    let there : i < length (points before samples) = rw (length_points_before before samples) h in
-    take_more (points before samples) i d there ∙ ap (λ p. take i (points before samples) ++ p ∷ []) (points_from_at before samples i d h)
-
-pub points_all : (before : Option ℤ) (samples : List ℤ) (i : ℕ) → length samples ≤ i → take i (points before samples) ≡ points before samples
-points_all before samples i h = take_all i (points before samples) (rw (length_points_before before samples) h)
