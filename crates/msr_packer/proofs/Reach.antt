@@ -119,18 +119,13 @@ module _ (bytes words left : ℕ) (samples : List ℤ) (start latest at : ℕ) (
       (subst (λ w. IsGreedyReach w (drop start (differences None (take latest samples))) (at - start)) words_is
       (subst (IsGreedyReach words (drop start (differences None (take latest samples)))) sum (is.reach 0 none)))))
 
-  walked_to : (told : Bool) → (IsTrue told → AreNarrow (take latest samples) start at) → (IsTrue told → at < length samples → IsNarrow (difference_at samples at)) → IsWalkedOut bytes samples start at told
-  walked_to told small behind =
+  pub walked_out : (end : ℕ) (told : Bool) → end ≡ at → (IsTrue told → AreNarrow (take latest samples) start at)
+      → (IsTrue told → at < length samples → IsNarrow (difference_at samples at)) → IsWalkedOut bytes samples start end told
+  walked_out end told same small behind =
       let s = seen in
       let whole : start + (at - start) ≡ at = omega arith in
-      record {
+      subst (λ e. IsWalkedOut bytes samples start e told) (sym same) (record {
         fits = subst (IsRun (Fits Steim2 bytes) samples start) whole reached.0;
         furthest = λ b run. let most = reached.1 start b (omega arith) run in omega arith;
         narrow = λ t. narrow_through samples start at s.1 (omega arith) (narrow_seen samples start at latest s.1 s.2 s.0 (small t)) (behind t);
-      }
-
-  pub walked_out : (end : ℕ) (told : Bool) → end ≡ at → (IsTrue told → AreNarrow (take latest samples) start at)
-      → (IsTrue told → end < length samples → IsNarrow (difference_at samples end)) → IsWalkedOut bytes samples start end told
-  walked_out end told same small behind =
-      subst (λ e. IsWalkedOut bytes samples start e told) (sym same)
-      (walked_to told small (subst (λ e. IsTrue told → e < length samples → IsNarrow (difference_at samples e)) same behind))
+      })

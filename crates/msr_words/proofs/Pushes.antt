@@ -1,5 +1,5 @@
 -- What one more sample does to whether a run fits.
-use Rattle.std.proofs.Common.{◌≡◌, ℕ, ◌+◌, ◌-◌, ◌≤◌, ◌<◌, zero, suc, ap, pos, ◌-ℤ◌, ◌||◌, slice_index_or, Bool, true, false, refl, IsTrue, ◌↔◌, ℤ, List, [], ◌∷◌, ◌++◌, length, All, arith, length-append}
+use Rattle.std.proofs.Common.{◌≡◌, ℕ, ◌+◌, ◌-◌, ◌≤◌, ◌<◌, zero, suc, ap, pos, ◌-ℤ◌, ◌||◌, slice_index_or, Bool, true, false, refl, IsTrue, ◌↔◌, ℤ, List, [], ◌∷◌, ◌++◌, length, arith, length-append}
 use Rattle.std.proofs.lemmas.List.Elements.{All-push, Contains-push, All-contains}
 use Rattle.msr_words.specs.declared.kinds.Kind.TheVariants.{Int16, Int24, Int32, Steim1, Steim2}
 use Rattle.msr_words.specs.Segment.{difference_at}
