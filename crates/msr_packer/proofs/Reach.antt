@@ -1,5 +1,5 @@
 -- A walk of the longest Steim-2 groups from a frontier.
-use Rattle.std.proofs.Common.{◌≡◌, ℕ, zero, suc, ◌+◌, ◌-◌, ◌<◌, ◌≤◌, min, ℤ, List, length, map, take, drop, None, arith, refl, sym, ap, ◌∙◌, subst, inl, inr}
+use Rattle.std.proofs.Common.{◌≡◌, ℕ, zero, suc, ◌+◌, ◌-◌, ◌<◌, ◌≤◌, min, ℤ, Bool, IsTrue, List, length, map, take, drop, None, arith, refl, sym, ap, ◌∙◌, subst, inl, inr}
 use Rattle.std.specs.Prelude.{All}
 use Rattle.std.proofs.lemmas.Bool.{cases_lt}
 use Rattle.std.proofs.lemmas.List.{drop-drop, drop-map, length-drop, length-take-le, take-append-drop}
@@ -53,27 +53,6 @@ walk_more words left samples start at size longest is =
 differences_up_to : (samples : List ℤ) (g end : ℕ) → g ≤ end → map (λ p. p.1) (run_points samples g end) ≡ drop g (differences None (take end samples))
 differences_up_to samples g end order = ap (map (λ (p : ℤ × ℤ). p.1)) (by_front samples g end order) ∙ sym (drop-map (λ (p : ℤ × ℤ). p.1) g (points None (take end samples)))
 
--- Where no more is reached of the samples up to the latest end of a record, the walk ends at the greatest end of a run.
-module _ (bytes left : ℕ) (samples : List ℤ) (start latest at end : ℕ) (le : start ≤ length samples) (law : GreedyLaw) (latest_is : latest ≡ latest_end Steim2 bytes samples start)
-    (is : IsWalked (words_of bytes) left (take latest samples) start at) (none : IsGreedyReach left (drop at (differences None (take latest samples))) 0) (same : end ≡ at) where
-  reached : IsRun (Fits Steim2 bytes) samples start (start + (end - start)) × ((s b : ℕ) → s ≤ start → IsRun (Fits Steim2 bytes) samples s b → b ≤ start + (end - start))
-  reached =
-      let from' = is.from in
-      let sum : at - start + 0 ≡ end - start = omega arith in
-      law bytes samples start (end - start) le
-      (subst (λ n. IsGreedyReach (words_of bytes) (map (λ p. p.1) (run_points samples start n)) (end - start)) latest_is
-      (subst (λ xs. IsGreedyReach (words_of bytes) xs (end - start)) (sym (differences_up_to samples start latest (omega arith)))
-      (subst (IsGreedyReach (words_of bytes) (drop start (differences None (take latest samples)))) sum (is.reach 0 none))))
-
-  whole : start + (end - start) ≡ end
-  whole = let from' = is.from in omega arith
-
-  pub walk_fits : IsRun (Fits Steim2 bytes) samples start end
-  walk_fits = subst (IsRun (Fits Steim2 bytes) samples start) whole reached.0
-
-  pub walk_furthest : (b : ℕ) → IsRun (Fits Steim2 bytes) samples start b → b ≤ end
-  walk_furthest b run = let most = reached.1 start b (omega arith) run in let w = whole in omega arith
-
 -- ---- narrow differences
 
 narrow_more : (samples : List ℤ) (start at n : ℕ) → start ≤ at → at + n ≤ length samples
@@ -93,14 +72,14 @@ group_narrow samples start at size le within longest some all =
     narrow_more samples start at size le (omega arith) (λ k less. narrow_in_group samples at size k longest some less) all
 
 -- those of the first samples are those of all
-pub narrow_seen : (samples : List ℤ) (start at latest : ℕ) → start ≤ at → at ≤ latest → latest ≤ length samples → AreNarrow (take latest samples) start at → AreNarrow samples start at
+narrow_seen : (samples : List ℤ) (start at latest : ℕ) → start ≤ at → at ≤ latest → latest ≤ length samples → AreNarrow (take latest samples) start at → AreNarrow samples start at
 narrow_seen samples start at latest order within inside all =
     let long = length-take-le latest samples inside in
     let same : run_points samples start at ≡ run_points (take latest samples) start at =
     ap (λ xs. run_points xs start at) (sym (take-append-drop latest samples)) ∙ run_points_stay (take latest samples) (drop latest samples) start at order (omega arith) in
     subst (λ run. All (λ (p : ℤ × ℤ). IsNarrow p.1) run) (sym same) all
 
-pub narrow_through : (samples : List ℤ) (start at : ℕ) → start ≤ at → at ≤ length samples → AreNarrow samples start at
+narrow_through : (samples : List ℤ) (start at : ℕ) → start ≤ at → at ≤ length samples → AreNarrow samples start at
     → (at < length samples → IsNarrow (difference_at samples at)) → AreNarrowThrough samples start at
 narrow_through samples start at le within all there = elim (cases_lt at (length samples)) [
   | inl less ↦
@@ -110,3 +89,43 @@ narrow_through samples start at le within all there = elim (cases_lt at (length 
       let end : at ≡ min (at + 1) (length samples) = omega arith in
       subst (AreNarrow samples start) end all
 ]
+
+-- ---- where the walk ends
+
+-- the walk ends at the greatest end of a run; and, where that is told, all its differences and the one behind it are narrow
+pub record IsWalkedOut (bytes : ℕ) (samples : List ℤ) (start end : ℕ) (told : Bool) : Type 0 where
+  pub fits : IsRun (Fits Steim2 bytes) samples start end
+  pub furthest : (b : ℕ) → IsRun (Fits Steim2 bytes) samples start b → b ≤ end
+  pub narrow : IsTrue told → AreNarrowThrough samples start end
+
+-- Where no more is reached of the samples up to the latest end of a record.
+module _ (bytes words left : ℕ) (samples : List ℤ) (start latest at : ℕ) (le : start ≤ length samples) (law : GreedyLaw) (words_is : words ≡ words_of bytes)
+    (latest_is : latest ≡ latest_end Steim2 bytes samples start) (is : IsWalked words left (take latest samples) start at) (none : IsGreedyReach left (drop at (differences None (take latest samples))) 0) where
+  seen : (latest ≤ length samples) × (start ≤ at) × (at ≤ latest)
+  seen =
+      let from' = is.from in
+      let within' = is.within in
+      let short : latest ≤ length samples = omega arith in
+      let long = length-take-le latest samples short in
+      (short, from', omega arith)
+
+  reached : IsRun (Fits Steim2 bytes) samples start (start + (at - start)) × ((s b : ℕ) → s ≤ start → IsRun (Fits Steim2 bytes) samples s b → b ≤ start + (at - start))
+  reached =
+      let from' = is.from in
+      let sum : at - start + 0 ≡ at - start = omega arith in
+      law bytes samples start (at - start) le
+      (subst (λ n. IsGreedyReach (words_of bytes) (map (λ p. p.1) (run_points samples start n)) (at - start)) latest_is
+      (subst (λ xs. IsGreedyReach (words_of bytes) xs (at - start)) (sym (differences_up_to samples start latest (omega arith)))
+      (subst (λ w. IsGreedyReach w (drop start (differences None (take latest samples))) (at - start)) words_is
+      (subst (IsGreedyReach words (drop start (differences None (take latest samples)))) sum (is.reach 0 none)))))
+
+  pub walked_out : (end : ℕ) (told : Bool) → end ≡ at → (IsTrue told → AreNarrow (take latest samples) start at)
+      → (IsTrue told → at < length samples → IsNarrow (difference_at samples at)) → IsWalkedOut bytes samples start end told
+  walked_out end told same small behind =
+      let s = seen in
+      let whole : start + (at - start) ≡ at = omega arith in
+      subst (λ e. IsWalkedOut bytes samples start e told) (sym same) (record {
+        fits = subst (IsRun (Fits Steim2 bytes) samples start) whole reached.0;
+        furthest = λ b run. let most = reached.1 start b (omega arith) run in omega arith;
+        narrow = λ t. narrow_through samples start at s.1 (omega arith) (narrow_seen samples start at latest s.1 s.2 s.0 (small t)) (behind t);
+      })

@@ -6,7 +6,7 @@ use Rattle.msr_words.specs.Fit.{Fits, FitsAny, IsRun}
 use Rattle.msr_words.specs.Packing.{IsStep}
 use Rattle.msr_words.specs.RecordLength.{words_of}
 use Rattle.msr_words.specs.Segment.{run_points}
-use Rattle.msr_words.specs.Trackers.{FollowsInt16, FollowsInt24, FollowsInt32, FollowsSteim1, FollowsSteim2}
+use Rattle.msr_words.specs.Trackers.{FollowsIntegers, FollowsSteim1, FollowsSteim2}
 use Rattle.msr_packer.specs.Steps.{AreEnds}
 use Rattle.msr_packer.specs.declared.live.KindTracker.{KindTracker}
 use Rattle.msr_packer.specs.declared.live.KindTracker.TheVariants.{Int16, Int24, Int32, Steim1, Steim2}
@@ -25,9 +25,9 @@ kind_of_tracker (Int32 t) = kinds.Int32
 abbrev pub Follows : ℕ → List (ℤ × ℤ) → KindTracker → Type 0
 Follows bytes run (Steim2 t) = FollowsSteim2 bytes run t.left t.count t.most t.more t.fits
 Follows bytes run (Steim1 t) = FollowsSteim1 (words_of bytes) (map (λ p. p.1) run) t.words t.counts t.fits
-Follows bytes run (Int16 t) = FollowsInt16 bytes run t.left t.fits
-Follows bytes run (Int24 t) = FollowsInt24 bytes run t.left t.fits
-Follows bytes run (Int32 t) = FollowsInt32 bytes run t.left t.fits
+Follows bytes run (Int16 t) = FollowsIntegers kinds.Int16 bytes run t.left t.fits
+Follows bytes run (Int24 t) = FollowsIntegers kinds.Int24 bytes run t.left t.fits
+Follows bytes run (Int32 t) = FollowsIntegers kinds.Int32 bytes run t.left t.fits
 
 -- the samples `start` to n-1 were pushed to the tracker, and fit
 pub record IsTracked (bytes : ℕ) (samples : List ℤ) (start n : ℕ) (tracker : KindTracker) : Type 0 where

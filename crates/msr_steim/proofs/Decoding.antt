@@ -32,16 +32,6 @@ pub record AreReadBelow (version : Version) (order : Order) (area : List ℕ) (c
   pub few : length (differences groups) < count
   pub sums : samples ≡ samples_of first (differences groups)
 
--- no word yet
-pub none_read : (version : Version) (order : Order) (area : List ℕ) (count : ℕ) (first : ℤ) → 0 < count → AreReadBelow version order area count 0 first []
-none_read version order area count first some = record {
-  groups = [];
-  held = record { within = omega arith; each = λ n h. absurd (omega arith) };
-  number_is = refl;
-  few = some;
-  sums = refl;
-}
-
 pub one_more_held : (version : Version) (order : Order) (area : List ℕ) (groups : List (List ℤ)) (group : List ℤ) → FirstWordsHold version order area groups → length groups < word_count area
     → WordHolds version order area (length groups) group → FirstWordsHold version order area (groups ++ group ∷ [])
 one_more_held version order area groups group held within here = record {

@@ -287,10 +287,6 @@ word_holds_group version first last gs frames number are f g within =
     (code_is version first last gs frames number are f g within)
     (λ e. arranged_is version (code_of Big area number) area number ∙ word_is version first last gs frames number are f g within ∙ data_word version first last gs number e)
 
--- the lists that the words hold
-held_lists : Version → List (List ℤ) → ℕ → List (List ℤ)
-held_lists version gs n = map (λ number. as_read version (group_in gs number)) (range_with_len 0 n)
-
 pub length-frame_bytes : (version : Version) (first last : ℤ) (gs : List (List ℤ)) (frames : ℕ) → length (frame_bytes version first last gs frames) ≡ 64 * frames
 length-frame_bytes version first last gs frames =
     let e : 4 * (16 * frames) ≡ 64 * frames = omega arith in

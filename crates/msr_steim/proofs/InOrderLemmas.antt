@@ -80,11 +80,6 @@ one_word version order area number within =
     ap (differences_of version order area number) words
     ∙ ap (λ n. word_differences version order area number ++ differences_of version order area n (word_count area - (number + 1))) (sym next)
 
-pub no_word : (version : Version) (order : Order) (area : List ℕ) (number : ℕ) → word_count area ≤ number → differences_from version order area number ≡ []
-no_word version order area number after =
-    let none : word_count area - number ≡ 0 = omega (arith, after) in
-    ap (differences_of version order area number) none
-
 -- a word without differences is passed over
 pub passed_undefined : (version : Version) (order : Order) (area : List ℕ) (number : ℕ) → number < word_count area → IsUndefined version order area number
     → differences_from version order area number ≡ differences_from version order area (number + 1)
@@ -106,15 +101,6 @@ pub record AreCounted (version : Version) (order : Order) (area : List ℕ) (num
   pub in_order : differences_from version order area 0 ≡ differences groups ++ differences_from version order area number
   pub number_is : length groups ≡ number
   pub found_is : length (differences groups) ≡ found
-
-pub none_counted : (version : Version) (order : Order) (area : List ℕ) → AreCounted version order area 0 0
-none_counted version order area = record {
-  groups = [];
-  held = record { within = omega arith; each = λ n h. absurd (omega arith) };
-  in_order = refl;
-  number_is = refl;
-  found_is = refl;
-}
 
 pub one_more_counted : (version : Version) (order : Order) (area : List ℕ) (number found : ℕ) (fields : Fields) → AreCounted version order area number found → number < word_count area
     → HasFields version order area number fields → (0 < fields.count → 0 < fields.width) → AreCounted version order area (number + 1) (found + fields.count)
@@ -142,14 +128,6 @@ counted_enough version order area number found count counted enough = record {
 }
 
 -- ---- the samples
-
--- an area that holds enough has a frame
-pub has_frame : (version : Version) (order : Order) (area : List ℕ) (count : ℕ) → 1 ≤ count → HoldsEnough version order area count → 64 ≤ length area
-has_frame version order area count some e = some_words e.groups e.held.within e.enough
-  where
-    some_words : (groups : List (List ℤ)) → length groups ≤ length area / 64 * 16 → count ≤ length (differences groups) → 64 ≤ length area
-    some_words [] within enough = absurd (omega (arith, some, enough))
-    some_words (g ∷ gs) within enough = let n : suc (length gs) ≤ length area / 64 * 16 = within in omega arith
 
 pub has_differences : (version : Version) (order : Order) (area : List ℕ) (count : ℕ) → HoldsEnough version order area count → count ≤ length (differences_from version order area 0)
 has_differences version order area count e =
@@ -234,8 +212,3 @@ first_sum before ds rest d zero some e = absurd (omega (arith, some))
 first_sum before ds rest d (suc left) some e =
     let less : suc left - 1 ≡ left = omega arith in
     rw (e, less) refl
-
--- no sum without differences
-pub no_sums : (before : ℤ) (ds : List ℤ) (left : ℕ) → ds ≡ [] → take left (sums_after before ds) ≡ []
-no_sums before ds zero e = refl
-no_sums before ds (suc left) e = rw e refl

@@ -14,7 +14,7 @@ pub fn group_width(version: Version, count: usize) -> Option<u32>
 }
 
 /// Whether a number is one of `width` bits.
-fn fits_bits(number: i64, width: u32) -> bool
+pub fn fits_bits(number: i64, width: u32) -> bool
     requires positive { 0 < width }
     requires small { width ≤ 32 }
     ensures { IsTrue result ↔ FitsBits width number }

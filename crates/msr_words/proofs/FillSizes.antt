@@ -30,13 +30,6 @@ from_inside None run at later = refl
 from_inside (Some x) run zero later = absurd (omega arith)
 from_inside (Some x) run (suc at) later = refl
 
--- from the second difference on it does not matter what stands before the run
-pub inside_same : (before : Option ℤ) (run : List ℤ) (at : ℕ) → 0 < at → drop at (differences None run) ≡ drop at (differences before run)
-inside_same None run at later = refl
-inside_same (Some x) run zero later = absurd (omega arith)
-inside_same (Some x) [] (suc at) later = refl
-inside_same (Some x) (y ∷ run) (suc at) later = refl
-
 -- ---- groups by sizes
 
 group_1 : (a : ℤ) (ma : ℕ) → IsSize a ma → (ma < 536870912 ↔ IsGroup Two (a ∷ []))

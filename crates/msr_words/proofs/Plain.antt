@@ -147,9 +147,6 @@ pub record IsLeft (words left : ℕ) (ds rest : List ℤ) : Type 0 where
   pub to : CanDivide Two words ds → CanDivide Two left rest
   pub from : CanDivide Two left rest → CanDivide Two words ds
 
-pub all_left : (words : ℕ) (ds : List ℤ) → IsLeft words words ds ds
-all_left words ds = record { to = λ c. c; from = λ c. c }
-
 pub next_of : (ds : List ℤ) (count : ℕ) (y : ℤ) (ys : List ℤ) → drop count ds ≡ y ∷ ys → take count ds ++ y ∷ [] ≡ take (suc count) ds
 next_of [] zero y ys e = absurd (let l : 0 ≡ suc (length ys) = ap length e in omega arith)
 next_of [] (suc count) y ys e = absurd (let l : 0 ≡ suc (length ys) = ap length e in omega arith)

@@ -1,5 +1,5 @@
--- What one more sample does to whether a run of integers of fewer bits than a sample has fits.
-use Rattle.std.proofs.Common.{◌≡◌, ℕ, ◌+◌, ◌-◌, ◌≤◌, ◌<◌, zero, suc, ap, pos, ◌-ℤ◌, ◌||◌, slice_index_or, Bool, true, false, refl, IsTrue, ◌↔◌, ℤ, List, [], ◌∷◌, ◌++◌, length, All, arith, length-append}
+-- What one more sample does to whether a run fits.
+use Rattle.std.proofs.Common.{◌≡◌, ℕ, ◌+◌, ◌-◌, ◌≤◌, ◌<◌, zero, suc, ap, pos, ◌-ℤ◌, ◌||◌, slice_index_or, Bool, true, false, refl, IsTrue, ◌↔◌, ℤ, List, [], ◌∷◌, ◌++◌, length, arith, length-append}
 use Rattle.std.proofs.lemmas.List.Elements.{All-push, Contains-push, All-contains}
 use Rattle.msr_words.specs.declared.kinds.Kind.TheVariants.{Int16, Int24, Int32, Steim1, Steim2}
 use Rattle.msr_words.specs.Segment.{difference_at}
@@ -8,44 +8,66 @@ use Rattle.msr_words.specs.declared.kinds.Kind.{Kind}
 use Rattle.msr_words.specs.Bounds.{AreIntegers}
 use Rattle.msr_words.specs.Fit.{Fits, FitsAny}
 use Rattle.msr_words.specs.Laws.{most_of}
-use Rattle.msr_words.specs.Trackers.{FollowsIntegers}
-use Rattle.msr_words.specs.Lemmas.KindLaws.{prefix_kind, size_kind}
+use Rattle.msr_words.specs.Trackers.{FollowsIntegers, IsInteger, integers_of}
+use Rattle.msr_words.specs.Lemmas.KindLaws.{int16_by_bits, int24_by_bits, of_integers, prefix_kind, size_kind}
+
+-- one integer more fits behind a run that fits, where the record has room; and what fits is such an integer
+pub record TakesIntegers (kind : Kind) (bytes : ℕ) : Type 0 where
+  pub takes : (run : List (ℤ × ℤ)) (x d : ℤ) → Fits kind bytes run → length run + 1 ≤ most_of kind bytes → IsInteger kind x → Fits kind bytes (run ++ (x, d) ∷ [])
+  pub needs : (run : List (ℤ × ℤ)) (x d : ℤ) → Fits kind bytes (run ++ (x, d) ∷ []) → IsInteger kind x
 
 module _ (kind : Kind) (bits bytes : ℕ) (are : AreIntegers kind bits bytes) (run : List (ℤ × ℤ)) (x d : ℤ) where
-  last : Fits kind bytes (run ++ (x, d) ∷ []) → FitsBits bits x × (length run + 1 ≤ most_of kind bytes)
-  last h =
+  one_more : Fits kind bytes run → length run + 1 ≤ most_of kind bytes → FitsBits bits x → Fits kind bytes (run ++ (x, d) ∷ [])
+  one_more h room one =
       let p : ℤ × ℤ = (x, d) in
-      let few = size_kind kind bytes (run ++ p ∷ []) h in
-      (All-contains (λ p. FitsBits bits p.0) (run ++ p ∷ []) p (are.needs (run ++ p ∷ []) h) (Contains-push run p), omega (arith, length-append run (p ∷ []), few))
+      are.takes (run ++ p ∷ []) (All-push (λ p. FitsBits bits p.0) run p (are.needs run h) one) (omega (arith, length-append run (p ∷ []), room))
 
-  not_taken : (left : ℕ) (fits : Bool) → FollowsIntegers kind bits bytes run left fits → (IsTrue fits × 0 < left × FitsBits bits x → ⊥) → Fits kind bytes (run ++ (x, d) ∷ []) → ⊥
+  last_one : Fits kind bytes (run ++ (x, d) ∷ []) → FitsBits bits x
+  last_one h = let p : ℤ × ℤ = (x, d) in All-contains (λ p. FitsBits bits p.0) (run ++ p ∷ []) p (are.needs (run ++ p ∷ []) h) (Contains-push run p)
+
+takes_int16 : (bytes : ℕ) → TakesIntegers Int16 bytes
+takes_int16 bytes = record {
+  takes = λ run x d h room one. one_more Int16 16 bytes (int16_by_bits bytes (omega (arith, h.1.1))) run x d h room one;
+  needs = λ run x d h. last_one Int16 16 bytes (int16_by_bits bytes (omega (arith, h.1.1))) run x d h;
+}
+
+takes_int24 : (bytes : ℕ) → TakesIntegers Int24 bytes
+takes_int24 bytes = record {
+  takes = λ run x d h room one. one_more Int24 24 bytes (int24_by_bits bytes (omega (arith, h.1.1))) run x d h room one;
+  needs = λ run x d h. last_one Int24 24 bytes (int24_by_bits bytes (omega (arith, h.1.1))) run x d h;
+}
+
+takes_int32 : (bytes : ℕ) → TakesIntegers Int32 bytes
+takes_int32 bytes = record {
+  takes = λ run x d h room one. let more = length-append run ((x, d) ∷ []) in (omega (arith, more, room), omega (arith, more, room, h.1));
+  needs = λ run x d h. tt;
+}
+
+pub takes_integers : (bits bytes : ℕ) → TakesIntegers (integers_of bits) bytes
+takes_integers bits bytes = of_integers (λ kind. TakesIntegers kind bytes) (takes_int16 bytes) (takes_int24 bytes) (takes_int32 bytes) bits
+
+-- What one more sample does to whether a run of integers fits.
+module _ (kind : Kind) (bytes : ℕ) (are : TakesIntegers kind bytes) (run : List (ℤ × ℤ)) (x d : ℤ) where
+  not_taken : (left : ℕ) (fits : Bool) → FollowsIntegers kind bytes run left fits → (IsTrue fits × 0 < left × IsInteger kind x → ⊥) → Fits kind bytes (run ++ (x, d) ∷ []) → ⊥
   not_taken left false state refused h = state.past refl (prefix_kind kind bytes run ((x, d) ∷ []) h)
   not_taken left true state refused h =
-      let e = last h in
       let r = state.room refl in
-      refused (refl, omega (arith, r, e.1), e.0)
+      let few = size_kind kind bytes (run ++ (x, d) ∷ []) h in
+      refused (refl, omega (arith, length-append run ((x, d) ∷ []), r, few), are.needs run x d h)
 
-  taken : (left : ℕ) (fits : Bool) → FollowsIntegers kind bits bytes run left fits → IsTrue fits × 0 < left × FitsBits bits x → All (λ p. FitsBits bits p.0) (run ++ (x, d) ∷ []) × Fits kind bytes (run ++ (x, d) ∷ [])
-  taken left fits state accepted =
-      let p : ℤ × ℤ = (x, d) in
-      let r = state.room accepted.0 in
-      let all = All-push (λ p. FitsBits bits p.0) run p (state.all_of_bits accepted.0) accepted.2 in
-      (all, are.takes (run ++ p ∷ []) all (omega (arith, length-append run (p ∷ []), r, accepted.1)))
+  pub push_no : (left : ℕ) (fits : Bool) → FollowsIntegers kind bytes run left fits → (IsTrue fits × 0 < left × IsInteger kind x → ⊥) →
+      FollowsIntegers kind bytes (run ++ (x, d) ∷ []) left false × (IsTrue false ↔ Fits kind bytes (run ++ (x, d) ∷ []))
+  push_no left fits state refused =
+      let not = not_taken left fits state refused in
+      (record { so_far = λ t. cc; room = λ t. cc; past = λ _. not }, (λ t. cc, λ h. absurd (not h)))
 
-  pub push_no : (left : ℕ) (fits : Bool) → FollowsIntegers kind bits bytes run left fits → (IsTrue fits × 0 < left × FitsBits bits x → ⊥) →
-      FollowsIntegers kind bits bytes (run ++ (x, d) ∷ []) left false × (IsTrue false ↔ Fits kind bytes (run ++ (x, d) ∷ []))
-  push_no left fits state refused = (
-    record { has_header = state.has_header; all_of_bits = λ t. cc; room = λ t. cc; past = λ _. not_taken left fits state refused },
-    (λ t. cc, λ h. absurd (not_taken left fits state refused h)),
-  )
-
-  pub push_yes : (left : ℕ) (fits : Bool) → FollowsIntegers kind bits bytes run left fits → IsTrue fits × 0 < left × FitsBits bits x →
-      FollowsIntegers kind bits bytes (run ++ (x, d) ∷ []) (left - 1) fits × (IsTrue true ↔ Fits kind bytes (run ++ (x, d) ∷ []))
+  pub push_yes : (left : ℕ) (fits : Bool) → FollowsIntegers kind bytes run left fits → IsTrue fits × 0 < left × IsInteger kind x →
+      FollowsIntegers kind bytes (run ++ (x, d) ∷ []) (left - 1) fits × (IsTrue true ↔ Fits kind bytes (run ++ (x, d) ∷ []))
   push_yes left fits state accepted =
-      let t = taken left fits state accepted in
-      let r = state.room accepted.0 in (
-        record { has_header = state.has_header; all_of_bits = λ _. t.0; room = λ _. omega (arith, length-append run ((x, d) ∷ []), r, accepted.1); past = λ f. cc },
-        (λ _. t.1, λ _. refl),
+      let r = state.room accepted.0 in
+      let more = are.takes run x d (state.so_far accepted.0) (omega (arith, r, accepted.1)) accepted.2 in (
+        record { so_far = λ _. more; room = λ _. omega (arith, length-append run ((x, d) ∷ []), r, accepted.1); past = λ f. cc },
+        (λ _. more, λ _. refl),
       )
 
 -- the run fits a record of some kind exactly where one of the trackers says so

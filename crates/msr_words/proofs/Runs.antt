@@ -1,7 +1,7 @@
 -- The samples of a run, one more at the end, and a run that is cut.
 use Rattle.std.specs.Prelude.{◌≡◌, ℕ, zero, suc, ◌+◌, ◌-◌, ◌<◌, ◌≤◌, ℤ, pos, ◌-ℤ◌, List, [], ◌∷◌, ◌++◌, length, take, drop, Some, None, slice_range, slice_index_or, get_or, map, Option, ◌*◌, ◌↔◌, All}
 use Rattle.std.proofs.Common.{refl, arith, sym, ◌∙◌, ap, subst}
-use Rattle.std.proofs.lemmas.List.{take-append-drop, take-take, drop-take, drop-drop, take_more, get_or-drop, length-take, length-drop, take_all, drop_at, length-map}
+use Rattle.std.proofs.lemmas.List.{take-append-drop, take-take, drop-take, drop-drop, take_more, get_or-drop, length-take, length-drop, drop_at, length-map}
 use Rattle.msr_words.specs.Segment.{points, points_after, run_points, difference_at, difference_from}
 use Rattle.msr_steim.specs.Word.{FitsBits}
 use Rattle.msr_words.specs.Fit.{IsRun, FitsIntegers, FitsInt32}
@@ -144,14 +144,3 @@ pub points_from_at : (before : Option ℤ) (samples : List ℤ) (i : ℕ) (d : �
 points_from_at None samples i d h = points_at samples i d h
 points_from_at (Some before) samples zero d h = points_after_at before samples zero d h
 points_from_at (Some before) samples (suc i) d h = points_after_at before samples (suc i) d h
-
--- the points of a run up to one sample more
-pub points_more : (before : Option ℤ) (samples : List ℤ) (i : ℕ) → i < length samples →
-    take (i + 1) (points before samples) ≡ take i (points before samples) ++ (slice_index_or samples i (pos 0), difference_from before samples i) ∷ []
-points_more before samples i h =
-    let d : ℤ × ℤ = (pos 0, pos 0) in
-    let there : i < length (points before samples) = rw (length_points_before before samples) h in
-    take_more (points before samples) i d there ∙ ap (λ p. take i (points before samples) ++ p ∷ []) (points_from_at before samples i d h)
-
-pub points_all : (before : Option ℤ) (samples : List ℤ) (i : ℕ) → length samples ≤ i → take i (points before samples) ≡ points before samples
-points_all before samples i h = take_all i (points before samples) (rw (length_points_before before samples) h)

@@ -36,6 +36,14 @@ SizeLaw most fits = (run : List (ℤ × ℤ)) → fits run → length run ≤ mo
 abbrev pub EmptyLaw : (ℕ → List (ℤ × ℤ) → Type 0) → Type 0
 EmptyLaw fits = (bytes : ℕ) → 64 ≤ bytes → fits bytes []
 
+-- the laws of what a tracker takes, in a record of each length
+pub record TrackerLaws (look_back : ℕ) (most : ℕ → ℕ) (fits : ℕ → List (ℤ × ℤ) → Type 0) : Type 0 where
+  pub prefix : (bytes : ℕ) → PrefixLaw (fits bytes)
+  pub back_step : (bytes : ℕ) → BackStepLaw look_back (fits bytes)
+  pub near : look_back ≤ 3
+  pub empty : EmptyLaw fits
+  pub size : (bytes : ℕ) → SizeLaw (most bytes) (fits bytes)
+
 -- a few samples fit
 abbrev pub FitsShort : (List (ℤ × ℤ) → Type 0) → Type 0
 FitsShort fits = (run : List (ℤ × ℤ)) → length run ≤ 4 → fits run

@@ -1,5 +1,5 @@
 -- What the fields of a tracker say of the samples pushed so far.
-use Rattle.std.specs.Prelude.{◌≡◌, ℕ, ◌+◌, ◌*◌, ◌≤◌, ℤ, List, ◌++◌, suc, ◌↔◌, length, map, All, IsTrue, IsFalse, Bool, Some, reverse}
+use Rattle.std.specs.Prelude.{◌≡◌, ◌==◌, ℕ, ◌+◌, ◌*◌, ◌≤◌, ℤ, List, ◌++◌, suc, ◌↔◌, ⊤, cond, length, map, All, IsTrue, IsFalse, Bool, Some, reverse}
 use Rattle.msr_steim.specs.Word.{FitsBits, group_width}
 use Rattle.msr_steim.specs.declared.word.Version.TheVariants.{One, Two}
 use Rattle.msr_words.specs.declared.counts.LeastCounts.{LeastCounts}
@@ -11,23 +11,21 @@ use Rattle.msr_words.specs.Fit.{Fits, most_counted}
 use Rattle.msr_words.specs.Laws.{most_of}
 use Rattle.msr_words.specs.RecordLength.{words_of}
 
--- `left` more samples, of so many bits, may come while the run fits
-pub record FollowsIntegers (kind : Kind) (bits bytes : ℕ) (run : List (ℤ × ℤ)) (left : ℕ) (fits : Bool) : Type 0 where
-  pub has_header : 64 ≤ bytes
-  pub all_of_bits : IsTrue fits → All (λ p. FitsBits bits p.0) run
+-- the kind of integers of 16 bits, of 24, or else of 32
+abbrev pub integers_of : ℕ → Kind
+integers_of bits = cond (bits == 16) Int16 (cond (bits == 24) Int24 Int32)
+
+-- a number that a record of such integers can hold; a sample has 32 bits itself
+abbrev pub IsInteger : Kind → ℤ → Type 0
+IsInteger Int16 x = FitsBits 16 x
+IsInteger Int24 x = FitsBits 24 x
+IsInteger _ x = ⊤
+
+-- `left` more of these integers may come while the run fits
+pub record FollowsIntegers (kind : Kind) (bytes : ℕ) (run : List (ℤ × ℤ)) (left : ℕ) (fits : Bool) : Type 0 where
+  pub so_far : IsTrue fits → Fits kind bytes run
   pub room : IsTrue fits → length run + left ≡ most_of kind bytes
   pub past : IsFalse fits → Fits kind bytes run → ⊥
-
-abbrev pub FollowsInt16 : ℕ → List (ℤ × ℤ) → ℕ → Bool → Type 0
-FollowsInt16 bytes run left fits = FollowsIntegers Int16 16 bytes run left fits
-
-abbrev pub FollowsInt24 : ℕ → List (ℤ × ℤ) → ℕ → Bool → Type 0
-FollowsInt24 bytes run left fits = FollowsIntegers Int24 24 bytes run left fits
-
-pub record FollowsInt32 (bytes : ℕ) (run : List (ℤ × ℤ)) (left : ℕ) (fits : Bool) : Type 0 where
-  pub has_header : 64 ≤ bytes
-  pub room : IsTrue fits → length run + left ≡ most_of Int32 bytes
-  pub past : IsFalse fits → Fits Int32 bytes run → ⊥
 
 -- What still fits depends on the open group alone: its differences, of which as many as `most` have room in one word, and the words left.
 -- A record has `more` samples more at most.

@@ -4,9 +4,9 @@ ghost use Rattle.std.specs.Prelude.{◌≡◌, ℕ, ◌+◌, ◌≤◌, ◌↔�
 ghost use Rattle.msr_words.specs.RecordLength.{words_of};
 ghost use Rattle.msr_words.specs.Fit.{FitsAny};
 ghost use Rattle.msr_words.specs.Laws.{most_any};
-ghost use Rattle.msr_words.specs.Trackers.{FollowsInt16, FollowsInt24, FollowsInt32, FollowsSteim1, FollowsSteim2};
-ghost use Rattle.std.proofs.Common.{lit≤};
-ghost use Rattle.msr_words.specs.Lemmas.KindLaws.{prefix_any, back_step_any, empty_any, size_any};
+ghost use Rattle.msr_words.specs.declared.kinds.Kind.TheVariants.{Int16, Int24, Int32};
+ghost use Rattle.msr_words.specs.Trackers.{FollowsIntegers, FollowsSteim1, FollowsSteim2};
+ghost use Rattle.msr_words.specs.Lemmas.KindLaws.{any_laws};
 
 use crate::codecs::{Int16, Int24, Int32, Steim1, Steim2, Tracker};
 use crate::kinds::Kind;
@@ -25,7 +25,7 @@ pub struct AnyKind {
 impl Tracker for AnyKind {
     ghost fits = { FitsAny };
 
-    ghost follows = { λ bytes run it. FollowsInt16 bytes run it.int16.left it.int16.fits × FollowsInt24 bytes run it.int24.left it.int24.fits × FollowsInt32 bytes run it.int32.left it.int32.fits × FollowsSteim1 (words_of bytes) (map (λ p. p.1) run) it.steim1.words it.steim1.counts it.steim1.fits × FollowsSteim2 bytes run it.steim2.left it.steim2.count it.steim2.most it.steim2.more it.steim2.fits };
+    ghost follows = { λ bytes run it. FollowsIntegers Int16 bytes run it.int16.left it.int16.fits × FollowsIntegers Int24 bytes run it.int24.left it.int24.fits × FollowsIntegers Int32 bytes run it.int32.left it.int32.fits × FollowsSteim1 (words_of bytes) (map (λ p. p.1) run) it.steim1.words it.steim1.counts it.steim1.fits × FollowsSteim2 bytes run it.steim2.left it.steim2.count it.steim2.most it.steim2.more it.steim2.fits };
 
     ghost LOOK_BACK = { 1 };
 
@@ -33,15 +33,7 @@ impl Tracker for AnyKind {
 
     const LOOK_BACK: usize = 1;
 
-    ghost prefix = { prefix_any };
-
-    ghost back_step = { back_step_any };
-
-    ghost near = { lit≤ tt };
-
-    ghost empty = { empty_any };
-
-    ghost size = { size_any };
+    ghost laws = { any_laws };
 
     fn most(record_length: Length) -> usize {
         let steim = Kind::Steim2

@@ -4,18 +4,18 @@ ghost use Rattle.std.specs.Prelude.{◌≡◌, ℕ, ◌+◌, ◌^◌, ◌<◌, �
 ghost use Rattle.msr_steim.specs.declared.word.Version.TheVariants.{One, Two};
 ghost use Rattle.msr_steim.specs.Word.{FitsBits};
 ghost use Rattle.msr_words.specs.declared.kinds.Kind.{Kind};
-ghost use Rattle.msr_words.specs.declared.kinds.Kind.TheVariants.{Int16, Int24, Int32, Steim1, Steim2};
+ghost use Rattle.msr_words.specs.declared.kinds.Kind.TheVariants.{Steim1, Steim2};
 ghost use Rattle.msr_words.specs.Lengths.{bytes_of};
 ghost use Rattle.msr_words.specs.RecordLength.{words_of};
 ghost use Rattle.msr_words.specs.Fit.{Fits, code_of};
-ghost use Rattle.msr_words.specs.Trackers.{FollowsInt16, FollowsInt24, FollowsInt32, FollowsSteim1, FollowsSteim2};
-ghost use Rattle.msr_words.specs.Laws.{PrefixLaw, BackStepLaw, SizeLaw, EmptyLaw, most_of};
-ghost use Rattle.std.proofs.Common.{lit≤};
-ghost use Rattle.msr_words.specs.Lemmas.KindLaws.{prefix_kind, back_step_kind, size_kind, empty_kind};
+ghost use Rattle.msr_words.specs.Trackers.{FollowsIntegers, FollowsSteim1, FollowsSteim2, IsInteger, integers_of};
+ghost use Rattle.msr_words.specs.Laws.{TrackerLaws, most_of};
+ghost use Rattle.msr_words.specs.Lemmas.KindLaws.{integers_laws, kind_laws};
 
-use crate::counts::{LeastCounts, fits_bits, steim2_capacity};
+use crate::counts::{LeastCounts, steim2_capacity};
 use crate::kinds::Kind;
 use crate::lengths::Length;
+use msr_steim::fits_bits;
 
 /// A tracker says, one sample after another, whether what was pushed so far fits one record.
 pub trait Tracker {
@@ -46,20 +46,9 @@ pub trait Tracker {
     fn push(&mut self, sample: i32, diff: i64) -> bool
         ensures { (bytes : ℕ) (run : List (ℤ × ℤ)) → follows bytes run self.old → follows bytes (run ++ (sample, diff) ∷ []) self.new × (IsTrue result ↔ fits bytes (run ++ (sample, diff) ∷ [])) };
 
-    /// What a run begins with fits where the run does.
-    ghost prefix: { (bytes : ℕ) → PrefixLaw (fits bytes) };
-
-    /// Where a run is cut, its back part fits with at most so many of the samples before it.
-    ghost back_step: { (bytes : ℕ) → BackStepLaw LOOK_BACK (fits bytes) };
-
-    /// These are three at most.
-    ghost near: { LOOK_BACK ≤ 3 };
-
-    /// No samples fit, where there is room for a header.
-    ghost empty: { EmptyLaw fits };
-
-    /// No run that fits has more samples.
-    ghost size: { (bytes : ℕ) → SizeLaw (most bytes) (fits bytes) };
+    /// A front of what fits fits, and the part behind a cut with at most `LOOK_BACK` samples before it, three at most;
+    /// no samples fit, and no more than `most`.
+    ghost laws: { TrackerLaws LOOK_BACK most fits };
 }
 
 /// The tracker of one kind of record.
@@ -75,174 +64,77 @@ pub trait Codec: Tracker {
     ghost same: { (bytes : ℕ) (run : List (ℤ × ℤ)) → Self.fits bytes run ↔ Fits kind bytes run };
 }
 
-/// The tracker of 32-bit integers.
+/// The tracker of integers of 16 bits, of 24, or else of 32.
 #[derive(Clone, Copy, Debug, PartialEq, Eq)]
-pub struct Int32 {
+pub struct Integers<const BITS: u32> {
     left: usize,
     fits: bool,
-}
-
-impl Tracker for Int32 {
-    ghost fits = { Fits Int32 };
-
-    ghost follows = { λ bytes run it. FollowsInt32 bytes run it.left it.fits };
-
-    ghost LOOK_BACK = { 0 };
-
-    ghost most = { most_of Int32 };
-
-    const LOOK_BACK: usize = 0;
-
-    ghost prefix = { prefix_kind Int32 };
-
-    ghost back_step = { back_step_kind Int32 };
-
-    ghost near = { lit≤ tt };
-
-    ghost empty = { empty_kind Int32 };
-
-    ghost size = { size_kind Int32 };
-
-    fn most(record_length: Length) -> usize {
-        Kind::Int32.most(record_length)
-    }
-
-    fn start(record_length: Length) -> Self {
-        Int32 {
-            left: Kind::Int32.most(record_length),
-            fits: true,
-        }
-    }
-
-    fn push(&mut self, _sample: i32, _diff: i64) -> bool {
-        if self.fits && self.left > 0 {
-            self.left -= 1;
-        } else {
-            self.fits = false;
-        }
-        self.fits
-    }
-}
-
-impl Codec for Int32 {
-    ghost kind = { Int32 };
-
-    ghost same = { λ bytes run. (λ h. h, λ h. h) };
-
-    fn code(&self) -> u8 {
-        Kind::Int32.code()
-    }
-}
-
-/// Whether a sample of `bits` bits at most is taken behind others that fit, where there is room for `left` more.
-fn is_taken(sample: i32, bits: u32, left: usize, fits: bool) -> bool
-    requires positive { 0 < bits }
-    requires small { bits ≤ 32 }
-    ensures { IsTrue result ↔ IsTrue fits × (0 < left) × FitsBits bits sample }
-{
-    fits && left > 0 && fits_bits(i64::from(sample), bits)
 }
 
 /// The tracker of 16-bit integers.
-#[derive(Clone, Copy, Debug, PartialEq, Eq)]
-pub struct Int16 {
-    left: usize,
-    fits: bool,
-}
-
-impl Tracker for Int16 {
-    ghost fits = { Fits Int16 };
-
-    ghost follows = { λ bytes run it. FollowsInt16 bytes run it.left it.fits };
-
-    ghost LOOK_BACK = { 0 };
-
-    ghost most = { most_of Int16 };
-
-    const LOOK_BACK: usize = 0;
-
-    ghost prefix = { prefix_kind Int16 };
-
-    ghost back_step = { back_step_kind Int16 };
-
-    ghost near = { lit≤ tt };
-
-    ghost empty = { empty_kind Int16 };
-
-    ghost size = { size_kind Int16 };
-
-    fn most(record_length: Length) -> usize {
-        Kind::Int16.most(record_length)
-    }
-
-    fn start(record_length: Length) -> Self {
-        Int16 {
-            left: Kind::Int16.most(record_length),
-            fits: true,
-        }
-    }
-
-    fn push(&mut self, sample: i32, _diff: i64) -> bool {
-        if !is_taken(sample, 16, self.left, self.fits) {
-            self.fits = false;
-            return false;
-        }
-        self.left -= 1;
-        true
-    }
-}
-
-impl Codec for Int16 {
-    ghost kind = { Int16 };
-
-    ghost same = { λ bytes run. (λ h. h, λ h. h) };
-
-    fn code(&self) -> u8 {
-        Kind::Int16.code()
-    }
-}
+pub type Int16 = Integers<16>;
 
 /// The tracker of 24-bit integers.
-#[derive(Clone, Copy, Debug, PartialEq, Eq)]
-pub struct Int24 {
-    left: usize,
-    fits: bool,
+pub type Int24 = Integers<24>;
+
+/// The tracker of 32-bit integers.
+pub type Int32 = Integers<32>;
+
+/// The kind of integers of 16 bits, of 24, or else of 32.
+fn integers_of(bits: u32) -> Kind
+    ensures { result ≡ integers_of bits }
+{
+    match bits {
+        16 => Kind::Int16,
+        24 => Kind::Int24,
+        _ => Kind::Int32,
+    }
 }
 
-impl Tracker for Int24 {
-    ghost fits = { Fits Int24 };
+/// Whether a sample is an integer of 16 bits, of 24, or else of 32, as each is.
+fn is_integer(sample: i32, bits: u32) -> bool
+    ensures { IsTrue result ↔ IsInteger (integers_of bits) sample }
+{
+    match bits {
+        16 => fits_bits(i64::from(sample), 16),
+        24 => fits_bits(i64::from(sample), 24),
+        _ => true,
+    }
+}
 
-    ghost follows = { λ bytes run it. FollowsInt24 bytes run it.left it.fits };
+/// Whether a sample is taken behind others that fit, where there is room for `left` more.
+fn is_taken(sample: i32, bits: u32, left: usize, fits: bool) -> bool
+    ensures { IsTrue result ↔ IsTrue fits × (0 < left) × IsInteger (integers_of bits) sample }
+{
+    fits && left > 0 && is_integer(sample, bits)
+}
+
+impl<const BITS: u32> Tracker for Integers<BITS> {
+    ghost fits = { Fits (integers_of BITS) };
+
+    ghost follows = { λ bytes run it. FollowsIntegers (integers_of BITS) bytes run it.left it.fits };
 
     ghost LOOK_BACK = { 0 };
 
-    ghost most = { most_of Int24 };
+    ghost most = { most_of (integers_of BITS) };
 
     const LOOK_BACK: usize = 0;
 
-    ghost prefix = { prefix_kind Int24 };
-
-    ghost back_step = { back_step_kind Int24 };
-
-    ghost near = { lit≤ tt };
-
-    ghost empty = { empty_kind Int24 };
-
-    ghost size = { size_kind Int24 };
+    ghost laws = { integers_laws BITS };
 
     fn most(record_length: Length) -> usize {
-        Kind::Int24.most(record_length)
+        integers_of(BITS).most(record_length)
     }
 
     fn start(record_length: Length) -> Self {
-        Int24 {
-            left: Kind::Int24.most(record_length),
+        Integers {
+            left: Self::most(record_length),
             fits: true,
         }
     }
 
     fn push(&mut self, sample: i32, _diff: i64) -> bool {
-        if !is_taken(sample, 24, self.left, self.fits) {
+        if !is_taken(sample, BITS, self.left, self.fits) {
             self.fits = false;
             return false;
         }
@@ -251,13 +143,13 @@ impl Tracker for Int24 {
     }
 }
 
-impl Codec for Int24 {
-    ghost kind = { Int24 };
+impl<const BITS: u32> Codec for Integers<BITS> {
+    ghost kind = { integers_of BITS };
 
     ghost same = { λ bytes run. (λ h. h, λ h. h) };
 
     fn code(&self) -> u8 {
-        Kind::Int24.code()
+        integers_of(BITS).code()
     }
 }
 
@@ -310,15 +202,7 @@ impl Tracker for Steim2 {
 
     const LOOK_BACK: usize = 0;
 
-    ghost prefix = { prefix_kind Steim2 };
-
-    ghost back_step = { back_step_kind Steim2 };
-
-    ghost near = { lit≤ tt };
-
-    ghost empty = { empty_kind Steim2 };
-
-    ghost size = { size_kind Steim2 };
+    ghost laws = { kind_laws Steim2 };
 
     fn most(record_length: Length) -> usize {
         Kind::Steim2.most(record_length)
@@ -329,7 +213,7 @@ impl Tracker for Steim2 {
             left: record_length.data_words() - 1,
             count: 0,
             most: 7,
-            more: Kind::Steim2.most(record_length),
+            more: Self::most(record_length),
             fits: true,
         }
     }
@@ -383,15 +267,7 @@ impl Tracker for Steim1 {
 
     const LOOK_BACK: usize = 1;
 
-    ghost prefix = { prefix_kind Steim1 };
-
-    ghost back_step = { back_step_kind Steim1 };
-
-    ghost near = { lit≤ tt };
-
-    ghost empty = { empty_kind Steim1 };
-
-    ghost size = { size_kind Steim1 };
+    ghost laws = { kind_laws Steim1 };
 
     fn most(record_length: Length) -> usize {
         Kind::Steim1.most(record_length)

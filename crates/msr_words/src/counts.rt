@@ -9,16 +9,6 @@ ghost use Rattle.msr_words.specs.Groups.{IsCapacity, IsOneBelow};
 ghost use Rattle.msr_words.specs.Bounds.{is_wide};
 ghost use Rattle.msr_words.specs.Laws.{IsNarrow};
 
-/// Whether a number is one of `width` bits.
-pub fn fits_bits(number: i64, width: u32) -> bool
-    requires positive { 0 < width }
-    requires small { width ≤ 32 }
-    ensures { IsTrue result ↔ FitsBits width number }
-{
-    let half = i64::from(1u32 << (width - 1));
-    -half <= number && number < half
-}
-
 /// One more than so many groups; past `words`, more than `words`.
 fn one_more(fewest: u32, words: u32) -> u32
     requires { words < 2 ^ 31 }

@@ -13,11 +13,11 @@ ghost use Rattle.msr_words.specs.Groups.{IsCapacity};
 ghost use Rattle.msr_words.specs.Canonical.{IsCanonicalDivision};
 ghost use Rattle.msr_words.specs.FirstGroup.{AreSizes};
 
-use crate::counts::{fits_bits, steim2_capacity};
+use crate::counts::steim2_capacity;
 use crate::first_group::Following;
 use crate::kinds::MOST_COUNTED;
 use crate::lengths::Length;
-use msr_steim::{Group, Version};
+use msr_steim::{Group, Version, fits_bits};
 use std::alloc::{AllocError, Global};
 
 /// Whether each difference is one of 32 bits.

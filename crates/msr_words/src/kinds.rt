@@ -12,9 +12,10 @@ ghost use Rattle.msr_words.specs.Laws.{DominanceLaw, look_back_of, most_of};
 ghost use Rattle.msr_words.specs.Fit.{Fits, FitsAny, IsRun, IsFirstKind, code_of};
 ghost use Rattle.msr_words.specs.RecordLength.{words_of};
 
-use crate::counts::{LeastCounts, fits_bits, magnitude};
+use crate::counts::{LeastCounts, magnitude};
 use crate::lengths::Length;
 use crate::window::Window;
+use msr_steim::fits_bits;
 
 /// As many samples as the header of a record counts, in 16 bits.
 pub(crate) const MOST_COUNTED: usize = 65_535;

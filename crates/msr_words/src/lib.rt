@@ -22,12 +22,13 @@ pub use bounds::{
     fits_up_to_its_end, steim1_look_back, steim1_word_by_word, steim2_greedy_reach,
     two_wide_in_a_word,
 };
-pub use codecs::{Codec, Int16, Int24, Int32, Steim1, Steim2, Tracker};
-pub use counts::{fits_bits, is_narrow, magnitude, wide_one};
+pub use codecs::{Codec, Int16, Int24, Int32, Integers, Steim1, Steim2, Tracker};
+pub use counts::{is_narrow, magnitude, wide_one};
 pub use division::{groups, one_division};
 pub use existence::{division_exists, fitting_is_decided};
 pub use filling::fill_steim2;
 pub use kinds::{Kind, Run, difference, first_kind, run_fits, steim2_dominates};
 pub use lengths::Length;
+pub use msr_steim::fits_bits;
 pub use steim1_filling::fill_steim1;
 pub use window::{FourSizes, Window};

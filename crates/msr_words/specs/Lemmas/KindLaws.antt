@@ -1,5 +1,5 @@
 -- The laws of each kind: what a run begins with fits, and a part behind a cut fits with a few of the samples before it.
-use Rattle.std.specs.Prelude.{◌≡◌, ℕ, ◌+◌, ◌-◌, ◌*◌, ◌/◌, ◌<◌, ◌≤◌, ◌⊎◌, ℤ, List, [], ◌∷◌, ◌++◌, length, drop, map, All}
+use Rattle.std.specs.Prelude.{◌≡◌, ◌==◌, ℕ, ◌+◌, ◌-◌, ◌*◌, ◌/◌, ◌<◌, ◌≤◌, ◌⊎◌, ℤ, List, [], ◌∷◌, ◌++◌, true, false, cond, length, drop, map, All}
 use Rattle.std.proofs.Common.{arith, length-append, subst, refl, sym, ap, ◌∙◌, inl, inr}
 use Rattle.std.proofs.lemmas.List.{take_at, drop_at, drop_all, map-append, length-drop, length-map, drop-map}
 use Rattle.std.proofs.lemmas.List.Elements.{All-nil, All-take, All-drop}
@@ -11,7 +11,8 @@ use Rattle.msr_steim.specs.declared.word.Version.{Version}
 use Rattle.msr_steim.specs.declared.word.Version.TheVariants.{One, Two}
 use Rattle.msr_steim.specs.Word.{FitsBits}
 use Rattle.msr_words.specs.Division.{CanDivide}
-use Rattle.msr_words.specs.Laws.{PrefixLaw, BackStepLaw, SuffixLaw, SizeLaw, EmptyLaw, FitsShort, look_back_of, room_of, most_of, most_any}
+use Rattle.msr_words.specs.Laws.{PrefixLaw, BackStepLaw, SuffixLaw, SizeLaw, EmptyLaw, FitsShort, TrackerLaws, look_back_of, room_of, most_of, most_any}
+use Rattle.msr_words.specs.Trackers.{integers_of}
 use Rattle.msr_words.specs.Lemmas.SteimLaws.{places_of, largest_of, prefix_law, back_step_law, size_law, none_divides}
 use Rattle.msr_words.specs.Bounds.{AreIntegers}
 use Rattle.msr_words.specs.Fit.{FitsIntegers, FitsInt32, FitsSteim, HasRoom, Fits, FitsAny}
@@ -220,3 +221,26 @@ size_any bytes run h =
 -- a few samples fit a record of any length, as 32-bit integers
 pub short_any : (bytes : ℕ) → 256 ≤ bytes → FitsShort (FitsAny bytes)
 short_any bytes h run short = (Int32, (omega arith, omega arith))
+
+-- the laws of the trackers
+pub kind_laws : (kind : Kind) → TrackerLaws (look_back_of kind) (most_of kind) (Fits kind)
+kind_laws kind = record {
+  prefix = prefix_kind kind;
+  back_step = back_step_kind kind;
+  near = let few = few_places kind in omega arith;
+  empty = empty_kind kind;
+  size = size_kind kind;
+}
+
+-- what holds of each kind of integers
+pub of_integers : (P : Kind → Type 0) → P Int16 → P Int24 → P Int32 → (bits : ℕ) → P (integers_of bits)
+of_integers P a b c bits = elim (bits == 16) as (λ one. P (cond one Int16 (cond (bits == 24) Int24 Int32))) [
+  | true ↦ a
+  | false ↦ elim (bits == 24) as (λ two. P (cond two Int24 Int32)) [ true ↦ b | false ↦ c ]
+]
+
+pub integers_laws : (bits : ℕ) → TrackerLaws 0 (most_of (integers_of bits)) (Fits (integers_of bits))
+integers_laws = of_integers (λ kind. TrackerLaws 0 (most_of kind) (Fits kind)) (kind_laws Int16) (kind_laws Int24) (kind_laws Int32)
+
+pub any_laws : TrackerLaws 1 most_any FitsAny
+any_laws = record { prefix = prefix_any; back_step = back_step_any; near = omega arith; empty = empty_any; size = size_any }

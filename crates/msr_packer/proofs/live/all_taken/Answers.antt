@@ -15,7 +15,7 @@ returns-then-not-push-clause-none g c = λ bytes start le follows fits none all.
     let difference : c.difference_between.result ≡ difference_at c.args.samples.now c.loop-at.at = simp to_z-of_z at c.difference_between.ensures ∙ sym (c.loop-at.invariant.last_is in') in
     let push = simp to_z-of_z at (c.push.ensures bytes (run_points c.args.samples.now start c.loop-at.at) (c.loop-at.invariant.kept bytes start le follows fits).0) in
     let pushed = rw (difference, ← more) at push in
-    let shorter = prefix_run (g.C.Tracker.fits bytes) (g.met.C.Tracker.prefix bytes) c.args.samples.now start (c.loop-at.at + 1) (length c.args.samples.now) (omega arith) (omega arith) (omega arith, omega arith, all) in
+    let shorter = prefix_run (g.C.Tracker.fits bytes) (g.met.C.Tracker.laws.prefix bytes) c.args.samples.now start (c.loop-at.at + 1) (length c.args.samples.now) (omega arith) (omega arith) (omega arith, omega arith, all) in
     let yes = pushed.1.1 shorter.2 in
     let not = c.if-not-push.true in
     cc

@@ -5,12 +5,11 @@ use Rattle.msr_words.specs.declared.kinds.Kind.TheVariants.{Steim2}
 use Rattle.msr_words.specs.Bounds.{IsGreedyReach, latest_end}
 use Rattle.msr_words.specs.Groups.{IsLongestGroup}
 use Rattle.msr_words.specs.Laws.{most_of}
-use Rattle.msr_words.specs.RecordLength.{words_of}
 use Rattle.msr_words.specs.Segment.{differences}
 use Rattle.msr_words.proofs.GreedyReach.{none_reached}
 use Rattle.msr_words.proofs.Windows.{window_on}
 use Rattle.msr_packer.proofs.Narrow.{none_narrow}
-use Rattle.msr_packer.proofs.Reach.{IsWalked, group_narrow, narrow_seen, narrow_through, walk_begins, walk_fits, walk_furthest, walk_more}
+use Rattle.msr_packer.proofs.Reach.{IsWalked, group_narrow, walk_begins, walk_more, walked_out}
 use Rattle.msr_packer.proofs.step.steim2_reach.Goals as goal
 
 pub loop-word-init : goal.loop-word-init
@@ -48,49 +47,26 @@ longest_steim2_group-size-requires-clause-window c = c.loop-word.invariant.windo
 pub returns-then-size-eq0 : goal.returns-then-size-eq0
 returns-then-size-eq0 c =
     let words = c.data_words-words.result in
-    let bytes = c.args.record_length.bytes in
-    let samples = c.args.samples.now in
     let latest = c.args.start + c.min.result in
-    let at = c.loop-word.at in
     let most : c.most.result ≡ most_of Steim2 c.args.record_length.bytes = c.most.ensures in
     let latest_is : c.args.start + c.min.result ≡ latest_end Steim2 c.args.record_length.bytes c.args.samples.now c.args.start = omega arith in
-    let walked = c.loop-word.invariant.walked in
-    let is : IsWalked (words_of bytes) (words - c.loop-word._word) (take latest samples) c.args.start at =
-    subst (λ w. IsWalked w (words - c.loop-word._word) (take latest samples) c.args.start at) c.data_words-words.ensures.same walked in
-    let xs = drop at (differences None (take latest samples)) in
-    let none : IsLongestGroup (drop at (differences None (take latest samples))) 0 = subst (IsLongestGroup xs) c.if-size-eq0.true c.longest_steim2_group-size.ensures.longest in
-    let stuck = none_reached (words - c.loop-word._word) xs none in
-    let law = c.steim2_greedy_reach.ensures in
-    let seen : length (take latest samples) ≡ latest = length-take-le latest samples (omega arith) in
-    let within = walked.within in
-    record {
-      fits = walk_fits bytes (words - c.loop-word._word) samples c.args.start latest at c.reach_to.result.end c.requires law latest_is is stuck c.reach_to.ensures.end;
-      furthest = walk_furthest bytes (words - c.loop-word._word) samples c.args.start latest at c.reach_to.result.end c.requires law latest_is is stuck c.reach_to.ensures.end;
-      narrow = λ t. rw c.reach_to.ensures.end (narrow_through samples c.args.start at walked.from (omega arith)
-          (narrow_seen samples c.args.start at latest walked.from (omega arith) (omega arith) (c.loop-word.invariant.small (c.reach_to.ensures.groups t))) (c.reach_to.ensures.behind t));
-    }
+    let xs = drop c.loop-word.at (differences None (take latest c.args.samples.now)) in
+    let none : IsLongestGroup xs 0 = subst (IsLongestGroup xs) c.if-size-eq0.true c.longest_steim2_group-size.ensures.longest in
+    let out = walked_out c.args.record_length.bytes words (words - c.loop-word._word) c.args.samples.now c.args.start latest c.loop-word.at c.requires c.steim2_greedy_reach.ensures
+    c.data_words-words.ensures.same latest_is c.loop-word.invariant.walked (none_reached (words - c.loop-word._word) xs none)
+    c.reach_to.result.end c.reach_to.result.narrow c.reach_to.ensures.end (λ t. c.loop-word.invariant.small (c.reach_to.ensures.groups t)) c.reach_to.ensures.behind in
+    record { fits = out.fits; furthest = out.furthest; narrow = out.narrow }
 
 pub returns : goal.returns
 returns c =
     let words = c.data_words-words.result in
-    let bytes = c.args.record_length.bytes in
-    let samples = c.args.samples.now in
     let latest = c.args.start + c.min.result in
-    let at = c.loop-word.at in
     let most : c.most.result ≡ most_of Steim2 c.args.record_length.bytes = c.most.ensures in
     let latest_is : c.args.start + c.min.result ≡ latest_end Steim2 c.args.record_length.bytes c.args.samples.now c.args.start = omega arith in
-    let walked = c.loop-word.invariant.walked in
-    let is : IsWalked (words_of bytes) (words - c.loop-word._word) (take latest samples) c.args.start at =
-    subst (λ w. IsWalked w (words - c.loop-word._word) (take latest samples) c.args.start at) c.data_words-words.ensures.same walked in
-    let xs = drop at (differences None (take latest samples)) in
     let over : 0 ≡ words - c.loop-word._word = omega arith in
+    let xs = drop c.loop-word.at (differences None (take latest c.args.samples.now)) in
     let stuck : IsGreedyReach (words - c.loop-word._word) xs 0 = subst (λ n. IsGreedyReach n xs 0) over refl in
-    let law = c.steim2_greedy_reach.ensures in
-    let seen : length (take latest samples) ≡ latest = length-take-le latest samples (omega arith) in
-    let within = walked.within in
-    record {
-      fits = walk_fits bytes (words - c.loop-word._word) samples c.args.start latest at c.reach_to-2.result.end c.requires law latest_is is stuck c.reach_to-2.ensures.end;
-      furthest = walk_furthest bytes (words - c.loop-word._word) samples c.args.start latest at c.reach_to-2.result.end c.requires law latest_is is stuck c.reach_to-2.ensures.end;
-      narrow = λ t. rw c.reach_to-2.ensures.end (narrow_through samples c.args.start at walked.from (omega arith)
-          (narrow_seen samples c.args.start at latest walked.from (omega arith) (omega arith) (c.loop-word.invariant.small (c.reach_to-2.ensures.groups t))) (c.reach_to-2.ensures.behind t));
-    }
+    let out = walked_out c.args.record_length.bytes words (words - c.loop-word._word) c.args.samples.now c.args.start latest c.loop-word.at c.requires c.steim2_greedy_reach.ensures
+    c.data_words-words.ensures.same latest_is c.loop-word.invariant.walked stuck
+    c.reach_to-2.result.end c.reach_to-2.result.narrow c.reach_to-2.ensures.end (λ t. c.loop-word.invariant.small (c.reach_to-2.ensures.groups t)) c.reach_to-2.ensures.behind in
+    record { fits = out.fits; furthest = out.furthest; narrow = out.narrow }
