@@ -1,7 +1,7 @@
 -- Records one after another.
-use Rattle.std.proofs.Common.{◌≡◌, ℕ, ◌+◌, ◌<◌, List, [], ◌∷◌, ◌++◌, ◌∙◌, length, take, get_or, refl, sym, ap, append_assoc, append-nil}
+use Rattle.std.proofs.Common.{◌≡◌, ℕ, List, [], ◌∷◌, ◌++◌, ◌∙◌, refl, sym, ap, append_assoc, append-nil}
 use Rattle.std.specs.List.{flat_map}
-use Rattle.std.proofs.lemmas.List.{map-append, take_more}
+use Rattle.std.proofs.lemmas.List.{map-append}
 use Rattle.std.proofs.lemmas.Grind.{flat_map-append}
 use Rattle.msr_words.specs.declared.kinds.Run.{Run}
 use Rattle.msr_record.specs.declared.row.Row.{Row}
@@ -53,23 +53,3 @@ appends-more size first number segment runs run old mid new so_far one =
 
 pub cuts-more : (packed : List Packed) (one : Packed) → flat_map cuts_of (packed ++ one ∷ []) ≡ flat_map cuts_of packed ++ cuts_of one
 cuts-more packed one = flat_map-append cuts_of packed (one ∷ []) ∙ ap (λ (l : List Cut). flat_map cuts_of packed ++ l) (append-nil (cuts_of one))
-
--- one more segment's records
-pub written-more : (size number : ℕ) (packed : List Packed) (one : Packed) (rows more : List Row) (bytes text : List ℕ) → AreWritten size 1 (flat_map cuts_of packed) rows bytes → number ≡ number_after 1 (flat_map cuts_of packed)
-    → AreWritten size number (cuts_of one) more text
-    → AreWritten size 1 (flat_map cuts_of (packed ++ one ∷ [])) (rows ++ more) (bytes ++ text)
-written-more size number packed one rows more bytes text are next new =
-    rw (cuts-more packed one) (written-append size 1 (flat_map cuts_of packed) (cuts_of one) rows more bytes text are (rw (← next) new))
-
-pub number-more : (number next : ℕ) (packed : List Packed) (one : Packed) → number ≡ number_after 1 (flat_map cuts_of packed) → next ≡ number_after number (cuts_of one) → next ≡ number_after 1 (flat_map cuts_of (packed ++ one ∷ []))
-number-more number next packed one is after =
-    after ∙ ap (λ (n : ℕ). number_after n (cuts_of one)) is ∙ sym (number_after-append 1 (flat_map cuts_of packed) (cuts_of one)) ∙ ap (number_after 1) (sym (cuts-more packed one))
-
--- the records of the first runs, and one more
-pub appends-step : (size first number next : ℕ) (segment : Segment) (runs : List Run) (i : ℕ) (d : Run) (old mid new : List ℕ) → i < length runs
-    → AppendsRecords size first (cuts_at segment (take i runs)) old mid number
-    → AppendsRecordOfRun size number segment (get_or runs i d) mid new
-    → next ≡ next_number number
-    → AppendsRecords size first (cuts_at segment (take (i + 1) runs)) old new next
-appends-step size first number next segment runs i d old mid new inside so_far one is =
-    rw (take_more runs i d inside, is) (appends-more size first number segment (take i runs) (get_or runs i d) old mid new so_far one)

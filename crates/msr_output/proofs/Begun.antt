@@ -301,16 +301,6 @@ can_longer opened other can more o key size in_time =
 pub open_end : (segment : Segment) (runs : List Run) (opened : Opened) → IsOpen false segment runs opened → IsOpen true segment runs opened
 open_end segment runs opened o = let p = o.gives in record { key = o.key; start = o.start; gives = record { size = p.size; left = rw p.goes_on p.holds } }
 
-pub can_end : (opened : Opened) → CanGoOn false opened → CanGoOn true opened
-can_end opened can = record {
-  segment = can.segment;
-  runs = can.runs;
-  is_open = open_end can.segment can.runs opened can.is_open;
-  writable = can.writable;
-  size = can.size;
-  in_time = can.in_time;
-}
-
 -- ---- where the segment ends
 
 pub whole_one : (size : ℕ) → 256 ≤ size → (segment : Segment) (runs : List Run) (separators : List ℕ) → IsCanonical size segment.samples runs separators → IsPacked size (record { segment = segment; runs = runs; separators = separators })

@@ -1,43 +1,16 @@
 -- A writer between two segments.
-use Rattle.std.proofs.Common.{◌≡◌, ℕ, ◌+◌, ◌<◌, ◌^◌, List, [], ◌∷◌, ◌++◌, ◌∙◌, length, get_or, map, arith, refl, sym, ap, subst, append_assoc, append-nil, length-append}
+use Rattle.std.proofs.Common.{◌≡◌, ℕ, ◌+◌, ◌<◌, ◌^◌, List, [], ◌∷◌, ◌++◌, ◌∙◌, length, get_or, map, arith, sym, ap, subst, append_assoc, append-nil, length-append}
 use Rattle.std.specs.Prelude.{All}
-use Rattle.std.proofs.lemmas.List.{map-append}
-use Rattle.std.proofs.lemmas.List.Elements.{All-append}
 use Rattle.msr_devices.specs.Device.{Device, HasFailed, IsCalm}
 use Rattle.msr_devices.specs.WriteBuffer.{Passes}
-use Rattle.msr_devices.proofs.Chaining.{takes-append, calm-same, calm-calm, calm-failed}
+use Rattle.msr_devices.proofs.Chaining.{takes-append, calm-calm, calm-failed}
 use Rattle.msr_record.specs.declared.row.Row.{Row}
-use Rattle.msr_segments.specs.declared.joiner.Segment.{Segment}
-use Rattle.msr_output.specs.Output.{Packed, IsPacked, IsOutput, cuts_of, segment_of_packed}
-use Rattle.msr_output.specs.Writing.{Writing, AppendsRecords, HasWritten, HasWrittenAll, StopsWriting}
-use Rattle.msr_output.specs.declared.fault.WriteFault.TheVariants.{Write, Memory}
-use Rattle.msr_output.proofs.Appending.{written-more, number-more}
+use Rattle.msr_output.specs.Output.{Packed, segment_of_packed}
+use Rattle.msr_output.specs.Writing.{Writing, HasWritten, HasWrittenAll, StopsWriting}
+use Rattle.msr_output.specs.declared.fault.WriteFault.TheVariants.{Write}
 
 pub all-one : {X : Type 0} (P : X → Type 0) (x : X) → P x → All P (x ∷ [])
 all-one {X} P x p k d h = let e : k ≡ 0 = omega arith in subst (λ (m : ℕ). P (get_or (x ∷ []) m d)) (sym e) p
-
--- before the first record
-pub written-none : (start : Device) (size : ℕ) → HasWritten start start (record { size = size; number = 1; waiting = [] }) [] []
-written-none start size = record {
-  bytes = [];
-  taken = [];
-  output = record { packings = λ i d h. absurd (omega arith); records = (refl, refl) };
-  next = refl;
-  takes = record { back = λ before h. rw (append-nil before) h };
-  whole = refl;
-  moved = omega arith;
-  short = λ h. absurd (omega arith);
-  calm = calm-same start;
-}
-
--- the output, with the records of one more segment
-more-output : (start old : Device) (w : Writing) (packed : List Packed) (rows : List Row) (one : Packed) (filled : List ℕ) (next : ℕ) → (h : HasWritten start old w packed rows) → IsPacked w.size one
-    → (a : AppendsRecords w.size w.number (cuts_of one) w.waiting filled next)
-    → IsOutput w.size (packed ++ one ∷ []) (rows ++ a.rows) (h.bytes ++ a.bytes)
-more-output start old w packed rows one filled next h is_packed a = record {
-  packings = All-append (IsPacked w.size) packed (one ∷ []) h.output.packings (all-one (IsPacked w.size) one is_packed);
-  records = written-more w.size w.number packed one rows a.rows h.bytes a.bytes h.output.records h.next a.written;
-}
 
 -- its bytes went through the sink or wait
 pub more-whole : (old now : Device) (bytes taken waiting more filled left : List ℕ) → bytes ≡ taken ++ waiting → filled ≡ waiting ++ more → (p : Passes old now filled [] left) → bytes ++ more ≡ (taken ++ p.taken) ++ left
@@ -49,24 +22,6 @@ more-whole old now bytes taken waiting more filled left whole joined p =
 
 pub short-sum : (old now limit x y : ℕ) → now ≡ old + y → (0 < x → old < limit) → (0 < y → now < limit) → 0 < x + y → now < limit
 short-sum old now limit x y sum first second some = grind arith
-
--- after one more segment
-pub written-segment : (start old now : Device) (w : Writing) (packed : List Packed) (rows : List Row) (one : Packed) (filled left : List ℕ) (next : ℕ) → HasWritten start old w packed rows → IsPacked w.size one
-    → (a : AppendsRecords w.size w.number (cuts_of one) w.waiting filled next)
-    → Passes old now filled [] left
-    → IsCalm old now
-    → HasWritten start now (record { size = w.size; number = next; waiting = left }) (packed ++ one ∷ []) (rows ++ a.rows)
-written-segment start old now w packed rows one filled left next h is_packed a p calm = record {
-  bytes = h.bytes ++ a.bytes;
-  taken = h.taken ++ p.taken;
-  output = more-output start old w packed rows one filled next h is_packed a;
-  next = number-more w.number next packed one h.next a.after;
-  takes = takes-append start old now h.taken p.taken h.takes p.takes;
-  whole = more-whole old now h.bytes h.taken w.waiting a.bytes filled left h.whole a.joined p;
-  moved = omega (arith, h.moved, p.moved, length-append h.taken p.taken);
-  short = λ some. short-sum old.moved now.moved (2 ^ 64) (length h.taken) (length p.taken) p.moved h.short p.short (omega (arith, some, length-append h.taken p.taken));
-  calm = calm-calm start old now h.calm calm;
-}
 
 -- after some of what waited
 pub written-some : (start old now : Device) (w : Writing) (packed : List Packed) (rows : List Row) (left : List ℕ) → HasWritten start old w packed rows
@@ -84,35 +39,6 @@ written-some start old now w packed rows left h p calm = record {
   short = λ some. short-sum old.moved now.moved (2 ^ 64) (length h.taken) (length p.taken) p.moved h.short p.short (omega (arith, some, length-append h.taken p.taken));
   calm = calm-calm start old now h.calm calm;
 }
-
--- the sink failed in one more segment
-pub stopped-segment : (start old now : Device) (w : Writing) (packed : List Packed) (rows : List Row) (one : Packed) (filled left : List ℕ) (next : ℕ) → HasWritten start old w packed rows → IsPacked w.size one
-    → (a : AppendsRecords w.size w.number (cuts_of one) w.waiting filled next)
-    → Passes old now filled [] left
-    → HasFailed old now
-    → StopsWriting w.size start now (map segment_of_packed packed ++ one.segment ∷ []) Write
-stopped-segment start old now w packed rows one filled left next h is_packed a p failed = (
-  record {
-    taken = h.taken ++ p.taken;
-    takes = takes-append start old now h.taken p.taken h.takes p.takes;
-    front = record {
-      packed = packed ++ one ∷ [];
-      others = [];
-      rows = rows ++ a.rows;
-      tail = left;
-      some_first = sym (append-nil _ ∙ map-append segment_of_packed packed (one ∷ []));
-      output = rw (← more-whole old now h.bytes h.taken w.waiting a.bytes filled left h.whole a.joined p) (more-output start old w packed rows one filled next h is_packed a);
-    };
-  },
-  calm-failed start old now h.calm failed,
-)
-
--- memory was refused before the next segment's records were given to the sink
-pub stopped-memory : (start now : Device) (w : Writing) (packed : List Packed) (rows : List Row) (others : List Segment) → HasWritten start now w packed rows → StopsWriting w.size start now (map segment_of_packed packed ++ others) Memory
-stopped-memory start now w packed rows others h = (
-  record { taken = h.taken; takes = h.takes; front = record { packed = packed; others = others; rows = rows; tail = w.waiting; some_first = refl; output = rw (← h.whole) h.output } },
-  h.calm.steady,
-)
 
 short-all : (start now x : ℕ) → now ≡ start + x → (0 < x → now < 2 ^ 64) → x < 2 ^ 64
 short-all start now x sum short = grind arith

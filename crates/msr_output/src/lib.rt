@@ -4,7 +4,6 @@
 mod fault;
 mod laws;
 mod opened;
-mod records;
 mod writer;
 
 pub use fault::WriteFault;

@@ -13,9 +13,9 @@ ghost use Rattle.msr_time.specs.Instant.{IsInstant};
 ghost use Rattle.msr_segments.specs.Spans.{SpanIsInTime, span_of};
 ghost use Rattle.msr_segments.specs.declared.joiner.Segment.{Segment};
 ghost use Rattle.msr_output.specs.Opened.{AppendsMore, CanEncode, CanGoOn, EncodesNext, Gives, IsOpen, empty_segment, longer_by};
+ghost use Rattle.msr_output.specs.Output.{next_number};
 ghost use Rattle.msr_output.specs.Writing.{AppendsRecordOfRun};
 
-use crate::records::number_after_this;
 use msr_packer::{BlockPacker, Piece};
 use msr_record::{Key, encode_record};
 use msr_report::SegmentLine;
@@ -40,6 +40,16 @@ impl Model for OpenSegment {
     ghost Value = { Opened };
 
     ghost view = { λ s. opened_of s.key s.start s.record_length s.packer s.separators.items };
+}
+
+/// The sequence number behind this one: from 1 to 999999, and then again from 1.
+fn number_after_this(number: u32) -> u32
+    requires { number ≤ 999_999 }
+    ensures next { result ≡ next_number number }
+    ensures least { 1 ≤ result }
+    ensures most { result ≤ 999_999 }
+{
+    if number == 999_999 { 1 } else { number + 1 }
 }
 
 /// A key has fields of the widths of a header's, and a rate of which neither part is 0.

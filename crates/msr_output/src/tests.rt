@@ -1,16 +1,17 @@
 //! The bytes of records worked out by hand, the sequence number behind the last one, and each call with
 //! ample memory.
-ghost use Rattle.std.specs.Prelude.{◌≡◌, IsTrue, false};
+ghost use Rattle.std.specs.Prelude.{◌≡◌, ◌+◌, ◌-◌, ◌<◌, ◌≤◌, ◌^◌, IsTrue, false};
 ghost use Rattle.msr_header.specs.Reading.{is_quality};
 ghost use Rattle.msr_record.specs.Correction.{is_pending};
 ghost use Rattle.msr_segments.specs.Segments.{SegmentIsInTime};
 
-use crate::records::encode_runs;
-use crate::{SegmentWriter, WriteFault, one_output, output_has_size, output_keeps_segments};
+use crate::{
+    OpenSegment, SegmentWriter, WriteFault, one_output, output_has_size, output_keeps_segments,
+};
 use msr_base::Samples;
-use msr_devices::{Behavior, TestSink};
-use msr_packer::pack;
+use msr_devices::{Behavior, Sink, TestSink};
 use msr_record::Key;
+use msr_report::SegmentLine;
 use msr_segments::Segment;
 use msr_time::{Rate, is_instant};
 use msr_words::Length;
@@ -143,13 +144,33 @@ fn behavior(most: usize, fails_at: Option<u64>) -> Behavior {
     }
 }
 
+// Writes a segment whose samples are pushed at once.
+fn write<W: Sink>(
+    writer: &mut SegmentWriter,
+    sink: &mut W,
+    segment: &Segment,
+) -> Result<SegmentLine, WriteFault>
+    requires failures { (W.device sink.old).failures < 2 ^ 64 - 128 }
+    requires interruptions { (W.device sink.old).interruptions < 2 ^ 64 - 128 }
+    requires quality { IsTrue (is_quality segment.now.key.quality) }
+    requires normal { is_pending segment.now.key.activity segment.now.key.correction ≡ false }
+    requires in_time { SegmentIsInTime segment.now }
+    ensures size { writer.new.size ≡ writer.old.size }
+    ensures failures { (W.device sink.new).failures ≤ (W.device sink.old).failures + 128 }
+    ensures interruptions { (W.device sink.new).interruptions ≤ (W.device sink.old).interruptions + 128 }
+{
+    let mut opened = writer.begin(segment.key, segment.start);
+    writer.push(sink, &mut opened, segment.samples.as_slice())?;
+    writer.end(sink, opened)
+}
+
 #[test]
 fn two_records(rt: HostRuntime) -> Result<(), Fail> {
     let segment = zeros(&rt, rt.alloc(), 302)?;
     assert!(rt; is_writable(&segment));
     let mut sink = TestSink::new(Vec::new(rt.alloc()), behavior(64, None));
     let mut writer = SegmentWriter::new(rt.alloc(), short_length(&rt));
-    let Ok(line) = writer.write_segment(&mut sink, &segment) else {
+    let Ok(line) = write(&mut writer, &mut sink, &segment) else {
         panic!(rt; "not written")
     };
     assert_eq!(rt; line.key, segment.key);
@@ -165,26 +186,19 @@ fn two_records(rt: HostRuntime) -> Result<(), Fail> {
     Ok(())
 }
 
-// The sequence numbers of records, where they begin so.
+// The sequence numbers of two records that are decided, where they begin so.
 fn numbers_behind(
     rt: &impl Abort,
     alloc: Global,
     first: u32,
 ) -> Result<([u8; 6], [u8; 6], u32), AllocError> {
-    let segment = zeros(rt, alloc, 302)?;
+    let segment = zeros(rt, alloc, 1_000)?;
     assert!(rt; is_writable(&segment));
     assert!(rt; 1 <= first && first <= 999_999);
-    let record_length = short_length(rt);
-    let packing = pack(alloc, segment.samples.as_slice(), record_length)?;
+    let mut opened = OpenSegment::begin(alloc, short_length(rt), segment.key, segment.start);
+    opened.push(segment.samples.as_slice())?;
     let mut bytes = Vec::new(alloc);
-    let next = encode_runs(
-        alloc,
-        &segment,
-        packing.runs.as_slice(),
-        first,
-        record_length,
-        &mut bytes,
-    )?;
+    let next = opened.encode_runs(alloc, false, first, &mut bytes)?;
     assert!(rt; bytes.len() >= 256);
     let (first, second) = bytes.as_slice().split_at(256);
     Ok((digits(rt, first), digits(rt, second), next))
@@ -221,10 +235,10 @@ fn written(
     assert!(rt; is_writable(&segment));
     let mut sink = TestSink::accepting_nothing(Vec::new(alloc), behavior);
     let mut writer = SegmentWriter::new(alloc, short_length(rt));
-    if let Err(fault) = writer.write_segment(&mut sink, &segment) {
+    if let Err(fault) = write(&mut writer, &mut sink, &segment) {
         return Ok((Some(fault), sink));
     }
-    if let Err(fault) = writer.write_segment(&mut sink, &segment) {
+    if let Err(fault) = write(&mut writer, &mut sink, &segment) {
         return Ok((Some(fault), sink));
     }
     let fault = writer.finish(&mut sink).err();
@@ -252,7 +266,7 @@ fn numbers_go_on(rt: HostRuntime) -> Result<(), Fail> {
 fn failing_sinks_hold_a_front(rt: HostRuntime) -> Result<(), Fail> {
     for (count, most, size, calls) in [
         (302usize, 100usize, 1024usize, 11u64),
-        (80_000, 30_000, 136_192, 6),
+        (80_000, 30_000, 136_192, 7),
     ] {
         let (fault, whole) = written(&rt, rt.alloc(), count, behavior(most, None))?;
         assert_eq!(rt; fault, None);
@@ -272,42 +286,6 @@ fn failing_sinks_hold_a_front(rt: HostRuntime) -> Result<(), Fail> {
     Ok(())
 }
 
-// What the sink holds of a segment whose samples are pushed at once, behind the same segment in one piece.
-#[test]
-fn a_segment_in_blocks(rt: HostRuntime) -> Result<(), Fail> {
-    let segment = zeros(&rt, rt.alloc(), 80_000)?;
-    assert!(rt; is_writable(&segment));
-    let mut sink = TestSink::accepting_nothing(Vec::new(rt.alloc()), behavior(30_000, None));
-    let mut writer = SegmentWriter::new(rt.alloc(), short_length(&rt));
-    let Ok(whole) = writer.write_segment(&mut sink, &segment) else {
-        panic!(rt; "not written")
-    };
-    let mut opened = writer.begin(segment.key, segment.start);
-    let Ok(()) = writer.push(&mut sink, &mut opened, segment.samples.as_slice()) else {
-        panic!(rt; "not pushed")
-    };
-    let Ok(line) = writer.end(&mut sink, opened) else {
-        panic!(rt; "not ended")
-    };
-    assert_eq!(rt; line.key, whole.key);
-    assert_eq!(rt;
-        (line.start, line.samples, line.records),
-        (whole.start, whole.samples, whole.records)
-    );
-    assert!(rt; line.separators == whole.separators);
-    assert_eq!(rt; writer.finish(&mut sink), Ok(()));
-    // 266 records, and the same again but for their numbers
-    assert_eq!(rt; sink.bytes().len(), 136_192);
-    for (one, other) in sink
-        .bytes()
-        .chunks(256)
-        .zip(sink.bytes().chunks(256).skip(266))
-    {
-        assert!(rt; one.get(6..) == other.get(6..));
-    }
-    Ok(())
-}
-
 // What waits is in the sink behind a flush.
 #[test]
 fn what_waits_is_flushed(rt: HostRuntime) -> Result<(), Fail> {
@@ -315,7 +293,7 @@ fn what_waits_is_flushed(rt: HostRuntime) -> Result<(), Fail> {
     assert!(rt; is_writable(&segment));
     let mut sink = TestSink::new(Vec::new(rt.alloc()), behavior(100, None));
     let mut writer = SegmentWriter::new(rt.alloc(), short_length(&rt));
-    assert!(rt; writer.write_segment(&mut sink, &segment).is_ok());
+    assert!(rt; write(&mut writer, &mut sink, &segment).is_ok());
     assert_eq!(rt; sink.bytes().len(), 0);
     assert_eq!(rt; writer.flush(&mut sink), Ok(()));
     assert_eq!(rt; sink.bytes().len(), 512);

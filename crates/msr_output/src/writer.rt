@@ -1,12 +1,9 @@
 // A writer of segments.
 use crate::fault::WriteFault;
 use crate::opened::OpenSegment;
-use crate::records::encode_runs;
 use msr_devices::{Sink, WriteBuffer};
-use msr_packer::{Packing, pack};
 use msr_record::{Key, are_32_bit};
 use msr_report::SegmentLine;
-use msr_segments::Segment;
 use msr_words::Length;
 use std::alloc::Global;
 use std::marker::Model;
@@ -62,47 +59,6 @@ impl SegmentWriter {
             number: 1,
             buffer: WriteBuffer::new(alloc),
         }
-    }
-
-    /// Packs the segment, puts all its records behind those that wait, and then writes these where they are
-    /// 64 KiB or more. So where there is no memory for one of its records, none of them was written.
-    pub fn write_segment<W: Sink>(
-        &mut self,
-        sink: &mut W,
-        segment: &Segment,
-    ) -> Result<SegmentLine, WriteFault>
-        requires count { CanCountCall (W.device sink.old) }
-        requires quality { IsTrue (is_quality segment.now.key.quality) }
-        requires normal { is_pending segment.now.key.activity segment.now.key.correction ≡ false }
-        requires in_time { SegmentIsInTime segment.now }
-        ensures written { (start : Device) (packed : List Packed) (rows : List Row) → HasWritten start (W.device sink.old) self.old packed rows
-            → MatchResult result
-            (WritesSegment start (W.device sink.new) self.new packed segment.now)
-            (StopsWriting self.old.size start (W.device sink.new) (map segment_of_packed packed ++ segment.now ∷ [])) }
-        ensures size { self.new.size ≡ self.old.size }
-        ensures few { CountsFew (W.device sink.old) (W.device sink.new) }
-    {
-        let Packing { runs, separators } = pack(
-            self.alloc,
-            segment.samples.as_slice(),
-            self.record_length,
-        )?;
-        self.number = encode_runs(
-            self.alloc,
-            segment,
-            runs.as_slice(),
-            self.number,
-            self.record_length,
-            &mut self.buffer.bytes,
-        )?;
-        self.buffer.flush_full(sink)?;
-        Ok(SegmentLine {
-            key: segment.key,
-            start: segment.start,
-            samples: segment.samples.len() as u64,
-            records: runs.len() as u64,
-            separators,
-        })
     }
 
     /// Begins a segment of that key, whose first sample has that instant. Its samples are pushed by `push`, and no other

@@ -247,3 +247,29 @@ module _ (bytes : ℕ) (samples : List ℤ) (g end : ℕ) (ends : Ends) (are : A
         | inl lower ↦ let short = before p.0 lower in let up = p.3 in absurd (omega arith)
         | inr last ↦ subst (λ k. c ≤ end_of ends k) (rank_same p.0 Int32 (let few = few_kinds p.0 in omega arith)) p.3
       ]
+
+module _ (bytes : ℕ) (samples : List ℤ) (g end : ℕ) (ends : Ends) (are : AreEnds bytes samples g end ends) where
+  none_first : (kind : Kind) → rank kind ≤ rank Steim2 → (c : ℕ) → end_of ends Steim2 < c → c ≤ end_of ends kind → ⊥
+  none_first Steim2 low c past le = omega arith
+  none_first Steim1 low c past le = omega arith
+  none_first Int16 low c past le = omega arith
+  none_first Int24 low c past le = omega arith
+  none_first Int32 low c past le = omega arith
+
+  -- a run that starts before the frontier is of no kind before Steim-1, where that of Steim-2 from the frontier ends before it
+  pub not_before : (s c : ℕ) → s ≤ g → end ≤ c + 1 → c ≤ length samples → ends.steim2 < c → Fits Steim1 bytes (run_points samples s c) → IsFirstKind bytes (run_points samples s c) Steim1
+  not_before s c before near within past fits = (fits, λ other lower room. none other lower room)
+    where
+      none : (other : Kind) → rank other < rank Steim1 → Fits other bytes (run_points samples s c) → ⊥
+      none Steim2 lower room =
+          let first = (are.fit Steim2 (each_kind Steim2)).0 in
+          let cut = back_step_run (Fits Steim2 bytes) 0 (back_step_kind Steim2 bytes) samples s g c before (omega arith) (omega arith, within, room) in
+          let high = cut.3 in
+          let low = cut.2 in
+          let same : cut.0 ≡ g = omega arith in
+          let p = are.past Steim2 (each_kind Steim2) c near (subst (λ x. IsRun (Fits Steim2 bytes) samples x c) same cut.4) in
+          none_first p.0 p.2 c past p.3
+      none Steim1 lower room = omega arith
+      none Int16 lower room = omega arith
+      none Int24 lower room = omega arith
+      none Int32 lower room = omega arith

@@ -13,7 +13,7 @@ use Rattle.msr_words.specs.Lemmas.KindLaws.{back_step_any, short_any, size_any}
 use Rattle.msr_words.specs.Packing.{IsCanonical, IsStep, Joins}
 use Rattle.msr_words.proofs.Runs.{length_run_points}
 use Rattle.msr_packer.specs.SoFar.{IsSoFar}
-use Rattle.msr_packer.specs.Held.{BeginsAll, GivesPiece, Holds, InsideIfAny, IsCurrent, IsSound, IsWindow, LeavesFew, Shows, StandsAt, Stays, before_place, frontier_of, piece_of, pieces_of, runs_of, samples_of, separators_of, start_of}
+use Rattle.msr_packer.specs.Held.{BeginsAll, GivesPiece, Holds, InsideIfAny, IsCurrent, IsNext, IsSound, IsWindow, LeavesFew, Shows, StandsAt, Stays, before_place, frontier_of, piece_of, pieces_of, runs_of, samples_of, separators_of, start_of}
 use Rattle.msr_packer.specs.declared.held.Current.{Current}
 use Rattle.msr_packer.specs.declared.held.Held.{Held}
 use Rattle.msr_packer.specs.declared.held.Piece.{Piece}
@@ -146,13 +146,14 @@ gives bytes enough samples runs separators held offset (Some c) h a kind w more 
     }
 
 -- the window with the next step
-pub window_next : (bytes : ℕ) → 256 ≤ bytes → (samples : List ℤ) (runs : List Run) (separators : List ℕ) (held : List ℤ) (offset : ℕ) (current : Option Current) (d : Current) → IsWindow bytes samples runs separators held offset current → d.frontier ≡ frontier_of current → d.frontier < length held
-    → IsStep (FitsAny bytes) held (frontier_of current) d.end d.start → IsFirstKind bytes (run_points held d.start d.end) d.whole → IsFirstKind bytes (run_points held d.start (d.end - 1)) d.short
-    → IsWindow bytes samples (runs ++ runs_of (pieces_of (piece_of offset current d.start))) (separators ++ separators_of (pieces_of (piece_of offset current d.start))) held offset (Some d)
-window_next bytes enough samples runs separators held offset current d w frontier inside is whole short =
-    let g = gives bytes enough samples runs separators held offset current d.end d.start d.whole w (omega arith) is (is.reached.0, is.reached.1, whole.0) in
+pub window_next : (bytes : ℕ) → 256 ≤ bytes → (samples : List ℤ) (runs : List Run) (separators : List ℕ) (held : List ℤ) (offset : ℕ) (current : Option Current) (next : Current) → IsWindow bytes samples runs separators held offset current → IsNext bytes held current next
+    → IsWindow bytes samples (runs ++ runs_of (pieces_of (piece_of offset current next.start))) (separators ++ separators_of (pieces_of (piece_of offset current next.start))) held offset (Some next)
+window_next bytes enough samples runs separators held offset current d w next =
+    let is = rw next.frontier at next.step in
+    let inside = rw next.frontier at next.inside in
+    let g = gives bytes enough samples runs separators held offset current d.end d.start d.whole w inside is (is.reached.0, is.reached.1, next.whole.0) in
     let long : length held ≡ length samples - offset = ap length w.window ∙ length-drop offset samples in
-    let on = goes_on bytes held enough (frontier_of current) d.end d.start (omega arith) is in
+    let on = goes_on bytes held enough (frontier_of current) d.end d.start inside is in
     let within = w.within in
     let end : offset + (d.end - 1) ≡ offset + d.end - 1 = omega arith in
     let points : run_points held d.start d.end ≡ run_points samples (offset + d.start) (offset + d.end) =
@@ -163,10 +164,10 @@ window_next bytes enough samples runs separators held offset current d w frontie
       window = w.window;
       within = w.within;
       at = record {
-        so_far = rw frontier g.so_far;
+        so_far = rw next.frontier g.so_far;
         one_before = g.one_before;
-        whole = subst (λ p. IsFirstKind bytes p d.whole) points whole;
-        short = subst (λ p. IsFirstKind bytes p d.short) fewer short;
+        whole = subst (λ p. IsFirstKind bytes p d.whole) points next.whole;
+        short = subst (λ p. IsFirstKind bytes p d.short) fewer next.short;
       };
     }
 
@@ -202,11 +203,6 @@ leaves bytes samples runs separators held offset (Some c) w = record {
   joined = w.at.so_far.joined;
   from_there = ap (drop c.start) w.window ∙ drop-drop c.start offset samples;
 }
-
--- where a sample is held there is one behind the frontier
-pub frontier_inside : (held : List ℤ) (current : Option Current) → Stays current (length held) → 0 < length held → frontier_of current < length held
-frontier_inside held None stays some = some
-frontier_inside held (Some c) stays some = stays
 
 -- and that of all samples, where none follows
 pub begins_rest : (bytes : ℕ) → 256 ≤ bytes → (samples : List ℤ) (runs : List Run) (separators : List ℕ) (held : List ℤ) (offset : ℕ) (current : Option Current) → IsWindow bytes samples runs separators held offset current → HasRest bytes samples runs separators
@@ -322,7 +318,7 @@ pub record Stepped (bytes g h a : ℕ) : Type 0 where
   pub near : g ≤ a + 1
   pub few : h ≤ a + most_any bytes
 
-pub stepped : (bytes : ℕ) → 256 ≤ bytes → (held : List ℤ) (g h a : ℕ) (kind : Kind) → g < length held → IsStep (FitsAny bytes) held g h a → IsRun (Fits kind bytes) held a h → Stepped bytes g h a
+stepped : (bytes : ℕ) → 256 ≤ bytes → (held : List ℤ) (g h a : ℕ) (kind : Kind) → g < length held → IsStep (FitsAny bytes) held g h a → IsRun (Fits kind bytes) held a h → Stepped bytes g h a
 stepped bytes enough held g h a kind inside step reached =
     let on = goes_on bytes held enough g h a inside step in
     record {
@@ -331,6 +327,10 @@ stepped bytes enough held g h a kind inside step reached =
       few = run_size bytes held a h kind reached;
     }
 
+pub next_stepped : (bytes : ℕ) → 256 ≤ bytes → (held : List ℤ) (current : Option Current) (next : Current) → IsNext bytes held current next → Stepped bytes (frontier_of current) next.end next.start
+next_stepped bytes enough held current next is =
+    rw is.frontier at (stepped bytes enough held next.frontier next.end next.start next.whole is.inside is.step (is.step.reached.0, is.step.reached.1, is.whole.0))
+
 pub start_before : (bytes number : ℕ) (current : Option Current) (a : ℕ) → InsideIfAny bytes number current → frontier_of current ≤ a + 1 → start_of current ≤ a
 start_before bytes number None a inside near = omega arith
 start_before bytes number (Some c) a inside near = let before = inside.before in let on = inside.on in omega arith
@@ -338,14 +338,6 @@ start_before bytes number (Some c) a inside near = let before = inside.before in
 pub stays_at : (current : Option Current) (number h : ℕ) → frontier_of current ≡ h → h < number → Stays current number
 stays_at None number h is less = tt
 stays_at (Some c) number h is less = omega arith
-
-pub frontier_within : (bytes number : ℕ) (current : Option Current) → InsideIfAny bytes number current → frontier_of current ≤ number
-frontier_within bytes number None inside = omega arith
-frontier_within bytes number (Some c) inside = inside.within
-
-pub frontier_few : (bytes number : ℕ) (current : Option Current) → InsideIfAny bytes number current → frontier_of current ≤ start_of current + most_any bytes
-frontier_few bytes number None inside = omega arith
-frontier_few bytes number (Some c) inside = inside.short
 
 pub stays_more : (held more : List ℤ) (current : Option Current) → Stays current (length held) → Stays current (length (held ++ more))
 stays_more held more None stays = tt

@@ -134,9 +134,6 @@ chosen_more bytes samples (first ∷ runs) (s ∷ separators) from g h run chose
     (chosen.0, chosen.1, chosen.2, chosen.3, chosen.4, chosen_more bytes samples runs separators chosen.0 g h run chosen.5 in' step kind)
 
 module _ (bytes : ℕ) (samples : List ℤ) (enough : 256 ≤ bytes) (g h a : ℕ) (within : g < length samples) (step : IsStep (FitsAny bytes) samples g h a) where
-  pub ends_within : h ≤ length samples
-  ends_within = step.reached.1
-
   pub goes_on : g < h
   goes_on = let f = forth bytes samples (short_any bytes enough) g h a within step in omega arith
 
@@ -147,10 +144,6 @@ module _ (bytes : ℕ) (samples : List ℤ) (enough : 256 ≤ bytes) (g h a : �
       let n = near bytes samples (short_any bytes enough) (back_step_any bytes) h h' a' more next in
       let b = step.before in
       prefix_run (Fits kind bytes) (prefix_kind kind bytes) samples a a' h (omega arith) next.before reached
-
-  -- and it ends at the frontier of the next one, or at the sample before it
-  pub cut_near : (h' a' : ℕ) → h < length samples → IsStep (FitsAny bytes) samples h h' a' → h ≤ a' + 1
-  cut_near h' a' more next = near bytes samples (short_any bytes enough) (back_step_any bytes) h h' a' more next
 
   -- so does the last run, to the end of the segment
   pub all_fits : (kind : Kind) → IsRun (Fits kind bytes) samples a h → length samples ≤ h → IsRun (Fits kind bytes) samples a (length samples)

@@ -1,27 +1,22 @@
 -- What a packer of a stream knows after each piece and each sample.
-use Rattle.std.proofs.Common.{◌≡◌, ℕ, ◌+◌, ◌-◌, ◌<◌, ◌≤◌, ◌⊎◌, ℤ, List, [], ◌∷◌, ◌++◌, length, drop, Option, Some, None, ap, ◌∙◌, subst, arith, inl, inr, length-append, length-drop, append_assoc}
+use Rattle.std.proofs.Common.{◌≡◌, ℕ, zero, suc, ◌+◌, ◌-◌, ◌<◌, ◌≤◌, ◌⊎◌, ℤ, List, [], ◌∷◌, ◌++◌, length, drop, take, Option, Some, None, sym, ap, ◌∙◌, subst, arith, inl, inr, length-append, length-drop, length-take}
 use Rattle.std.proofs.lemmas.Bool.{cases_lt}
-use Rattle.std.proofs.lemmas.List.{map-append}
-use Rattle.msr_words.specs.declared.kinds.Kind.{Kind}
-use Rattle.msr_words.specs.declared.kinds.Run.{Run}
-use Rattle.msr_words.specs.declared.lengths.Length.{Length}
+use Rattle.std.proofs.lemmas.List.{take-append-drop, take-take}
 use Rattle.msr_words.specs.Segment.{run_points}
-use Rattle.msr_words.specs.Fit.{Fits, FitsAny, IsRun, IsFirstKind}
+use Rattle.msr_words.specs.Fit.{Fits, FitsAny, IsRun}
 use Rattle.msr_words.specs.Laws.{most_any}
 use Rattle.msr_words.specs.Lemmas.KindLaws.{back_step_any, empty_kind}
-use Rattle.msr_words.specs.Packing.{IsCanonical, IsStep}
+use Rattle.msr_words.specs.Packing.{IsStep}
 use Rattle.msr_words.proofs.Runs.{run_points_none}
-use Rattle.msr_packer.specs.Live.{Follows, IsLive, IsTracked, kind_of_tracker}
-use Rattle.msr_packer.specs.Held.{InsideIfAny, IsWindow, frontier_of, piece_of, pieces_of, runs_of, separators_of, start_of}
-use Rattle.msr_packer.specs.Stream.{IsStream, Streams}
+use Rattle.msr_packer.specs.Live.{Follows, IsDecided, IsLive, IsTracked, kind_of_tracker}
+use Rattle.msr_packer.specs.Held.{InsideIfAny, frontier_of, start_of}
+use Rattle.msr_packer.specs.Steps.{end_of}
 use Rattle.msr_packer.specs.declared.live.KindTracker.{KindTracker}
 use Rattle.msr_packer.specs.declared.live.Live.{Live}
 use Rattle.msr_packer.specs.declared.held.Current.{Current}
-use Rattle.msr_packer.specs.declared.held.Piece.{Piece}
-use Rattle.msr_packer.specs.declared.stream.StreamPacker.{StreamPacker}
-use Rattle.msr_packer.proofs.Holding.{gives, run_size}
-use Rattle.msr_packer.proofs.Least.{last_one}
-use Rattle.msr_packer.proofs.Windows.{near_by_one, run_points_stay, run_points_window}
+use Rattle.msr_packer.specs.declared.step.Found.{Found}
+use Rattle.msr_packer.proofs.Holding.{run_size}
+use Rattle.msr_packer.proofs.Windows.{near_by_one, run_points_stay, run_points_window, run_stays, run_was}
 
 -- ---- the run that takes the samples behind the frontier
 
@@ -118,43 +113,45 @@ may_forget bytes number (Some c) from inside near = elim (cases_lt 1 c.start) [
   | inr none ↦ inl (omega arith)
 ]
 
--- ---- the end
+-- ---- the step that some samples decide
 
--- the step from the frontier goes on to the last sample
-pub record EndsAll (bytes : ℕ) (samples : List ℤ) (runs : List Run) (separators : List ℕ) (held : List ℤ) (offset : ℕ) (current : Option Current) (h a : ℕ) (kind : Kind) : Type 0 where
-  pub all : IsRun (Fits kind bytes) held a (length held)
-  pub near : h ≡ length held
-  pub canonical : (first : Kind) (piece : Piece) → IsFirstKind bytes (run_points held a (length held)) first → piece.run.start ≡ offset + a → piece.run.end ≡ offset + length held → piece.run.kind ≡ first → piece.separator ≡ offset + frontier_of current
-      → IsCanonical bytes samples (runs ++ runs_of (pieces_of (piece_of offset current a) ++ piece ∷ [])) (separators ++ separators_of (pieces_of (piece_of offset current a) ++ piece ∷ []))
+-- the samples behind the one that decides it change nothing
+pub decided_sooner : (bytes : ℕ) (front more : List ℤ) (g n : ℕ) (found : Found) → found.step.end < length front → IsDecided bytes (front ++ more) g n found → IsDecided bytes front g n found
+decided_sooner bytes front more g n found inside is = record {
+  step = record {
+    before = is.step.before;
+    reached = run_was (FitsAny bytes) front more found.step.start found.step.end (omega arith) is.step.reached;
+    furthest = λ s b le r. is.step.furthest s b le (run_stays (FitsAny bytes) front more s b r);
+    last = λ s le r. is.step.last s le (run_stays (FitsAny bytes) front more s found.step.end r);
+  };
+  kind = run_was (Fits found.step.kind bytes) front more found.step.start found.step.end (omega arith) is.kind;
+  ends = record {
+    fit = λ kind among.
+        let fit = is.ends.fit kind among in
+        let far = is.step.furthest g (end_of found.ends kind) (omega arith) (fit.0, fit.1, (kind, fit.2)) in
+        run_was (Fits kind bytes) front more g (end_of found.ends kind) (omega arith) fit;
+    past = λ kind among c near r. is.ends.past kind among c near (run_stays (Fits kind bytes) front more g c r);
+  };
+  before_last = inside;
+  past = is.past;
+}
 
-pub ends_all : (bytes : ℕ) → 256 ≤ bytes → (samples : List ℤ) (runs : List Run) (separators : List ℕ) (held : List ℤ) (offset : ℕ) (current : Option Current) (live : Live) (h a : ℕ) (kind : Kind) → IsWindow bytes samples runs separators held offset current → IsLive bytes held (frontier_of current) (length held) live → frontier_of current < length held
-    → IsStep (FitsAny bytes) held (frontier_of current) h a → IsRun (Fits kind bytes) held a h → EndsAll bytes samples runs separators held offset current h a kind
-ends_all bytes enough samples runs separators held offset current live h a kind w is inside step reached =
-    let g = gives bytes enough samples runs separators held offset current h a kind w inside step reached in
-    let within = w.within in
-    let long : length held ≡ length samples - offset = ap length w.window ∙ length-drop offset samples in
-    let all = live_reaches bytes held (frontier_of current) (length held) h a live (omega arith) is step in
-    let most = reached.1 in
-    let same : h ≡ length held = omega arith in
-    let end : offset + length held ≡ length samples = omega arith in
-    let done : length samples ≤ offset + h = omega arith in
-    record {
-      all = subst (IsRun (Fits kind bytes) held a) same reached;
-      near = same;
-      canonical = λ first piece is_first start stop is_kind place.
-          let points : run_points held a (length held) ≡ run_points samples (offset + a) (length samples) =
-          ap (λ xs. run_points xs a (length held)) w.window ∙ run_points_window samples offset a (length held) g.one_before ∙ ap (run_points samples (offset + a)) end in
-          rw (map-append (λ (p : Piece). p.run) (pieces_of (piece_of offset current a)) (piece ∷ []), map-append (λ (p : Piece). p.separator) (pieces_of (piece_of offset current a)) (piece ∷ []), ← append_assoc runs (runs_of (pieces_of (piece_of offset current a))) (piece.run ∷ []), ← append_assoc separators (separators_of (pieces_of (piece_of offset current a))) (piece.separator ∷ []), place)
-          (last_one bytes samples (runs ++ runs_of (pieces_of (piece_of offset current a))) (separators ++ separators_of (pieces_of (piece_of offset current a))) (offset + frontier_of current) (offset + h) (offset + a) kind g.so_far piece.run start done (stop ∙ end)
-          (rw is_kind (subst (λ p. IsFirstKind bytes p first) points is_first)));
-    }
+-- and need not be held
+pub decided_there : (bytes : ℕ) (held : List ℤ) (g n : ℕ) (found : Found) → IsDecided bytes held g n found → IsDecided bytes (take (found.step.end + 1) held) g n found
+decided_there bytes held g n found is =
+    let end = found.step.end + 1 in
+    let last = is.before_last in
+    let long = length-take end held in
+    decided_sooner bytes (take end held) (drop end held) g n found (omega arith) (subst (λ xs. IsDecided bytes xs g n found) (sym (take-append-drop end held)) is)
 
--- ---- how many samples were pushed
+take_behind : (xs ys : List ℤ) (m n : ℕ) → m ≡ length xs + n → take m (xs ++ ys) ≡ xs ++ take n ys
+take_behind [] ys m n e = let same : m ≡ n = omega arith in ap (λ k. take k ys) same
+take_behind (x ∷ xs) ys zero n e = absurd (omega arith)
+take_behind (x ∷ xs) ys (suc m) n e = ap (λ l. x ∷ l) (take_behind xs ys m n (omega arith))
 
-pub more_allowed : (n most : ℕ) (packer : StreamPacker) → n ≤ most → IsStream n packer → IsStream most packer
-more_allowed n most packer le s = record { record_length = s.record_length; samples = s.samples; runs = s.runs; separators = s.separators; streams = s.streams; number = omega (arith, s.number) }
-
-pub one_pushed : (n most : ℕ) (record_length : Length) (samples : List ℤ) (sample : ℤ) (runs : List Run) (separators : List ℕ) (packer : StreamPacker) → length samples ≤ n → n < most
-    → Streams record_length (samples ++ sample ∷ []) runs separators packer → IsStream most packer
-one_pushed n most record_length samples sample runs separators packer few less s =
-    record { record_length = record_length; samples = samples ++ sample ∷ []; runs = runs; separators = separators; streams = s; number = omega (arith, length-append samples (sample ∷ [])) }
+-- so many of the samples are held then
+pub held_there : (held samples : List ℤ) (count from end : ℕ) → from ≡ length held → from ≤ end → end ≤ length (held ++ take count samples) → take end (held ++ take count samples) ≡ held ++ take (end - from) samples
+held_there held samples count from end is past within =
+    let whole = length-append held (take count samples) in
+    let some = length-take count samples in
+    take_behind held (take count samples) end (end - from) (omega arith) ∙ ap (λ l. held ++ l) (take-take (end - from) count samples (omega arith))

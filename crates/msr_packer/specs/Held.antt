@@ -1,10 +1,10 @@
 -- What a packer holds of a segment: its last samples, and the step behind the runs that were given.
 use Rattle.std.specs.Prelude.{◌≡◌, ℕ, zero, suc, ◌+◌, ◌-◌, ◌*◌, ◌<◌, ◌≤◌, ◌^◌, ◌⊎◌, ℤ, List, [], ◌∷◌, ◌++◌, length, drop, map, slice_get, slice_range, Option, Some, None, IfSome, if◌then◌else◌, ◌==◌, ⊤}
 use Rattle.msr_words.specs.declared.kinds.Run.{Run}
-use Rattle.msr_words.specs.Fit.{IsFirstKind}
+use Rattle.msr_words.specs.Fit.{FitsAny, IsFirstKind}
 use Rattle.msr_words.specs.Laws.{most_any}
 use Rattle.msr_words.specs.Lengths.{bytes_of}
-use Rattle.msr_words.specs.Packing.{Joins, IsCanonical}
+use Rattle.msr_words.specs.Packing.{Joins, IsCanonical, IsStep}
 use Rattle.msr_words.specs.Segment.{run_points}
 use Rattle.msr_packer.specs.SoFar.{IsSoFar}
 use Rattle.msr_packer.specs.declared.held.Current.{Current}
@@ -66,6 +66,22 @@ pub record IsSound (held : Held) : Type 0 where
   pub inside : InsideIfAny (bytes_of held.record_length) (length held.samples.items) held.current
   pub order : held.from ≤ held.to
   pub within : held.to ≤ length held.samples.items
+
+-- the places of a step, and the one where the next run starts, can be counted from the segment's first sample
+pub record HasPlaces (offset next : ℕ) (current : Option Current) : Type 0 where
+  pub bytes : ℕ
+  pub number : ℕ
+  pub inside : InsideIfAny bytes number current
+  pub within : next ≤ number
+  pub counted : offset + number < 2 ^ 64
+
+-- The step from the next frontier, with the kinds of its run.
+pub record IsNext (bytes : ℕ) (held : List ℤ) (current : Option Current) (next : Current) : Type 0 where
+  pub frontier : next.frontier ≡ frontier_of current
+  pub inside : next.frontier < length held
+  pub step : IsStep (FitsAny bytes) held next.frontier next.end next.start
+  pub whole : IsFirstKind bytes (run_points held next.start next.end) next.whole
+  pub short : IsFirstKind bytes (run_points held next.start (next.end - 1)) next.short
 
 -- the piece of a step that is cut where the next run starts
 abbrev pub piece_of : ℕ → Option Current → ℕ → Option Piece

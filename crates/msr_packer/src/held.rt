@@ -1,13 +1,13 @@
 //! The last samples of a segment, with the step whose piece comes next.
 
-ghost use Rattle.std.specs.Prelude.{◌≡◌, ℕ, ℤ, List, [], ◌++◌, ◌+◌, ◌-◌, ◌*◌, ◌<◌, ◌≤◌, ◌⊎◌, length, drop, IfSome, IsNone, IsSome};
+ghost use Rattle.std.specs.Prelude.{◌≡◌, ℕ, ℤ, List, [], ◌++◌, ◌+◌, ◌-◌, ◌*◌, ◌<◌, ◌≤◌, ◌⊎◌, length, drop, IfSome, IsNone, IsSome, Some};
 ghost use Rattle.msr_words.specs.declared.kinds.Run.{Run};
 ghost use Rattle.msr_words.specs.Fit.{Fits, FitsAny, IsFirstKind, IsRun};
 ghost use Rattle.msr_words.specs.Laws.{most_any};
 ghost use Rattle.msr_words.specs.Lengths.{bytes_of};
 ghost use Rattle.msr_words.specs.Packing.{IsCanonical, IsStep};
 ghost use Rattle.msr_words.specs.Segment.{run_points};
-ghost use Rattle.msr_packer.specs.Held.{GivesPiece, Holds, IsSound, Shows, Stays, before_shown, frontier_of, piece_of, pieces_of, runs_of, separators_of, shown_by, start_of};
+ghost use Rattle.msr_packer.specs.Held.{GivesPiece, HasPlaces, Holds, IsNext, IsSound, Shows, Stays, before_shown, frontier_of, piece_of, pieces_of, runs_of, separators_of, shown_by, start_of};
 ghost use Rattle.msr_packer.specs.Steps.{AreEnds};
 
 use crate::kind_of;
@@ -47,19 +47,70 @@ pub struct Current {
     pub short: Kind,
 }
 
+/// The frontier of the next step.
+pub fn frontier_of(current: Option<Current>) -> usize
+    ensures { result ≡ frontier_of current }
+{
+    match current {
+        Some(current) => current.end,
+        None => 0,
+    }
+}
+
+/// Where the samples begin that were not given yet.
+pub fn start_of(current: Option<Current>) -> usize
+    ensures { result ≡ start_of current }
+{
+    match current {
+        Some(current) => current.start,
+        None => 0,
+    }
+}
+
+/// The kind of the last step.
+pub fn likely_of(current: Option<Current>) -> Kind {
+    match current {
+        Some(current) => current.whole,
+        None => Kind::Steim2,
+    }
+}
+
+/// The piece that ends where the next run starts.
+pub fn piece_of(offset: u64, current: Option<Current>, next: usize) -> Option<Piece>
+    requires { HasPlaces offset next current }
+    ensures { result ≡ piece_of offset current next }
+{
+    let current = current?;
+    Some(Piece {
+        run: Run {
+            start: offset + current.start as u64,
+            end: offset + next as u64,
+            kind: if next == current.end {
+                current.whole
+            } else {
+                current.short
+            },
+        },
+        separator: offset + current.frontier as u64,
+    })
+}
+
 impl Current {
-    /// A step that was found, with the kinds of its run.
-    fn of(samples: &[i32], record_length: Length, frontier: usize, found: Found) -> Current
-        requires inside { frontier < length samples.now }
-        requires step { IsStep (FitsAny (bytes_of record_length)) samples.now frontier found.step.end found.step.start }
+    /// The next step, as it was found, with the kinds of its run.
+    pub fn of(
+        samples: &[i32],
+        record_length: Length,
+        current: Option<Current>,
+        found: Found,
+    ) -> Current
+        requires inside { frontier_of current < length samples.now }
+        requires step { IsStep (FitsAny (bytes_of record_length)) samples.now (frontier_of current) found.step.end found.step.start }
         requires kind { IsRun (Fits found.step.kind (bytes_of record_length)) samples.now found.step.start found.step.end }
-        requires ends { AreEnds (bytes_of record_length) samples.now frontier found.step.end found.ends }
-        ensures frontier { result.frontier ≡ frontier }
-        ensures start { result.start ≡ found.step.start }
+        requires ends { AreEnds (bytes_of record_length) samples.now (frontier_of current) found.step.end found.ends }
+        ensures next { IsNext (bytes_of record_length) samples.now current result }
         ensures end { result.end ≡ found.step.end }
-        ensures whole { IsFirstKind (bytes_of record_length) (run_points samples.now result.start result.end) result.whole }
-        ensures short { IsFirstKind (bytes_of record_length) (run_points samples.now result.start (result.end - 1)) result.short }
     {
+        let frontier = frontier_of(current);
         let end = found.step.end;
         Current {
             frontier,
@@ -68,6 +119,20 @@ impl Current {
             whole: kind_of(samples, record_length, frontier, found, end),
             short: kind_of(samples, record_length, frontier, found, end - 1),
         }
+    }
+
+    /// The next step.
+    pub fn next(samples: &[i32], record_length: Length, current: Option<Current>) -> Current
+        requires { frontier_of current < length samples.now }
+        ensures { IsNext (bytes_of record_length) samples.now current result }
+    {
+        let found = next_step(
+            samples,
+            record_length,
+            frontier_of(current),
+            likely_of(current),
+        );
+        Current::of(samples, record_length, current, found)
     }
 }
 
@@ -116,96 +181,40 @@ impl Held {
         }
     }
 
-    /// The frontier of the next step.
-    pub fn frontier(&self) -> usize
-        ensures { result ≡ frontier_of self.now.current }
-    {
-        match self.current {
-            Some(current) => current.end,
-            None => 0,
-        }
-    }
-
-    /// Where the samples begin that were not given yet.
-    pub fn start(&self) -> usize
-        ensures { result ≡ start_of self.now.current }
-    {
-        match self.current {
-            Some(current) => current.start,
-            None => 0,
-        }
-    }
-
-    /// The kind of the last step.
-    pub fn likely(&self) -> Kind {
-        match self.current {
-            Some(current) => current.whole,
-            None => Kind::Steim2,
-        }
-    }
-
-    /// The piece that ends where the next run starts.
-    pub fn piece_to(&self, next: usize) -> Option<Piece>
-        requires sound { IsSound self.now }
-        requires within { next ≤ length self.now.samples.items }
-        ensures { result ≡ piece_of self.now.offset self.now.current next }
-    {
-        let current = self.current?;
-        Some(Piece {
-            run: Run {
-                start: self.offset + current.start as u64,
-                end: self.offset + next as u64,
-                kind: if next == current.end {
-                    current.whole
-                } else {
-                    current.short
-                },
-            },
-            separator: self.offset + current.frontier as u64,
-        })
-    }
-
-    /// Goes on to the step that was found from the frontier, and gives the piece before it, which is shown.
-    pub fn go_on(&mut self, found: Found) -> Option<Piece>
+    /// Goes on to the next step, and gives the piece before it, which is shown.
+    pub fn go_on(&mut self, step: Current) -> Option<Piece>
         requires sound { IsSound self.old }
-        requires inside { frontier_of self.old.current < length self.old.samples.items }
-        requires step { IsStep (FitsAny (bytes_of self.old.record_length)) self.old.samples.items (frontier_of self.old.current) found.step.end found.step.start }
-        requires kind { IsRun (Fits found.step.kind (bytes_of self.old.record_length)) self.old.samples.items found.step.start found.step.end }
-        requires ends { AreEnds (bytes_of self.old.record_length) self.old.samples.items (frontier_of self.old.current) found.step.end found.ends }
+        requires next { IsNext (bytes_of self.old.record_length) self.old.samples.items self.old.current step }
         ensures given { GivesPiece self.old self.new result }
         ensures none { IsNone result → shown_by self.new ≡ [] }
-        ensures end { frontier_of self.new.current ≡ found.step.end }
-        ensures some { IsSome self.new.current }
+        ensures current { self.new.current ≡ Some step }
         ensures first { IsNone result → IsNone self.old.current }
     {
-        let frontier = self.frontier();
-        let start = self.start();
-        let piece = self.piece_to(found.step.start);
-        let next = Current::of(self.samples.as_slice(), self.record_length, frontier, found);
-        self.from = start;
-        self.to = next.start;
-        self.current = Some(next);
+        let piece = piece_of(self.offset, self.current, step.start);
+        self.from = start_of(self.current);
+        self.to = step.start;
+        self.current = Some(step);
         piece
     }
 
     /// Where more samples than this stand behind the frontier, the piece before the next step, which has none where it
     /// is the first.
-    fn step_past(&mut self, behind: usize) -> Option<Piece>
+    pub fn step_past(&mut self, behind: usize) -> Option<Piece>
         requires { IsSound self.old }
         ensures given { GivesPiece self.old self.new result }
         ensures stays { most_any (bytes_of self.old.record_length) ≤ behind → Stays self.old.current (length self.old.samples.items) → Stays self.new.current (length self.old.samples.items) }
         ensures few { IsNone result → IsSome self.old.current → length self.old.samples.items ≤ frontier_of self.new.current + behind }
         ensures first { IsNone result → (length self.old.samples.items ≤ frontier_of self.new.current + behind) ⊎ IsSome self.new.current }
         ensures order { frontier_of self.old.current ≤ frontier_of self.new.current }
+        ensures furthest { (start end : ℕ) → start ≤ frontier_of self.old.current → frontier_of self.old.current + behind < length self.old.samples.items
+            → IsRun (FitsAny (bytes_of self.old.record_length)) self.old.samples.items start end → end ≤ frontier_of self.new.current }
         ensures fewer { IfSome result (λ _. frontier_of self.old.current < frontier_of self.new.current) }
     {
-        let frontier = self.frontier();
-        if self.samples.len() - frontier <= behind {
+        if self.samples.len() - frontier_of(self.current) <= behind {
             return None;
         }
-        let samples = self.samples.as_slice();
-        let found = next_step(samples, self.record_length, frontier, self.likely());
-        self.go_on(found)
+        let step = Current::next(self.samples.as_slice(), self.record_length, self.current);
+        self.go_on(step)
     }
 
     /// The next piece, where more samples than this stand behind the frontier. It is shown.
@@ -238,16 +247,16 @@ impl Held {
             → IfSome result (Shows samples (shown_by self.new) (before_shown self.new)) }
     {
         let end = self.samples.len();
-        self.from = self.start();
+        self.from = start_of(self.current);
         self.to = end;
-        self.piece_to(end)
+        piece_of(self.offset, self.current, end)
     }
 
     /// How many samples no step needs any more: those before the one before the run.
     pub fn unneeded(&self) -> usize
         ensures { result ≡ start_of self.now.current - 1 }
     {
-        self.start().saturating_sub(1)
+        start_of(self.current).saturating_sub(1)
     }
 
     /// Takes the samples away that no step needs any more. None is shown then.

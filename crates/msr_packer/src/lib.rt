@@ -11,22 +11,24 @@ mod stream;
 #[cfg(test)]
 mod tests;
 
-ghost use Rattle.std.specs.Prelude.{◌≡◌, ℕ, ◌+◌, ◌<◌, ◌≤◌, length, IfOk, List, ℤ};
+ghost use Rattle.std.specs.Prelude.{◌≡◌, ℕ, ◌+◌, ◌<◌, ◌≤◌, length, ◌++◌, IfOk, List, OnOk, ℤ};
 ghost use Rattle.msr_words.specs.declared.kinds.Run.{Run};
 ghost use Rattle.msr_words.specs.Lengths.{bytes_of};
 ghost use Rattle.msr_words.specs.Segment.{run_points};
 ghost use Rattle.msr_words.specs.Fit.{Fits, IsRun, IsFirstKind};
+ghost use Rattle.msr_packer.specs.Held.{pieces_of, runs_of, separators_of};
 ghost use Rattle.msr_packer.specs.Steps.{AreEnds};
 ghost use Rattle.msr_words.specs.Packing.{IsPacking, IsSeparating, IsLeast, IsCanonical};
 
 pub use blocks::{BlockPacker, blocks_begin_all, blocks_end, blocks_leave_few, last_blocks_begin};
 pub use existence::{packing_exists, step_of_window};
 pub use held::Piece;
+use held::{Current, frontier_of, piece_of};
 pub use msr_words::Run;
 use msr_words::{Kind, Length, first_kind};
 use std::alloc::{AllocError, Global};
-use step::{Found, next_step};
-pub use stream::{Last, StreamPacker, pieces_begin_all, stream_leaves_few};
+use step::Found;
+pub use stream::{Last, StreamPacker, Taken, pieces_begin_all, stream_leaves_few};
 
 /// Runs that join to a segment, and samples that show that no packing has fewer.
 #[derive(Debug, Drop, PartialEq, Eq)]
@@ -36,7 +38,7 @@ pub struct Packing {
 }
 
 /// The kind in which the run of a step is written that is cut at `end`. The ends of the kinds from the frontier tell
-/// it where the run starts there.
+/// it, but for a run that starts before the frontier and that Steim-2 may fit, too.
 fn kind_of(
     samples: &[i32],
     record_length: Length,
@@ -51,6 +53,10 @@ fn kind_of(
     ensures { IsFirstKind (bytes_of record_length) (run_points samples.now found.step.start end) result }
 {
     if found.step.start < frontier {
+        // a run of Steim-2 from there would fit from the frontier on as well
+        if found.step.kind == Kind::Steim1 && found.ends.steim2 < end {
+            return Kind::Steim1;
+        }
         return first_kind(samples, found.step.start, end, record_length);
     }
     if end <= found.ends.steim2 {
@@ -66,20 +72,17 @@ fn kind_of(
     }
 }
 
-/// The run of a step that is cut at `end`.
-fn run_of(samples: &[i32], record_length: Length, frontier: usize, found: Found, end: usize) -> Run
-    requires before { found.step.start ≤ frontier }
-    requires ends { AreEnds (bytes_of record_length) samples.now frontier found.step.end found.ends }
-    requires fits { IsRun (Fits found.step.kind (bytes_of record_length)) samples.now found.step.start end }
-    requires near { found.step.end ≤ end + 1 }
-    ensures start { result.start ≡ found.step.start }
-    ensures end { result.end ≡ end }
-    ensures kind { IsFirstKind (bytes_of record_length) (run_points samples.now found.step.start end) result.kind }
-{
-    Run {
-        start: found.step.start as u64,
-        end: end as u64,
-        kind: kind_of(samples, record_length, frontier, found, end),
+impl Packing {
+    /// Adds a piece, if there is one.
+    fn add(&mut self, piece: Option<Piece>) -> Result<(), AllocError>
+        ensures runs { OnOk result (self.new.runs.items ≡ self.old.runs.items ++ runs_of (pieces_of piece)) }
+        ensures separators { OnOk result (self.new.separators.items ≡ self.old.separators.items ++ separators_of (pieces_of piece)) }
+    {
+        if let Some(piece) = piece {
+            self.runs.push(piece.run)?;
+            self.separators.push(piece.separator)?;
+        }
+        Ok(())
     }
 }
 
@@ -91,23 +94,18 @@ pub fn pack(alloc: Global, samples: &[i32], record_length: Length) -> Result<Pac
     ensures as_many { IfOk result (λ p. length p.runs.items ≡ length p.separators.items) }
     ensures canonical { IfOk result (λ p. IsCanonical (bytes_of record_length) samples.now p.runs.items p.separators.items) }
 {
-    let mut runs = Vec::new(alloc);
-    let mut separators = Vec::new(alloc);
-    if samples.is_empty() {
-        return Ok(Packing { runs, separators });
+    let mut packing = Packing {
+        runs: Vec::new(alloc),
+        separators: Vec::new(alloc),
+    };
+    let mut current = None;
+    while frontier_of(current) < samples.len() {
+        let next = Current::next(samples, record_length, current);
+        packing.add(piece_of(0, current, next.start))?;
+        current = Some(next);
     }
-    let mut frontier = 0;
-    let mut found = next_step(samples, record_length, 0, Kind::Steim2);
-    while found.step.end < samples.len() {
-        let next = next_step(samples, record_length, found.step.end, found.step.kind);
-        runs.push(run_of(samples, record_length, frontier, found, next.step.start))?;
-        separators.push(frontier as u64)?;
-        frontier = found.step.end;
-        found = next;
-    }
-    runs.push(run_of(samples, record_length, frontier, found, samples.len()))?;
-    separators.push(frontier as u64)?;
-    Ok(Packing { runs, separators })
+    packing.add(piece_of(0, current, samples.len()))?;
+    Ok(packing)
 }
 
 /// For each segment and record length at most one packing with its separators is the canonical one.

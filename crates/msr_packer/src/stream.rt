@@ -1,20 +1,26 @@
-//! The packing of a segment whose samples come one after another.
+//! The packing of a segment whose samples come one after another, or some at a time.
 
-ghost use Rattle.std.specs.Prelude.{◌≡◌, ℕ, ℤ, List, [], ◌∷◌, ◌++◌, ◌+◌, ◌-◌, ◌*◌, ◌^◌, ◌≤◌, length, MatchResult};
+ghost use Rattle.std.specs.Prelude.{◌≡◌, ℕ, ℤ, List, [], ◌∷◌, ◌++◌, ◌+◌, ◌<◌, ◌≤◌, ◌⊎◌, ◌^◌, length, take, MatchResult, IfOk, IsNone};
 ghost use Rattle.msr_words.specs.declared.kinds.Run.{Run};
-ghost use Rattle.msr_words.specs.declared.lengths.Length.{Length};
 ghost use Rattle.msr_words.specs.Laws.{most_any};
 ghost use Rattle.msr_words.specs.Lengths.{bytes_of};
-ghost use Rattle.msr_packer.specs.Held.{pieces_of, runs_of, samples_of, separators_of, shown_by};
-ghost use Rattle.msr_packer.specs.Stream.{IsEnd, IsStream, PiecesBeginAll, StreamLeavesFew, Streams};
+ghost use Rattle.msr_packer.specs.Blocks.{pushed};
+ghost use Rattle.msr_packer.specs.Held.{Holds, frontier_of, pieces_of, runs_of, samples_of, separators_of};
+ghost use Rattle.msr_packer.specs.Stream.{IsEnd, IsStreaming, PiecesBeginAll, StreamLeavesFew, Streams};
 
-use crate::held::{Held, Piece, remove_front};
-use crate::kind_of;
+use crate::held::{Current, Held, Piece, frontier_of, likely_of, remove_front, start_of};
 use crate::live::Live;
-use crate::step::next_step;
 use arrayvec::ArrayVec;
-use msr_words::{Length, Run};
+use msr_words::{AnyKind, Length, Tracker};
 use std::alloc::{AllocError, Global};
+use std::marker::Model;
+
+/// The first samples of some that were pushed, and the piece that the last of them decided.
+#[derive(Clone, Copy, Debug, PartialEq, Eq)]
+pub struct Taken {
+    pub count: usize,
+    pub piece: Option<Piece>,
+}
 
 /// The pieces that were not given when the samples ended, and the samples from the first of them on.
 #[derive(Debug, Drop)]
@@ -23,19 +29,40 @@ pub struct Last {
     pub samples: Vec<i32>,
 }
 
-/// A last piece behind the one before it, where there is one.
-fn with_last(piece: Option<Piece>, last: Piece) -> ArrayVec<Piece, 2>
-    ensures { result.items ≡ pieces_of piece ++ last ∷ [] }
+/// The pieces that there are.
+fn both(first: Option<Piece>, last: Option<Piece>) -> ArrayVec<Piece, 2>
+    ensures { result.items ≡ pieces_of first ++ pieces_of last }
 {
     let mut pieces = ArrayVec::new();
-    if let Some(piece) = piece {
-        pieces.push(piece);
+    if let Some(first) = first {
+        pieces.push(first);
     }
-    pieces.push(last);
+    if let Some(last) = last {
+        pieces.push(last);
+    }
     pieces
 }
 
-/// Takes the samples of a segment one after another, and gives each run of the packing when it is decided.
+/// Takes the samples away that no step needs any more. None is shown then.
+fn forget(held: &mut Held, live: &mut Live)
+    requires { IsStreaming held.old live.old }
+    ensures streaming { IsStreaming held.new live.new }
+    ensures holds { (samples : List ℤ) (runs : List Run) (separators : List ℕ) → Holds samples runs separators held.old
+        → Holds samples runs separators held.new }
+    ensures size { held.new.record_length ≡ held.old.record_length }
+    ensures number { held.new.offset + length held.new.samples.items ≡ held.old.offset + length held.old.samples.items }
+    ensures near { frontier_of held.new.current ≤ most_any (bytes_of held.new.record_length) + 1 }
+    ensures behind { length held.new.samples.items ≤ frontier_of held.new.current + most_any (bytes_of held.new.record_length) }
+    ensures from { held.new.from ≡ 0 }
+    ensures to { held.new.to ≡ 0 }
+    ensures first { IsNone held.new.current → IsNone held.old.current }
+{
+    live.start -= held.unneeded();
+    held.forget();
+}
+
+/// Takes the samples of a segment one after another, or some at a time, and gives each run of the packing when it is
+/// decided.
 #[derive(Drop)]
 pub struct StreamPacker {
     held: Held,
@@ -43,11 +70,24 @@ pub struct StreamPacker {
     live: Live,
 }
 
+impl Model for StreamPacker {
+    ghost use Rattle.std.specs.Prelude.{false};
+    ghost use Rattle.msr_packer.specs.Blocks.{Holding, holding_of};
+    ghost use Rattle.msr_packer.specs.Stream.{IsStreaming};
+
+    ghost Value = { Holding };
+
+    ghost view = { λ p. holding_of p.held false };
+
+    ghost invariant = { λ p. IsStreaming p.held p.live };
+}
+
 impl StreamPacker {
     /// A packer that no sample was pushed to. It takes no memory yet.
     pub fn new(alloc: Global, record_length: Length) -> StreamPacker
-        ensures none { Streams record_length [] [] [] result }
-        ensures shown { shown_by result.held ≡ [] }
+        ensures none { Streams (bytes_of record_length) [] [] [] result }
+        ensures shown { result.shown ≡ [] }
+        ensures count { pushed result ≡ 0 }
     {
         StreamPacker {
             held: Held::empty(alloc, record_length),
@@ -55,95 +95,90 @@ impl StreamPacker {
         }
     }
 
-    /// Takes the samples away that are not needed any more.
-    fn forget(&mut self)
-        requires { IsStream (2 ^ 64 - 2) self.old }
-        ensures streams { (record_length : Length) (samples : List ℤ) (runs : List Run) (separators : List ℕ)
-            → Streams record_length samples runs separators self.old → Streams record_length samples runs separators self.new }
-        ensures from { self.new.held.from ≡ 0 }
-        ensures to { self.new.held.to ≡ 0 }
-        ensures few { length self.new.held.samples.items ≤ 2 * most_any (bytes_of self.new.held.record_length) + 1 }
-    {
-        self.live.start -= self.held.unneeded();
-        self.held.forget();
-    }
-
     /// Takes one sample more, and gives a piece where one is decided. Where memory is refused it is as it was, but
     /// shows no samples.
     pub fn push(&mut self, sample: i32) -> Result<Option<Piece>, AllocError>
-        requires { IsStream (2 ^ 64 - 2) self.old }
-        ensures given { (record_length : Length) (samples : List ℤ) (runs : List Run) (separators : List ℕ) → Streams record_length samples runs separators self.old
+        requires { pushed self.old + 1 < 2 ^ 64 }
+        ensures given { (bytes : ℕ) (samples : List ℤ) (runs : List Run) (separators : List ℕ) → Streams bytes samples runs separators self.old
             → MatchResult result
-            (λ piece. Streams record_length (samples ++ sample ∷ []) (runs ++ runs_of (pieces_of piece)) (separators ++ separators_of (pieces_of piece)) self.new)
-            (λ _. Streams record_length samples runs separators self.new) }
-        ensures shown { (record_length : Length) (samples : List ℤ) (runs : List Run) (separators : List ℕ) → Streams record_length samples runs separators self.old
+            (λ piece. Streams bytes (samples ++ sample ∷ []) (runs ++ runs_of (pieces_of piece)) (separators ++ separators_of (pieces_of piece)) self.new)
+            (λ _. Streams bytes samples runs separators self.new) }
+        ensures shown { (bytes : ℕ) (samples : List ℤ) (runs : List Run) (separators : List ℕ) → Streams bytes samples runs separators self.old
             → MatchResult result
-            (λ piece. shown_by self.new.held ≡ samples_of (samples ++ sample ∷ []) piece)
-            (λ _. shown_by self.new.held ≡ []) }
+            (λ piece. self.new.shown ≡ samples_of (samples ++ sample ∷ []) piece)
+            (λ _. self.new.shown ≡ []) }
+        ensures count { MatchResult result (λ _. pushed self.new ≡ pushed self.old + 1) (λ _. pushed self.new ≡ pushed self.old) }
     {
-        self.forget();
+        let taken = self.push_some(&[sample])?;
+        Ok(taken.piece)
+    }
+
+    /// Takes samples up to the one that decides the next step, or all of them where none does, as so many single pushes
+    /// would, of which only the last gives a piece. Where memory is refused none was taken, and no samples are shown.
+    pub fn push_some(&mut self, samples: &[i32]) -> Result<Taken, AllocError>
+        requires { pushed self.old + length samples.now < 2 ^ 64 }
+        ensures given { (bytes : ℕ) (before : List ℤ) (runs : List Run) (separators : List ℕ) → Streams bytes before runs separators self.old
+            → MatchResult result
+            (λ taken. Streams bytes (before ++ take taken.count samples.now) (runs ++ runs_of (pieces_of taken.piece)) (separators ++ separators_of (pieces_of taken.piece)) self.new)
+            (λ _. Streams bytes before runs separators self.new) }
+        ensures shown { (bytes : ℕ) (before : List ℤ) (runs : List Run) (separators : List ℕ) → Streams bytes before runs separators self.old
+            → MatchResult result
+            (λ taken. self.new.shown ≡ samples_of (before ++ take taken.count samples.now) taken.piece)
+            (λ _. self.new.shown ≡ []) }
+        ensures within { IfOk result (λ taken. taken.count ≤ length samples.now) }
+        ensures some { IfOk result (λ taken. 0 < length samples.now → 0 < taken.count) }
+
+        // No piece stands before the first step.
+        ensures all { IfOk result (λ taken. IsNone taken.piece → (taken.count ≡ length samples.now) ⊎ IsNone self.old.current) }
+        ensures count { MatchResult result (λ taken. pushed self.new ≡ pushed self.old + taken.count) (λ _. pushed self.new ≡ pushed self.old) }
+    {
+        forget(&mut self.held, &mut self.live);
+        let record_length = self.held.record_length;
+        let frontier = frontier_of(self.held.current);
         let from = self.held.samples.len();
-        self.held.samples.push(sample)?;
-        let frontier = self.held.frontier();
-        let likely = self.held.likely();
-        let found = self.live.decide(
-            self.held.samples.as_slice(),
-            self.held.record_length,
-            frontier,
-            from,
-            likely,
-        );
-        let Some(found) = found else {
-            return Ok(None);
+        // with one sample more than a longest run behind the frontier the step is decided
+        let room = frontier + AnyKind::most(record_length) + 1 - from;
+        let count = room.min(samples.len());
+        self.held.samples.extend_from_slice(&samples[..count])?;
+        let likely = likely_of(self.held.current);
+        let seen = self.held.samples.as_slice();
+        let Some(found) = self
+            .live
+            .decide(seen, record_length, frontier, from, likely)
+        else {
+            return Ok(Taken { count, piece: None });
         };
-        let piece = self.held.go_on(found);
-        self.live = Live::first(
-            self.held.samples.as_slice(),
-            self.held.record_length,
-            found.step.end,
-        );
-        Ok(piece)
+        // the sample behind the step is the one that decides it
+        let end = found.step.end + 1;
+        self.held.samples.truncate(end);
+        let seen = self.held.samples.as_slice();
+        let next = Current::of(seen, record_length, self.held.current, found);
+        self.live = Live::first(seen, record_length, next.end);
+        let piece = self.held.go_on(next);
+        let count = end - from;
+        Ok(Taken { count, piece })
     }
 
     /// The samples of the piece that the last push gave, none where it gave none.
     pub fn run_samples(&self) -> &[i32]
-        requires { IsStream (2 ^ 64 - 1) self.now }
-        ensures { result.now ≡ shown_by self.now.held }
+        ensures { result.now ≡ self.now.shown }
     {
         self.held.shown()
     }
 
     /// The pieces that were not given, where no sample follows: at most two. It takes no memory.
     pub fn end(self) -> Last
-        requires { IsStream (2 ^ 64 - 1) self }
-        ensures { (record_length : Length) (samples : List ℤ) (runs : List Run) (separators : List ℕ) → Streams record_length samples runs separators self
-            → IsEnd record_length samples runs separators result.pieces.items result.samples.items }
+        ensures { (bytes : ℕ) (samples : List ℤ) (runs : List Run) (separators : List ℕ) → Streams bytes samples runs separators self
+            → IsEnd bytes samples runs separators result.pieces.items result.samples.items }
     {
-        let held = self.held;
-        if held.samples.is_empty() {
-            return Last {
-                pieces: ArrayVec::new(),
-                samples: held.samples,
-            };
-        }
-        let samples = held.samples.as_slice();
-        let frontier = held.frontier();
-        let next = next_step(samples, held.record_length, frontier, held.likely());
-        let end = samples.len();
-        let last = Piece {
-            run: Run {
-                start: held.offset + next.step.start as u64,
-                end: held.offset + end as u64,
-                kind: kind_of(samples, held.record_length, frontier, next, end),
-            },
-            separator: held.offset + frontier as u64,
-        };
-        let pieces = with_last(held.piece_to(next.step.start), last);
-        let start = held.start();
+        let mut held = self.held;
+        let start = start_of(held.current);
+        let first = held.step_past(0);
+        let last = held.last_piece();
         let mut rest = held.samples;
         remove_front(&mut rest, start);
         Last {
-            pieces,
+            pieces: both(first, last),
             samples: rest,
         }
     }

@@ -3,7 +3,7 @@
 ghost use Rattle.std.specs.Prelude.{◌≡◌};
 ghost use Rattle.msr_packer.specs.Blocks.{pushed};
 
-use crate::{BlockPacker, Packing, Piece, Run, StreamPacker, pack};
+use crate::{BlockPacker, Last, Packing, Piece, Run, StreamPacker, pack};
 use Made::{Bounds, Extremes, Noise, Signs, Swings, Turns, Zeros};
 use msr_words::Kind::{self, Int16, Int24, Int32, Steim1, Steim2};
 use msr_words::Length;
@@ -299,6 +299,26 @@ impl Streamed {
         }
     }
 
+    /// Adds a piece, if there is one, with its samples.
+    fn add_if_any(&mut self, piece: Option<Piece>, samples: &[i32]) -> Result<(), AllocError> {
+        if let Some(piece) = piece {
+            self.packing.runs.push(piece.run)?;
+            self.packing.separators.push(piece.separator)?;
+        }
+        self.samples.extend_from_slice(samples)
+    }
+
+    /// Adds the last pieces.
+    fn with_last(self, last: Last) -> Result<Streamed, AllocError> {
+        let mut given = self;
+        for piece in last.pieces.as_slice() {
+            given.packing.runs.push(piece.run)?;
+            given.packing.separators.push(piece.separator)?;
+        }
+        given.samples.extend_from_slice(last.samples.as_slice())?;
+        Ok(given)
+    }
+
     /// Adds a piece with its samples, and the sample before them.
     fn add(
         &mut self,
@@ -308,9 +328,7 @@ impl Streamed {
     ) -> Result<(), AllocError> {
         let last = self.samples.as_slice().last().copied();
         self.joined = self.joined && before == last;
-        self.packing.runs.push(piece.run)?;
-        self.packing.separators.push(piece.separator)?;
-        self.samples.extend_from_slice(samples)
+        self.add_if_any(Some(piece), samples)
     }
 }
 
@@ -321,27 +339,31 @@ fn stream_of(
     record_length: Length,
 ) -> Result<Streamed, AllocError> {
     let mut packer = StreamPacker::new(alloc, record_length);
-    let mut runs = Vec::new(alloc);
-    let mut separators = Vec::new(alloc);
-    let mut shown = Vec::new(alloc);
+    let mut given = Streamed::empty(alloc);
     for at in 0..samples.len() {
-        if let Some(Piece { run, separator }) = packer.push(samples[at])? {
-            runs.push(run)?;
-            separators.push(separator)?;
-        }
-        shown.extend_from_slice(packer.run_samples())?;
+        let piece = packer.push(samples[at])?;
+        given.add_if_any(piece, packer.run_samples())?;
     }
-    let last = packer.end();
-    for piece in last.pieces.as_slice() {
-        runs.push(piece.run)?;
-        separators.push(piece.separator)?;
+    given.with_last(packer.end())
+}
+
+/// At most so many samples pushed at a time.
+fn in_some(
+    alloc: Global,
+    samples: &[i32],
+    record_length: Length,
+    size: usize,
+) -> Result<Streamed, AllocError> {
+    let mut packer = StreamPacker::new(alloc, record_length);
+    let mut given = Streamed::empty(alloc);
+    let mut from = 0;
+    while from < samples.len() {
+        let to = from + size.max(1).min(samples.len() - from);
+        let taken = packer.push_some(&samples[from..to])?;
+        given.add_if_any(taken.piece, packer.run_samples())?;
+        from += taken.count;
     }
-    shown.extend_from_slice(last.samples.as_slice())?;
-    Ok(Streamed {
-        packing: Packing { runs, separators },
-        samples: shown,
-        joined: true,
-    })
+    given.with_last(packer.end())
 }
 
 #[test]
@@ -353,6 +375,11 @@ fn the_rows_as_a_stream(rt: HostRuntime) -> Result<(), Fail> {
         let packing = pack(rt.alloc(), samples.as_slice(), record_length)?;
         assert_eq!(rt; given.packing, packing, "{bytes} {made:?}");
         assert_eq!(rt; given.samples, samples, "{bytes} {made:?}");
+        for size in [1, 7, 100, 1_000_000] {
+            let given = in_some(rt.alloc(), samples.as_slice(), record_length, size)?;
+            assert_eq!(rt; given.packing, packing, "{bytes} {made:?} by {size}");
+            assert_eq!(rt; given.samples, samples, "{bytes} {made:?} by {size}");
+        }
     }
     Ok(())
 }

@@ -1,11 +1,17 @@
-use Rattle.std.proofs.Common.{◌≡◌, ◌<◌, arith, subst, sym}
+use Rattle.std.proofs.Common.{rules, ◌≡◌, ◌<◌, arith, subst, sym}
 use Rattle.msr_words.specs.declared.kinds.Kind.{Kind}
 use Rattle.msr_words.specs.declared.kinds.Kind.TheVariants.{Int16, Int24, Int32, Steim1, Steim2}
 use Rattle.msr_words.specs.Fit.{Fits, IsFirstKind, rank}
 use Rattle.msr_words.specs.Segment.{run_points}
 use Rattle.msr_packer.specs.Steps.{end_of}
-use Rattle.msr_packer.proofs.Ends.{first_by_ends, last_by_ends}
+use Rattle.msr_packer.proofs.Ends.{first_by_ends, last_by_ends, not_before}
 use Rattle.msr_packer.proofs.kind_of.Goals as goal
+
+pub returns-then-found-end : goal.returns-then-found-end
+returns-then-found-end c =
+    let one : c.args.found.step.kind ≡ Steim1 = search rules in
+    let fits = subst (λ kind. Fits kind c.args.record_length.bytes (run_points c.args.samples.now c.args.found.step.start c.args.end)) one c.requires.fits.2 in
+    not_before c.args.record_length.bytes c.args.samples.now c.args.frontier c.args.found.step.end c.args.found.ends c.requires.ends c.args.found.step.start c.args.end c.requires.before c.requires.near c.requires.fits.1 (omega arith) fits
 
 pub returns-then-end-found : goal.returns-then-end-found
 returns-then-end-found c =

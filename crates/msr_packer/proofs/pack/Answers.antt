@@ -1,54 +1,56 @@
-use Rattle.std.proofs.Common.{arith, length, ◌++◌, ◌∷◌, [], ◌<◌, ◌≤◌}
-use Rattle.msr_packer.proofs.Least.{goes_on, cut_fits, cut_near, all_fits, one_more, last_one, found}
+use Rattle.std.proofs.Common.{rules, ◌^◌, arith, length, ◌<◌, ◌≤◌}
+use Rattle.msr_packer.specs.Held.{frontier_of}
+use Rattle.msr_packer.proofs.Holding.{ends_with, next_stepped, window_next}
+use Rattle.msr_packer.proofs.Least.{found}
 use Rattle.msr_packer.proofs.pack.Goals as goal
 
-pub run_of-requires : goal.run_of-requires
-run_of-requires c =
-    let far = c.loop-found.invariant.so_far in
-    record {
-      before = far.step.before;
-      ends = c.loop-found.invariant.ends;
-      fits = cut_fits c.args.record_length.bytes c.args.samples.now (omega arith) c.loop-found.frontier c.loop-found.found.step.end c.loop-found.found.step.start
-          far.within far.step c.loop-found.found.step.kind far.reached
-          c.next_step-next.result.step.end c.next_step-next.result.step.start (omega arith) c.next_step-next.ensures.step;
-      near = cut_near c.args.record_length.bytes c.args.samples.now (omega arith) c.loop-found.frontier c.loop-found.found.step.end c.loop-found.found.step.start
-          far.within far.step c.next_step-next.result.step.end c.next_step-next.result.step.start (omega arith) c.next_step-next.ensures.step;
-    }
+pub piece_of-requires : goal.piece_of-requires
+piece_of-requires c =
+    let fits : length c.args.samples.now < 2 ^ 64 = search rules in
+    let next = c.next-next.ensures in
+    let order = next.step.reached.0 in
+    let within = next.step.reached.1 in
+    record { bytes = c.args.record_length.bytes; number = length c.args.samples.now; inside = c.loop-record_length.invariant.inside; within = omega arith; counted = omega arith }
 
-pub run_of-requires-2 : goal.run_of-requires-2
-run_of-requires-2 c =
-    let far = c.loop-found.invariant.so_far in
-    let in' = far.step.reached.1 in
-    record {
-      before = far.step.before;
-      ends = c.loop-found.invariant.ends;
-      fits = all_fits c.args.record_length.bytes c.args.samples.now (omega arith) c.loop-found.frontier c.loop-found.found.step.end c.loop-found.found.step.start
-          far.within far.step c.loop-found.found.step.kind far.reached (omega arith);
-      near = omega arith;
-    }
+pub piece_of-requires-2 : goal.piece_of-requires-2
+piece_of-requires-2 c =
+    let fits : length c.args.samples.now < 2 ^ 64 = search rules in
+    record { bytes = c.args.record_length.bytes; number = length c.args.samples.now; inside = c.loop-record_length.invariant.inside; within = omega arith; counted = omega arith }
 
-pub loop-found-smaller : goal.loop-found-smaller
-loop-found-smaller c =
-    let more : c.loop-found.found.step.end < length c.args.samples.now = omega arith in
-    let on = goes_on c.args.record_length.bytes c.args.samples.now (omega arith) c.loop-found.found.step.end c.next_step-next.result.step.end c.next_step-next.result.step.start more c.next_step-next.ensures.step in
-    let inside = c.next_step-next.ensures.step.reached.1 in
+pub loop-record_length-smaller : goal.loop-record_length-smaller
+loop-record_length-smaller c =
+    let samples = c.args.samples.now in
+    let next = c.next-next.ensures in
+    let s = next_stepped c.args.record_length.bytes c.args.record_length.least samples c.loop-record_length.current c.next-next.result next in
+    let on = s.on in
+    let within = next.step.reached.1 in
+    let end : c.next-next.result.end ≤ length samples = omega arith in
     omega arith
 
-pub loop-found-preserved : goal.loop-found-preserved
-loop-found-preserved c =
-    rw (c.in_ok-push.ensures.items, c.in_ok-push-2.ensures.items)
-    (let more = one_more c.args.record_length.bytes c.args.samples.now c.loop-found.runs.items c.loop-found.separators.items
-    c.loop-found.frontier c.loop-found.found.step.end c.loop-found.found.step.start c.loop-found.found.step.kind c.loop-found.invariant.so_far c.run_of.result c.run_of.ensures.start
-    c.next_step-next.result.step.end c.next_step-next.result.step.start c.next_step-next.result.step.kind (omega arith) c.next_step-next.ensures.step c.next_step-next.ensures.kind
-    c.run_of.ensures.end c.run_of.ensures.kind in
-    record { so_far = more; ends = c.next_step-next.ensures.ends })
+pub loop-record_length-preserved : goal.loop-record_length-preserved
+loop-record_length-preserved c =
+    let i = c.loop-record_length.invariant in
+    let bytes = c.args.record_length.bytes in
+    let enough = c.args.record_length.least in
+    let samples = c.args.samples.now in
+    let current = c.loop-record_length.current in
+    let next = c.next-next.ensures in
+    let s = next_stepped bytes enough samples current c.next-next.result next in
+    let frontier = next.frontier in
+    let before = next.step.before in
+    let on = s.on in
+    rw (c.in_ok-add.ensures.runs, c.in_ok-add.ensures.separators, c.piece_of.ensures)
+    (record {
+      window = window_next bytes enough samples c.loop-record_length.packing.runs.items c.loop-record_length.packing.separators.items samples 0 current c.next-next.result i.window next;
+      inside = record { before = before; on = omega arith; within = next.step.reached.1; short = s.few };
+    })
 
 pub returns : goal.returns
 returns c =
-    let done : length c.args.samples.now ≤ c.loop-found.found.step.end = omega arith in
-    rw (c.in_ok-push-3.ensures.items, c.in_ok-push-4.ensures.items)
-    (let shown = found c.args.record_length.bytes c.args.samples.now (omega arith) (c.loop-found.runs.items ++ c.run_of-2.result ∷ []) (c.loop-found.separators.items ++ c.loop-found.frontier ∷ [])
-    (last_one c.args.record_length.bytes c.args.samples.now c.loop-found.runs.items c.loop-found.separators.items
-    c.loop-found.frontier c.loop-found.found.step.end c.loop-found.found.step.start c.loop-found.found.step.kind c.loop-found.invariant.so_far c.run_of-2.result c.run_of-2.ensures.start
-    done c.run_of-2.ensures.end c.run_of-2.ensures.kind) in
-    record { packing = shown.packing; least = shown.least; separating = shown.separating; as_many = shown.as_many; canonical = shown.canonical })
+    let i = c.loop-record_length.invariant in
+    let bytes = c.args.record_length.bytes in
+    let samples = c.args.samples.now in
+    let done : length samples ≤ frontier_of c.loop-record_length.current = omega arith in
+    let f = found bytes samples c.args.record_length.least _ _ (ends_with bytes samples c.loop-record_length.packing.runs.items c.loop-record_length.packing.separators.items samples 0 c.loop-record_length.current i.window done) in
+    rw (c.in_ok-add-2.ensures.runs, c.in_ok-add-2.ensures.separators, c.piece_of-2.ensures)
+    (record { packing = f.packing; least = f.least; separating = f.separating; as_many = f.as_many; canonical = f.canonical })

@@ -1,6 +1,7 @@
 -- As many samples were pushed as were looked at.
-use Rattle.msr_packer.specs.Stream.{IsStream}
+use Rattle.std.proofs.Common.{◌≡◌}
+use Rattle.msr_packer.specs.Blocks.{pushed}
 use Rattle.msr_packer.proofs.tests.stream_of.Given as goal
 
 abbrev pub invariant-loop-at : goal.invariant-loop-at
-invariant-loop-at l = IsStream l.at l.packer
+invariant-loop-at l = pushed l.packer ≡ l.at

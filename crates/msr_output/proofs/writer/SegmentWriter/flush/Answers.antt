@@ -1,4 +1,4 @@
-use Rattle.std.proofs.Common.{refl, true, false}
+use Rattle.std.proofs.Common.{refl, false}
 use Rattle.std.proofs.lemmas.Result.{err_from_is_err_and}
 use Rattle.msr_words.specs.Lengths.{bytes_of}
 use Rattle.msr_output.specs.Writing.{Writing}

@@ -1,34 +1,41 @@
-use Rattle.std.proofs.Common.{rules, ◌+◌, ◌<◌, ap, length, refl, subst}
-use Rattle.msr_packer.specs.Held.{start_of}
-use Rattle.msr_packer.specs.Stream.{IsEnd}
-use Rattle.msr_packer.proofs.Holding.{frontier_inside, leaves}
-use Rattle.msr_packer.proofs.Streaming.{ends_all}
+use Rattle.std.proofs.Common.{◌+◌, ◌++◌, ◌≤◌, ap, append_assoc, arith, inl, inr, length}
+use Rattle.std.proofs.lemmas.Bool.{cases_lt}
+use Rattle.std.proofs.lemmas.List.{map-append}
+use Rattle.msr_packer.specs.Held.{frontier_of, pieces_of, runs_of, separators_of, start_of}
+use Rattle.msr_packer.specs.declared.held.Piece.{Piece}
+use Rattle.msr_packer.proofs.Holding.{leaves}
+use Rattle.msr_packer.proofs.InBlocks.{holds_in}
+use Rattle.msr_packer.proofs.Streaming.{live_run}
 use Rattle.msr_packer.proofs.stream.StreamPacker.end.Goals as goal
 
-pub kind_of-requires-clause-fits : goal.kind_of-requires-clause-fits
-kind_of-requires-clause-fits c =
-    let s = c.requires.streams in
-    let held = c.args.self.held in
-    let some : 0 < length held.samples.items = search rules in
-    let inside = frontier_inside held.samples.items held.current s.stays some in
-    let e = ends_all held.record_length.bytes held.record_length.least c.requires.samples c.requires.runs c.requires.separators held.samples.items held.offset held.current c.args.self.live
-    c.next_step-next.result.step.end c.next_step-next.result.step.start c.next_step-next.result.step.kind s.holds s.live inside
-    (rw (c.as_slice-samples.ensures.value, c.frontier-frontier.ensures) at c.next_step-next.ensures.step) (rw c.as_slice-samples.ensures.value at c.next_step-next.ensures.kind) in
-    rw c.as_slice-samples.ensures.value e.all
+pub last_piece-last-requires-clause-end : goal.last_piece-last-requires-clause-end
+last_piece-last-requires-clause-end c =
+    let held = c.self.inside.held in
+    let t = c.self.invariant in
+    let e = c.step_past-first.ensures in
+    let same = ap length e.given.held in
+    let order = e.order in
+    elim (cases_lt (frontier_of held.current) (length held.samples.items)) as (λ _. length c.step_past-first.new.self.samples.items ≤ frontier_of c.step_past-first.new.self.current) [
+      | inl more ↦
+          let run = live_run held.record_length.bytes held.samples.items (frontier_of held.current) (length held.samples.items) c.self.inside.live (omega arith) t.is_live in
+          let far = e.furthest c.self.inside.live.start (length held.samples.items) t.is_live.before (omega arith) run in
+          omega arith
+      | inr done ↦ omega arith
+    ]
 
 pub returns : goal.returns
-returns c = λ record_length samples runs separators s.
-    let held = c.args.self.held in
-    let some : 0 < length held.samples.items = search rules in
-    let inside = frontier_inside held.samples.items held.current s.stays some in
-    let e = ends_all held.record_length.bytes held.record_length.least samples runs separators held.samples.items held.offset held.current c.args.self.live
-    c.next_step-next.result.step.end c.next_step-next.result.step.start c.next_step-next.result.step.kind s.holds s.live inside
-    (rw (c.as_slice-samples.ensures.value, c.frontier-frontier.ensures) at c.next_step-next.ensures.step) (rw c.as_slice-samples.ensures.value at c.next_step-next.ensures.kind) in
-    let l = leaves held.record_length.bytes samples runs separators held.samples.items held.offset held.current s.holds in
-    let first = rw c.as_slice-samples.ensures.value at c.kind_of.ensures in
-    subst (λ size. IsEnd size samples runs separators c.with_last-pieces.result.items c.remove_front.new.held.items) s.size (record {
-      canonical = rw (c.with_last-pieces.ensures, c.piece_to.ensures) (e.canonical c.kind_of.result _ first refl (ap (λ xs. held.offset + length xs) c.as_slice-samples.ensures.value) refl (ap (λ n. held.offset + n) c.frontier-frontier.ensures));
+returns c = λ bytes samples runs separators s.
+    let held = c.self.inside.held in
+    let q = (rw (← c.self.view_is) at s).packs in
+    let l = leaves bytes samples runs separators held.samples.items held.offset held.current q.holds in
+    let g = c.step_past-first.ensures.given in
+    let first = pieces_of c.step_past-first.result in
+    let last = pieces_of c.last_piece-last.result in
+    let canonical = c.last_piece-last.ensures.canonical samples (runs ++ runs_of first) (separators ++ separators_of first) (g.holds samples runs separators (holds_in bytes samples runs separators held q.size q.holds)) in
+    record {
+      canonical = rw (c.both.ensures, map-append (λ (p : Piece). p.run) first last, map-append (λ (p : Piece). p.separator) first last, ← append_assoc runs (runs_of first) (runs_of last), ← append_assoc separators (separators_of first) (separators_of last))
+          (rw (g.size, q.size) at canonical);
       given = held.offset + start_of held.current;
       joined = l.joined;
-      from_there = rw (c.remove_front.ensures, c.start-start.ensures) l.from_there;
-    })
+      from_there = rw (c.remove_front.ensures, c.last_piece-last.ensures.held, g.held, c.start_of-start.ensures) l.from_there;
+    }
