@@ -124,23 +124,6 @@ pub last-begun : (start now : Device) (writing : Writing) (packed : List Packed)
 last-begun start now writing packed None opened h = absurd h
 last-begun start now writing packed (Some segment) opened h = record { segment = segment; is = refl; begun = h }
 
-pub none-begun : (start now : Device) (writing : Writing) (packed : List Packed) (current : Option Segment) → StandsWritten start now writing packed current None → current ≡ None
-none-begun start now writing packed None h = refl
-none-begun start now writing packed (Some segment) h = absurd h
-
-pub no-more : (start now : Device) (lined : Lined) (packed : List Packed) (current : Option Segment) → lined.last ≡ None → HasLined start now lined packed current → LinesMore start now lined packed (option_to_list current) None
-no-more start now lined packed current none h =
-    let is : current ≡ None = none-begun start now lined.writing packed current (subst (λ (last : Option Opened). StandsWritten start now lined.writing packed current last) none h.written) in
-    record {
-      all = packed;
-      same = rw (is, append-nil (map segment_of_packed packed)) refl;
-      after = subst (λ (c : Option Segment). HasLined start now lined packed c) is h;
-    }
-
--- no row was taken for the segments that ended
-pub none-ended : (start now : Device) (lined : Lined) (packed : List Packed) (current : Option Segment) → HasLined start now lined packed current → LinesMore start now lined packed [] current
-none-ended start now lined packed current h = record { all = packed; same = sym (append-nil (map segment_of_packed packed)); after = h }
-
 pub last-of : (start now : Device) (lined : Lined) (packed : List Packed) (current : Option Segment) (opened : Opened) → lined.last ≡ Some opened → HasLined start now lined packed current → Last start now lined.writing packed current opened
 last-of start now lined packed current opened is h =
     last-begun start now lined.writing packed current opened (subst (λ (last : Option Opened). StandsWritten start now lined.writing packed current last) is h.written)

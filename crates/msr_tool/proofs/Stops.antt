@@ -90,12 +90,6 @@ read-tells_source settings source0 source given (read.Input other) h = ((λ e. a
 read-tells_source settings source0 source given read.Read h = ((λ e. h.1), (λ has_failed. refl))
 read-tells_source settings source0 source given read.Memory h = ((λ e. absurd cc), (λ has_failed. absurd (steady-sound source0 source h.1 has_failed)))
 
--- and the sink did not
-pub read-tells_sink : {T : Type 0} (sink0 sink : Device) (why : ReadFault) → IsSteady sink0 sink → IsErrOf {T = T} (Err (fault_of_reading why)) fault.Write ↔ HasFailed sink0 sink
-read-tells_sink sink0 sink (read.Input other) steady = ((λ e. absurd cc), (λ has_failed. absurd (steady-sound sink0 sink steady has_failed)))
-read-tells_sink sink0 sink read.Read steady = ((λ e. absurd cc), (λ has_failed. absurd (steady-sound sink0 sink steady has_failed)))
-read-tells_sink sink0 sink read.Memory steady = ((λ e. absurd cc), (λ has_failed. absurd (steady-sound sink0 sink steady has_failed)))
-
 -- the sink failed where writing says so
 pub write-tells_sink : {T : Type 0} (failed refused : Type 0) (sink0 sink : Device) (found : ToolFault) → StopsSink failed refused sink0 sink found → IsErrOf {T = T} (Err found) fault.Write ↔ HasFailed sink0 sink
 write-tells_sink failed refused sink0 sink (fault.Input other) h = absurd h

@@ -74,7 +74,8 @@ pub fn feed<R: Source, W: Sink>(
 
 // Whether what waits is to be written now, since the next step may read.
 fn must_flush(flush: Flush, reader: &RowReader) -> bool
-    ensures { flush ≡ Flush.Live → result ≡ false → HoldsRecord reader.now.position.waiting }
+    ensures full { flush ≡ Flush.Full → result ≡ false }
+    ensures live { flush ≡ Flush.Live → (result ≡ false ↔ HoldsRecord reader.now.position.waiting) }
 {
     flush == Flush::Live && !reader.holds_record()
 }

@@ -54,6 +54,11 @@ fn checked(alloc: Global, packed: &[u8], text: &[u8]) -> Result<Verdict, ToolFau
     checked_through(alloc, packed, text, PLAIN, PLAIN)
 }
 
+fn judged(rt: &impl Abort, alloc: Global, packed: &[u8], text: &str, verdict: Verdict) {
+    let found = checked(alloc, packed, text.as_bytes());
+    assert_eq!(rt; found, Ok(verdict), "{text}");
+}
+
 #[test]
 fn verdicts(rt: HostRuntime) -> Result<(), Fail> {
     let alloc = rt.alloc();
@@ -67,11 +72,7 @@ fn verdicts(rt: HostRuntime) -> Result<(), Fail> {
         (two.as_slice(), NO_SEGMENTS, Verdict::NotShown),
         (one.as_slice(), ONE_SEGMENT, Verdict::NotShown),
     ] {
-        assert_eq!(rt;
-            checked(alloc, packed, text.as_bytes()),
-            Ok(verdict),
-            "{text}"
-        );
+        judged(&rt, alloc, packed, text, verdict);
     }
     // One record holds the samples before number 301.
     for (length, samples, records, separators, verdict) in [
@@ -85,8 +86,7 @@ fn verdicts(rt: HostRuntime) -> Result<(), Fail> {
         ("512", 302, 2, " 0 301", Verdict::NotShown),
     ] {
         let text = report_of(alloc, length, samples, records, separators)?;
-        let found = checked(alloc, &two, text.as_bytes());
-        assert_eq!(rt; found, Ok(verdict), "{text}");
+        judged(&rt, alloc, &two, text.as_str(), verdict);
     }
     Ok(())
 }

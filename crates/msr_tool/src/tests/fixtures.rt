@@ -2,7 +2,7 @@
 ghost use Rattle.std.specs.Prelude.{◌<◌, IfOk};
 ghost use Rattle.msr_report.specs.Proper.{IsProper};
 
-use crate::{Options, Report, TestSink, TestSource, ToolFault, repack};
+use crate::{Counts, Options, Report, TestSink, TestSource, ToolFault, repack};
 use msr_devices::Behavior;
 use msr_record::{Key, encode_record};
 use msr_time::{Rate, is_instant};
@@ -153,6 +153,21 @@ pub fn choice(rt: &impl Abort, bytes: u32, tolerance: u32) -> Options {
         panic!(rt; "no tolerance")
     };
     options
+}
+
+/// The number is that one. An assertion in a function of its own is proved once, and its callers carry none of it.
+pub fn same_number(rt: &impl Abort, found: u64, want: u64, name: &str) {
+    assert_eq!(rt; found, want, "{name}");
+}
+
+/// The bytes are those.
+pub fn same_bytes(rt: &impl Abort, found: &[u8], want: &[u8], name: &str) {
+    assert!(rt; found == want, "{name}");
+}
+
+/// The counts are those.
+pub fn same_counts(rt: &impl Abort, found: Counts, want: Counts, name: &str) {
+    assert_eq!(rt; found, want, "{name}");
 }
 
 /// What a call answered, and the sink that it wrote to.

@@ -1,6 +1,9 @@
 //! Records that join or do not, and what a written header takes over from the ones that were read.
-use crate::Counts;
-use crate::tests::fixtures::{Edits, Outcome, START, choice, edited, repacked};
+use crate::tests::fixtures::{
+    Edits, Outcome, START, choice, edited, repacked, same_bytes, same_counts, same_number,
+};
+use crate::{Counts, SegmentLine};
+use std::process::Abort;
 use std::test::Fail;
 
 // 100 samples in place of 301.
@@ -122,6 +125,10 @@ const JOINED: [Joined; 9] = [
     },
 ];
 
+fn same_line(rt: &impl Abort, line: &SegmentLine, start: i64, samples: u64, name: &str) {
+    assert_eq!(rt; (line.start, line.samples), (start, samples), "{name}");
+}
+
 #[test]
 fn joins(rt: HostRuntime) -> Result<(), Fail> {
     let alloc = rt.alloc();
@@ -138,13 +145,13 @@ fn joins(rt: HostRuntime) -> Result<(), Fail> {
             panic!(rt; "{name}: refused")
         };
         let lines = report.segments;
-        assert_eq!(rt; report.tolerance, tolerance, "{name}");
-        assert_eq!(rt; report.counts, counts, "{name}");
-        assert_eq!(rt; lines.len(), segments.len(), "{name}");
-        assert_eq!(rt; sink.bytes().chunks(256).count(), segments.len(), "{name}");
+        let written = sink.bytes().chunks(256).count();
+        same_number(&rt, report.tolerance as u64, tolerance as u64, name);
+        same_counts(&rt, report.counts, counts, name);
+        same_number(&rt, lines.len() as u64, segments.len() as u64, name);
+        same_number(&rt, written as u64, segments.len() as u64, name);
         for (line, (late, samples)) in lines.iter().zip(segments) {
-            assert_eq!(rt; line.start, START.saturating_add(*late), "{name}");
-            assert_eq!(rt; line.samples, *samples, "{name}");
+            same_line(&rt, line, START.saturating_add(*late), *samples, name);
         }
     }
     Ok(())
@@ -286,13 +293,13 @@ fn written_headers(rt: HostRuntime) -> Result<(), Fail> {
             panic!(rt; "{name}: refused")
         };
         let lines = report.segments;
-        assert_eq!(rt; report.counts, counts, "{name}");
-        assert_eq!(rt; lines.len(), segments.len(), "{name}");
+        same_counts(&rt, report.counts, counts, name);
+        same_number(&rt, lines.len() as u64, segments.len() as u64, name);
         for (line, samples) in lines.iter().zip(segments) {
-            assert_eq!(rt; line.samples, *samples, "{name}");
+            same_number(&rt, line.samples, *samples, name);
         }
         let want = edited(&rt, alloc, written)?;
-        assert!(rt; sink.bytes() == want.as_slice(), "{name}");
+        same_bytes(&rt, sink.bytes(), &want, name);
     }
     Ok(())
 }

@@ -1,8 +1,9 @@
 //! Samples in the fewest records: how many samples each has, and as what it stores them.
-use crate::Counts;
 use crate::tests::fixtures::{
-    Outcome, START, choice, edit, input_of, joined, of_words, plain, repacked, shapes, steim,
+    Outcome, START, choice, edit, input_of, joined, of_words, plain, repacked, same_bytes,
+    same_counts, same_number, shapes, steim,
 };
+use crate::{Counts, SegmentLine};
 use msr_time::Rate;
 use std::alloc::{AllocError, Global};
 use std::process::Abort;
@@ -33,6 +34,29 @@ struct Worked {
     separators: &'static [u64],
 }
 
+// The line of a segment with so many samples.
+fn is_line_of(rt: &impl Abort, line: &SegmentLine, worked: Worked, rate: Rate, samples: u64) {
+    let name = worked.name;
+    assert_eq!(rt; (line.key.rate, line.start), (rate, START), "{name}");
+    same_number(rt, line.samples, samples, name);
+    same_number(rt, line.records, worked.records.len() as u64, name);
+    assert_eq!(rt; line.separators.as_slice(), worked.separators, "{name}");
+}
+
+fn have_shapes(
+    rt: &impl Abort,
+    alloc: Global,
+    worked: Worked,
+    written: &[u8],
+) -> Result<(), AllocError> {
+    let (name, size) = (worked.name, worked.bytes as usize);
+    assert!(rt; size > 0);
+    same_number(rt, written.len() as u64 % size as u64, 0, name);
+    let found = shapes(alloc, written, size)?;
+    assert_eq!(rt; found.as_slice(), worked.records, "{name}");
+    Ok(())
+}
+
 // Repacks the samples, compares all but the bytes, and gives these.
 fn packed(
     rt: &impl Abort,
@@ -42,14 +66,11 @@ fn packed(
 ) -> Result<Vec<u8>, Fail> {
     let Worked {
         name,
-        factor,
-        multiplier,
         bytes,
         read,
-        records,
-        separators,
+        ..
     } = worked;
-    let rate = Rate::new(factor, multiplier).ok_or("no rate")?;
+    let rate = Rate::new(worked.factor, worked.multiplier).ok_or("no rate")?;
     let input = input_of(rt, alloc, rate, samples)?;
     let options = choice(rt, bytes, 1000);
     let Outcome { answer, sink } = repacked(alloc, &input, options);
@@ -57,32 +78,22 @@ fn packed(
         panic!(rt; "{name}: refused")
     };
     let lines = report.segments;
-    assert_eq!(rt;
-        (report.length.bytes(), report.tolerance),
-        (bytes, 1000),
-        "{name}"
-    );
+    same_number(rt, report.length.bytes() as u64, bytes as u64, name);
+    same_number(rt, report.tolerance as u64, 1000, name);
     let want = Counts {
         read,
         empty: 0,
         mismatched: 0,
     };
-    assert_eq!(rt; report.counts, want, "{name}");
-    assert_eq!(rt; lines.len(), 1, "{name}");
+    same_counts(rt, report.counts, want, name);
+    same_number(rt, lines.len() as u64, 1, name);
     for line in &lines {
-        assert_eq!(rt; line.key.rate, rate, "{name}");
-        assert_eq!(rt; line.start, START, "{name}");
-        assert_eq!(rt; line.samples, samples.len() as u64, "{name}");
-        assert_eq!(rt; line.records, records.len() as u64, "{name}");
-        assert_eq!(rt; line.separators.as_slice(), separators, "{name}");
+        is_line_of(rt, line, worked, rate, samples.len() as u64);
     }
     let written = sink.bytes();
-    assert!(rt; bytes > 0);
-    assert_eq!(rt; written.len() % bytes as usize, 0, "{name}");
-    let found_shapes = shapes(alloc, written, bytes as usize)?;
-    assert_eq!(rt; found_shapes.as_slice(), records, "{name}");
+    have_shapes(rt, alloc, worked, written)?;
     let again = repacked(alloc, written, options);
-    assert!(rt; again.sink.bytes() == written, "{name}, again");
+    same_bytes(rt, again.sink.bytes(), written, name);
     assert!(rt; again.answer.is_ok(), "{name}, again");
     Ok(written.to_vec(alloc)?)
 }
@@ -410,6 +421,20 @@ fn numbers_of_24_bits(rt: HostRuntime) -> Result<(), Fail> {
     Ok(())
 }
 
+fn rising_line(rt: &impl Abort, line: &SegmentLine, samples: u64, written: u64) {
+    same_number(rt, line.samples, samples, "samples");
+    same_number(rt, line.records, written, "records");
+    same_number(rt, line.separators.len() as u64, written, "separators");
+    for (place, separator) in line.separators.iter().enumerate() {
+        same_number(
+            rt,
+            *separator,
+            721u64.saturating_mul(place as u64),
+            "separator",
+        );
+    }
+}
+
 // Samples at 100 a second, each 1 above the one before: 103 words with seven differences in each record.
 fn rising(
     rt: &impl Abort,
@@ -426,18 +451,13 @@ fn rising(
         panic!(rt; "refused")
     };
     let lines = report.segments;
-    assert_eq!(rt; report.counts.read, read);
-    assert_eq!(rt; lines.len(), 1);
+    same_number(rt, report.counts.read, read, "read");
+    same_number(rt, lines.len() as u64, 1, "segments");
     for line in &lines {
-        assert_eq!(rt; line.samples, samples.len() as u64);
-        assert_eq!(rt; line.records, written as u64);
-        assert_eq!(rt; line.separators.len(), written);
-        for (place, separator) in line.separators.iter().enumerate() {
-            assert_eq!(rt; Some(*separator), 721u64.checked_mul(place as u64));
-        }
+        rising_line(rt, line, samples.len() as u64, written as u64);
     }
     let found = shapes(alloc, sink.bytes(), 512)?;
-    assert_eq!(rt; found.len(), written);
+    same_number(rt, found.len() as u64, written as u64, "written");
     for (left, shape) in (0..written).rev().zip(&found) {
         let count = if left == 0 { in_last } else { 721 };
         assert_eq!(rt; *shape, (count, STEIM2), "{left} records before the last");

@@ -6,16 +6,19 @@ use Rattle.msr_segments.specs.Spans.{Following}
 use Rattle.msr_certificate.specs.Form.{IsFirst}
 use Rattle.msr_certificate.proofs.Forms.{is_length}
 use Rattle.msr_devices.proofs.Chaining.{calm-same, steady-can_count, steady-then_few}
+use Rattle.msr_input.specs.Reading.{StopsReading}
 use Rattle.msr_output.specs.Output.{segment_of_packed}
 use Rattle.msr_tool.specs.Choice.{settings_of}
 use Rattle.msr_tool.specs.Fault.{fault_of_reading}
 use Rattle.msr_tool.specs.Writing.{all_with}
 use Rattle.msr_tool.specs.declared.fault.ToolFault.TheVariants as fault
 use Rattle.msr_tool.proofs.Lines.{can-take-row, front-lined}
-use Rattle.msr_tool.proofs.RowsSoFar.{more-read, no-rows, record-more, rows-end, rows-read, rows-stop}
+use Rattle.msr_tool.proofs.RowsSoFar.{RecordMore, more-read, no-rows, record-more, rows-end, rows-read, rows-stop}
 use Rattle.msr_tool.proofs.Stops.{read-failed, write-failed, read-tells_source, lined-tells_source, lined-tells_sink, ok-tells, as-answer}
-use Rattle.msr_tool.proofs.UnderWay.{done, flush-stops, flushed, lining-unread, live, more}
+use Rattle.msr_tool.proofs.UnderWay.{UnderWay, done, flush-stops, flushed, lining-unread, live, more}
+use Rattle.msr_tool.proofs.engine.repack_with.Given as given
 use Rattle.msr_tool.proofs.engine.repack_with.Goals as goal
+use Rattle.msr_tool.proofs.engine.repack_with.Goals.{After-must_flush, After-take, In_err-next}
 
 pub records-init : goal.records-init
 records-init g c =
@@ -33,12 +36,35 @@ records-init g c =
       ready = λ is_live. inr c.new-writer.ensures.none_wait;
     }
 
+-- why no record was read
+why-stopped : (g : given.Over) (c : In_err-next g) → StopsReading (settings_of c.args.options) (g.R.Source.device c.args.source.now) (g.R.Source.device c.next_record.new.source) (map segment_of_packed c.records.invariant.under.packed ++ option_to_list c.records.invariant.under.joining.current) c.in_err-next.field-0.0
+why-stopped g c =
+    let u = c.records.invariant.under in
+    rows-stop (settings_of c.args.options) (g.R.Source.device c.args.source.now) (g.R.Source.device c.records.source) (g.R.Source.device c.next_record.new.source) c.records.reader (map segment_of_packed u.packed) u.joining c.in_err-next.field-0.0 u.rows (c.in_err-next.ensures.read (g.R.Source.device c.args.source.now) u.rows.records u.rows.answers u.rows.has_read)
+
+-- one more record is read
+one-read : (g : given.Over) (c : After-take g) → RecordMore (settings_of c.args.options) (g.R.Source.device c.args.source.now) (g.R.Source.device c.next_record.new.source) c.next_record.new.self (map segment_of_packed c.records.invariant.under.packed) c.records.invariant.under.joining c.in-Some.next.row
+one-read g c =
+    let u = c.records.invariant.under in
+    let reads = rw c.in-Some.is at (c.in_ok-next.ensures.read (g.R.Source.device c.args.source.now) u.rows.records u.rows.answers u.rows.has_read) in
+    let step = rw c.in-Some.is at c.in_ok-next.ensures.step in
+    let bounds = rw c.in-Some.is at c.in_ok-next.ensures.in_bounds in
+    let row = rw c.in-Some.is at c.in_ok-next.ensures.row in
+    record-more (settings_of c.args.options) (g.R.Source.device c.args.source.now) (g.R.Source.device c.records.source) (g.R.Source.device c.next_record.new.source) c.records.reader c.next_record.new.self (map segment_of_packed u.packed) u.joining c.in-Some.next u.rows reads step c.next_record.ensures.settings bounds row
+
+-- and its samples are written
+one-taken : (g : given.Over) (c : After-must_flush g) → RecordMore (settings_of c.args.options) (g.R.Source.device c.args.source.now) (g.R.Source.device c.next_record.new.source) c.next_record.new.self (map segment_of_packed c.records.invariant.under.packed) c.records.invariant.under.joining c.in-Some.next.row
+    → UnderWay c.args.options (g.R.Source.device c.args.source.now) (g.R.Source.device c.next_record.new.source) (g.W.Sink.device c.args.sink.now) (g.W.Sink.device c.take.new.sink) c.next_record.new.self c.take.new.self
+one-taken g c m =
+    let u = c.records.invariant.under in
+    more c.args.options (g.R.Source.device c.args.source.now) (g.R.Source.device c.next_record.new.source) (g.W.Sink.device c.args.sink.now) (g.W.Sink.device c.take.new.sink) c.next_record.new.self c.take.new.self u.packed u.joining c.in-Some.next.row m (c.in_ok-take.ensures.written (g.W.Sink.device c.args.sink.now) u.packed u.joining.current u.lined) c.in_ok-take.ensures.last (c.in_ok-take.ensures.encoded u.encoded) (rw c.in_ok-take.ensures.size u.size)
+
 pub returns-in_err-next-clause-answer : goal.returns-in_err-next-clause-answer
 returns-in_err-next-clause-answer g c =
     let p = err_from_is_err_and c.from_residual.result c.from_residual.ensures.1 in
     let u = c.records.invariant.under in
     let why = c.in_err-next.field-0.0 in
-    let stops = rows-stop (settings_of c.args.options) (g.R.Source.device c.args.source.now) (g.R.Source.device c.records.source) (g.R.Source.device c.next_record.new.source) c.records.reader (map segment_of_packed u.packed) u.joining why u.rows (c.in_err-next.ensures.read (g.R.Source.device c.args.source.now) u.rows.records u.rows.answers u.rows.has_read) in
+    let stops = why-stopped g (goal.at.returns-in_err-next-clause-answer g c).In_err-next in
     let front = rw u.size at (front-lined (g.W.Sink.device c.args.sink.now) (g.W.Sink.device c.records.sink) c.records.writer u.packed u.joining.current u.goes_on u.lined) in
     rw (p.1, p.2) (as-answer _ _ _ _ _ (read-failed c.args.options (g.R.Source.device c.args.source.now) (g.R.Source.device c.next_record.new.source) (g.W.Sink.device c.args.sink.now) (g.W.Sink.device c.records.sink) (map segment_of_packed u.packed ++ option_to_list u.joining.current) why stops front))
 
@@ -47,7 +73,7 @@ returns-in_err-next-clause-read g c =
     let p = err_from_is_err_and c.from_residual.result c.from_residual.ensures.1 in
     let u = c.records.invariant.under in
     let why = c.in_err-next.field-0.0 in
-    let stops = rows-stop (settings_of c.args.options) (g.R.Source.device c.args.source.now) (g.R.Source.device c.records.source) (g.R.Source.device c.next_record.new.source) c.records.reader (map segment_of_packed u.packed) u.joining why u.rows (c.in_err-next.ensures.read (g.R.Source.device c.args.source.now) u.rows.records u.rows.answers u.rows.has_read) in
+    let stops = why-stopped g (goal.at.returns-in_err-next-clause-read g c).In_err-next in
     rw (p.1, p.2) (read-tells_source _ (g.R.Source.device c.args.source.now) (g.R.Source.device c.next_record.new.source) _ why stops)
 
 pub returns-in_err-next-clause-live : goal.returns-in_err-next-clause-live
@@ -55,7 +81,7 @@ returns-in_err-next-clause-live g c =
     let p = err_from_is_err_and c.from_residual.result c.from_residual.ensures.1 in
     let u = c.records.invariant.under in
     let why = c.in_err-next.field-0.0 in
-    let stops = rows-stop (settings_of c.args.options) (g.R.Source.device c.args.source.now) (g.R.Source.device c.records.source) (g.R.Source.device c.next_record.new.source) c.records.reader (map segment_of_packed u.packed) u.joining why u.rows (c.in_err-next.ensures.read (g.R.Source.device c.args.source.now) u.rows.records u.rows.answers u.rows.has_read) in
+    let stops = why-stopped g (goal.at.returns-in_err-next-clause-live g c).In_err-next in
     rw (p.1, p.2) (λ is_live e.
     let same : fault_of_reading why ≡ fault.Read = cc in
     live c.args.options (g.R.Source.device c.args.source.now) (g.R.Source.device c.records.source) (g.R.Source.device c.next_record.new.source) (g.W.Sink.device c.args.sink.now) (g.W.Sink.device c.records.sink) c.records.reader c.next_record.new.self c.records.writer why u (c.records.invariant.ready is_live) same stops c.in_err-next.ensures.unread
@@ -73,26 +99,16 @@ pub returns-in_err-take-clause-answer : goal.returns-in_err-take-clause-answer
 returns-in_err-take-clause-answer g c =
     let p = err_from_is_err_and c.from_residual-in_err-take.result c.from_residual-in_err-take.ensures.1 in
     let u = c.records.invariant.under in
-    let next = c.in-Some.next in
-    let reads = rw c.in-Some.is at (c.in_ok-next.ensures.read (g.R.Source.device c.args.source.now) u.rows.records u.rows.answers u.rows.has_read) in
-    let step = rw c.in-Some.is at c.in_ok-next.ensures.step in
-    let bounds = rw c.in-Some.is at c.in_ok-next.ensures.in_bounds in
-    let row = rw c.in-Some.is at c.in_ok-next.ensures.row in
-    let m = record-more (settings_of c.args.options) (g.R.Source.device c.args.source.now) (g.R.Source.device c.records.source) (g.R.Source.device c.next_record.new.source) c.records.reader c.next_record.new.self (map segment_of_packed u.packed) u.joining next u.rows reads step c.next_record.ensures.settings bounds row in
+    let m = one-read g (goal.at.returns-in_err-take-clause-answer g c).After-take in
     let stops = rw u.size at (c.in_err-take.ensures.written (g.W.Sink.device c.args.sink.now) u.packed u.joining.current u.lined) in
-    let after = more-read (settings_of c.args.options) (g.R.Source.device c.args.source.now) (g.R.Source.device c.next_record.new.source) c.next_record.new.self (map segment_of_packed u.packed) u.joining next.row m in
-    rw (p.1, p.2) (as-answer _ _ _ _ _ (write-failed c.args.options (g.R.Source.device c.args.source.now) (g.W.Sink.device c.args.sink.now) (g.W.Sink.device c.take.new.sink) (map segment_of_packed u.packed ++ all_with next.row u.joining.current) c.in_err-take.field-0.0 after stops))
+    let after = more-read (settings_of c.args.options) (g.R.Source.device c.args.source.now) (g.R.Source.device c.next_record.new.source) c.next_record.new.self (map segment_of_packed u.packed) u.joining c.in-Some.next.row m in
+    rw (p.1, p.2) (as-answer _ _ _ _ _ (write-failed c.args.options (g.R.Source.device c.args.source.now) (g.W.Sink.device c.args.sink.now) (g.W.Sink.device c.take.new.sink) (map segment_of_packed u.packed ++ all_with c.in-Some.next.row u.joining.current) c.in_err-take.field-0.0 after stops))
 
 pub returns-in_err-take-clause-read : goal.returns-in_err-take-clause-read
 returns-in_err-take-clause-read g c =
     let p = err_from_is_err_and c.from_residual-in_err-take.result c.from_residual-in_err-take.ensures.1 in
     let u = c.records.invariant.under in
-    let next = c.in-Some.next in
-    let reads = rw c.in-Some.is at (c.in_ok-next.ensures.read (g.R.Source.device c.args.source.now) u.rows.records u.rows.answers u.rows.has_read) in
-    let step = rw c.in-Some.is at c.in_ok-next.ensures.step in
-    let bounds = rw c.in-Some.is at c.in_ok-next.ensures.in_bounds in
-    let row = rw c.in-Some.is at c.in_ok-next.ensures.row in
-    let m = record-more (settings_of c.args.options) (g.R.Source.device c.args.source.now) (g.R.Source.device c.records.source) (g.R.Source.device c.next_record.new.source) c.records.reader c.next_record.new.self (map segment_of_packed u.packed) u.joining next u.rows reads step c.next_record.ensures.settings bounds row in
+    let m = one-read g (goal.at.returns-in_err-take-clause-read g c).After-take in
     rw (p.1, p.2) (lined-tells_source _ (g.R.Source.device c.args.source.now) (g.R.Source.device c.next_record.new.source) (g.W.Sink.device c.args.sink.now) (g.W.Sink.device c.take.new.sink) _ c.in_err-take.field-0.0 m.rows.has_read.came.steady (c.in_err-take.ensures.written (g.W.Sink.device c.args.sink.now) u.packed u.joining.current u.lined))
 
 pub returns-in_err-take-clause-write : goal.returns-in_err-take-clause-write
@@ -110,65 +126,35 @@ returns-in_err-take-clause-live g c =
 pub returns-in_err-flush-clause-answer : goal.returns-in_err-flush-clause-answer
 returns-in_err-flush-clause-answer g c =
     let p = err_from_is_err_and c.from_residual-in_err-flush.result c.from_residual-in_err-flush.ensures.1 in
-    let u = c.records.invariant.under in
-    let next = c.in-Some.next in
-    let reads = rw c.in-Some.is at (c.in_ok-next.ensures.read (g.R.Source.device c.args.source.now) u.rows.records u.rows.answers u.rows.has_read) in
-    let step = rw c.in-Some.is at c.in_ok-next.ensures.step in
-    let bounds = rw c.in-Some.is at c.in_ok-next.ensures.in_bounds in
-    let row = rw c.in-Some.is at c.in_ok-next.ensures.row in
-    let m = record-more (settings_of c.args.options) (g.R.Source.device c.args.source.now) (g.R.Source.device c.records.source) (g.R.Source.device c.next_record.new.source) c.records.reader c.next_record.new.self (map segment_of_packed u.packed) u.joining next u.rows reads step c.next_record.ensures.settings bounds row in
-    let taken = more c.args.options (g.R.Source.device c.args.source.now) (g.R.Source.device c.next_record.new.source) (g.W.Sink.device c.args.sink.now) (g.W.Sink.device c.take.new.sink) c.next_record.new.self c.take.new.self u.packed u.joining next.row m (c.in_ok-take.ensures.written (g.W.Sink.device c.args.sink.now) u.packed u.joining.current u.lined) c.in_ok-take.ensures.last (c.in_ok-take.ensures.encoded u.encoded) (rw c.in_ok-take.ensures.size u.size) in
+    let at = goal.at.returns-in_err-flush-clause-answer g c in
+    let taken = one-taken g at.After-must_flush (one-read g at.After-take) in
     rw (p.1, p.2) (as-answer _ _ _ _ _ (flush-stops c.args.options (g.R.Source.device c.args.source.now) (g.R.Source.device c.next_record.new.source) (g.W.Sink.device c.args.sink.now) (g.W.Sink.device c.take.new.sink) (g.W.Sink.device c.flush.new.sink) c.next_record.new.self c.take.new.self c.in_err-flush.field-0.0 taken (c.in_err-flush.ensures.written (g.W.Sink.device c.args.sink.now) taken.packed taken.joining.current taken.lined)))
 
 pub returns-in_err-flush-clause-read : goal.returns-in_err-flush-clause-read
 returns-in_err-flush-clause-read g c =
     let p = err_from_is_err_and c.from_residual-in_err-flush.result c.from_residual-in_err-flush.ensures.1 in
-    let u = c.records.invariant.under in
-    let next = c.in-Some.next in
-    let reads = rw c.in-Some.is at (c.in_ok-next.ensures.read (g.R.Source.device c.args.source.now) u.rows.records u.rows.answers u.rows.has_read) in
-    let step = rw c.in-Some.is at c.in_ok-next.ensures.step in
-    let bounds = rw c.in-Some.is at c.in_ok-next.ensures.in_bounds in
-    let row = rw c.in-Some.is at c.in_ok-next.ensures.row in
-    let m = record-more (settings_of c.args.options) (g.R.Source.device c.args.source.now) (g.R.Source.device c.records.source) (g.R.Source.device c.next_record.new.source) c.records.reader c.next_record.new.self (map segment_of_packed u.packed) u.joining next u.rows reads step c.next_record.ensures.settings bounds row in
-    let taken = more c.args.options (g.R.Source.device c.args.source.now) (g.R.Source.device c.next_record.new.source) (g.W.Sink.device c.args.sink.now) (g.W.Sink.device c.take.new.sink) c.next_record.new.self c.take.new.self u.packed u.joining next.row m (c.in_ok-take.ensures.written (g.W.Sink.device c.args.sink.now) u.packed u.joining.current u.lined) c.in_ok-take.ensures.last (c.in_ok-take.ensures.encoded u.encoded) (rw c.in_ok-take.ensures.size u.size) in
+    let at = goal.at.returns-in_err-flush-clause-read g c in
+    let taken = one-taken g at.After-must_flush (one-read g at.After-take) in
     rw (p.1, p.2) (lined-tells_source _ (g.R.Source.device c.args.source.now) (g.R.Source.device c.next_record.new.source) (g.W.Sink.device c.args.sink.now) (g.W.Sink.device c.flush.new.sink) _ c.in_err-flush.field-0.0 taken.rows.has_read.came.steady (c.in_err-flush.ensures.written (g.W.Sink.device c.args.sink.now) taken.packed taken.joining.current taken.lined))
 
 pub returns-in_err-flush-clause-write : goal.returns-in_err-flush-clause-write
 returns-in_err-flush-clause-write g c =
     let p = err_from_is_err_and c.from_residual-in_err-flush.result c.from_residual-in_err-flush.ensures.1 in
-    let u = c.records.invariant.under in
-    let next = c.in-Some.next in
-    let reads = rw c.in-Some.is at (c.in_ok-next.ensures.read (g.R.Source.device c.args.source.now) u.rows.records u.rows.answers u.rows.has_read) in
-    let step = rw c.in-Some.is at c.in_ok-next.ensures.step in
-    let bounds = rw c.in-Some.is at c.in_ok-next.ensures.in_bounds in
-    let row = rw c.in-Some.is at c.in_ok-next.ensures.row in
-    let m = record-more (settings_of c.args.options) (g.R.Source.device c.args.source.now) (g.R.Source.device c.records.source) (g.R.Source.device c.next_record.new.source) c.records.reader c.next_record.new.self (map segment_of_packed u.packed) u.joining next u.rows reads step c.next_record.ensures.settings bounds row in
-    let taken = more c.args.options (g.R.Source.device c.args.source.now) (g.R.Source.device c.next_record.new.source) (g.W.Sink.device c.args.sink.now) (g.W.Sink.device c.take.new.sink) c.next_record.new.self c.take.new.self u.packed u.joining next.row m (c.in_ok-take.ensures.written (g.W.Sink.device c.args.sink.now) u.packed u.joining.current u.lined) c.in_ok-take.ensures.last (c.in_ok-take.ensures.encoded u.encoded) (rw c.in_ok-take.ensures.size u.size) in
+    let at = goal.at.returns-in_err-flush-clause-write g c in
+    let taken = one-taken g at.After-must_flush (one-read g at.After-take) in
     rw (p.1, p.2) (lined-tells_sink _ (g.W.Sink.device c.args.sink.now) (g.W.Sink.device c.flush.new.sink) _ c.in_err-flush.field-0.0 (c.in_err-flush.ensures.written (g.W.Sink.device c.args.sink.now) taken.packed taken.joining.current taken.lined))
 
 pub returns-in_err-flush-clause-live : goal.returns-in_err-flush-clause-live
 returns-in_err-flush-clause-live g c =
     let p = err_from_is_err_and c.from_residual-in_err-flush.result c.from_residual-in_err-flush.ensures.1 in
-    let u = c.records.invariant.under in
-    let next = c.in-Some.next in
-    let reads = rw c.in-Some.is at (c.in_ok-next.ensures.read (g.R.Source.device c.args.source.now) u.rows.records u.rows.answers u.rows.has_read) in
-    let step = rw c.in-Some.is at c.in_ok-next.ensures.step in
-    let bounds = rw c.in-Some.is at c.in_ok-next.ensures.in_bounds in
-    let row = rw c.in-Some.is at c.in_ok-next.ensures.row in
-    let m = record-more (settings_of c.args.options) (g.R.Source.device c.args.source.now) (g.R.Source.device c.records.source) (g.R.Source.device c.next_record.new.source) c.records.reader c.next_record.new.self (map segment_of_packed u.packed) u.joining next u.rows reads step c.next_record.ensures.settings bounds row in
-    let taken = more c.args.options (g.R.Source.device c.args.source.now) (g.R.Source.device c.next_record.new.source) (g.W.Sink.device c.args.sink.now) (g.W.Sink.device c.take.new.sink) c.next_record.new.self c.take.new.self u.packed u.joining next.row m (c.in_ok-take.ensures.written (g.W.Sink.device c.args.sink.now) u.packed u.joining.current u.lined) c.in_ok-take.ensures.last (c.in_ok-take.ensures.encoded u.encoded) (rw c.in_ok-take.ensures.size u.size) in
+    let at = goal.at.returns-in_err-flush-clause-live g c in
+    let taken = one-taken g at.After-must_flush (one-read g at.After-take) in
     rw (p.1, p.2) (λ live e. let same : c.in_err-flush.field-0.0 ≡ fault.Read = cc in absurd (lining-unread _ (g.W.Sink.device c.args.sink.now) (g.W.Sink.device c.flush.new.sink) _ c.in_err-flush.field-0.0 (c.in_err-flush.ensures.written (g.W.Sink.device c.args.sink.now) taken.packed taken.joining.current taken.lined) same))
 
 pub flush-requires-clause-count : goal.flush-requires-clause-count
 flush-requires-clause-count g c =
-    let u = c.records.invariant.under in
-    let next = c.in-Some.next in
-    let reads = rw c.in-Some.is at (c.in_ok-next.ensures.read (g.R.Source.device c.args.source.now) u.rows.records u.rows.answers u.rows.has_read) in
-    let step = rw c.in-Some.is at c.in_ok-next.ensures.step in
-    let bounds = rw c.in-Some.is at c.in_ok-next.ensures.in_bounds in
-    let row = rw c.in-Some.is at c.in_ok-next.ensures.row in
-    let m = record-more (settings_of c.args.options) (g.R.Source.device c.args.source.now) (g.R.Source.device c.records.source) (g.R.Source.device c.next_record.new.source) c.records.reader c.next_record.new.self (map segment_of_packed u.packed) u.joining next u.rows reads step c.next_record.ensures.settings bounds row in
-    let taken = more c.args.options (g.R.Source.device c.args.source.now) (g.R.Source.device c.next_record.new.source) (g.W.Sink.device c.args.sink.now) (g.W.Sink.device c.take.new.sink) c.next_record.new.self c.take.new.self u.packed u.joining next.row m (c.in_ok-take.ensures.written (g.W.Sink.device c.args.sink.now) u.packed u.joining.current u.lined) c.in_ok-take.ensures.last (c.in_ok-take.ensures.encoded u.encoded) (rw c.in_ok-take.ensures.size u.size) in
+    let at = goal.at.flush-requires-clause-count g c in
+    let taken = one-taken g at.After-must_flush (one-read g at.After-take) in
     steady-can_count (g.W.Sink.device c.args.sink.now) (g.W.Sink.device c.take.new.sink) taken.calm.steady c.requires.sink
 
 pub returns-in_err-flush-clause-few_source : goal.returns-in_err-flush-clause-few_source
@@ -178,26 +164,14 @@ returns-in_err-flush-clause-few_source g c =
 
 pub returns-in_err-flush-clause-few_sink : goal.returns-in_err-flush-clause-few_sink
 returns-in_err-flush-clause-few_sink g c =
-    let u = c.records.invariant.under in
-    let next = c.in-Some.next in
-    let reads = rw c.in-Some.is at (c.in_ok-next.ensures.read (g.R.Source.device c.args.source.now) u.rows.records u.rows.answers u.rows.has_read) in
-    let step = rw c.in-Some.is at c.in_ok-next.ensures.step in
-    let bounds = rw c.in-Some.is at c.in_ok-next.ensures.in_bounds in
-    let row = rw c.in-Some.is at c.in_ok-next.ensures.row in
-    let m = record-more (settings_of c.args.options) (g.R.Source.device c.args.source.now) (g.R.Source.device c.records.source) (g.R.Source.device c.next_record.new.source) c.records.reader c.next_record.new.self (map segment_of_packed u.packed) u.joining next u.rows reads step c.next_record.ensures.settings bounds row in
-    let taken = more c.args.options (g.R.Source.device c.args.source.now) (g.R.Source.device c.next_record.new.source) (g.W.Sink.device c.args.sink.now) (g.W.Sink.device c.take.new.sink) c.next_record.new.self c.take.new.self u.packed u.joining next.row m (c.in_ok-take.ensures.written (g.W.Sink.device c.args.sink.now) u.packed u.joining.current u.lined) c.in_ok-take.ensures.last (c.in_ok-take.ensures.encoded u.encoded) (rw c.in_ok-take.ensures.size u.size) in
+    let at = goal.at.returns-in_err-flush-clause-few_sink g c in
+    let taken = one-taken g at.After-must_flush (one-read g at.After-take) in
     steady-then_few (g.W.Sink.device c.args.sink.now) (g.W.Sink.device c.take.new.sink) (g.W.Sink.device c.flush.new.sink) taken.calm.steady c.flush.ensures.few
 
 pub records-preserved-in-Continue-branch-4 : goal.records-preserved-in-Continue-branch-4
 records-preserved-in-Continue-branch-4 g c =
-    let u = c.records.invariant.under in
-    let next = c.in-Some.next in
-    let reads = rw c.in-Some.is at (c.in_ok-next.ensures.read (g.R.Source.device c.args.source.now) u.rows.records u.rows.answers u.rows.has_read) in
-    let step = rw c.in-Some.is at c.in_ok-next.ensures.step in
-    let bounds = rw c.in-Some.is at c.in_ok-next.ensures.in_bounds in
-    let row = rw c.in-Some.is at c.in_ok-next.ensures.row in
-    let m = record-more (settings_of c.args.options) (g.R.Source.device c.args.source.now) (g.R.Source.device c.records.source) (g.R.Source.device c.next_record.new.source) c.records.reader c.next_record.new.self (map segment_of_packed u.packed) u.joining next u.rows reads step c.next_record.ensures.settings bounds row in
-    let taken = more c.args.options (g.R.Source.device c.args.source.now) (g.R.Source.device c.next_record.new.source) (g.W.Sink.device c.args.sink.now) (g.W.Sink.device c.take.new.sink) c.next_record.new.self c.take.new.self u.packed u.joining next.row m (c.in_ok-take.ensures.written (g.W.Sink.device c.args.sink.now) u.packed u.joining.current u.lined) c.in_ok-take.ensures.last (c.in_ok-take.ensures.encoded u.encoded) (rw c.in_ok-take.ensures.size u.size) in
+    let at = goal.at.records-preserved-in-Continue-branch-4 g c in
+    let taken = one-taken g at.After-must_flush (one-read g at.After-take) in
     record {
       under = flushed c.args.options (g.R.Source.device c.args.source.now) (g.R.Source.device c.next_record.new.source) (g.W.Sink.device c.args.sink.now) (g.W.Sink.device c.take.new.sink) (g.W.Sink.device c.flush.new.sink) c.next_record.new.self c.take.new.self c.flush.new.self taken (c.in_ok-flush.ensures.written (g.W.Sink.device c.args.sink.now) taken.packed taken.joining.current taken.lined) c.flush.ensures.last c.flush.ensures.size;
       ready = λ is_live. inr c.in_ok-flush.ensures.none_wait;
@@ -205,15 +179,9 @@ records-preserved-in-Continue-branch-4 g c =
 
 pub records-preserved : goal.records-preserved
 records-preserved g c =
-    let u = c.records.invariant.under in
-    let next = c.in-Some.next in
-    let reads = rw c.in-Some.is at (c.in_ok-next.ensures.read (g.R.Source.device c.args.source.now) u.rows.records u.rows.answers u.rows.has_read) in
-    let step = rw c.in-Some.is at c.in_ok-next.ensures.step in
-    let bounds = rw c.in-Some.is at c.in_ok-next.ensures.in_bounds in
-    let row = rw c.in-Some.is at c.in_ok-next.ensures.row in
-    let m = record-more (settings_of c.args.options) (g.R.Source.device c.args.source.now) (g.R.Source.device c.records.source) (g.R.Source.device c.next_record.new.source) c.records.reader c.next_record.new.self (map segment_of_packed u.packed) u.joining next u.rows reads step c.next_record.ensures.settings bounds row in
-    let taken = more c.args.options (g.R.Source.device c.args.source.now) (g.R.Source.device c.next_record.new.source) (g.W.Sink.device c.args.sink.now) (g.W.Sink.device c.take.new.sink) c.next_record.new.self c.take.new.self u.packed u.joining next.row m (c.in_ok-take.ensures.written (g.W.Sink.device c.args.sink.now) u.packed u.joining.current u.lined) c.in_ok-take.ensures.last (c.in_ok-take.ensures.encoded u.encoded) (rw c.in_ok-take.ensures.size u.size) in
-    record { under = taken; ready = λ is_live. inl (c.must_flush.ensures is_live c.if-must_flush.false) }
+    let at = goal.at.records-preserved g c in
+    let taken = one-taken g at.After-must_flush (one-read g at.After-take) in
+    record { under = taken; ready = λ is_live. inl ((c.must_flush.ensures.live is_live).0 c.if-must_flush.false) }
 
 pub returns-in_err-segments-clause-answer : goal.returns-in_err-segments-clause-answer
 returns-in_err-segments-clause-answer g c =
