@@ -11,7 +11,7 @@ use Rattle.msr_walk.specs.Entries.{IsDayOf, IsOutcomeOf}
 use Rattle.msr_walk.specs.declared.outcome.Outcome.{Outcome}
 use Rattle.msr_walk.specs.declared.outcome.Outcome.TheVariants.{Done, Same, Skipped, Refused, NotShown as Unshown}
 use Rattle.msr_walk.specs.declared.outcome.Refusal.{Refusal}
-use Rattle.msr_walk.specs.declared.outcome.Refusal.TheVariants.{CannotOpen, Listing, NotShown, Tool}
+use Rattle.msr_walk.specs.declared.outcome.Refusal.TheVariants.{CannotOpen, Listing, NotShown, Taken, Tool}
 use Rattle.msr_walk.specs.declared.outcome.Repacked.{Repacked}
 
 pub day-stops : (choice : Choice) (source records0 records text0 text : Device) (why : ToolFault) →
@@ -51,6 +51,7 @@ pub day-unkept : (asked : Asked) (source records0 records text0 text : Device) (
 day-unkept asked source records0 records text0 text repacked CannotOpen does is = tt
 day-unkept asked source records0 records text0 text repacked Listing does is = absurd is.1
 day-unkept asked source records0 records text0 text repacked NotShown does is = record { check = is.0; unshown = is.1 }
+day-unkept asked source records0 records text0 text repacked Taken does is = absurd is.1
 day-unkept asked source records0 records text0 text repacked (Tool why) does is = rw is.1 (record {
   input = does.input;
   written = does.written;
@@ -67,5 +68,6 @@ outcome-of asked path channel (Skipped fault) day is = absurd is
 outcome-of asked path channel (Refused CannotOpen) day is = day
 outcome-of asked path channel (Refused Listing) day is = absurd is
 outcome-of asked path channel (Refused NotShown) day is = absurd is
+outcome-of asked path channel (Refused Taken) day is = day
 outcome-of asked path channel (Refused (Tool why)) day is = (day, is)
 outcome-of asked path channel Unshown day is = (day, is)

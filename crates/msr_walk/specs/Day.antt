@@ -16,7 +16,7 @@ use Rattle.msr_walk.specs.declared.folders.Archive.{Archive}
 use Rattle.msr_walk.specs.declared.outcome.Outcome.{Outcome}
 use Rattle.msr_walk.specs.declared.outcome.Outcome.TheVariants.{Done, Same, Skipped, Refused, NotShown as Unshown}
 use Rattle.msr_walk.specs.declared.outcome.Refusal.{Refusal}
-use Rattle.msr_walk.specs.declared.outcome.Refusal.TheVariants.{CannotOpen, Listing, NotShown, Tool}
+use Rattle.msr_walk.specs.declared.outcome.Refusal.TheVariants.{CannotOpen, Listing, NotShown, Taken, Tool}
 use Rattle.msr_walk.specs.declared.outcome.Repacked.{Repacked}
 
 -- What is asked of each day of an archive: the length and the tolerance; whether what an earlier walk did is left alone;
@@ -78,6 +78,7 @@ abbrev pub IsUnkept : Refusal → Type 0
 IsUnkept CannotOpen = ⊤
 IsUnkept Listing = ⊥
 IsUnkept NotShown = IsUnshown
+IsUnkept Taken = ⊥
 IsUnkept (Tool fault) = fault ≡ Memory
 
 -- what holding records against their report answers
@@ -106,6 +107,7 @@ IsRepackedDay asked (Ok repacked) = IsDone asked repacked
 IsRepackedDay asked (Err CannotOpen) = ⊤
 IsRepackedDay asked (Err Listing) = ⊥
 IsRepackedDay asked (Err NotShown) = IsNotShown asked
+IsRepackedDay asked (Err Taken) = ⊤
 IsRepackedDay asked (Err (Tool fault)) = HasAnswer asked.choice (Err fault)
 
 -- Some text is that of a report of these options, and the counts are those of this report. A report says no strictness:
@@ -133,5 +135,6 @@ IsDayOutcome asked (Skipped fault) = ⊥
 IsDayOutcome asked (Refused CannotOpen) = ⊤
 IsDayOutcome asked (Refused Listing) = ⊥
 IsDayOutcome asked (Refused NotShown) = ⊥
+IsDayOutcome asked (Refused Taken) = ⊤
 IsDayOutcome asked (Refused (Tool fault)) = HasAnswer asked.choice (Err fault)
 IsDayOutcome asked Unshown = IsNotShown asked

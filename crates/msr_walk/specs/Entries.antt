@@ -11,7 +11,7 @@ use Rattle.msr_walk.specs.Day.{Asked, HasAnswer, IsDone, IsNotShown, IsSame}
 use Rattle.msr_walk.specs.Paths.{channel_of}
 use Rattle.msr_walk.specs.declared.outcome.Outcome.{Outcome}
 use Rattle.msr_walk.specs.declared.outcome.Outcome.TheVariants.{Done, Same, Skipped, Refused, NotShown as Unshown}
-use Rattle.msr_walk.specs.declared.outcome.Refusal.TheVariants.{CannotOpen, Listing, NotShown, Tool}
+use Rattle.msr_walk.specs.declared.outcome.Refusal.TheVariants.{CannotOpen, Listing, NotShown, Taken, Tool}
 use Rattle.msr_walk.specs.declared.tally.Tally.{Tally}
 
 -- an entry: its path from the archive's folder, and what became of it; of a day its channel too
@@ -40,6 +40,7 @@ IsOutcomeOf asked path channel (Skipped fault) = IsNoDay path fault
 IsOutcomeOf asked path channel (Refused CannotOpen) = IsDayOf path channel
 IsOutcomeOf asked path channel (Refused Listing) = ⊤
 IsOutcomeOf asked path channel (Refused NotShown) = ⊥
+IsOutcomeOf asked path channel (Refused Taken) = IsDayOf path channel
 IsOutcomeOf asked path channel (Refused (Tool fault)) = IsDayOf path channel × HasAnswer asked.choice (Err fault)
 IsOutcomeOf asked path channel Unshown = IsDayOf path channel × IsNotShown asked
 

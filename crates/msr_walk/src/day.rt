@@ -2,7 +2,7 @@
 ghost use Rattle.std.specs.Prelude.{◌≡◌, IfErr, IfSome};
 ghost use Rattle.msr_walk.specs.Day.{Asked, IsDayOutcome, IsKept, IsRepackedDay, IsShownWhere, asked_of};
 
-use crate::files::{NewFile, may_be_one_file, settle};
+use crate::files::{NewFile, settle};
 use crate::folders::Archive;
 use crate::outcome::{Outcome, Refusal, Repacked};
 use crate::paths::join;
@@ -57,17 +57,24 @@ impl Day {
         )?;
         settle(&records)?;
         settle(&report)?;
-        self.hold(rt, alloc, archive.check)?;
+        let shown = self.hold(rt, alloc, archive.check);
+        if !self.records.is_ours(rt, &records) || !self.report.is_ours(rt, &report) {
+            return Err(Refusal::Taken);
+        }
+        shown?;
         self.keep(rt)?;
         Ok(repacked)
     }
 
-    // An old stamp goes before anything gets its name, so that what has one was made whole; the report gets its name
-    // first, so that records that have theirs have a report.
+    // The stamp and the records of an earlier walk go before anything gets its name, so that what has a stamp was made
+    // whole, and no report stands beside records that are not its own; the report gets its name first, so that records
+    // that have theirs have a report.
     fn keep<R: Files>(&self, rt: &R) -> Result<(), Refusal>
         ensures { IfErr result (λ why. why ≡ Refusal.CannotOpen) }
     {
+        self.stamp.sweep(rt);
         self.stamp.clear(rt)?;
+        self.records.clear(rt)?;
         self.report.keep(rt)?;
         self.records.keep(rt)
     }
@@ -93,7 +100,7 @@ impl Day {
     }
 
     // Repacks the day, and stamps it where it is asked for and the input did not change meanwhile; without a stamp the
-    // next walk repacks it again. Where it is refused, nothing of it is left.
+    // next walk repacks it again. Where it is refused, nothing of it is left, but for another walk that took it over.
     fn repack<R: Files>(
         &self,
         rt: &R,
@@ -104,10 +111,10 @@ impl Day {
     {
         let before = Stamp::of(rt, self.input.as_str());
         let result = self.write(rt, alloc, archive);
-        if result.is_err() {
-            self.remove(rt);
-        } else if archive.resume {
-            self.put_stamp(rt, alloc, before);
+        match result {
+            Ok(_) if archive.resume => self.put_stamp(rt, alloc, before),
+            Ok(_) | Err(Refusal::Taken) => {}
+            Err(_) => self.remove(rt),
         }
         result
     }
@@ -157,15 +164,21 @@ impl Day {
         }
     }
 
+    // Whether the day's own file, or a file beside it in the archive, may be touched by what is made of it.
+    fn may_touch_archive<R: Files>(&self, rt: &R) -> bool {
+        let input = self.input.as_str();
+        self.records.may_touch(rt, input)
+            || self.report.may_touch(rt, input)
+            || self.stamp.may_touch(rt, input)
+    }
+
     /// Repacks the day, or leaves it alone where an earlier walk did it and that is asked for. Where it is refused, no
-    /// records and no report of it are left, unless they may be the input by another name: then nothing is touched.
+    /// records and no report of it are left, unless the archive may be touched by that, or another walk took the day
+    /// over: then nothing is.
     pub fn handle<R: Files>(&self, rt: &R, alloc: Global, archive: &Archive<'_>) -> Outcome
         ensures { IsDayOutcome (asked_of archive.now) result }
     {
-        let input = self.input.as_str();
-        if may_be_one_file(rt, input, self.records.path())
-            || may_be_one_file(rt, input, self.report.path())
-        {
+        if self.may_touch_archive(rt) {
             return Outcome::Refused(Refusal::CannotOpen);
         }
         if archive.resume {
@@ -186,6 +199,8 @@ fn refused(refusal: Refusal) -> Outcome
 {
     match refusal {
         Refusal::NotShown => Outcome::NotShown,
-        Refusal::CannotOpen | Refusal::Listing | Refusal::Tool(_) => Outcome::Refused(refusal),
+        Refusal::CannotOpen | Refusal::Listing | Refusal::Taken | Refusal::Tool(_) => {
+            Outcome::Refused(refusal)
+        }
     }
 }

@@ -6,7 +6,7 @@ use crate::paths::join;
 use msr_tool::ToolFault;
 use std::alloc::{AllocError, Global};
 use std::fs;
-use std::fs::{OpenFile, OpenOptions};
+use std::fs::{Metadata, OpenFile, OpenOptions};
 use std::io::ErrorKind;
 use std::os::unix::fs::MetadataExt;
 use std::rt::Files;
@@ -31,18 +31,28 @@ pub fn settle<F: OpenFile>(file: &F) -> Result<(), ToolFault>
     }
 }
 
-/// Whether both names may be those of one regular file, by whatever paths or links: they are, or the system does not
-/// tell. Where nothing stands under one of them they are not.
-pub fn may_be_one_file<R: Files>(rt: &R, a: &str, b: &str) -> bool {
+// Whether both names lead to one file or folder, by whatever paths or links, or the system does not tell. Where nothing
+// stands under one of them they do not.
+fn may_be_one<R: Files>(rt: &R, a: &str, b: &str) -> bool {
     let first = match fs::metadata(rt, a) {
         Ok(metadata) => metadata,
         Err(error) => return error.kind() != ErrorKind::NotFound,
     };
     match fs::metadata(rt, b) {
-        Ok(second) => {
-            first.is_file() && first.dev() == second.dev() && first.ino() == second.ino()
-        }
+        Ok(second) => is_one(&first, &second),
         Err(error) => error.kind() != ErrorKind::NotFound,
+    }
+}
+
+fn is_one(a: &Metadata, b: &Metadata) -> bool {
+    a.dev() == b.dev() && a.ino() == b.ino()
+}
+
+// The folder in which a name stands; without a slash none, which is no folder's name.
+fn folder_of(path: &str) -> &str {
+    match path.rsplit_once('/') {
+        Some((folder, _)) => folder,
+        None => "",
     }
 }
 
@@ -82,17 +92,22 @@ impl NewFile {
         self.part.as_str()
     }
 
+    /// Whether making it may touch the folder in which that other file stands, or the file itself by another name; so
+    /// it may where the system does not tell.
+    pub fn may_touch<R: Files>(&self, rt: &R, other: &str) -> bool {
+        may_be_one(rt, folder_of(other), folder_of(self.path()))
+            || may_be_one(rt, other, self.path())
+            || may_be_one(rt, other, self.part())
+    }
+
     /// Makes the folder, and the file beside its name, in the place of what a run that was killed left there.
     pub fn create<R: Files>(&self, rt: &R) -> Result<R::File, Refusal>
         ensures { IfErr result (λ why. why ≡ Refusal.CannotOpen) }
     {
-        let Some((folder, _)) = self.part.as_str().rsplit_once('/') else {
-            return Err(Refusal::CannotOpen);
-        };
-        if fs::create_dir_all(rt, folder).is_err() {
+        if fs::create_dir_all(rt, folder_of(self.part())).is_err() {
             return Err(Refusal::CannotOpen);
         }
-        fs::remove_file(rt, self.part.as_str()).ok();
+        self.sweep(rt);
         match OpenOptions::new()
             .write(true)
             .create_new(true)
@@ -103,11 +118,26 @@ impl NewFile {
         }
     }
 
-    /// Removes an older file of its name, if there is one, and what a run that was killed left beside it.
+    /// Removes what a run that was killed left beside its name, as far as the system lets.
+    pub fn sweep<R: Files>(&self, rt: &R) {
+        fs::remove_file(rt, self.part.as_str()).ok();
+    }
+
+    /// Whether what stands beside its name is that file: another walk makes its own there, in the place of ours.
+    pub fn is_ours<R: Files>(&self, rt: &R, file: &R::File) -> bool {
+        let Ok(found) = fs::symlink_metadata(rt, self.part.as_str()) else {
+            return false;
+        };
+        match file.metadata() {
+            Ok(made) => is_one(&made, &found),
+            Err(_) => false,
+        }
+    }
+
+    /// Removes an older file of its name, if there is one.
     pub fn clear<R: Files>(&self, rt: &R) -> Result<(), Refusal>
         ensures { IfErr result (λ why. why ≡ Refusal.CannotOpen) }
     {
-        fs::remove_file(rt, self.part.as_str()).ok();
         match fs::remove_file(rt, self.path.as_str()) {
             Ok(()) => Ok(()),
             Err(error) => match error.kind() {
@@ -130,6 +160,6 @@ impl NewFile {
     /// Removes the file and an older one of its name, as far as the system lets.
     pub fn remove<R: Files>(&self, rt: &R) {
         fs::remove_file(rt, self.path.as_str()).ok();
-        fs::remove_file(rt, self.part.as_str()).ok();
+        self.sweep(rt);
     }
 }

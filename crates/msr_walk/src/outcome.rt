@@ -20,6 +20,9 @@ pub enum Refusal {
     /// The report did not show that the records are the fewest, though it is their own.
     #[error("not shown")]
     NotShown,
+    /// Another walk made its own files in the place of those of this one.
+    #[error("another walk is at work")]
+    Taken,
     /// The file was not repacked.
     #[error("{0}")]
     Tool(ToolFault),

@@ -1,13 +1,17 @@
 //! The system's files, but for one folder, and two names.
 use std::alloc::{Allocator, Global};
 use std::fs::{Metadata, OpenOptions};
-use std::io;
+use std::{fs, io};
 use std::io::{ErrorKind, Read};
 use std::rt::Files;
 
+/// What another program writes to a file that it took.
+pub const TAKEN: &[u8] = b"another's";
+
 /// The folder with the path, which ends in a slash, has these names, each ended by a NUL, or cannot be opened. Where the
-/// last name is cut short, reading fails there. A file gets the later name only where the earlier one is there. Once the
-/// file with the name `made` is there, the other one is opened in its place.
+/// last name is cut short, reading fails there. A file gets the later name only where the earlier one is there and the
+/// one that is to be gone is not. Once the file with the name `made` is there, the other one is opened in its place. A
+/// new file with the name `taken` is replaced at once, as another program would.
 #[derive(Clone, Copy)]
 pub struct OddFolder<'a> {
     pub rt: &'a HostRuntime,
@@ -17,6 +21,25 @@ pub struct OddFolder<'a> {
     pub later: &'a str,
     pub made: &'a str,
     pub other: &'a str,
+    pub gone: &'a str,
+    pub taken: &'a str,
+}
+
+impl<'a> OddFolder<'a> {
+    /// Nothing odd.
+    pub fn new(rt: &'a HostRuntime) -> OddFolder<'a> {
+        OddFolder {
+            rt,
+            path: "",
+            names: None,
+            earlier: "",
+            later: "",
+            made: "",
+            other: "",
+            gone: "",
+            taken: "",
+        }
+    }
 }
 
 /// The names of a folder.
@@ -57,7 +80,12 @@ impl<'a> Files for OddFolder<'a> {
         if path == self.made && self.rt.metadata(path).is_ok() {
             return self.rt.open_file(how, self.other);
         }
-        self.rt.open_file(how, path)
+        let file = self.rt.open_file(how, path)?;
+        if path == self.taken && how.asks_create_new() {
+            self.rt.remove_file(path)?;
+            fs::write(self.rt, path, TAKEN)?;
+        }
+        Ok(file)
     }
 
     fn open_dir(&self, path: &str) -> io::Result<Names> {
@@ -85,6 +113,9 @@ impl<'a> Files for OddFolder<'a> {
     fn rename(&self, from: &str, to: &str) -> io::Result<()> {
         if to == self.later {
             self.rt.metadata(self.earlier)?;
+            if self.rt.metadata(self.gone).is_ok() {
+                return Err(ErrorKind::Other.into());
+            }
         }
         self.rt.rename(from, to)
     }

@@ -28,10 +28,10 @@ returns-in_err-settle-2 g c =
     let p = err_from_is_err_and c.from_residual-in_err-settle-2.result c.from_residual-in_err-settle-2.ensures.1 in
     rw (p.1, p.2, c.in_err-settle-2.ensures) (day-unsettled _ _ _ _ _ _ _ c.in_ok-repacked.ensures)
 
-pub returns-in_err-hold : goal.returns-in_err-hold
-returns-in_err-hold g c =
-    let p = err_from_is_err_and c.from_residual-in_err-hold.result c.from_residual-in_err-hold.ensures.1 in
-    rw (p.1, p.2) (day-unkept (asked_of c.args.archive.now) _ _ _ _ _ _ c.in_err-hold.field-0.0 c.in_ok-repacked.ensures c.in_err-hold.ensures)
+pub returns-in_err-shown : goal.returns-in_err-shown
+returns-in_err-shown g c =
+    let p = err_from_is_err_and c.from_residual-in_err-shown.result c.from_residual-in_err-shown.ensures.1 in
+    rw (p.1, p.2) (day-unkept (asked_of c.args.archive.now) _ _ _ _ _ _ c.in_err-shown.field-0.0 c.in_ok-repacked.ensures c.in_err-shown.ensures)
 
 pub returns-in_err-keep : goal.returns-in_err-keep
 returns-in_err-keep g c =
@@ -39,4 +39,4 @@ returns-in_err-keep g c =
     rw (p.1, p.2, c.in_err-keep.ensures) tt
 
 pub returns : goal.returns
-returns g c = record { answer = day-answer _ _ _ _ _ _ _ c.in_ok-repacked.ensures; shown = c.in_ok-hold.ensures }
+returns g c = record { answer = day-answer _ _ _ _ _ _ _ c.in_ok-repacked.ensures; shown = c.in_ok-shown.ensures }
