@@ -11,7 +11,7 @@ use Rattle.msr_devices.proofs.Chaining.{calm-same, calm-calm, calm-failed, stead
 use Rattle.msr_base.specs.declared.counts.Counts.{Counts}
 use Rattle.msr_input.specs.Input.{Agrees, AllAgree, BeginsWith, IsRefusedAlone, counts_of}
 use Rattle.msr_input.specs.Reading.{HoldsRecord, TakesMemoryFor}
-use Rattle.msr_input.specs.Records.{Position, HaveCome, HaveComeShort, HasGiven, IsRefusedAfter, StopsRecords}
+use Rattle.msr_input.specs.Records.{CountsOneMore, Position, HaveCome, HaveComeShort, HasGiven, IsRefusedAfter, StopsRecords}
 use Rattle.msr_input.specs.Steps.{CameBefore, StopsDecoding}
 use Rattle.msr_input.specs.declared.fault.Fault.{Fault}
 use Rattle.msr_input.specs.declared.fault.ReadFault.{ReadFault}
@@ -175,10 +175,6 @@ in-bounds s a position records found come is =
       records_few = omega (arith, few, fits.0, fits.1, short, come.moved);
       offset_small = omega (arith, come.offset, fits.1, short, come.moved);
     }
-
--- the counts of one record more
-abbrev pub CountsOneMore : Counts → Counts → Record → Type 0
-CountsOneMore old new found = (records : List Record) → old ≡ counts_of records → length records < 2 ^ 64 - 1 → new ≡ counts_of (records ++ found ∷ [])
 
 -- after a record was passed
 pub come-passed : (s a : Device) (old new : Position) (records : List Record) (found : Record) (counts : Counts) → HaveCome s a old records → IsRecordOf old.waiting found → Agrees old.strict found → CountsOneMore old.counts counts found → Passes old new found counts → HaveCome s a new (records ++ found ∷ [])

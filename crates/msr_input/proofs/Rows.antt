@@ -96,18 +96,9 @@ in-range-followed following records answers found none followed in_time within =
     let more = in-range-more at.joining records at.given found none-at at.joined in_time (λ row e over. within row e (subst (λ (f : Following). Overruns f (row_span row)) (sym at.stands) over)) in
     subst (λ (t : ℕ). NoneOverruns t (records ++ found ∷ [])) (sym same) more
 
-pub step-tolerance : (old new : Following) (row : Span) (answer : Step) → IsStep old row answer new → new.tolerance ≡ old.tolerance
+step-tolerance : (old new : Following) (row : Span) (answer : Step) → IsStep old row answer new → new.tolerance ≡ old.tolerance
 step-tolerance old new row Begins k = ap (λ (f : Following). f.tolerance) k.after
 step-tolerance old new row Joins k = ap (λ (f : Following). f.tolerance) k.after
-
-pub follows-tolerance : (old new : Following) (row : Option Row) (next : Option NextRow) → FollowsRecord old row next new → new.tolerance ≡ old.tolerance
-follows-tolerance old new None next follows = ap (λ (f : Following). f.tolerance) follows.1
-follows-tolerance old new (Some row) next follows = step-tolerance old new (row_span row) follows.answer follows.step
-
--- a follower stays where it is where there is no row
-pub stays : (old new : Following) (row : Option Row) (next : Option NextRow) → FollowsRecord old row next new → next ≡ None → new ≡ old
-stays old new None next follows none = follows.1
-stays old new (Some row) next follows none = let told = follows.told in absurd cc
 
 -- after a record without a row
 passed-none : (s a : Device) (old new : Position) (before : Following) (records : List Record) (answers : List Step) (found : Record) → HasReadRows s a (record { position = old; following = before }) records answers → IsRecordOf old.waiting found → found.row ≡ None → HaveCome s a new (records ++ found ∷ []) → ReadsNoRow s a (record { position = new; following = before }) records answers

@@ -1,5 +1,5 @@
 -- What a reader of records shows, and what reading does before the rows of the records are looked at.
-use Rattle.std.specs.Prelude.{◌≡◌, ℕ, ◌+◌, ◌-◌, ◌<◌, ◌^◌, Bool, true, false, List, [], ◌++◌, length}
+use Rattle.std.specs.Prelude.{◌≡◌, ℕ, ◌+◌, ◌-◌, ◌<◌, ◌^◌, Bool, true, false, List, [], ◌∷◌, ◌++◌, length}
 use Rattle.msr_record.specs.declared.row.Record.{Record}
 use Rattle.msr_devices.specs.Device.{Device, HasLeft, HasFailed, IsCalm, IsSteady}
 use Rattle.msr_base.specs.declared.counts.Counts.{Counts}
@@ -34,6 +34,11 @@ pub record HaveCome (start now : Device) (position : Position) (records : List R
   pub end : position.ended ≡ true → HasLeft now []
   pub calm : position.ended ≡ false → IsCalm start now
   pub steady : IsSteady start now
+
+-- the counts of one record more; a source gives too few bytes for more records
+abbrev pub CountsOneMore : Counts → Counts → Record → Type 0
+CountsOneMore old new found =
+    (records : List Record) → old ≡ counts_of records → length records < 2 ^ 64 - 1 → new ≡ counts_of (records ++ found ∷ [])
 
 -- From the one state of the source to the other these records came, and these bytes behind them.
 pub record HaveComeShort (start now : Device) (records : List Record) (waiting : List ℕ) : Type 0 where

@@ -30,12 +30,12 @@ impl Model for RecordReader {
 }
 
 impl RecordReader {
-    ghost use Rattle.std.specs.Prelude.{◌≡◌, ◌≢◌, ◌↔◌, ◌≤◌, ◌<◌, ◌+◌, ◌^◌, List, [], drop, length, true, IsTrue, OnOk, IfOk, IfErr, IsErrOf, IfSome, MatchResult, MatchOption};
+    ghost use Rattle.std.specs.Prelude.{◌≡◌, ◌≢◌, ◌↔◌, ◌≤◌, ◌<◌, ◌+◌, ◌^◌, List, [], ◌∷◌, ◌++◌, drop, length, true, IsTrue, OnOk, IfOk, IfErr, IsErrOf, IfSome, MatchResult, MatchOption};
     ghost use Rattle.msr_devices.specs.Device.{Device, CanCountCall, CountsFew, IsSteady};
     ghost use Rattle.msr_record.specs.Records.{IsRecordOf};
     ghost use Rattle.msr_record.specs.declared.row.Record.{Record as Found};
     ghost use Rattle.msr_input.specs.Input.{Agrees};
-    ghost use Rattle.msr_input.specs.Records.{HaveCome, HaveComeShort, StopsRecords, left_with};
+    ghost use Rattle.msr_input.specs.Records.{CountsOneMore, HaveCome, HaveComeShort, StopsRecords, left_with};
     ghost use Rattle.msr_input.specs.Reading.{HoldsRecord, TakesMemoryFor, room_with};
     ghost use Rattle.msr_input.specs.Steps.{CanJoin};
 
@@ -108,6 +108,9 @@ impl RecordReader {
     /// Passes a record of so many bytes; the counts are those with it.
     pub fn pass(&mut self, size: u32, counts: Counts)
         requires { size ≤ length self.old.waiting }
+        ensures passed { (start now : Device) (records : List Found) (found : Found) → HaveCome start now self.old records
+            → IsRecordOf self.old.waiting found → Agrees self.old.strict found → size ≡ found.length
+            → CountsOneMore self.old.counts counts found → HaveCome start now self.new (records ++ found ∷ []) }
         ensures waiting { self.new.waiting ≡ drop size self.old.waiting }
         ensures ended { self.new.ended ≡ self.old.ended }
         ensures strict { self.new.strict ≡ self.old.strict }

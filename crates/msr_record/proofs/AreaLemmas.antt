@@ -19,7 +19,6 @@ use Rattle.msr_words.specs.Fit.{Fits}
 use Rattle.msr_words.specs.RecordLength.{least_exponent, most_exponent, words_of}
 use Rattle.msr_words.specs.Segment.{differences, points, points_after}
 use Rattle.msr_words.specs.declared.kinds.Kind.{Kind}
-use Rattle.msr_words.specs.declared.kinds.Kind.TheVariants.{Int16, Int24, Int32, Steim1, Steim2}
 
 -- the points of some samples have the samples
 after_samples : (before : ℤ) (xs : List ℤ) → map (λ (p : ℤ × ℤ). p.0) (points_after before xs) ≡ xs

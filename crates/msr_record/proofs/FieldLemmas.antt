@@ -1,7 +1,7 @@
 -- The tests of the fields that samples need, in turn.
-use Rattle.std.proofs.Common.{◌≡◌, ◌≢◌, ℕ, ◌≤◌, ◌^◌, ◌↔◌, true, false, not, ℤ, pos, refl, sym, arith, Option, Some, None}
+use Rattle.std.proofs.Common.{◌≡◌, ◌≢◌, ℕ, ◌↔◌, true, false, not, ℤ, pos, refl, sym, arith, Option, Some, None}
 use Rattle.std.specs.Ordering.{int_eq}
-use Rattle.std.proofs.lemmas.Bool.{and_from, and_parts, leb-true}
+use Rattle.std.proofs.lemmas.Bool.{and_from, and_parts}
 use Rattle.std.proofs.lemmas.Bool.Decides.{Decides-int_eq}
 use Rattle.msr_header.specs.declared.header.Header.{Header}
 use Rattle.msr_record.specs.Kinds.{kind_of_code}
@@ -45,9 +45,6 @@ bad_data_offset h kind r k a = rw (r, k, a) refl
 pub fields_pass : (h : Header) (kind : Kind) → has_rate h ≡ true → kind_of_code h.encoding ≡ Some kind → has_area h ≡ true → first_fault (field_faults h) ≡ None
 unfolding field_faults
 fields_pass h kind r k a = rw (r, k, a) refl
-
-pub area_within : (h : Header) → has_area h ≡ true → (h.chain_end ≤ h.data_at) × (h.data_at ≤ 2 ^ h.exponent)
-area_within h e = let p = and_parts _ _ e in (leb-true _ _ p.0, leb-true _ _ p.1)
 
 -- the kind of an encoding is the one that has it
 pub kind_is_of_code : (code : ℕ) (found : Option Kind) → ((kind : Kind) → (found ≡ Some kind ↔ code_of kind ≡ code)) → found ≡ kind_of_code code

@@ -1,6 +1,6 @@
 -- How the answers of the parts make a row or a refusal.
 use Rattle.std.proofs.Common.{◌≡◌, ◌≢◌, ℕ, ◌≤◌, ◌^◌, Bool, true, false, ℤ, List, [], ◌∷◌, length, refl, sym, ap, ◌∙◌, arith, Some, None, Ok}
-use Rattle.std.specs.Prelude.{◌&&◌, nat_le, slice_range, is_some, IsTrue, ◌↔◌}
+use Rattle.std.specs.Prelude.{◌&&◌, nat_le, is_some, IsTrue, ◌↔◌}
 use Rattle.std.proofs.lemmas.Bool.{both_ways, leb-true}
 use Rattle.std.proofs.Math.Pow.{pow_mono}
 use Rattle.msr_time.specs.SampleRate.{SampleRate}
@@ -9,7 +9,7 @@ use Rattle.msr_header.specs.declared.header.Header.{Header}
 use Rattle.msr_record.specs.Kinds.{kind_of_code}
 use Rattle.msr_record.specs.Correction.{key_of, start_of}
 use Rattle.msr_record.specs.Area.{Carries, ReverseAgrees}
-use Rattle.msr_record.specs.Records.{unless, has_rate, has_area, field_faults, first_fault, data_area, HasSamples, HasArea, IsOutOfTime, IsRowOf, AgreesAtEnd, IsInTime, IsRefused}
+use Rattle.msr_record.specs.Records.{unless, has_rate, has_area, field_faults, first_fault, data_area, HasSamples, HasArea, IsOutOfTime, AgreesAtEnd, IsInTime, IsRefused}
 use Rattle.msr_words.specs.declared.kinds.Kind.{Kind}
 use Rattle.msr_record.specs.declared.row.Key.{Key}
 use Rattle.msr_record.specs.declared.row.Row.{Row}
@@ -19,9 +19,6 @@ use Rattle.msr_record.specs.declared.fault.FaultKind.TheVariants.{NoRate, OtherE
 
 pub has_area_from : (bytes : List ℕ) (h : Header) (kind : Kind) → header_of bytes ≡ Ok h → (h.samples ≡ 0 → ⊥) → first_fault (field_faults h) ≡ None → kind_of_code h.encoding ≡ Some kind → HasArea bytes h kind
 has_area_from bytes h kind read some fields code = record { has_samples = record { read = read; some = omega (arith, some) }; fields = fields; kind_is = code }
-
-pub row_from : (bytes : List ℕ) (h : Header) (end : ℕ) (row : Row) → HasArea bytes h row.kind → end ≡ 2 ^ h.exponent → row.key ≡ key_of h → row.start ≡ start_of h → length row.samples ≡ h.samples → Carries row.kind h.data_order (slice_range bytes h.data_at end) row.samples → IsRowOf bytes row
-row_from bytes h end row area e ek es count carried = record { header = h; has_area = area; key_is = ek; start_is = es; count = count; carried = rw e at carried }
 
 -- the test of the reverse constant, for the record that the bytes begin with
 pub agrees_from : (bytes : List ℕ) (h : Header) (row : Row) (b : Bool) → header_of bytes ≡ Ok h → (IsTrue b ↔ ReverseAgrees row.kind h.data_order (data_area h bytes) row.samples) → (IsTrue b ↔ AgreesAtEnd bytes row)

@@ -1,10 +1,10 @@
-use Rattle.std.proofs.Common.{◌≡◌, arith, length-drop}
+use Rattle.std.proofs.Common.{◌≡◌, arith, length-drop, refl}
 use Rattle.std.proofs.lemmas.Result.{err_from_is_err_and}
 use Rattle.msr_record.specs.Records.{IsRecordOf}
 use Rattle.msr_record.proofs.Shown.{record_fits}
 use Rattle.msr_input.specs.Input.{Agrees}
 use Rattle.msr_input.specs.declared.fault.ReadFault.TheVariants.{Memory, Read}
-use Rattle.msr_input.proofs.Coming.{CountsOneMore, Passes, come-passed}
+use Rattle.msr_input.specs.Records.{CountsOneMore}
 use Rattle.msr_input.proofs.Histories.{at_place, read-taken, join-stops, join-memory, join-failure}
 use Rattle.msr_input.proofs.reader.SegmentReader.take.Goals as goal
 
@@ -39,15 +39,8 @@ returns-clause-read c =
     let is : IsRecordOf old.waiting c.args.found = rw (← c.self.view_is) at c.requires.is_record in
     let agrees : Agrees old.strict c.args.found = rw (← c.self.view_is) at c.requires.agrees in
     let counted : CountsOneMore old.counts c.counted-counts.result c.args.found = rw c.counts.ensures at c.counted-counts.ensures in
-    let passes : Passes old c.pass.new.self c.args.found c.counted-counts.result = record {
-      waiting = c.pass.ensures.waiting;
-      ended = c.pass.ensures.ended;
-      strict = c.pass.ensures.strict;
-      counted = c.pass.ensures.counts;
-      offset = c.pass.ensures.offset;
-    } in
     rw (← c.self.view_is) (λ start now records given has.
-    let come = come-passed start now old c.pass.new.self records c.args.found c.counted-counts.result has.came is agrees counted passes in
+    let come = c.pass.ensures.passed start now records c.args.found has.came is agrees refl counted in
     read-taken start now old c.pass.new.self c.self.inside.joiner c.join.new.joiner records given c.args.found c.in_ok-ended.ended has is c.in_ok-ended.ensures.joined come)
 
 pub returns-clause-fewer : goal.returns-clause-fewer
