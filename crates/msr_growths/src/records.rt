@@ -2,6 +2,7 @@
 ghost use Rattle.std.specs.Prelude.{◌≡◌, ℕ, List, IfOk, drop};
 ghost use Rattle.msr_packer.specs.Stream.{IsEnd};
 ghost use Rattle.msr_words.specs.declared.kinds.Run.{Run};
+ghost use Rattle.msr_words.specs.Lengths.{bytes_of};
 
 use crate::inputs::{Inputs, append};
 use msr_header::Order;
@@ -75,7 +76,7 @@ pub fn pack_all(rt: &HostRuntime, inputs: &Inputs) -> io::Result<()> {
 /// What is left at the end of a stream.
 fn last_of(alloc: Global, samples: &[i32], record_length: Length) -> Result<Last, AllocError>
     ensures { IfOk result (λ last. (runs : List Run) × (separators : List ℕ)
-        × IsEnd record_length samples.now runs separators last.pieces.items last.samples.items) }
+        × IsEnd (bytes_of record_length) samples.now runs separators last.pieces.items last.samples.items) }
 {
     let mut packer = StreamPacker::new(alloc, record_length);
     for at in 0..samples.len() {
