@@ -596,8 +596,11 @@ fn a_day_that_is_its_own_output(rt: HostRuntime) -> Result<(), Fail> {
     let lines = "refused 2020/XX/TEST/BHZ.D/XX.TEST.00.BHZ.D.2020.001: cannot open
 files 0 skipped 0 refused 1
 ";
-    let outputs: [(&'static str, &'static str); 3] =
-        [("out", DAY_1), ("reports", REPORT_1), ("reports", STAMP_1)];
+    let outputs: [(&'static str, &'static str); 3] = [
+        ("out", DAY_1),
+        ("reports", REPORT_1),
+        ("reports", STAMP_1),
+    ];
     for (top, path) in outputs {
         let tree = Tree::new(&rt)?;
         let day = zeros(rt.alloc())?;

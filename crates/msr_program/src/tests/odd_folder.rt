@@ -1,9 +1,9 @@
 //! The system's files, but for one folder, and two names.
 use std::alloc::{Allocator, Global};
 use std::fs::{Metadata, OpenOptions};
-use std::{fs, io};
 use std::io::{ErrorKind, Read};
 use std::rt::Files;
+use std::{fs, io};
 
 /// What another program writes to a file that it took.
 pub const TAKEN: &[u8] = b"another's";
