@@ -346,7 +346,7 @@ def written_row(bench, length):
     inputs.by_libmseed(inputs.zeros, 11, 1, length)(name, bench.libmseed)
     theirs = bench.found(name)
     inputs.by_libmseed(inputs.zeros, 11, 1, 4096)(name, bench.libmseed)
-    ours, _, _ = repacked(bench, name, length)
+    _, ours, _, _ = repacked(bench, name, length)
     return f"| {inputs.COUNT:,} | {length} | {kept(theirs)} | {kept(ours)} |"
 
 
