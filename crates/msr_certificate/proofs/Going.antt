@@ -14,7 +14,7 @@ use Rattle.msr_certificate.proofs.Segments.{first_line_then, Tail, tail_from_fir
 use Rattle.msr_certificate.proofs.Feeds.{same_cons}
 use Rattle.msr_certificate.proofs.Sums.{records-append}
 
--- the lines of so many segments stand behind the first four
+-- the lines of so many segments stand after the first four
 pub record Going (text : List ℕ) (bytes tolerance : ℕ) (counts : Counts) (segments : List SegmentLine) (rest : List ℕ) : Type 0 where
   pub lines : List ℕ
   pub are : AreFormLineTexts (map form_line segments) lines

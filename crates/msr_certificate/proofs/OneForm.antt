@@ -111,7 +111,7 @@ line_is a b key start samples records separators =
     let same : record { key = a.key; start = a.start; samples = a.samples; records = a.records; separators = a.separators }
     ≡ record { key = b.key; start = b.start; samples = b.samples; records = b.records; separators = b.separators } = cc in same
 
--- the same two lines of a segment, and the same text behind them
+-- the same two lines of a segment, and the same text after them
 same_line_of : (a b : FormLine) (text other xs ys : List ℕ) → IsFormLine a → IsFormLine b
     → IsOpening a.key a.start a.samples a.records (separators_line a.separators ++ xs) text → IsOpening b.key b.start b.samples b.records (separators_line b.separators ++ ys) other
     → text ≡ other → (a ≡ b) × (xs ≡ ys)
@@ -157,7 +157,7 @@ same_counts : (a b : Counts) → a.read ≡ b.read → a.empty ≡ b.empty → a
 same_counts a b read empty mismatched =
     let same : record { read = a.read; empty = a.empty; mismatched = a.mismatched } ≡ record { read = b.read; empty = b.empty; mismatched = b.mismatched } = cc in same
 
--- the same first four lines, and the same text behind them
+-- the same first four lines, and the same text after them
 record IsSameFirst (form other : Form) (xs ys : List ℕ) : Type 0 where
   bytes : form.bytes ≡ other.bytes
   tolerance : form.tolerance ≡ other.tolerance

@@ -47,7 +47,7 @@ is_48 d h = grind (arith, nat_tests)
 not_48 : (d : ℕ) → (d == 48) ≡ false → d ≡ 48 → ⊥
 not_48 d h is = grind (arith, nat_tests)
 
--- digits are the decimal of their number with zeros in front
+-- digits are the decimal of their number with leading zeros
 pads_behind_zero : (d : ℕ) (ds : List ℕ) → d ≡ 48 → 0 < length ds → length ds ≤ 6 → all_ascii_digits ds ≡ true
     → padded_decimal (length ds) (number_after 0 ds) ≡ ds → padded_decimal (length (d ∷ ds)) (number_after 0 (d ∷ ds)) ≡ d ∷ ds
 pads_behind_zero d ds is some few all before =

@@ -5,7 +5,7 @@ use Rattle.msr_report.specs.Text.{segment_words, separators_line, end_line, IsTi
 use Rattle.msr_certificate.specs.Form.{FormLine, IsKey, IsFormLine, IsFormLineText, AreFormLineTexts, IsOpening, key_then, form_records}
 use Rattle.msr_certificate.specs.Rest.{InFirst, AtLine, tail_5}
 
--- the lines of segments behind so many segments with so many records, and the last line
+-- the lines of segments after so many segments with so many records, and the last line
 pub record Tail (segments records : ℕ) (w : List ℕ) (P : Type 0) : Type 0 where
   pub lines : List FormLine
   pub each : All IsFormLine lines
@@ -26,7 +26,7 @@ pub record Second (segments records : ℕ) (w : List ℕ) (P : Type 0) : Type 0 
   pub is : w ≡ separators_line separators ++ more
   pub tail : Tail (suc segments) records more P
 
--- behind the last line, or behind the first line of a segment of n records, where the value is n + 1
+-- after the last line, or after the first line of a segment of n records, where the value is n + 1
 abbrev pub Next : ℕ → ℕ → ℕ → List ℕ → Type 0 → Type 0
 Next segments records zero w P = w ≡ []
 Next segments records (suc n) w P = Second segments (records + n) w P
@@ -110,7 +110,7 @@ words_then key word samples records separators more =
     ∙ ap (key_then key) (start_append word samples (codes " records " ++ (decimal records ++ (10 ∷ separators_line separators))) more
     ∙ ap (start_then word samples) (records_append records (separators_line separators) more))
 
--- more text behind the first line of a segment, in the words of its line
+-- more text after the first line of a segment, in the words of its line
 pub first_line_then : (key : Key) (word : List ℕ) (samples records : ℕ) (more : List ℕ)
     → segment_words key word samples (codes " records " ++ (decimal records ++ (10 ∷ []))) ++ more
     ≡ segment_words key word samples (codes " records " ++ (decimal records ++ (10 ∷ more)))
@@ -121,7 +121,7 @@ first_line_then key word samples records more =
     ∙ ap (start_then word samples) (records_append records [] more))
     ∙ sym (words_key key word samples (codes " records " ++ (decimal records ++ (10 ∷ more))))
 
--- the two lines of a segment at the front of a text
+-- the two lines of a segment at the start of a text
 pub line_text : (line : FormLine) (text more rest : List ℕ) → (opening : IsOpening line.key line.start line.samples line.records more text) → more ≡ separators_line line.separators ++ rest
     → (word : List ℕ) × (IsFormLineText line word × (text ≡ word ++ rest))
 line_text line text more rest opening is = (

@@ -1,4 +1,4 @@
--- What stands behind the segments of a report.
+-- What stands after the segments of a report.
 use Rattle.std.specs.Prelude.{◌≡◌, ℕ, ◌<◌, ◌^◌, List, ◌++◌, length}
 use Rattle.msr_report.specs.Proper.{records_of}
 use Rattle.msr_report.specs.Text.{end_line}

@@ -34,7 +34,7 @@ pub record BeginsReport (text : List ℕ) (n : ℕ) : Type 0 where
 
 -- No report has the text, and line n, from 1, is the first with which it leaves them all: the lines before it
 -- begin some report, and with it they begin none. So a line that lacks, or that lacks its line feed, and a line
--- behind the last one are each at fault at their own number.
+-- after the last one are each at fault at their own number.
 pub record IsFaultLine (text : List ℕ) (n : ℕ) : Type 0 where
   pub counted : 1 ≤ n
   pub no_report : (form : Form) → IsForm form → form_records form.segments < 2 ^ 64 → IsFormText form text → ⊥

@@ -21,7 +21,7 @@ pub record AreBytes (count : ℕ) (bytes : List ℕ) : Type 0 where
   pub many : length bytes ≡ count
   pub each : (place : ℕ) → slice_index bytes place < 256
 
--- the number that digits give behind the number so far
+-- the number that digits give after the number so far
 abbrev pub number_after : ℕ → List ℕ → ℕ
 number_after n [] = n
 number_after n (digit ∷ digits) = number_after (10 * n + (digit - 48)) digits

@@ -1,4 +1,4 @@
--- What may stand behind the lines that were read of a report.
+-- What may stand after the lines that were read of a report.
 use Rattle.std.specs.Prelude.{◌≡◌, ℕ, ◌+◌, ◌<◌, ◌^◌, List, [], ◌∷◌, ◌++◌, length, codes}
 use Rattle.std.specs.Fmt.{decimal}
 use Rattle.msr_report.specs.Text.{counts_line, end_line}

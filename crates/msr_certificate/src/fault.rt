@@ -10,7 +10,7 @@ use thiserror::Error;
 /// Why a report was not read.
 #[derive(Clone, Copy, Debug, PartialEq, Eq, Error)]
 pub enum ReportFault {
-    /// The number of the first line, from 1, that no report has behind the lines before it.
+    /// The number of the first line, from 1, that no report has after the lines before it.
     #[error("report line {0}")]
     Line(u64),
     /// The source failed, or was interrupted 64 times in a row.

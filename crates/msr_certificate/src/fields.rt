@@ -1,4 +1,4 @@
-// The fields at the front of a text: each reader answers the field and the text behind it.
+// The fields at the start of a text: each reader answers the field and the text after it.
 ghost use Rattle.std.specs.Prelude.{◌≡◌, ◌<◌, ◌≤◌, ◌^◌, ◌++◌, ◌∷◌, [], ℕ, ℤ, List, IfSome, IsSomeAnd, false, true, length, drop};
 ghost use Rattle.std.specs.Fmt.{decimal, signed_decimal, digit_glyph};
 ghost use Rattle.std.specs.Int.{w16, w32};
@@ -11,7 +11,7 @@ ghost use Rattle.msr_certificate.specs.Fields.{EndsNumber, signed_len};
 use itoa::Buffer;
 use std::str;
 
-// The text behind the given word.
+// The text after the given word.
 pub(crate) fn after<'a>(text: &'a [u8], word: &[u8]) -> Option<&'a [u8]>
     ensures found { IfSome result (λ rest. text.now ≡ word.now ++ rest.now) }
     ensures only { (rest : List ℕ) → text.now ≡ word.now ++ rest → IsSomeAnd result (λ x. x.now ≡ rest) }
@@ -31,7 +31,7 @@ fn count_digits(text: &[u8]) -> usize
     count
 }
 
-// The number that the digits are the decimal of, with no zeros in front.
+// The number that the digits are the decimal of, with no leading zeros.
 fn number_of(digits: &[u8]) -> Option<u64>
     ensures found { IfSome result (λ n. digits.now ≡ decimal n) }
     ensures only { (n : ℕ) → n < 2 ^ 64 → digits.now ≡ decimal n → IsSomeAnd result (λ x. x ≡ n) }

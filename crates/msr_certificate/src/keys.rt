@@ -1,4 +1,4 @@
-// What the records of a segment have in common, at the front of a text.
+// What the records of a segment have in common, at the start of a text.
 ghost use Rattle.std.specs.Prelude.{◌≡◌, ◌≢◌, ◌<◌, ◌++◌, ◌∷◌, ℕ, ℤ, List, IfSome, IsSomeAnd, IsTrue, pos, codes};
 ghost use Rattle.std.specs.Fmt.{decimal, signed_decimal};
 ghost use Rattle.std.specs.Int.{w16, w32};

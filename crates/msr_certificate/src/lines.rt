@@ -1,4 +1,4 @@
-// The lines of a report at the front of a text: each reader answers what the line says and the text behind it.
+// The lines of a report at the start of a text: each reader answers what the line says and the text after it.
 ghost use Rattle.std.specs.Prelude.{◌≡◌, ◌<◌, ◌≤◌, ◌^◌, ◌++◌, ◌∷◌, [], ℕ, ℤ, List, IfSome, IsSomeAnd, IsTrue, codes};
 ghost use Rattle.std.specs.Fmt.{decimal};
 ghost use Rattle.msr_time.specs.Instant.{IsInstant};

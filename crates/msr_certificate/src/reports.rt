@@ -18,7 +18,7 @@ use msr_report::{Counts, Report, SegmentLine};
 use msr_words::Length;
 use std::alloc::{AllocError, Global};
 
-// Takes the separators from the second line of a segment, and answers the text behind it.
+// Takes the separators from the second line of a segment, and answers the text after it.
 fn push_separators<'a>(
     numbers: &mut Vec<u64>,
     text: &'a [u8],
@@ -87,7 +87,7 @@ fn first_lines(text: &[u8]) -> Result<(FirstLines, &[u8]), FaultAt>
     Ok((first, text))
 }
 
-// What stands behind the segments of a report.
+// What stands after the segments of a report.
 pub(crate) enum Ending {
     // The last line.
     Last,

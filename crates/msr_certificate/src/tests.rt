@@ -103,7 +103,7 @@ fn reads_from_a_source(rt: HostRuntime) {
     );
 }
 
-// Where a line at fault has come, nothing behind it is read: the source would fail there.
+// Where a line at fault has come, nothing after it is read: the source would fail there.
 #[test]
 fn stops_at_the_line_at_fault(rt: HostRuntime) {
     let alloc = rt.alloc();

@@ -1,4 +1,4 @@
-// Times at the front of a text.
+// Times at the start of a text.
 ghost use Rattle.std.specs.Prelude.{◌≡◌, ◌<◌, ◌≤◌, ◌^◌, ◌++◌, ◌∷◌, ◌+◌, ◌*◌, ℕ, ℤ, List, IfSome, IsSomeAnd, SomeIff, true, length};
 ghost use Rattle.std.specs.Str.{all_ascii_digits};
 ghost use Rattle.msr_report.specs.Text.{padded_decimal};

@@ -10,7 +10,7 @@ ghost use Rattle.msr_words.specs.Packing.{NoneHolds, IsPacking, IsSeparating, Is
 use msr_words::{Kind, Length, Run, run_fits};
 
 /// Some run of that kind that fits holds both samples. It is enough to try the starts that the kind needs,
-/// at and before the first sample, and the end behind the second.
+/// at and before the first sample, and the end after the second.
 fn holds_both(
     kind: Kind,
     samples: &[i32],

@@ -28,7 +28,7 @@ const SEPARATORS: [Separators; 9] = [
     (&[0], true),
     (&[0, 86], true),
     (&[0, 85], false),
-    // from 85 a record reaches behind 172
+    // from 85 a record reaches past 172
     (&[86, 172], false),
     (&[86, 0], false),
     (&[0, 0], false),

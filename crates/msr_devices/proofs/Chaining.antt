@@ -10,7 +10,7 @@ gives-append a b c xs ys first second = record {
   front = λ rest h. rw append_assoc (first.front (ys ++ rest) (second.front rest h));
 }
 
--- one more piece behind what came so far
+-- one more piece after what came so far
 pub onto-more : (a b c : Device) (base old new piece : List ℕ) (n : ℕ) → GivesOnto a b base old → Gives b c piece → length piece ≡ n → c.moved ≡ b.moved + n → new ≡ old ++ piece → GivesOnto a c base new
 onto-more a b c base old new piece n onto came size moved whole = record {
   more = onto.more ++ piece;
@@ -34,20 +34,20 @@ calm-moves a b c n calm moves some = record {
   same = λ e. omega arith;
 }
 
--- the front of a buffer after n more bytes were read into it at a
+-- the prefix of a buffer after n more bytes were read into it at a
 pub take-part : (a n : ℕ) (xs ys post : List ℕ) → a ≤ length xs → n ≤ length ys → take (a + n) (take a xs ++ (ys ++ post)) ≡ take a xs ++ take n ys
 take-part a n xs ys post within fits =
     ap (λ (m : ℕ). take (m + n) (take a xs ++ (ys ++ post))) (sym (length-take-le a xs within))
     ∙ take-append-add (take a xs) (ys ++ post) n
     ∙ ap (λ (t : List ℕ). take a xs ++ t) (take-append-le n ys post fits)
 
--- the front of a buffer that was written behind it
+-- the prefix of a buffer that was written after it
 pub take-kept : (a : ℕ) (xs zs : List ℕ) → a ≤ length xs → take a (take a xs ++ zs) ≡ take a xs
 take-kept a xs zs within =
     let front : length (take a xs) ≡ a = omega (arith, length-take a xs) in
     take-append-le a (take a xs) zs (omega arith) ∙ take_all a (take a xs) (omega arith)
 
--- the front of a buffer after n more bytes of it were written from a on
+-- the prefix of a buffer after n more bytes of it were written from a on
 pub take-more : (a n : ℕ) (xs : List ℕ) → take (a + n) xs ≡ take a xs ++ take n (take (length xs - a) (drop a xs))
 take-more a n xs =
     take-add a n xs ∙ ap (λ (t : List ℕ). take a xs ++ take n t) (sym (take_all (length xs - a) (drop a xs) (omega (arith, length-drop a xs))))

@@ -1,4 +1,4 @@
--- What stands in a read buffer's memory after it was moved to the front and read behind.
+-- What stands in a read buffer's memory after it was moved to the start and read after that.
 use Rattle.std.proofs.Common.{◌≡◌, ℕ, ◌+◌, ◌-◌, ◌^◌, ◌<◌, ◌≤◌, Bool, List, ◌++◌, ◌∙◌, length, take, drop, arith, sym, ap, length-take, length-drop}
 use Rattle.std.proofs.lemmas.List.{take-append-le, take-append-drop, drop-append-le, drop-drop, drop-take}
 use Rattle.std.proofs.Math.Seq.{take-append_seam}
@@ -20,7 +20,7 @@ grown-same s e m grown ordered within keeps =
     ∙ ap (λ (l : List ℕ). take (e - s) l) (drop-append-le s m (drop (length m) grown) start)
     ∙ take-append-le (e - s) (drop s m) (drop (length m) grown) fits
 
--- what stands there after a read behind it
+-- what stands there after a further read
 pub filled-bytes : (f n : ℕ) (room back : List ℕ) → length room ≡ n → slice_range (take n (room ++ drop (length room) back)) 0 f ≡ take f room
 filled-bytes f n room back size =
     ap (λ (k : ℕ). take k (take n (room ++ drop (length room) back))) (let h : f - 0 ≡ f = omega arith in h) ∙ ap (λ (l : List ℕ). take f l) (written n room back size)

@@ -20,7 +20,7 @@ HasLeft source bytes = IfSome source.bytes (λ known. known ≡ bytes)
 pub record Gives (old new : Device) (bytes : List ℕ) : Type 0 where
   pub front : (rest : List ℕ) → HasLeft new rest → HasLeft old (bytes ++ rest)
 
--- some bytes came from the source, and stand behind those that were there
+-- some bytes came from the source, and stand after those that were there
 pub record GivesOnto (old new : Device) (before after : List ℕ) : Type 0 where
   pub more : List ℕ
   pub came : Gives old new more
@@ -61,7 +61,7 @@ pub record CountsError (old new : Device) (error : Error) : Type 0 where
   pub interrupted : error_kind error ≡ Interrupted → WasInterrupted old new
   pub failed : error_kind error ≢ Interrupted → Fails old new
 
--- one read: the bytes that came are at the front of the buffer, and none come only at the end or where
+-- one read: the bytes that came are at the start of the buffer, and none come only at the end or where
 -- there is no room; an error gives none
 pub record Reads (old new : Device) (result : Result ℕ Error) (buffer : List ℕ) : Type 0 where
   pub within : IfOk result (λ n. n ≤ length buffer)
@@ -69,7 +69,7 @@ pub record Reads (old new : Device) (result : Result ℕ Error) (buffer : List �
   pub end : IfOk result (λ n. n ≡ 0 → 0 < length buffer → HasLeft new [])
   pub counts : MatchResult result (Moves old new) (CountsError old new)
 
--- one write: the bytes that were accepted are those at the front; a write that was not empty and of which
+-- one write: the bytes that were accepted are those at the start; a write that was not empty and of which
 -- nothing was accepted is a failure
 pub record Writes (old new : Device) (result : Result ℕ Error) (buffer : List ℕ) : Type 0 where
   pub within : IfOk result (λ n. n ≤ length buffer)

@@ -16,7 +16,7 @@ pub record Window : Type 0 where
 abbrev pub room_for : ℕ → ℕ → ℕ
 room_for want room = if nat_le want room then room else max want (max (2 * room) 65_536)
 
--- Some bytes came from the source and stand behind those that were there. Memory is never given back.
+-- Some bytes came from the source and stand after those that were there. Memory is never given back.
 pub record Fills (old new : Device) (before after : Window) : Type 0 where
   pub onto : GivesOnto old new before.bytes after.bytes
   pub short : length before.bytes < length after.bytes → new.moved < 2 ^ 64

@@ -9,7 +9,7 @@ pub trait Source {
     /// The bytes that are left, and the counts.
     ghost device: { Self → Device };
 
-    /// Reads some bytes into the front of `buf`. `Ok(0)` says that none are left, or that `buf` is empty.
+    /// Reads some bytes into the start of `buf`. `Ok(0)` says that none are left, or that `buf` is empty.
     fn read(&mut self, buf: &mut [u8]) -> io::Result<usize>
         requires { CanCount (device self.old) }
         ensures reads { Reads (device self.old) (device self.new) result buf.new }
@@ -21,7 +21,7 @@ pub trait Sink {
     /// The bytes that it holds, and the counts.
     ghost device: { Self → Device };
 
-    /// Writes some bytes from the front of `buf`. `Ok(0)` says that none were accepted, which is a failure
+    /// Writes some bytes from the start of `buf`. `Ok(0)` says that none were accepted, which is a failure
     /// unless `buf` is empty.
     fn write(&mut self, buf: &[u8]) -> io::Result<usize>
         requires { CanCount (device self.old) }

@@ -9,7 +9,7 @@ use std::io::ErrorKind;
 // A device that is interrupted so often in a row has failed.
 const MOST_INTERRUPTIONS: u32 = 64;
 
-/// Reads some bytes into the front of `buf`, again after an interruption. `Ok(0)` says that none are left, or
+/// Reads some bytes into the start of `buf`, again after an interruption. `Ok(0)` says that none are left, or
 /// that `buf` is empty.
 pub fn read_some<R: Source>(source: &mut R, buf: &mut [u8]) -> Result<usize, SourceFailed>
     requires { CanCountCall (R.device source.old) }
@@ -36,7 +36,7 @@ pub fn read_some<R: Source>(source: &mut R, buf: &mut [u8]) -> Result<usize, Sou
     Err(SourceFailed)
 }
 
-// Reads behind the first `filled` bytes of `room` until `want` are filled, or no bytes are left: then true.
+// Reads after the first `filled` bytes of `room` until `want` are filled, or no bytes are left: then true.
 pub(crate) fn read_until<R: Source>(
     source: &mut R,
     room: &mut [u8],
@@ -68,7 +68,7 @@ pub(crate) fn read_until<R: Source>(
     Ok(false)
 }
 
-/// Writes some bytes from the front of `buf`, again after an interruption. A call that accepts none is a failure.
+/// Writes some bytes from the start of `buf`, again after an interruption. A call that accepts none is a failure.
 pub fn write_some<W: Sink>(sink: &mut W, buf: &[u8]) -> Result<usize, SinkFailed>
     requires count { CanCountCall (W.device sink.old) }
     requires some { 0 < length buf.now }
@@ -96,7 +96,7 @@ pub fn write_some<W: Sink>(sink: &mut W, buf: &[u8]) -> Result<usize, SinkFailed
     Err(SinkFailed)
 }
 
-/// Writes all of `buf`. At an `Err` a front of it was written, and how much is not told: `WriteBuffer` keeps
+/// Writes all of `buf`. At an `Err` a prefix of it was written, and how much is not told: `WriteBuffer` keeps
 /// what was not.
 pub fn write_all<W: Sink>(sink: &mut W, buf: &[u8]) -> Result<(), SinkFailed>
     requires { CanCountCall (W.device sink.old) }
@@ -112,7 +112,7 @@ pub fn write_all<W: Sink>(sink: &mut W, buf: &[u8]) -> Result<(), SinkFailed>
     }
 }
 
-// The sink failed behind so many bytes.
+// The sink failed after so many bytes.
 pub(crate) struct FailedAfter {
     pub written: usize,
 }

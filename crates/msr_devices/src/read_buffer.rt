@@ -119,7 +119,7 @@ impl ReadBuffer {
         Ok(())
     }
 
-    /// Takes `n` bytes from the front.
+    /// Takes `n` bytes from the start.
     pub fn consume(&mut self, n: usize)
         requires { n ≤ length self.old.bytes }
         ensures { self.new ≡ record { bytes = drop n self.old.bytes; ended = self.old.ended; room = self.old.room } }

@@ -14,7 +14,7 @@ const PIECE: usize = 65_536;
 /// Bytes that wait to be written to a sink. All calls take the same sink.
 #[derive(Drop)]
 pub struct WriteBuffer {
-    /// The bytes that wait. More may be put behind them; `flush_full` then writes them where they are many.
+    /// The bytes that wait. More may be put after them; `flush_full` then writes them where they are many.
     pub bytes: Vec<u8>,
 }
 

@@ -1,5 +1,5 @@
-//! Calls each public function that can answer want of memory, and prints what it answers, and what it leaves of what it
-//! was given. `bench/growths.py` lets each growth of memory be refused in turn, and holds what is printed then against
+//! Calls each public function that can answer that memory ran out, and prints what it answers, and what it leaves of
+//! what it was given. `bench/growths.py` lets each growth of memory be refused in turn, and holds what is printed then against
 //! what is printed here.
 #![tactic(auto)]
 

@@ -152,7 +152,7 @@ pub at-failure : (strict : Bool) (window : Window) (offset : ℕ) (result : Resu
 at-failure strict window offset (Ok next) stops e = absurd cc
 at-failure strict window offset (Err why) stops e = let same : why ≡ fault.Read = cc in subst (λ (w : ReadFault). StopsDecoding strict window offset w) same stops
 
--- the place behind a record
+-- the place after a record
 pub record Passes (old new : Position) (found : Record) (counts : Counts) : Type 0 where
   pub waiting : new.waiting ≡ drop found.length old.waiting
   pub ended : new.ended ≡ old.ended

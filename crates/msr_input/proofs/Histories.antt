@@ -283,7 +283,7 @@ row-takes : (bytes : List ℕ) (row : Option Row) → IsSome row → IfSome row 
 row-takes bytes None some is = absurd cc
 row-takes bytes (Some row) some is = record { header = is.header; kind = row.kind; has_area = is.has_area }
 
--- want of memory for a row comes only where there is one
+-- running out of memory for a row comes only where there is one
 pub join-memory : (bytes : List ℕ) (old : Joining) (found : Record) (offset : ℕ) (why : ReadFault) → IsRecordOf bytes found → StopsJoining old found.row offset why → why ≡ fault.Memory → TakesMemory bytes
 join-memory bytes old found offset why is stop e =
     row-takes bytes found.row (subst (λ (w : ReadFault). StopsJoining old found.row offset w) e stop) is.row

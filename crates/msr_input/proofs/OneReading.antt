@@ -14,12 +14,12 @@ use Rattle.msr_input.specs.declared.settings.Settings.{Settings}
 use Rattle.msr_input.proofs.Records.{GoesOn, agree-one, compare-begins, nothing-begins}
 use Rattle.msr_input.proofs.Strict.{not-alone, one-alone}
 
--- nothing goes on behind the end
+-- nothing goes on after the end
 stops-at-end : (more : List Record) (to : List ℕ) → BeginsWith more [] to → (more ≡ []) × ([] ≡ to)
 stops-at-end [] to b = (refl, b)
 stops-at-end (x ∷ xs) to b = absurd (nothing-begins x b.0)
 
--- the record that is refused behind others is none of a list that goes on
+-- the record that is refused after others is none of a list that goes on
 refused-stops : (settings : Settings) (records others more : List Record) (from to : List ℕ) (kind : FaultKind) → others ≡ records ++ more → BeginsWith more from to → NoneOverruns settings.tolerance others → AllAgree settings.strict others → IsRefusedBehind settings records from kind → (more ≡ []) × (from ≡ to)
 refused-stops settings records others [] from to kind whole b none agree refused = (refl, b)
 refused-stops settings records others (x ∷ xs) from to kind whole b none agree (inl refused) =

@@ -166,7 +166,7 @@ row-given-so bytes old new found (Some row) next is e can follows =
 pub row-given : (bytes : List ℕ) (old new : Following) (found : Record) (next : Option NextRow) → IsRecordOf bytes found → IfSome found.row CanJoin → FollowsRecord old found.row next new → IfSome next CanBeTaken
 row-given bytes old new found next is can follows = row-given-so bytes old new found found.row next is refl can follows
 
--- behind records without rows the same holds
+-- after records without rows the same holds
 pub stops-behind : (settings : Settings) (s a b : Device) (reading : RowReading) (records : List Record) (answers : List Step) (why : ReadFault) (none : ReadsNoRow s a reading records answers) → StopsRows settings s b none.after why → StopsRows settings s b records why
 stops-behind settings s a b reading records answers why none stops = λ given begun.
     stops given (record { others = begun.others; are_segments = rw none.rows begun.are_segments })

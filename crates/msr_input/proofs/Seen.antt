@@ -63,7 +63,7 @@ still_refused strict bytes rest kind are long refused =
     } in
     alone-same strict bytes (bytes ++ rest) kind same refused
 
--- a refusal of what stands behind the header, whose record is there
+-- a refusal of what stands after the header, whose record is there
 behind : (bytes : List ℕ) (kind : FaultKind) → ((reason : HeaderFault) → kind ≢ Header reason) → IsRefused bytes kind → HoldsRecord bytes
 behind bytes (Header reason) other refused = absurd (other reason refl)
 behind bytes NoRate other refused = (refused.header, refused.has_samples.read)
@@ -99,7 +99,7 @@ header-some : (bytes : List ℕ) (reason : HeaderFault) (ended : Bool) → (ende
 header-some bytes reason ended some decided (inl e) = some e
 header-some bytes reason ended some decided (inr e) = omega (arith, ltb-false (length bytes) 1_048_576 (decided e))
 
--- so a record that is refused stops reading once no bytes could change it, and so does want of memory
+-- so a record that is refused stops reading once no bytes could change it, and so does running out of memory
 pub decoding-stops : (strict : Bool) (window : Window) (offset : ℕ) (kind : FaultKind) → AreBytes window.bytes → (kind ≢ Memory → IsRefusedAlone strict window.bytes kind) → (kind ≡ Memory → TakesMemory window.bytes) → (window.ended ≡ true → 0 < length window.bytes) → (window.ended ≡ false → may_change kind (length window.bytes) ≡ false) → StopsDecoding strict window offset (fault_at offset kind)
 decoding-stops strict window offset Memory are refused takes some decided = inr (takes refl)
 decoding-stops strict window offset (Header reason) are refused takes some decided = (

@@ -66,7 +66,7 @@ pub record AreRead (settings : Settings) (input : List ℕ) (records : List Reco
   pub in_range : NoneOverruns settings.tolerance records
   pub agree : AllAgree settings.strict records
 
--- A readable input: these records, none of which is refused, and nothing behind them; and these are the segments
+-- A readable input: these records, none of which is refused, and nothing after them; and these are the segments
 -- of their rows.
 pub record IsReadable (settings : Settings) (input : List ℕ) (records : List Record) (segments : List Segment) : Type 0 where
   pub are_read : AreRead settings input records []
@@ -84,7 +84,7 @@ abbrev pub IsRefusedAlone : Bool → List ℕ → FaultKind → Type 0
 IsRefusedAlone strict rest kind =
     (Mismatches strict rest × (kind ≡ ReverseMismatch)) ⊎ ((Mismatches strict rest → ⊥) × IsRefused rest kind)
 
--- The record that the bytes begin with has no fault by itself, and ends its segment outside the supported years, behind
+-- The record that the bytes begin with has no fault by itself, and ends its segment outside the supported years, after
 -- these records.
 pub record OverrunsBehind (settings : Settings) (records : List Record) (rest : List ℕ) : Type 0 where
   pub found : Record
@@ -94,7 +94,7 @@ pub record OverrunsBehind (settings : Settings) (records : List Record) (rest : 
   pub agrees : Agrees settings.strict found
   pub out_of_range : LastEndsOutOfRange settings.tolerance (rows_of_records (records ++ found ∷ []))
 
--- Behind these records the one that the bytes begin with is refused so: by itself, or since it ends its segment
+-- After these records the one that the bytes begin with is refused so: by itself, or since it ends its segment
 -- out of range.
 abbrev pub IsRefusedBehind : Settings → List Record → List ℕ → FaultKind → Type 0
 IsRefusedBehind settings records rest kind =
@@ -138,7 +138,7 @@ ReadableHasNoFault =
     → IsFirstFault settings input others fault
     → ⊥
 
--- want of memory is no fault of an input
+-- running out of memory is no fault of an input
 abbrev pub MemoryIsNoFault : Type 0
 MemoryIsNoFault =
     (settings : Settings) (input : List ℕ) (records : List Record) (fault : Fault) → IsFirstFault settings input records fault

@@ -18,7 +18,7 @@ use Rattle.msr_input.specs.declared.fault.Fault.{Fault}
 use Rattle.msr_input.specs.declared.fault.ReadFault.{ReadFault}
 use Rattle.msr_input.specs.declared.fault.ReadFault.TheVariants.{Input, Read, Memory}
 
--- what a reader shows: the bytes that came and are not yet used, whether the source has ended behind them, for
+-- what a reader shows: the bytes that came and are not yet used, whether the source has ended after them, for
 -- how many bytes it has memory, whether it reads strictly, its joiner, the counts of the records so far, and how many
 -- bytes these have
 pub record Reading : Type 0 where

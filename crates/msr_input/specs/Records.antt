@@ -8,7 +8,7 @@ use Rattle.msr_input.specs.declared.fault.Fault.{Fault}
 use Rattle.msr_input.specs.declared.fault.ReadFault.{ReadFault}
 use Rattle.msr_input.specs.declared.fault.ReadFault.TheVariants.{Input, Read, Memory}
 
--- what a reader of records shows: the bytes that came and are not yet used, whether the source has ended behind
+-- what a reader of records shows: the bytes that came and are not yet used, whether the source has ended after
 -- them, for how many bytes it has memory, whether it reads strictly, the counts of the records so far, and how many
 -- bytes these have
 pub record Position : Type 0 where
@@ -40,7 +40,7 @@ abbrev pub CountsOneMore : Counts → Counts → Record → Type 0
 CountsOneMore old new found =
     (records : List Record) → old ≡ counts_of records → length records < 2 ^ 64 - 1 → new ≡ counts_of (records ++ found ∷ [])
 
--- From the one state of the source to the other these records came, and these bytes behind them.
+-- From the one state of the source to the other these records came, and these bytes after them.
 pub record HaveComeShort (start now : Device) (records : List Record) (waiting : List ℕ) : Type 0 where
   pub begins : (rest : List ℕ) → HasLeft now rest → (input : List ℕ) × HasLeft start input × BeginsWith records input (waiting ++ rest)
   pub moved : now.moved ≡ start.moved + (bytes_of_records records + length waiting)
@@ -53,7 +53,7 @@ pub record HasGiven (strict : Bool) (start : Device) (records : List Record) : T
   pub begins : BeginsWith records input rest
   pub agree : AllAgree strict records
 
--- Behind these records one is refused by itself.
+-- After these records one is refused by itself.
 pub record IsRefusedAfter (strict : Bool) (start : Device) (records : List Record) (fault : Fault) : Type 0 where
   pub given : HasGiven strict start records
   pub some_left : 0 < length given.rest

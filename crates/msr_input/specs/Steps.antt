@@ -24,25 +24,25 @@ abbrev pub fault_of_fill : FillFault → ReadFault
 fault_of_fill filling.Read = fault.Read
 fault_of_fill filling.Memory = fault.Memory
 
--- Want of memory is a fault of its own; every other refusal is one of the input.
+-- Running out of memory is a fault of its own; every other refusal is one of the input.
 abbrev pub fault_at : ℕ → FaultKind → ReadFault
 fault_at offset refusal.Memory = fault.Memory
 fault_at offset kind = fault.Input (record { offset = offset; kind = kind })
 
 -- whether a refusal of so many bytes might not be one of more: a header may be cut, or its chain, or the record.
--- What stands behind the header is decided by the record's own bytes, which are there.
+-- What stands after the header is decided by the record's own bytes, which are there.
 abbrev pub may_change : FaultKind → ℕ → Bool
 may_change (refusal.Header reason) size = nat_lt size 1_048_576
 may_change kind size = false
 
 -- which bytes came before reading stopped: as many as there were, or some before the source failed, which had not
--- ended, behind those that stood there
+-- ended, after those that stood there
 abbrev pub CameBefore : Device → Device → Window → Window → ReadFault → Type 0
 CameBefore old new before after (fault.Input f) = IsFilled 0 old new before after
 CameBefore old new before after fault.Read = HasFailed old new × (before.ended ≡ false) × GivesOnto old new before.bytes after.bytes
 CameBefore old new before after fault.Memory = IsFilled 0 old new before after
 
--- Why no record was given from the bytes that came: the one at that offset is refused, whatever more comes behind
+-- Why no record was given from the bytes that came: the one at that offset is refused, whatever more comes after
 -- them; they hold no whole record, and the source failed; or there was no memory.
 abbrev pub StopsDecoding : (strict : Bool) → Window → ℕ → ReadFault → Type 0
 StopsDecoding strict window offset (fault.Input f) =

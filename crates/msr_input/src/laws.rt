@@ -18,7 +18,7 @@ pub fn readable_has_no_fault()
     ensures { ReadableHasNoFault }
 {}
 
-/// The first fault of an input is never want of memory.
+/// The first fault of an input is never running out of memory.
 pub fn memory_is_no_fault()
     ensures { MemoryIsNoFault }
 {}

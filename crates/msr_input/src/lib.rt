@@ -1,8 +1,8 @@
 //! The records of an input, one after another, joined into segments.
 //!
 //! An input is read to its end, or to its first fault. A record is given as soon as its own bytes have
-//! come, before a read behind them. A source that fails is never taken for one that has ended, and want
-//! of memory never for a fault of the input.
+//! come, before a read after them. A source that fails is never taken for one that has ended, and
+//! running out of memory never for a fault of the input.
 #![tactic(auto)]
 
 mod fault;

@@ -50,7 +50,7 @@ impl SegmentReader {
 
     /// The next record, which [`take`](Self::take) then takes; `None` where the input has ended. A further call
     /// gives the same record again. A record is given as soon as its own bytes have come, before a further read; so
-    /// is a refusal of what stands behind its header. One of the header waits for the input's end or for as many
+    /// is a refusal of what stands after its header. One of the header waits for the input's end or for as many
     /// bytes as the longest record has, since more could change it.
     pub fn next_record<R: Source>(&mut self, source: &mut R) -> Result<Option<Record>, ReadFault>
         requires { CanCountCall (R.device source.old) }
@@ -114,7 +114,7 @@ impl SegmentReader {
         ensures kept { (start : Device) (records : List Found) (given : List Joined) → HasRead start (R.device source.old) self.old records given
             → IfErr result (λ fault. fault ≢ ReadFault.Read → (now : List Found) × HasRead start (R.device source.new) self.new now given) }
 
-        // Want of memory comes only where memory is taken.
+        // Running out of memory comes only where memory is taken.
         ensures memory { IsErrOf result ReadFault.Memory → TakesMemoryNext self.new }
 
         // Of a record whose bytes have come none are awaited.

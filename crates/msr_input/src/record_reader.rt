@@ -60,7 +60,7 @@ impl RecordReader {
 
     /// The next record, which [`pass`](Self::pass) then passes; `None` where the input has ended. A further
     /// call gives the same record again. A record is given as soon as its own bytes have come, before a further
-    /// read; so is a refusal of what stands behind its header. One of the header waits for the input's end or for
+    /// read; so is a refusal of what stands after its header. One of the header waits for the input's end or for
     /// as many bytes as the longest record has, since more could change it.
     #[inline(always)]
     pub fn next<R: Source>(&mut self, source: &mut R) -> Result<Option<Record>, ReadFault>

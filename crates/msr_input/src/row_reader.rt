@@ -68,7 +68,7 @@ impl RowReader {
         }
     }
 
-    /// The next row, behind records that have none; `None` where the input has ended, and with it the last
+    /// The next row, after records that have none; `None` where the input has ended, and with it the last
     /// segment. At an `Err` but `Read` the reader stands before the record that it did not take: a further call
     /// gives the same fault again, or tries again to get memory.
     pub fn next_row<R: Source>(&mut self, source: &mut R) -> Result<Option<NextRow>, ReadFault>
@@ -93,7 +93,7 @@ impl RowReader {
         ensures in_bounds { IfOk result (λ next. IfSome next (λ _. IsInBounds self.new.following.current)) }
         ensures settings { row_settings self.new ≡ row_settings self.old }
 
-        // Want of memory comes only where memory is taken.
+        // Running out of memory comes only where memory is taken.
         ensures memory { IsErrOf result ReadFault.Memory
             → TakesMemoryFor self.new.position.waiting self.new.position.room }
 

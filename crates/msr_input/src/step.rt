@@ -20,7 +20,7 @@ use std::alloc::Global;
 // As many bytes as the longest record has.
 const LONGEST: usize = 1_048_576;
 
-// Whether more bytes behind these might change why they are refused.
+// Whether more bytes after these might change why they are refused.
 fn may_change(kind: FaultKind, len: usize) -> bool
     ensures { result ≡ may_change kind len }
 {

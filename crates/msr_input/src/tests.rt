@@ -364,7 +364,7 @@ fn first_of(
     }
 }
 
-// A record is given before a read is made behind its bytes.
+// A record is given before a read is made after its bytes.
 #[test]
 fn records_are_given_once_they_are_there(rt: HostRuntime) -> Result<(), Fail> {
     let bytes = two(&record(&rt, &[]), &record(&rt, NEXT));

@@ -18,7 +18,7 @@ use Rattle.msr_output.specs.Output.{Packed, IsPacked, Cut, AreWritten, IsOutput,
 use Rattle.msr_output.proofs.Times.{nominal_first}
 use Rattle.msr_output.proofs.Once.{all-first, all-rest}
 
--- the records of some cuts and of those behind them
+-- the records of some cuts and of those after them
 pub record Split (size n : ℕ) (xs ys : List Cut) (rows : List Row) : Type 0 where
   pub first_rows : List Row
   pub other_rows : List Row

@@ -1,4 +1,4 @@
--- Segments have an output, and the records of some first runs are the front of one.
+-- Segments have an output, and the records of some first runs are a prefix of one.
 use Rattle.std.proofs.Common.{◌≡◌, ℕ, zero, suc, ◌+◌, ◌-◌, ◌*◌, ◌/◌, ◌^◌, ◌<◌, ◌≤◌, List, [], ◌∷◌, ◌++◌, ◌∙◌, length, map, take, drop, arith, refl, sym, ap, subst, append_assoc, length-take, length-drop, ℤ, pos, ◌+ℤ◌, FitsSigned}
 use Rattle.std.specs.Prelude.{All, slice_range, slice_get}
 use Rattle.std.specs.Int.{w32}
@@ -146,7 +146,7 @@ has_output size segments power writable =
     let o = output_from size 1 segments power writable in
     record { packed = o.packed; rows = o.records.rows; bytes = o.records.bytes; same = o.same; output = record { packings = o.packings; records = o.records.written } }
 
--- ---- the front of an output
+-- ---- the prefix of an output
 
 pub all-behind : {X : Type 0} (P : X → Type 0) (xs ys : List X) → All P (xs ++ ys) → All P ys
 all-behind P [] ys all = all

@@ -27,7 +27,7 @@ not_before_start rate t0 n r h before =
     let step : (up r + down t0 + 1) * den ≤ (up t0 + down r) * den = mul-le-mul_right den (omega arith) in
     omega arith
 
--- nor behind that of a later sample
+-- nor after that of a later sample
 not_after : (rate : SampleRate) (t0 : ℤ) (n m : ℕ) (r q : ℤ) → n ≤ m → IsRoundedNominal rate t0 n r → IsRoundedNominal rate t0 m q → up q + down r < up r + down q → ⊥
 not_after rate t0 n m r q later h k before =
     let den = (period_of rate).1 in
@@ -77,7 +77,7 @@ nominal_on rate t0 r n m h =
     let bounds = quotient_bounds (2 * (m * num) + den) (2 * den) twice in
     (r +ℤ pos q, nominal_is rate r m q bounds.0 bounds.1)
 
--- counted so, it lies at most a microsecond behind where it does counted from the start
+-- counted so, it lies at most a microsecond after where it does counted from the start
 not_far_after : (rate : SampleRate) (t0 r last q : ℤ) (n m k : ℕ) → n + m ≤ k → IsRoundedNominal rate t0 n r → IsRoundedNominal rate t0 k last → IsRoundedNominal rate r m q → up last + down q + 1 < up q + down last → ⊥
 not_far_after rate t0 r last q n m k later first end counted far =
     let den = (period_of rate).1 in

@@ -10,7 +10,7 @@ use Rattle.msr_segments.specs.declared.joiner.Segment.{Segment}
 use Rattle.msr_output.specs.Opened.{Opened}
 use Rattle.msr_output.specs.Output.{AreWritten, Cut, IsPacked, Packed, cuts_at, cuts_of, segment_of_packed}
 
--- the first runs of the packing of a segment that has not ended, whatever samples follow; behind them stand at most
+-- the first runs of the packing of a segment that has not ended, whatever samples follow; after them stand at most
 -- two longest runs
 abbrev pub AreDecided : ℕ → Option Segment → List Run → List ℕ → Type 0
 AreDecided size None runs separators = runs ≡ []
@@ -34,6 +34,6 @@ pub record IsDecidedOutput (size : ℕ) (segments : List Segment) (bytes : List 
   pub decided : AreDecided size last runs separators
   pub records : AreWritten size 1 (flat_map cuts_of packed ++ cuts_so_far last runs) rows bytes
 
--- the records that its samples decide are encoded: at most one longest run is held behind the frontier
+-- the records that its samples decide are encoded: at most one longest run is held after the frontier
 abbrev pub IsEncoded : Opened → Type 0
 IsEncoded opened = HoldsFew opened.packer

@@ -48,7 +48,7 @@ count_of opened = pushed opened.packer
 abbrev pub empty_segment : Key → ℤ → Segment
 empty_segment key start = record { key = key; start = start; samples = [] }
 
--- a segment with more samples behind its own
+-- a segment with more samples after its own
 abbrev pub longer_by : Segment → List ℤ → Segment
 longer_by segment more = record { key = segment.key; start = segment.start; samples = segment.samples ++ more }
 
@@ -83,7 +83,7 @@ pub record CanEncode (size : ℕ) (key : Key) (start : ℤ) (packer : Holding) (
   pub some : 1 ≤ length packer.shown
   pub fits : Fits run.kind size (points packer.before packer.shown)
 
--- Records of further runs of the segment stand behind the old bytes, from this sequence number on to before the next.
+-- Records of further runs of the segment stand after the old bytes, from this sequence number on to before the next.
 pub record AppendsSome (whole : Bool) (segment : Segment) (runs : List Run) (opened : Opened) (number : ℕ) (old new : List ℕ) (next : ℕ) : Type 0 where
   pub more : List Run
   pub is_open : IsOpen whole segment (runs ++ more) opened
@@ -113,7 +113,7 @@ pub record HasBegun (start now : Device) (writing : Writing) (packed : List Pack
   pub short : 0 < length taken → now.moved < 2 ^ 64
   pub calm : IsCalm start now
 
--- One record more stands behind the old bytes; or there is none, and all were given where the segment is whole.
+-- One record more stands after the old bytes; or there is none, and all were given where the segment is whole.
 abbrev pub EncodesNext : Bool → Segment → List Run → Opened → ℕ → List ℕ → List ℕ → Bool → Type 0
 EncodesNext whole segment runs opened number old new true = (run : Run) × IsOpen whole segment (runs ++ run ∷ []) opened × AppendsRecordOfRun opened.size number segment run old new
 EncodesNext whole segment runs opened number old new false = IsOpen whole segment runs opened × (new ≡ old) × (whole ≡ true → IsCanonical opened.size segment.samples runs opened.separators)

@@ -70,7 +70,7 @@ cuts_at segment runs = map (λ run. record { segment = segment; run = run }) run
 abbrev pub cuts_of : Packed → List Cut
 cuts_of packed = cuts_at packed.segment packed.runs
 
--- the sequence number behind those of these cuts
+-- the sequence number after those of these cuts
 abbrev pub number_after : ℕ → List Cut → ℕ
 number_after number [] = number
 number_after number (cut ∷ cuts) = number_after (next_number number) cuts
@@ -93,7 +93,7 @@ pub record IsOutput (size : ℕ) (packed : List Packed) (rows : List Row) (bytes
   pub packings : All (IsPacked size) packed
   pub records : AreWritten size 1 (flat_map cuts_of packed) rows bytes
 
--- the front of the output of some first ones of these segments
+-- the prefix of the output of some first ones of these segments
 pub record IsFrontOfOutput (size : ℕ) (segments : List Segment) (bytes : List ℕ) : Type 0 where
   pub packed : List Packed
   pub others : List Segment
@@ -144,7 +144,7 @@ SegmentsHaveOutput =
     → (packed : List Packed) × (rows : List Row) × (bytes : List ℕ)
     × (map segment_of_packed packed ≡ segments) × IsOutput size packed rows bytes
 
--- The records of whole segments, and then of the first runs of one segment's packing, are the front of an output,
+-- The records of whole segments, and then of the first runs of one segment's packing, are the prefix of an output,
 -- whatever segments follow.
 abbrev pub FirstRecordsAreFront : Type 0
 FirstRecordsAreFront =

@@ -39,7 +39,7 @@ pub record IsLineOf (packed : Packed) (line : SegmentLine) : Type 0 where
   pub records : line.records ≡ length packed.runs
   pub separators : line.separators.items ≡ packed.separators
 
--- From the one state of the sink to the other a front of the output of these segments was written; the rest waits.
+-- From the one state of the sink to the other a prefix of the output of these segments was written; the rest waits.
 pub record HasWritten (start now : Device) (writing : Writing) (packed : List Packed) (rows : List Row) : Type 0 where
   pub bytes : List ℕ
   pub taken : List ℕ
@@ -59,7 +59,7 @@ pub record HasWrittenAll (start now : Device) (writing : Writing) (packed : List
   pub short : length bytes < 2 ^ 64
   pub calm : IsCalm start now
 
--- the segment was packed and stands behind the others, and this is its line
+-- the segment was packed and stands after the others, and this is its line
 pub record WritesSegment (start now : Device) (writing : Writing) (packed : List Packed) (segment : Segment) (line : SegmentLine) : Type 0 where
   pub more : Packed
   pub rows : List Row
@@ -67,7 +67,7 @@ pub record WritesSegment (start now : Device) (writing : Writing) (packed : List
   pub written : HasWritten start now writing (packed ++ more ∷ []) rows
   pub is_line : IsLineOf more line
 
--- a front of the output of some first ones of these segments was written
+-- a prefix of the output of some first ones of these segments was written
 pub record HasWrittenFront (size : ℕ) (start now : Device) (segments : List Segment) : Type 0 where
   pub taken : List ℕ
   pub takes : Takes start now taken

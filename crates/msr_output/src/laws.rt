@@ -16,7 +16,7 @@ pub fn output_has_size()
     ensures { OutputHasSize }
 {}
 
-/// Segments that can be written have an output, and the records of some first runs are the front of one; these stay
+/// Segments that can be written have an output, and the records of some first runs are a prefix of one; these stay
 /// when their segment grows.
 pub fn segments_have_output()
     ensures whole { SegmentsHaveOutput }

@@ -42,7 +42,7 @@ impl Model for OpenSegment {
     ghost view = { λ s. opened_of s.key s.start s.record_length s.packer s.separators.items };
 }
 
-/// The sequence number behind this one: from 1 to 999999, and then again from 1.
+/// The sequence number after this one: from 1 to 999999, and then again from 1.
 fn number_after_this(number: u32) -> u32
     requires { number ≤ 999_999 }
     ensures next { result ≡ next_number number }
@@ -191,7 +191,7 @@ impl OpenSegment {
     }
 
     /// Appends the records of the runs that are decided, of all that are left where the segment is whole, numbered from
-    /// `first_number` on, and gives the sequence number behind theirs.
+    /// `first_number` on, and gives the sequence number after theirs.
     pub(crate) fn encode_runs(
         &mut self,
         alloc: Global,

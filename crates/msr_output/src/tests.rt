@@ -1,4 +1,4 @@
-//! The bytes of records worked out by hand, the sequence number behind the last one, and each call with
+//! The bytes of records worked out by hand, the sequence number after the last one, and each call with
 //! ample memory.
 ghost use Rattle.std.specs.Prelude.{◌≡◌, ◌+◌, ◌-◌, ◌<◌, ◌≤◌, ◌^◌, IsTrue, false};
 ghost use Rattle.msr_header.specs.Reading.{is_quality};
@@ -286,7 +286,7 @@ fn failing_sinks_hold_a_front(rt: HostRuntime) -> Result<(), Fail> {
     Ok(())
 }
 
-// What waits is in the sink behind a flush.
+// What waits is in the sink after a flush.
 #[test]
 fn what_waits_is_flushed(rt: HostRuntime) -> Result<(), Fail> {
     let segment = zeros(&rt, rt.alloc(), 302)?;

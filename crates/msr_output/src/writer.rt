@@ -78,7 +78,7 @@ impl SegmentWriter {
         OpenSegment::begin(self.alloc, self.record_length, key, start)
     }
 
-    /// Takes more samples of the segment, and puts the records that they decide behind those that wait; then writes
+    /// Takes more samples of the segment, and puts the records that they decide after those that wait; then writes
     /// these where they are 64 KiB or more.
     pub fn push<W: Sink>(
         &mut self,

@@ -36,7 +36,7 @@ module _ (bytes : ℕ) (samples : List ℤ) (g : ℕ) where
   pub empty_run : (kind : Kind) → 64 ≤ bytes → g ≤ length samples → IsRun (Fits kind bytes) samples g g
   empty_run kind header within = (omega arith, within, rw run_points_none (empty_kind kind bytes header))
 
-  -- where each part behind a cut fits by itself, no earlier start reaches further
+  -- where each part after a cut fits by itself, no earlier start reaches further
   pub none_past : (kind : Kind) (h : ℕ) → BackStepLaw 0 (Fits kind bytes) → IsRun (Fits kind bytes) samples g h → ((b : ℕ) → IsRun (Fits kind bytes) samples g b → b ≤ h) → (s b : ℕ) → s ≤ g → IsRun (Fits kind bytes) samples s b → b ≤ h
   none_past kind h law fits most s b le run = elim (cases_lt g b) [
     | inl past ↦

@@ -213,7 +213,7 @@ begins_rest bytes enough samples runs separators held offset None w =
 begins_rest bytes enough samples runs separators held offset (Some c) w =
     rest_of bytes samples enough (length samples) runs separators (offset + c.frontier) (offset + c.end) (offset + c.start) c.whole w.at.so_far (omega arith)
 
--- where a longest run at most is held behind the frontier
+-- where a longest run at most is held after the frontier
 pub leaves_few : (bytes : ℕ) (samples : List ℤ) (runs : List Run) (separators : List ℕ) (held : List ℤ) (offset : ℕ) (current : Option Current) → IsWindow bytes samples runs separators held offset current → length held ≤ frontier_of current + most_any bytes → LeavesFew bytes samples runs
 leaves_few bytes samples runs separators held offset None w few =
     let none = w.at in
@@ -239,7 +239,7 @@ ends_empty bytes samples runs separators held offset (Some c) w empty =
     let last = w.at.so_far.within in
     absurd (omega arith)
 
--- the piece of the last step is the last of the packing, where no sample stands behind it
+-- the piece of the last step is the last of the packing, where no sample stands after it
 pub ends_with : (bytes : ℕ) (samples : List ℤ) (runs : List Run) (separators : List ℕ) (held : List ℤ) (offset : ℕ) (current : Option Current) → IsWindow bytes samples runs separators held offset current → length held ≤ frontier_of current
     → IsCanonical bytes samples (runs ++ runs_of (pieces_of (piece_of offset current (length held)))) (separators ++ separators_of (pieces_of (piece_of offset current (length held))))
 ends_with bytes samples runs separators held offset None w done = ends_empty bytes samples runs separators held offset None w (omega arith)

@@ -54,7 +54,7 @@ module _ (bytes : ℕ) (samples : List ℤ) (runs : List Run) (separators : List
         goes_on = p.goes_on;
       }
 
-  -- the samples behind those that were held
+  -- the samples after those that were held
   pub packs_more : (more : List ℤ) (ended : Bool) → 256 ≤ bytes → new.record_length ≡ old.record_length → new.offset ≡ old.offset → new.current ≡ old.current → new.samples.items ≡ old.samples.items ++ more → Packs bytes samples runs separators (holding_of old ended)
       → Packs bytes (samples ++ more) runs separators (holding_of new ended)
   packs_more more ended enough same offset current items p = record {

@@ -84,7 +84,7 @@ module _ (bytes : ℕ) (samples : List ℤ) where
     Sound : Run → Type 0
     Sound run = (run.start < run.end) × IsRun (Fits run.kind bytes) samples run.start run.end
 
-    -- each run is in the segment and not empty: the next one starts behind the start of this one
+    -- each run is in the segment and not empty: the next one starts after the start of this one
     sound_from : BackStepLaw 1 (FitsAny bytes) → (runs : List Run) (separators : List ℕ) (g a : ℕ) →
         CanonicalTo bytes samples g runs separators (length samples) → Joins a runs (length samples) → All Sound runs
     unfolding Sound

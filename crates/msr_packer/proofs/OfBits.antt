@@ -1,4 +1,4 @@
--- Samples of so many bits, and the runs of integers that they make.
+-- Samples of that many bits, and the runs of integers that they make.
 use Rattle.std.proofs.Common.{◌≡◌, ℕ, ◌+◌, ◌-◌, ◌<◌, ◌≤◌, min, ℤ, pos, List, [], ◌∷◌, ◌++◌, length, get_or, arith, sym, subst, inl, inr}
 use Rattle.std.specs.Prelude.{slice_index_or}
 use Rattle.std.proofs.lemmas.Bool.{cases_lt}

@@ -92,7 +92,7 @@ narrow_through samples start at le within all there = elim (cases_lt at (length 
 
 -- ---- where the walk ends
 
--- the walk ends at the greatest end of a run; and, where that is told, all its differences and the one behind it are narrow
+-- the walk ends at the greatest end of a run; and, where that is told, all its differences and the one after it are narrow
 pub record IsWalkedOut (bytes : ℕ) (samples : List ℤ) (start end : ℕ) (told : Bool) : Type 0 where
   pub fits : IsRun (Fits Steim2 bytes) samples start end
   pub furthest : (b : ℕ) → IsRun (Fits Steim2 bytes) samples start b → b ≤ end

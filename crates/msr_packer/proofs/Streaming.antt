@@ -18,7 +18,7 @@ use Rattle.msr_packer.specs.declared.step.Found.{Found}
 use Rattle.msr_packer.proofs.Holding.{run_size}
 use Rattle.msr_packer.proofs.Windows.{near_by_one, run_points_stay, run_points_window, run_stays, run_was}
 
--- ---- the run that takes the samples behind the frontier
+-- ---- the run that takes the samples after the frontier
 
 pub live_run : (bytes : ℕ) (samples : List ℤ) (g n : ℕ) (live : Live) → n ≤ length samples → IsLive bytes samples g n live → IsRun (FitsAny bytes) samples live.start n
 live_run bytes samples g n live within is = let b = is.before in let p = is.past in (omega arith, within, (kind_of_tracker live.tracker, is.tracked.fits))
@@ -84,7 +84,7 @@ live_of bytes enough samples g h a live order all step start tracked =
       tracked = rw start tracked;
     }
 
--- so a longest run at most is held behind the frontier
+-- so a longest run at most is held after the frontier
 pub live_few : (bytes : ℕ) (held : List ℤ) (g : ℕ) (live : Live) → IsLive bytes held g (length held) live → length held ≤ g + most_any bytes
 live_few bytes held g live is =
     let b = is.before in
@@ -115,7 +115,7 @@ may_forget bytes number (Some c) from inside near = elim (cases_lt 1 c.start) [
 
 -- ---- the step that some samples decide
 
--- the samples behind the one that decides it change nothing
+-- the samples after the one that decides it change nothing
 pub decided_sooner : (bytes : ℕ) (front more : List ℤ) (g n : ℕ) (found : Found) → found.step.end < length front → IsDecided bytes (front ++ more) g n found → IsDecided bytes front g n found
 decided_sooner bytes front more g n found inside is = record {
   step = record {

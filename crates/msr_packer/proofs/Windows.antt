@@ -55,7 +55,7 @@ ordered bytes enough samples (run ∷ runs) (s ∷ separators) from g chosen =
     let rest = ordered bytes enough samples runs separators chosen.0 g chosen.5 in
     omega arith
 
--- a run ends at or before the frontier behind it
+-- a run ends at or before the frontier after it
 end_of : (bytes : ℕ) → 256 ≤ bytes → (samples : List ℤ) (runs : List Run) (separators : List ℕ) (from g e b : ℕ) → CanonicalTo bytes samples from runs separators g → Joins e runs b → b ≤ g → e ≤ g
 end_of bytes enough samples [] separators from g e b chosen joined within = let same : e ≡ b = joined in omega arith
 end_of bytes enough samples (run ∷ runs) [] from g e b chosen joined within = absurd chosen

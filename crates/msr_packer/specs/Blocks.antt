@@ -56,7 +56,7 @@ pub record PacksLast (bytes : ℕ) (samples : List ℤ) (runs : List Run) (separ
 abbrev pub left_of : Holding → ℕ
 left_of packer = (if packer.ended then 0 else 1) + (length packer.held - frontier_of packer.current)
 
--- at most one longest run is held behind the frontier
+-- at most one longest run is held after the frontier
 abbrev pub HoldsFew : Holding → Type 0
 HoldsFew packer = length packer.held ≤ frontier_of packer.current + most_any packer.size
 

@@ -1,4 +1,4 @@
--- What a packer holds of a segment: its last samples, and the step behind the runs that were given.
+-- What a packer holds of a segment: its last samples, and the step after the runs that were given.
 use Rattle.std.specs.Prelude.{◌≡◌, ℕ, zero, suc, ◌+◌, ◌-◌, ◌*◌, ◌<◌, ◌≤◌, ◌^◌, ◌⊎◌, ℤ, List, [], ◌∷◌, ◌++◌, length, drop, map, slice_get, slice_range, Option, Some, None, IfSome, if◌then◌else◌, ◌==◌, ⊤}
 use Rattle.msr_words.specs.declared.kinds.Run.{Run}
 use Rattle.msr_words.specs.Fit.{FitsAny, IsFirstKind}
@@ -11,7 +11,7 @@ use Rattle.msr_packer.specs.declared.held.Current.{Current}
 use Rattle.msr_packer.specs.declared.held.Held.{Held}
 use Rattle.msr_packer.specs.declared.held.Piece.{Piece}
 
--- The step from the frontier behind these runs, with the kinds of its run. Places are counted from the first sample
+-- The step from the frontier after these runs, with the kinds of its run. Places are counted from the first sample
 -- that is held, which is the segment's first or stands before the run.
 pub record IsCurrent (bytes : ℕ) (samples : List ℤ) (runs : List Run) (separators : List ℕ) (offset : ℕ) (current : Current) : Type 0 where
   pub so_far : IsSoFar bytes samples runs separators (offset + current.frontier) (offset + current.end) (offset + current.start) current.whole
@@ -39,7 +39,7 @@ abbrev pub Stays : Option Current → ℕ → Type 0
 Stays None number = ⊤
 Stays (Some current) number = current.end < number
 
--- The last samples are held, with the step behind these runs and separators.
+-- The last samples are held, with the step after these runs and separators.
 pub record IsWindow (bytes : ℕ) (samples : List ℤ) (runs : List Run) (separators : List ℕ) (held : List ℤ) (offset : ℕ) (current : Option Current) : Type 0 where
   pub window : held ≡ drop offset samples
   pub within : offset ≤ length samples
@@ -49,7 +49,7 @@ pub record IsWindow (bytes : ℕ) (samples : List ℤ) (runs : List Run) (separa
 abbrev pub Holds : List ℤ → List Run → List ℕ → Held → Type 0
 Holds samples runs separators held = IsWindow (bytes_of held.record_length) samples runs separators held.samples.items held.offset held.current
 
--- the step starts at its frontier or before, ends behind it, within so many samples, and is no longer than a record
+-- the step starts at its frontier or before, ends after it, within so many samples, and is no longer than a record
 pub record IsInside (bytes number : ℕ) (current : Current) : Type 0 where
   pub before : current.start ≤ current.frontier
   pub on : current.frontier < current.end
@@ -139,7 +139,7 @@ abbrev pub BeginsAll : ℕ → List ℤ → List Run → List ℕ → Type 0
 BeginsAll bytes samples runs separators =
     (more : List ℤ) → (others : List Run) × (places : List ℕ) × IsCanonical bytes (samples ++ more) (runs ++ others) (separators ++ places)
 
--- The runs that were given join up to a sample; behind it stand at most two longest runs.
+-- The runs that were given join up to a sample; after it stand at most two longest runs.
 pub record LeavesFew (bytes : ℕ) (samples : List ℤ) (runs : List Run) : Type 0 where
   pub given : ℕ
   pub joined : Joins 0 runs given

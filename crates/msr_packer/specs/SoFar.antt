@@ -1,4 +1,4 @@
--- The first runs of a packing, with the step behind them.
+-- The first runs of a packing, with the step after them.
 use Rattle.std.specs.Prelude.{ℕ, ◌<◌, ℤ, List, length}
 use Rattle.msr_words.specs.declared.kinds.Kind.{Kind}
 use Rattle.msr_words.specs.declared.kinds.Run.{Run}

@@ -64,6 +64,6 @@ every_kind = Int32 ∷ Int24 ∷ longer_kinds
 abbrev pub AreEnds : ℕ → List ℤ → ℕ → ℕ → Ends → Type 0
 AreEnds bytes samples g end ends = AreEndsAmong every_kind bytes samples g end ends
 
--- the samples a to b-1 are of so many bits
+-- the samples a to b-1 are of that many bits
 abbrev pub AreOfBits : ℕ → List ℤ → ℕ → ℕ → Type 0
 AreOfBits bits samples a b = All (λ p. IsOfBits bits p.0) (run_points samples a b)

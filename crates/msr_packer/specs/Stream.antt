@@ -11,8 +11,8 @@ use Rattle.msr_packer.specs.declared.held.Held.{Held}
 use Rattle.msr_packer.specs.declared.held.Piece.{Piece}
 use Rattle.msr_packer.specs.declared.live.Live.{Live}
 
--- All samples behind the frontier were taken, so that its step is not decided. At most two longest runs are held, a
--- sample before them and one behind.
+-- All samples after the frontier were taken, so that its step is not decided. At most two longest runs are held, a
+-- sample before them and one after.
 pub record IsStreaming (held : Held) (live : Live) : Type 0 where
   pub sound : IsSound held
   pub stays : Stays held.current (length held.samples.items)
@@ -20,7 +20,7 @@ pub record IsStreaming (held : Held) (live : Live) : Type 0 where
   pub few : length held.samples.items ≤ 2 * most_any (bytes_of held.record_length) + 2
 
 -- After these samples were pushed to a packer of records of so many bytes, these runs and separators were given. It
--- holds at most two longest runs, a sample before them and one behind.
+-- holds at most two longest runs, a sample before them and one after.
 pub record Streams (bytes : ℕ) (samples : List ℤ) (runs : List Run) (separators : List ℕ) (packer : Holding) : Type 0 where
   pub packs : Packs bytes samples runs separators packer
   pub behind : HoldsFew packer

@@ -197,7 +197,7 @@ impl Held {
         piece
     }
 
-    /// Where more samples than this stand behind the frontier, the piece before the next step, which has none where it
+    /// Where more samples than this stand after the frontier, the piece before the next step, which has none where it
     /// is the first.
     pub fn step_past(&mut self, behind: usize) -> Option<Piece>
         requires { IsSound self.old }
@@ -217,7 +217,7 @@ impl Held {
         self.go_on(step)
     }
 
-    /// The next piece, where more samples than this stand behind the frontier. It is shown.
+    /// The next piece, where more samples than this stand after the frontier. It is shown.
     pub fn next_piece(&mut self, behind: usize) -> Option<Piece>
         requires { IsSound self.old }
         ensures given { GivesPiece self.old self.new result }
@@ -232,7 +232,7 @@ impl Held {
         self.step_past(behind)
     }
 
-    /// The piece of the last step, where no sample stands behind it; none where there are no samples. It is shown.
+    /// The piece of the last step, where no sample stands after it; none where there are no samples. It is shown.
     pub fn last_piece(&mut self) -> Option<Piece>
         requires sound { IsSound self.old }
         requires end { length self.old.samples.items ≤ frontier_of self.old.current }

@@ -124,7 +124,7 @@ impl Live {
         }
     }
 
-    /// Of the one sample behind a frontier, Steim-2 where that takes it.
+    /// Of the one sample after a frontier, Steim-2 where that takes it.
     pub fn first(samples: &[i32], record_length: Length, frontier: usize) -> Live
         requires { length samples.now ≡ frontier + 1 }
         ensures { IsLive (bytes_of record_length) samples.now frontier (length samples.now) result }

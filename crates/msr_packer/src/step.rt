@@ -58,7 +58,7 @@ pub struct Found {
     pub ends: Ends,
 }
 
-/// The greatest end of a run; and, where it is set, all differences of the run and the one behind it are narrow.
+/// The greatest end of a run; and, where it is set, all differences of the run and the one after it are narrow.
 #[derive(Clone, Copy, Debug)]
 struct Reach {
     end: usize,
@@ -115,7 +115,7 @@ fn size_of(sample: i32) -> u32
     }
 }
 
-/// Whether the bits of the samples from `start` to `end - 1` tell together that each of them is of so many bits.
+/// Whether the bits of the samples from `start` to `end - 1` tell together that each of them is of that many bits.
 fn all_of_bits(samples: &[i32], start: usize, end: usize, bits: u32) -> bool
     requires order { start ≤ end }
     requires within { end ≤ length samples.now }
@@ -130,7 +130,7 @@ fn all_of_bits(samples: &[i32], start: usize, end: usize, bits: u32) -> bool
     fits_bits(i64::from(sizes), bits)
 }
 
-/// The first sample from `start` on that is not of so many bits, or `end`.
+/// The first sample from `start` on that is not of that many bits, or `end`.
 fn first_wider(samples: &[i32], start: usize, end: usize, bits: u32) -> usize
     requires order { start ≤ end }
     requires within { end ≤ length samples.now }
@@ -152,7 +152,7 @@ fn first_wider(samples: &[i32], start: usize, end: usize, bits: u32) -> usize
 /// How many samples are tried together.
 const TOGETHER: usize = 64;
 
-/// The greatest end of a run of integers of so many bits from `start` on. The first sample is tried by itself, since
+/// The greatest end of a run of integers of that many bits from `start` on. The first sample is tried by itself, since
 /// it mostly tells that all are wider.
 fn furthest_integers(
     samples: &[i32],
@@ -185,7 +185,7 @@ fn furthest_integers(
     end
 }
 
-/// The end of a run of integers of so many bits from the frontier on; where none is long enough to reach behind `end`, the
+/// The end of a run of integers of that many bits from the frontier on; where none is long enough to reach past `end`, the
 /// frontier.
 fn integers_end(
     samples: &[i32],
@@ -219,7 +219,7 @@ fn int32_end(samples: &[i32], record_length: Length, frontier: usize) -> usize
     frontier + left.min(Int32::most(record_length))
 }
 
-/// Whether no Steim-1 record that starts at or before the frontier reaches behind the end of Steim-2 and close to `end`.
+/// Whether no Steim-1 record that starts at or before the frontier reaches past the end of Steim-2 and close to `end`.
 /// It does not where the differences are narrow, and where there are too many: each takes a quarter of a word at least.
 fn steim1_is_short(
     samples: &[i32],

@@ -66,7 +66,7 @@ fn forget(held: &mut Held, live: &mut Live)
 #[derive(Drop)]
 pub struct StreamPacker {
     held: Held,
-    /// What takes the samples behind the frontier.
+    /// What takes the samples after the frontier.
     live: Live,
 }
 
@@ -136,7 +136,7 @@ impl StreamPacker {
         let record_length = self.held.record_length;
         let frontier = frontier_of(self.held.current);
         let from = self.held.samples.len();
-        // with one sample more than a longest run behind the frontier the step is decided
+        // with one sample more than a longest run after the frontier the step is decided
         let room = frontier + AnyKind::most(record_length) + 1 - from;
         let count = room.min(samples.len());
         self.held.samples.extend_from_slice(&samples[..count])?;
@@ -148,7 +148,7 @@ impl StreamPacker {
         else {
             return Ok(Taken { count, piece: None });
         };
-        // the sample behind the step is the one that decides it
+        // the sample after the step is the one that decides it
         let end = found.step.end + 1;
         self.held.samples.truncate(end);
         let seen = self.held.samples.as_slice();

@@ -67,7 +67,7 @@ pub length-bytes_of_all : (width : Width) (xs : List ℤ) → length (bytes_of_a
 length-bytes_of_all width [] = omega arith
 length-bytes_of_all width (x ∷ xs) = omega (arith, length-append (bytes_of width x) (bytes_of_all width xs), length-bytes_of width x, length-bytes_of_all width xs)
 
--- one sample more, written behind those that stand there
+-- one sample more, written after those that stand there
 pub one_more : (width : Width) (samples : List ℤ) (old area : List ℕ) (place a : ℕ) (x : ℤ) → a ≡ size_of width * place → place < length samples → size_of width * length samples ≤ length old → x ≡ get_or samples place (pos 0)
     → area ≡ bytes_of_all width (take place samples) ++ drop (size_of width * place) old
     → put_mid a (length area - a) area (bytes_of width x ++ drop (size_of width) (mid_of a (length area - a) area)) ≡ bytes_of_all width (take (place + 1) samples) ++ drop (size_of width * (place + 1)) old

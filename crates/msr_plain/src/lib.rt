@@ -123,7 +123,7 @@ pub fn decode_plain(
     ensures samples { IfOk result (λ samples. CarriesPlain width order area.now samples) }
     ensures count { IfOk result (λ samples. length samples ≡ count) }
 
-    // Want of memory comes only where the area is long enough.
+    // Running out of memory comes only where the area is long enough.
     ensures short { IsErrOf result PlainFault.DataShort ↔ (length area.now < size_of width * count) }
 {
     let count = usize::from(count);

@@ -41,7 +41,7 @@ fits_24 : (z : ℤ) → FitsBits 24 z → FitsThreeBytes z
 fits_24 (pos n) h = h
 fits_24 (negsuc n) h = h
 
--- the samples of points of so many bits
+-- the samples of points of that many bits
 all_of_bits : (bits : ℕ) (before : Option ℤ) (xs : List ℤ) → All (λ (p : ℤ × ℤ). FitsBits bits p.0) (points before xs) → All (FitsBits bits) xs
 all_of_bits bits before xs h =
     All-same (FitsBits bits) xs (map (λ (p : ℤ × ℤ). p.0) (points before xs)) (sym (points_samples before xs)) (All-map (FitsBits bits) (λ (p : ℤ × ℤ). p.0) (points before xs) h)

@@ -39,7 +39,7 @@ first_same bytes e = record {
   area = λ h read. part_of_first bytes 1_048_576 h.data_at (2 ^ h.exponent) (pow_most (header_sound bytes h read).high);
 }
 
--- a record's own bytes decide what it is read as, whatever stands behind them
+-- a record's own bytes decide what it is read as, whatever stands after them
 pub own_same : (xs ys : List ℕ) (h : Header) → header_of xs ≡ Ok h → take (2 ^ h.exponent) ys ≡ take (2 ^ h.exponent) xs → SameRecord xs ys
 own_same xs ys h read e =
     let n = 2 ^ h.exponent in record {
@@ -131,7 +131,7 @@ pub refusal_same : {T : Type 0} → (r : Result T FaultKind) (xs ys : List ℕ) 
 refusal_same (Ok x) xs ys s h = h
 refusal_same (Err fault) xs ys s h = λ other. refused_same xs ys fault s (h other)
 
--- the same for a record, a row and a refusal behind the header
+-- the same for a record, a row and a refusal after the header
 pub own_record : (bytes others : List ℕ) (found : Record) → IsRecordOf bytes found → take found.length others ≡ take found.length bytes → IsRecordOf others found
 own_record bytes others found p e =
     record_same bytes others found (own_same bytes others p.header p.read (rw p.length_is at e)) p

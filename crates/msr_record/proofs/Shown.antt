@@ -1,4 +1,4 @@
--- Bytes behind those that were looked at change nothing.
+-- Bytes after those that were looked at change nothing.
 use Rattle.std.proofs.Common.{ℕ, ◌^◌, ◌≤◌, List, ◌++◌, length, arith}
 use Rattle.std.proofs.Math.Pow.{pow_mono}
 use Rattle.std.proofs.lemmas.List.{take-append-le}

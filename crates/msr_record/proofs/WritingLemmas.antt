@@ -145,7 +145,7 @@ appends_record old new front area key start sequence before samples kind size ex
 
 -- ---- a record in its place
 
--- what stands behind the header, where all behind it was written
+-- what stands after the header, where all after it was written
 pub behind_header : (bytes area : List ℕ) → 64 ≤ length bytes → drop 64 (put_mid 64 (length bytes - 64) bytes area) ≡ area
 behind_header bytes area enough =
     let front : length (take 64 bytes) ≡ 64 = length-take-le 64 bytes enough in
@@ -170,7 +170,7 @@ new_part old zeros items now part end len filled same size new_size long =
     let nothing : drop (length (put_mid end (length now - end) now part)) items ≡ [] = drop_all (length (put_mid end (length now - end) now part)) items (omega arith) in
     ap (λ (x : List ℕ). take len (put_mid end (length now - end) now part ++ x)) nothing ∙ ap (take len) (append-nil (put_mid end (length now - end) now part)) ∙ kept
 
--- a record that stands behind others
+-- a record that stands after others
 pub appended_behind : (old new part : List ℕ) (key : Key) (start : ℤ) (sequence : ℕ) (before : Option ℤ) (samples : List ℤ) (kind : Kind) (size : ℕ) → new ≡ old ++ part
     → AppendsRecord [] part key start sequence before samples kind size → AppendsRecord old new key start sequence before samples kind size
 appended_behind old new part key start sequence before samples kind size joined alone = record {

@@ -106,7 +106,7 @@ pub record IsOutOfTime (bytes : List ℕ) : Type 0 where
 
 -- The record that the bytes begin with is refused so, by itself. Each needs that those before it do not
 -- apply: first the header's, then those of the fields that samples need, then those of the data area, then
--- the time's. A reverse constant that does not agree refuses no record by itself, and want of memory is no fault of
+-- the time's. A reverse constant that does not agree refuses no record by itself, and running out of memory is no fault of
 -- the bytes.
 abbrev pub IsRefused : List ℕ → FaultKind → Type 0
 IsRefused bytes (HeaderRefused fault) = header_of bytes ≡ Err fault

@@ -30,7 +30,7 @@ pub fn one_reverse()
 {}
 
 /// A record's own bytes decide: where as many bytes as it has are the same, all that is read of it is
-/// the same, whatever stands behind them and also where nothing does.
+/// the same, whatever stands after them and also where nothing does.
 pub fn own_bytes_decide()
     ensures found { (bytes others : List ℕ) (found : Record) → IsRecordOf bytes found
         → take found.length others ≡ take found.length bytes → IsRecordOf others found }

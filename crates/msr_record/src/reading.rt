@@ -253,7 +253,7 @@ pub fn decode_record(alloc: Global, rest: &[u8]) -> Result<Record, FaultKind>
     ensures refused { IfErr result (λ fault. fault ≢ FaultKind.Memory → IsRefused rest.now fault) }
     ensures count { IfOk result (λ found. IfSome found.row (λ row. length row.samples ≤ 65_535)) }
 
-    // Want of memory comes only where no field of the record has a fault.
+    // Running out of memory comes only where no field of the record has a fault.
     ensures memory { IsErrOf result FaultKind.Memory → TakesMemory rest.now }
 
     // The first bytes decide.

@@ -81,7 +81,7 @@ fn header_for(
     }
 }
 
-/// Puts a header in front of an area.
+/// Puts a header before an area.
 fn put_header(bytes: &mut [u8], header: &[u8; 64])
     requires { 64 ≤ length bytes.old }
     ensures { bytes.new ≡ header.now ++ drop 64 bytes.old }

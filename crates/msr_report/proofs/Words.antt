@@ -17,7 +17,7 @@ zeros_before width n =
 pub instant_back : (t : ℤ) → IsInstant t → to_z w64 (of_z w64 t) ≡ t
 instant_back t h = omega (arith, ints)
 
--- the two lines of a segment, put down one behind the other
+-- the two lines of a segment, put down one after the other
 pub two_lines : (line : SegmentLine) (time start more old between new separators : List ℕ) → IsTimeText line.start time → start ≡ time
     → more ≡ codes " records " ++ (decimal line.records ++ 10 ∷ []) → between ≡ old ++ segment_words line.key start line.samples more
     → separators ≡ line.separators.items → new ≡ between ++ separators_line separators

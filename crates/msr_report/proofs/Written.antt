@@ -17,7 +17,7 @@ one_more : (lines : List SegmentLine) (i : ℕ) (line : SegmentLine) → i < len
 one_more lines i line within item =
     ap (λ (x : SegmentLine). take i lines ++ x ∷ []) item ∙ sym (take_more lines i line within)
 
--- the first lines and these segments: a front of their text was taken, and the rest waits
+-- the first lines and these segments: a prefix of their text was taken, and the rest waits
 pub record IsWritten (old new : Device) (report : Report) (lines : List SegmentLine) (waits : List ℕ) : Type 0 where
   pub segments : List ℕ
   pub are : AreSegmentTexts lines segments
@@ -33,7 +33,7 @@ segments-append (line ∷ lines) others text more h k =
 pub one_segment : (line : SegmentLine) (text : List ℕ) → IsSegmentText line text → AreSegmentTexts (line ∷ []) text
 one_segment line text h = (text, ([], (h, refl, sym (append-nil text))))
 
--- a front was taken of what waited with more text
+-- a prefix was taken of what waited with more text
 passed : (front text taken waits more pushed took left : List ℕ) → front ≡ taken ++ waits → pushed ≡ waits ++ text → pushed ++ [] ≡ took ++ left → front ++ text ≡ (taken ++ took) ++ left
 passed front text taken waits more pushed took left whole is passes =
     ap (λ (t : List ℕ). t ++ text) whole
@@ -61,7 +61,7 @@ written_next old new next report i line waits text pushed left within item w is_
     let P : List SegmentLine → Type 0 = λ l. IsWritten old next report l left in
     subst P (one_more items i line within item) (written_more old new next report (take i items) line waits text pushed left w is_text is p)
 
--- Where some segments are written, a front of the report's text is taken.
+-- Where some segments are written, a prefix of the report's text is taken.
 pub written_front : (old new : Device) (report : Report) (lines others : List SegmentLine) (waits : List ℕ)
     → lines ++ others ≡ report.segments.items → (others_text : List ℕ) → AreSegmentTexts others others_text
     → IsWritten old new report lines waits → (text : List ℕ) × (IsReportText report text × TakesFront old new text)
@@ -92,7 +92,7 @@ written_front_of old new report i waits proper w =
     let more = has_segments_text others (All-drop IsProperLine i report.segments.items proper.lines) in
     written_front old new report (take i report.segments.items) others waits (take-append-drop i report.segments.items) more.0 more.1 w
 
--- Where all segments and the last line are put down, a front of the report's text is taken, and the rest waits.
+-- Where all segments and the last line are put down, a prefix of the report's text is taken, and the rest waits.
 pub written_end : (old new next : Device) (report : Report) (lines : List SegmentLine) (waits pushed left : List ℕ) (segments records : ℕ)
     → lines ≡ report.segments.items → segments ≡ length report.segments.items → records ≡ records_of report.segments.items
     → IsWritten old new report lines waits → pushed ≡ waits ++ end_line segments records → Passes new next pushed [] left
@@ -130,7 +130,7 @@ end_whole old new report left none h =
     let P : List ℕ → Type 0 = λ t. Takes old new t in
     (h.0, (h.1.0, subst P (sym same) h.1.1.1.0))
 
--- a sink that took nothing took a front
+-- a sink that took nothing took a prefix
 pub nothing_taken : (device : Device) (report : Report) → IsProper report → (text : List ℕ) × (IsReportText report text × TakesFront device device text)
 nothing_taken device report proper =
     let whole = has_report_text report proper in

@@ -1,5 +1,5 @@
 -- The text of a report, and the lines that tell of a segment. A line is words with a space between each two, and
--- ends with a line feed. Numbers are decimal, with no zeros in front and `-` before a negative one.
+-- ends with a line feed. Numbers are decimal, with no leading zeros and `-` before a negative one.
 use Rattle.std.specs.Prelude.{◌≡◌, ℕ, ◌+◌, ◌-◌, ◌*◌, ◌/◌, ◌%◌, ◌==◌, false, cond, ℤ, List, [], ◌∷◌, ◌++◌, codes, flat_map, length, replicate}
 use Rattle.std.specs.Char.{is_ascii_alphanumeric}
 use Rattle.std.specs.Fmt.{decimal, signed_decimal, digit_glyph}
@@ -38,7 +38,7 @@ rate_text rate = signed_decimal rate.factor ++ (32 ∷ signed_decimal rate.multi
 abbrev pub flags_text : Key → List ℕ
 flags_text key = hex_text key.activity ++ (32 ∷ (hex_text key.clock ++ (32 ∷ hex_text key.data_quality)))
 
--- a number in at least so many digits, with zeros in front
+-- a number in at least so many digits, with leading zeros
 abbrev pub padded_decimal : ℕ → ℕ → List ℕ
 padded_decimal width n = replicate (width - length (decimal n)) 48 ++ decimal n
 

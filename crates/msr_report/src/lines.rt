@@ -80,7 +80,7 @@ pub fn push_counts(alloc: Global, out: &mut Vec<u8>, counts: &Counts) -> Result<
     out.extend_from_slice(text.as_bytes())
 }
 
-// Appends a number behind a space.
+// Appends a number after a space.
 fn push_number(alloc: Global, out: &mut Vec<u8>, n: u64) -> Result<(), AllocError>
     ensures { OnOk result (out.new.items ≡ out.old.items ++ (32 ∷ decimal n)) }
 {

@@ -40,7 +40,7 @@ impl From<AllocError> for TextFault {
 }
 
 impl Report {
-    /// Writes the text of the report. At an `Err` the sink took a front of it.
+    /// Writes the text of the report. At an `Err` the sink took a prefix of it.
     pub fn write_text<W: Sink>(&self, alloc: Global, sink: &mut W) -> Result<(), TextFault>
         requires report { IsProper self.now }
         requires count { CanCountCall (W.device sink.old) }

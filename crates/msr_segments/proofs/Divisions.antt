@@ -12,7 +12,7 @@ pub no_empty : {X : Type 0} (before after : List X) (y : X) → [] ≡ before ++
 no_empty [] after y e = cc
 no_empty (b ∷ before) after y e = cc
 
--- the last element of a list that is also split elsewhere is the split's element, or the last behind it
+-- the last element of a list that is also split elsewhere is the split's element, or the last after it
 pub cases_last : {X : Type 0} (xs before after : List X) (x y : X) → xs ++ x ∷ [] ≡ before ++ y ∷ after → ((after ≡ []) × (xs ≡ before) × (x ≡ y)) ⊎ ((rest : List X) × (after ≡ rest ++ x ∷ []) × (xs ≡ before ++ y ∷ rest))
 cases_last {X} [] [] after x y e = let a : after ≡ [] = cc in let h : x ≡ y = cc in inl (a, refl, h)
 cases_last {X} [] (b ∷ before) after x y e = let t : ◌≡◌ {A = List X} [] (before ++ y ∷ after) = cc in absurd (no_empty before after y t)

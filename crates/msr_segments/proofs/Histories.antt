@@ -31,7 +31,7 @@ span_alone row = ap segment_span (sym (segment_of-alone row))
 span_longer : (part : Part) (row : Row) → longer (part_span part) (row_span row) ≡ part_span (longer_part part row)
 span_longer part row = sym (span-with_row (segment_of part) row) ∙ ap segment_span (sym (segment_of-longer part row))
 
--- the row is a part of its own, behind these parts
+-- the row is a part of its own, after these parts
 begun_at : (tolerance : ℕ) (rows : List Row) (parts : List Part) (answers : List Step) (row : Row) → IsDivision tolerance (rows ++ row ∷ []) (parts ++ (row, []) ∷ []) → answers ≡ flat_map steps_of parts → HasFollowed (record { tolerance = tolerance; current = Some (row_span row) }) (rows ++ row ∷ []) (answers ++ Begins ∷ [])
 begun_at tolerance rows parts answers row d t = record {
   ended = parts;
@@ -108,7 +108,7 @@ segments_join tolerance rows ended s row a h =
       each = ap (λ (xs : List Segment). xs ++ with_row s row ∷ []) m.3 ∙ ap (λ (x : Segment). map segment_of m.0 ++ x ∷ []) (ap (λ (x : Segment). with_row x row) m.4 ∙ sym (segment_of-longer m.1 row)) ∙ sym (map-append segment_of m.0 (longer_part m.1 row ∷ []));
     }
 
--- a new segment behind these
+-- a new segment after these
 segments_with : (tolerance : ℕ) (rows : List Row) (segments : List Segment) (row : Row) (a : AreSegments tolerance rows segments) → IsDivision tolerance (rows ++ row ∷ []) (a.parts ++ (row, []) ∷ []) → AreSegments tolerance (rows ++ row ∷ []) (segments ++ row_segment row ∷ [])
 segments_with tolerance rows segments row a d = record {
   parts = a.parts ++ (row, []) ∷ [];

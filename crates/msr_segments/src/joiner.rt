@@ -26,7 +26,7 @@ pub enum JoinKind {
     /// The row joins, and its last sample, counted from the segment's start, is outside the years
     /// 1900 to 2100.
     TimeRange,
-    /// The row joins, and there is no memory for its samples behind those of the segment.
+    /// The row joins, and there is no memory for its samples after those of the segment.
     Memory,
 }
 
@@ -96,7 +96,7 @@ impl Joiner {
             → IfOk result (λ ended. HasJoined self.new (rows ++ row ∷ []) (given ++ option_to_list ended)) }
         ensures step { IfOk result (λ ended. IsPush self.old row ended self.new) }
 
-        // Want of memory comes only where a row that is in range joins.
+        // Running out of memory comes only where a row that is in range joins.
         ensures time_range { IsErrAnd result (λ fault. fault.kind ≡ JoinKind.TimeRange)
             ↔ Overruns (following_of self.old) (row_span row) }
         ensures memory_only_for_more { IsErrAnd result (λ fault. fault.kind ≡ JoinKind.Memory)

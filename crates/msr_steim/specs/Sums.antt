@@ -5,7 +5,7 @@ use Rattle.msr_steim.specs.declared.word.Version.{Version}
 use Rattle.msr_steim.specs.Area.{sums_after}
 use Rattle.msr_steim.specs.Word.{Holds, numbers_in}
 
--- The word holds a group, and its sums were written behind the samples before `at`, as far as there are
+-- The word holds a group, and its sums were written after the samples before `at`, as far as there are
 -- places: from the old list to the new one, whose samples then stand before `next`.
 pub record IsWritten (version : Version) (code word : ℕ) (at : Place) (old new : List ℤ) (next : Place) : Type 0 where
   pub group : List ℤ

@@ -1,4 +1,4 @@
--- Segments written one behind another, and their lines.
+-- Segments written one after another, and their lines.
 use Rattle.std.proofs.Common.{◌≡◌, ◌≤◌, ℕ, false, List, [], ◌∷◌, ◌++◌, ◌∙◌, map, length, refl, sym, ap, subst, arith, append_assoc, All, Option, Some, None, IfSome, Result, Ok, Err, MatchResult, ◌+◌}
 use Rattle.std.specs.Prelude.{option_map}
 use Rattle.std.specs.Option.{option_to_list}
@@ -49,7 +49,7 @@ records-of_lines (one ∷ packed) (its ∷ lines) are = omega (arith, are.0.reco
 pub same-more : (packed : List Packed) (more : Packed) (segment : Segment) → more.segment ≡ segment → map segment_of_packed (packed ++ more ∷ []) ≡ map segment_of_packed packed ++ segment ∷ []
 same-more packed more segment same = map-append segment_of_packed packed (more ∷ []) ∙ ap (λ (s : Segment). map segment_of_packed packed ++ s ∷ []) same
 
--- a front of the output of some segments is one of more segments
+-- a prefix of the output of some segments is one of more segments
 pub front-more : (size : ℕ) (start now : Device) (segments others all : List Segment) → HasWrittenFront size start now segments → all ≡ segments ++ others → HasWrittenFront size start now all
 front-more size start now segments others all h same = record {
   taken = h.taken;
@@ -64,7 +64,7 @@ front-more size start now segments others all h same = record {
   };
 }
 
--- what was written so far is a front of the output of all segments
+-- what was written so far is a prefix of the output of all segments
 pub front-of : (start now : Device) (writing : Writing) (packed : List Packed) (rows : List Row) → HasWritten start now writing packed rows → HasWrittenFront writing.size start now (map segment_of_packed packed)
 front-of start now writing packed rows h = record {
   taken = h.taken;
@@ -150,7 +150,7 @@ grows-new opened row none key start writable few =
     let count : count_of opened + length row.samples ≡ length row.samples = omega (arith, none) in
     record { number = omega (arith, none, few); in_time = rw (key, start, count) writable.in_time }
 
--- where it stops, a front of the output of more segments was written
+-- where it stops, a prefix of the output of more segments was written
 pub stops-wider : (size : ℕ) (start now : Device) (segments others all : List Segment) (found : ToolFault) → all ≡ segments ++ others → StopsLining size start now segments found → StopsLining size start now all found
 stops-wider size start now segments others all (fault.Input other) same h = absurd h
 stops-wider size start now segments others all (fault.Report line) same h = absurd h
@@ -190,7 +190,7 @@ front-written start now w packed (Some segment) None goes h = absurd h
 front-written start now w packed (Some segment) (Some opened) goes h =
     (refused_now start now w packed segment opened (rw goes.same_size at goes.can.size) (writable_now opened goes.can segment h.runs h.is_open h.samples) h).0
 
--- what was written so far is a front of the output of all segments, with the one that has not ended
+-- what was written so far is a prefix of the output of all segments, with the one that has not ended
 pub front-lined : (start now : Device) (lined : Lined) (packed : List Packed) (current : Option Segment) → IfSome lined.last (GoesOn lined.writing.size) → HasLined start now lined packed current
     → HasWrittenFront lined.writing.size start now (map segment_of_packed packed ++ option_to_list current)
 front-lined start now lined packed current goes h = front-written start now lined.writing packed current lined.last goes h.written

@@ -1,4 +1,4 @@
--- Lines written one behind another.
+-- Lines written one after another.
 use Rattle.std.proofs.Common.{◌≡◌, ℕ, List, [], ◌∷◌, ◌++◌, ◌∙◌, length, refl, sym, ap, append_assoc, Option, Some, None}
 use Rattle.std.specs.Prelude.{option_map}
 use Rattle.std.specs.Option.{option_to_list}
@@ -25,7 +25,7 @@ lists-last : (segments : List Segment) (text line : List ℕ) (current : Option 
 lists-last segments text line None are is = rw (is, append-nil segments, append-nil text) are
 lists-last segments text line (Some segment) are is = lists-snoc segments text line segment are is
 
--- a further text behind the lines so far, some of which the sink accepts
+-- a further text after the lines so far, some of which the sink accepts
 pub record Flows (start now : Device) (waiting : List ℕ) (text : List ℕ) : Type 0 where
   pub taken : List ℕ
   pub takes : Takes start now taken
@@ -49,7 +49,7 @@ front-listed start now waiting segments others h = record {
   front = record { first = segments; others = others; tail = waiting; some_first = refl; lines = rw (← h.whole) h.lines };
 }
 
--- a front of a longer list of segments
+-- a prefix of a longer list of segments
 pub front-wider : (start now : Device) (segments others all : List Segment) → HasListedFront start now segments → all ≡ segments ++ others → HasListedFront start now all
 front-wider start now segments others all h same = record {
   taken = h.taken;

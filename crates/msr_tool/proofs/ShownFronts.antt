@@ -1,4 +1,4 @@
--- The last segment of a front of some rows is a front of a segment of all of them.
+-- The last segment of a prefix of some rows is a prefix of a segment of all of them.
 use Rattle.std.proofs.Common.{◌≡◌, ◌⊎◌, inl, inr, ℕ, ◌+◌, ◌≤◌, List, [], ◌∷◌, ◌++◌, ◌∙◌, length, map, arith, refl, sym, ap, subst, append_assoc, length-append}
 use Rattle.std.specs.List.{flat_map}
 use Rattle.std.proofs.lemmas.Grind.{flat_map-append}
@@ -87,7 +87,7 @@ cut-division tolerance rows parts front c d =
       ];
     }
 
--- The segment is a front of the other.
+-- The segment is a prefix of the other.
 pub record IsFrontOf (front whole : Segment) : Type 0 where
   pub key : front.key ≡ whole.key
   pub start : front.start ≡ whole.start
@@ -101,7 +101,7 @@ kept-front part kept left e =
     let size : length (flat_map samples (rows_of part)) ≡ length (flat_map samples (part.0 ∷ kept)) + length (flat_map samples left) = ap length all ∙ length-append (flat_map samples (part.0 ∷ kept)) (flat_map samples left) in
     record { key = refl; start = refl; fewer = omega (arith, size) }
 
--- the last segment of the front begins one of the segments of all rows
+-- the last segment of the start begins one of the segments of all rows
 pub record BeginsOne (last : Segment) (parts : List Part) : Type 0 where
   pub before : List Part
   pub after : List Part

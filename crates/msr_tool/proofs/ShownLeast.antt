@@ -21,7 +21,7 @@ use Rattle.msr_tool.proofs.ShownRows.{IsWithin, AreWithin, record_of, lines-with
 use Rattle.msr_tool.proofs.ShownFronts.{IsFrontOf, last-of-front}
 use Rattle.msr_tool.proofs.ShownParts.{are-shown}
 
--- a front of such a segment ends in the supported years
+-- a prefix of such a segment ends in the supported years
 front-within : (front whole : Segment) → IsFrontOf front whole → IsWithin whole → EndsOutOfRange (segment_span front) → ⊥
 front-within front whole is within out =
     let rate = whole.key.rate in

@@ -30,7 +30,7 @@ sound-rest (x ∷ xs) ys sound = sound-rest xs ys sound.1
 some-samples : (row : Row) (rows : List Row) → IsSound row → 0 ≡ length (samples_of (row ∷ rows)) → ⊥
 some-samples row rows is e = omega (arith, e, is.some, length-append row.samples (samples_of rows))
 
--- fronts of the same rows with as many samples are the same front, since each row has some
+-- prefixes of the same rows with as many samples are the same prefix, since each row has some
 same-front : (xs ys u v : List Row) → xs ++ u ≡ ys ++ v → AreSound xs → AreSound ys → length (samples_of xs) ≡ length (samples_of ys) → (xs ≡ ys) × (u ≡ v)
 same-front [] [] u v e first second size = (refl, e)
 same-front [] (y ∷ ys) u v e first second size = absurd (some-samples y ys second.0 size)

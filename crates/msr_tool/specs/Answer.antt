@@ -44,7 +44,7 @@ pub record IsRepacked (choice : Choice) (input written : List ℕ) (report : Rep
   pub same_segments : AreSegments choice.tolerance rows (map segment_of_packed packed)
   pub is_report : IsReportOf choice records packed report
 
--- The input has this first fault. What was written is a front of the output of the segments of the rows before it.
+-- The input has this first fault. What was written is a prefix of the output of the segments of the rows before it.
 pub record IsRefusedAt (choice : Choice) (input written : List ℕ) (fault : Fault) : Type 0 where
   pub records : List Record
   pub segments : List Segment
@@ -52,7 +52,7 @@ pub record IsRefusedAt (choice : Choice) (input written : List ℕ) (fault : Fau
   pub are_segments : AreSegments choice.tolerance (rows_of_records records) segments
   pub front : IsFrontOfOutput (size_of choice) segments written
 
--- Some first records of the input are read, none of them refused. What was written is a front of the output of the
+-- Some first records of the input are read, none of them refused. What was written is a prefix of the output of the
 -- segments of their rows.
 pub record IsStopped (choice : Choice) (input written : List ℕ) : Type 0 where
   pub records : List Record

@@ -23,7 +23,7 @@ abbrev pub AreListLines : List Segment → List ℕ → Type 0
 AreListLines [] text = text ≡ []
 AreListLines (segment ∷ segments) text = (others : List ℕ) × ListsFirst segment text others × AreListLines segments others
 
--- the front of the lines of some first ones of these segments
+-- the prefix of the lines of some first ones of these segments
 pub record IsFrontOfList (segments : List Segment) (text : List ℕ) : Type 0 where
   pub first : List Segment
   pub others : List Segment
@@ -42,7 +42,7 @@ pub record IsListed (settings : Settings) (input written : List ℕ) (counts : C
   pub are_counts : counts ≡ counts_of records
   pub whole : written ≡ text ++ counts_line counts
 
--- The input has this first fault. What was written is a front of the lines of the segments of the rows before it.
+-- The input has this first fault. What was written is a prefix of the lines of the segments of the rows before it.
 pub record IsListedTo (settings : Settings) (input written : List ℕ) (fault : Fault) : Type 0 where
   pub records : List Record
   pub segments : List Segment
@@ -50,7 +50,7 @@ pub record IsListedTo (settings : Settings) (input written : List ℕ) (fault : 
   pub are_segments : AreSegments settings.tolerance (rows_of_records records) segments
   pub front : IsFrontOfList segments written
 
--- Some first records of the input are read, none of them refused. What was written is a front of the lines of the
+-- Some first records of the input are read, none of them refused. What was written is a prefix of the lines of the
 -- segments of their rows.
 pub record IsListStopped (settings : Settings) (input written : List ℕ) : Type 0 where
   pub records : List Record
@@ -60,7 +60,7 @@ pub record IsListStopped (settings : Settings) (input written : List ℕ) : Type
   pub are_segments : AreSegments settings.tolerance (rows_of_records records) segments
   pub front : IsFrontOfList segments written
 
--- The input is readable. What was written is a front of its list, the last line included.
+-- The input is readable. What was written is a prefix of its list, the last line included.
 pub record IsListCut (settings : Settings) (input written : List ℕ) : Type 0 where
   pub counts : Counts
   pub tail : List ℕ

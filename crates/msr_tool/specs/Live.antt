@@ -9,7 +9,7 @@ use Rattle.msr_input.specs.Reading.{HoldsRecord}
 use Rattle.msr_output.specs.Decided.{IsDecidedOutput}
 use Rattle.msr_tool.specs.Choice.{Choice, settings_of, size_of}
 
--- These records came from the source, and behind them no whole one. Every record that their rows decide went into the
+-- These records came from the source, and after them no whole one. Every record that their rows decide went into the
 -- sink.
 pub record IsLive (choice : Choice) (source0 source sink0 sink : Device) : Type 0 where
   pub input : List ℕ

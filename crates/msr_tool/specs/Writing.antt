@@ -61,14 +61,14 @@ StandsWritten start now writing packed None (Some opened) = ⊥
 StandsWritten start now writing packed (Some segment) None = ⊥
 StandsWritten start now writing packed (Some segment) (Some opened) = HasBegun start now writing packed segment opened
 
--- From the one state of the sink to the other a front of the output of these segments and of the one that has not ended
+-- From the one state of the sink to the other a prefix of the output of these segments and of the one that has not ended
 -- was written; the rest waits. Each that has ended has its line, whose fields are in the ranges of their types.
 pub record HasLined (start now : Device) (lined : Lined) (packed : List Packed) (current : Option Segment) : Type 0 where
   pub written : StandsWritten start now lined.writing packed current lined.last
   pub are_lines : AreLinesOf packed lined.lines
   pub forms : All IsFormLine (map form_line lined.lines)
 
--- these segments ended behind the others, each with its line, and this one has not ended
+-- these segments ended after the others, each with its line, and this one has not ended
 pub record LinesMore (start now : Device) (lined : Lined) (packed : List Packed) (more : List Segment) (current : Option Segment) : Type 0 where
   pub all : List Packed
   pub same : map segment_of_packed all ≡ map segment_of_packed packed ++ more
@@ -113,7 +113,7 @@ StopsSink failed refused start now Read = ⊥
 StopsSink failed refused start now Write = failed × HasFailed start now
 StopsSink failed refused start now Memory = refused × IsSteady start now
 
--- a front of the output of some first ones of these segments was written
+-- a prefix of the output of some first ones of these segments was written
 abbrev pub StopsLining : ℕ → Device → Device → List Segment → ToolFault → Type 0
 StopsLining size start now segments fault =
     StopsSink (HasWrittenFront size start now segments) (HasWrittenFront size start now segments) start now fault

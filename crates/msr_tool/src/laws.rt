@@ -7,14 +7,14 @@ use msr_input::{one_first_fault, one_list_of_records, readable_has_no_fault};
 use msr_output::one_output;
 use msr_verdict::shown_is_fewest;
 
-/// On a readable input where no device fails `repack` succeeds, or answers want of memory.
+/// On a readable input where no device fails `repack` succeeds, or answers that memory ran out.
 pub fn readable_is_repacked()
     ensures { ReadableIsRepacked }
 {
     readable_has_no_fault();
 }
 
-/// On a readable input where no device fails `list_segments` succeeds, or answers want of memory.
+/// On a readable input where no device fails `list_segments` succeeds, or answers that memory ran out.
 pub fn readable_is_listed()
     ensures { ReadableIsListed }
 {

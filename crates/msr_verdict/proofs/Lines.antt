@@ -70,7 +70,7 @@ shown-length size [] (its ∷ lines) are = absurd are
 shown-length size (one ∷ parts) [] are = absurd are
 shown-length size (one ∷ parts) (its ∷ lines) are = ap (λ n. suc n) (shown-length size parts lines are.1)
 
--- behind shown parts and their lines, the next part is shown by the next line
+-- after shown parts and their lines, the next part is shown by the next line
 pub shown-next : (size : ℕ) (parts rest : List Part) (done left : List SegmentLine) (part : Part) → AreShownBy size parts done → AreShownBy size (parts ++ part ∷ rest) (done ++ left) → (line : SegmentLine) × (others : List SegmentLine) × (left ≡ line ∷ others) × IsShownBy size part line
 shown-next size [] rest [] [] part are all = absurd all
 shown-next size [] rest [] (line ∷ left) part are all = (line, left, refl, all.0)
@@ -78,7 +78,7 @@ shown-next size [] rest (its ∷ done) left part are all = absurd are
 shown-next size (one ∷ parts) rest [] left part are all = absurd are
 shown-next size (one ∷ parts) rest (its ∷ done) left part are all = shown-next size parts rest done left part are.1 all.1
 
--- what stands behind a front
+-- what stands after a prefix
 pub get-behind : {X : Type 0} (front rest : List X) (x : X) → slice_get (front ++ x ∷ rest) (length front) ≡ Some x
 get-behind [] rest x = refl
 get-behind (y ∷ front) rest x = get-behind front rest x

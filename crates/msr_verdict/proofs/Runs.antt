@@ -20,7 +20,7 @@ pub total-snoc : (rows : List Row) (row : Row) → length (samples_of (rows ++ r
 total-snoc rows row =
     ap length (flat_map-append (λ (r : Row). r.samples) rows (row ∷ []) ∙ ap (λ (xs : List ℤ). samples_of rows ++ xs) (append-nil row.samples)) ∙ length-append (samples_of rows) row.samples
 
--- the run of a row, behind so many samples
+-- the run of a row, after so many samples
 abbrev pub run_behind : ℕ → Row → Run
 run_behind at row = record { start = at; end = at + length row.samples; kind = row.kind }
 

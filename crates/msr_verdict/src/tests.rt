@@ -338,7 +338,7 @@ fn lengths_and_empty_records(rt: HostRuntime) -> Result<(), Fail> {
     Ok(())
 }
 
-// A fault of the input is told wherever it stands, also behind a segment that is not shown.
+// A fault of the input is told wherever it stands, also after a segment that is not shown.
 #[test]
 fn faults(rt: HostRuntime) -> Result<(), Fail> {
     let bytes = packed(&rt, rt.alloc(), 0)?;

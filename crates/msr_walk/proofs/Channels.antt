@@ -19,7 +19,7 @@ lines-next line xs i x h =
     ∙ flat_map-append line (take i xs) (x ∷ [])
     ∙ ap (λ (t : List ℕ). flat_map line (take i xs) ++ t) (append-nil (line x))
 
--- the lines up to a place are a front of all
+-- the lines up to a place are a prefix of all
 pub front-of : {X : Type 0} (line : X → List ℕ) (xs : List X) (i : ℕ) (old new : Device) →
     Takes old new (flat_map line (take i xs)) → TakesFront old new (flat_map line xs)
 front-of line xs i old new takes = record {
@@ -43,7 +43,7 @@ front-in line xs i n x text old now new h is before piece = record {
       ∙ append_assoc (flat_map line (take i xs) ++ take n text) (drop n text) (flat_map line (drop (i + 1) xs));
 }
 
--- a front of what comes first
+-- a prefix of what comes first
 pub front-before : (old new : Device) (first second : List ℕ) → TakesFront old new first → TakesFront old new (first ++ second)
 front-before old new first second front = record {
   taken = front.taken;

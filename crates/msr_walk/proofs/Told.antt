@@ -160,7 +160,7 @@ entries-in_part asked out0 out told = record {
   };
 }
 
--- all entries, and a front of the last lines
+-- all entries, and a prefix of the last lines
 summary-in_part : (asked : Asked) (out0 out1 out : Device) (tally0 tally : Tally) (told : Tells asked out0 out1 tally0 tally) →
     TakesFront out1 out (summary told.entries) → WalksInPart asked out0 out
 summary-in_part asked out0 out1 out tally0 tally told front = record {

@@ -108,7 +108,7 @@ module _ (version : Version) where
     pub groups : List (List ℤ)
     pub canonical : IsCanonicalDivision version groups ds
 
-  -- the longest first group with which no more groups are needed, and the groups behind it
+  -- the longest first group with which no more groups are needed, and the groups after it
   module _ (n : ℕ) (ds : List ℤ) (is : IsFewest (suc n) ds) (l : Last (λ size. DividesFrom version (suc n) size ds) 7) where
     one : suc n - 1 ≡ n
     one = omega arith

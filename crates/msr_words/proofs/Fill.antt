@@ -133,7 +133,7 @@ some_next version gs ds size chosen next none =
 
 -- ---- bytes of words
 
--- a word behind the others
+-- a word after the others
 pub put_next : (ws : List ℕ) (w n : ℕ) (old area new : List ℕ) → length ws ≡ n → area ≡ flat_map (big_bytes 4) ws ++ drop (4 * n) old
     → new ≡ take (4 * n) area ++ (big_bytes 4 w ++ drop (4 * n + 4) area) → new ≡ flat_map (big_bytes 4) (ws ++ w ∷ []) ++ drop (4 * (n + 1)) old
 put_next ws w n old area new number same put =
@@ -257,7 +257,7 @@ pub record IsFramed (version : Version) (gs : List (List ℤ)) (ds : List ℤ) (
   pub number : used + length (drop (15 * frame - 2) gs) ≡ length gs
   pub bytes : area ≡ flat_map (big_bytes 4) (map (frame_word version first last gs) (range_with_len 0 (16 * frame))) ++ drop (4 * (16 * frame)) old
 
--- and so many words of the next one, behind its codes, which are still 0
+-- and so many words of the next one, after its codes, which are still 0
 pub record IsFilled (version : Version) (gs : List (List ℤ)) (ds : List ℤ) (first last : ℤ) (frame slot at used codes : ℕ) (old area : List ℕ) : Type 0 where
   pub left : IsCanonicalDivision version (drop (15 * frame + slot - 2) gs) (drop at ds)
   pub number : used + length (drop (15 * frame + slot - 2) gs) ≡ length gs
@@ -334,7 +334,7 @@ module _ (version : Version) (gs : List (List ℤ)) (ds : List ℤ) (first last 
           bytes = words_more w w_is put;
         }
 
-    -- a group, or nothing behind the last
+    -- a group, or nothing after the last
     pub group_more : (w code size used' : ℕ) → 3 ≤ 16 * frame + slot + 1 → (IsCanonicalDivision version (drop (15 * frame + slot - 2) gs) (drop at ds) → IsNext version (drop (15 * frame + slot - 2) gs) (drop at ds) size) → size ≤ length (drop at ds) → code ≡ group_code version size → w ≡ group_word version (take size (drop at ds))
         → (0 < size → used' ≡ used + 1) → (size ≡ 0 → used' ≡ used)
         → new ≡ take (4 * (16 * frame + slot + 1)) area ++ (big_bytes 4 w ++ drop (4 * (16 * frame + slot + 1) + 4) area) → IsFilled version gs ds first last frame (slot + 1) (at + size) used' (codes * 4 + code) old new
@@ -365,7 +365,7 @@ module _ (version : Version) (gs : List (List ℤ)) (ds : List ℤ) (first last 
           bytes = words_more w word put;
         }
 
--- both constants, behind the codes of the first frame
+-- both constants, after the codes of the first frame
 pub constants_more : (version : Version) (gs : List (List ℤ)) (ds : List ℤ) (first last : ℤ) (frame at used : ℕ) (old area one new : List ℕ) → frame ≡ 0 → IsFilled version gs ds first last frame 0 at used 0 old area
     → one ≡ take (4 * (16 * frame + 1)) area ++ (big_bytes 4 (cast_unsigned w32 first) ++ drop (4 * (16 * frame + 1) + 4) area)
     → new ≡ take (4 * (16 * frame + 2)) one ++ (big_bytes 4 (cast_unsigned w32 last) ++ drop (4 * (16 * frame + 2) + 4) one)

@@ -1,4 +1,4 @@
--- The first Steim-1 group of some differences, by the least number of groups behind it.
+-- The first Steim-1 group of some differences, by the least number of groups after it.
 use Rattle.std.proofs.Common.{◌≡◌, ◌↔◌, ◌<◌, ◌≤◌, ℕ, zero, suc, ◌+◌, ◌-◌, ℤ, pos, Bool, true, false, eqb, List, [], ◌∷◌, ◌++◌, length, take, drop, get_or, refl, sym, ap, ◌∙◌, subst, arith, inl, inr, append_assoc, length-append, set, ◌≢◌, get_or-set_other, get_or-set_same, length-set, drop-cons, Option}
 use Rattle.std.specs.List.{AllByRecursion}
 use Rattle.std.proofs.lemmas.Bool.{cases_lt, eq-eqb, ne_eqb}

@@ -1,4 +1,4 @@
--- The division of Steim-2 differences that takes the longest group from the front on.
+-- The division of Steim-2 differences that takes the longest group from the start on.
 use Rattle.std.proofs.Common.{rules, ◌≡◌, ◌↔◌, ◌<◌, ◌≤◌, ◌⊎◌, min, ℕ, zero, suc, ◌+◌, ◌-◌, ℤ, pos, negsuc, w32, SFits, get_or, take, drop, List, [], ◌∷◌, ◌++◌, length, refl, sym, ap, ◌∙◌, subst, arith, inl, inr, append_assoc, length-append}
 use Rattle.std.specs.List.{All}
 use Rattle.std.proofs.lemmas.Bool.{cases_lt}

@@ -23,7 +23,7 @@ use Rattle.msr_words.proofs.Parts.{HasDivision, division_rest, first_fits, more_
 use Rattle.msr_words.proofs.Runs.{back_step_run, length_points, length_run_points, run_points_cut}
 use Rattle.msr_words.proofs.Steim2Groups.{IsSteim2Group, division_from, division_to, group_from, group_to, steim2_parts}
 
--- ---- the differences from the front on
+-- ---- the differences from the start on
 
 take_two : (count n : ℕ) (ds : List ℤ) → count ≤ n → take n ds ≡ take count ds ++ take (n - count) (drop count ds)
 take_two count n ds le =

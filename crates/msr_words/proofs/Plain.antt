@@ -86,7 +86,7 @@ front_all words n before run all can =
     let l = length_differences before run in
     subst (CanDivide One words) (take_all n (differences before run) (omega arith)) can
 
--- ---- Steim-2: by the longest group from the front on
+-- ---- Steim-2: by the longest group from the start on
 
 -- the first `count` of the differences, of which as many as `most` have room in one word
 pub record IsOpenGroup (ds : List ℤ) (count most : ℕ) : Type 0 where

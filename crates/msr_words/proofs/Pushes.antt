@@ -11,7 +11,7 @@ use Rattle.msr_words.specs.Laws.{most_of}
 use Rattle.msr_words.specs.Trackers.{FollowsIntegers, IsInteger, integers_of}
 use Rattle.msr_words.specs.Lemmas.KindLaws.{int16_by_bits, int24_by_bits, of_integers, prefix_kind, size_kind}
 
--- one integer more fits behind a run that fits, where the record has room; and what fits is such an integer
+-- one integer more fits after a run that fits, where the record has room; and what fits is such an integer
 pub record TakesIntegers (kind : Kind) (bytes : ℕ) : Type 0 where
   pub takes : (run : List (ℤ × ℤ)) (x d : ℤ) → Fits kind bytes run → length run + 1 ≤ most_of kind bytes → IsInteger kind x → Fits kind bytes (run ++ (x, d) ∷ [])
   pub needs : (run : List (ℤ × ℤ)) (x d : ℤ) → Fits kind bytes (run ++ (x, d) ∷ []) → IsInteger kind x

@@ -264,7 +264,7 @@ module _ (ds : List ℤ) (fits : AllByRecursion (FitsBits 32) ds) where
 four_at : (ds : List ℤ) (k : ℕ) → BeginsWithFour ds → k < 4 → IsOfBitsAt ds k 8
 four_at ds k four less = (let e = four.enough in omega arith, four_each ds k four less)
 
--- each of the four behind the first
+-- each of the four after the first
 next_at : (ds : List ℤ) (k : ℕ) → BeginsWithFour (drop 1 ds) → k < 4 → IsOfBitsAt ds (1 + k) 8
 next_at ds k four less = from_rest ds 1 k 8 (four_at (drop 1 ds) k four less)
 
@@ -321,7 +321,7 @@ module _ (ds : List ℤ) (one two three four : ℕ) (h1 : IsSizeAt ds 0 one) (h2
   pub four_small : AllByRecursion (FitsBits 32) ds → one < 128 → bit_or (bit_or two three) four < 128 → IsCanonicalFirst ds 4
   four_small fits small middle = let bits = middle_bits middle in four_first ds fits ((h1 8 (lit≤ tt)).0 small, bits.0, bits.1) bits.2
 
--- where four of 8 bits may begin behind the first
+-- where four of 8 bits may begin after the first
 module _ (ds : List ℤ) (one two three four five : ℕ) (h1 : IsSizeAt ds 0 one) (h2 : IsSizeAt ds 1 two) (h3 : IsSizeAt ds 2 three) (h4 : IsSizeAt ds 3 four) (h5 : IsSizeAt ds 4 five) where
   pub two_before : AllByRecursion (FitsBits 32) ds → bit_or one two < 32768 → 128 ≤ one → 128 ≤ five → IsCanonicalFirst ds 2
   two_before fits small large behind =
@@ -329,7 +329,7 @@ module _ (ds : List ℤ) (one two three four five : ℕ) (h1 : IsSizeAt ds 0 one
       let none = λ (b : IsOfBitsAt ds 0 8). let below = (h1 8 (lit≤ tt)).1 b in let never : ⊥ = omega arith in never in
       two_first ds fits bits.0 bits.1 (λ f. none (four_at ds 0 f (lit< tt))) (λ f. let below = (h5 8 (lit≤ tt)).1 (next_at ds 3 f (lit< tt)) in let never : ⊥ = omega arith in never) (λ all t. none t.0)
 
-  -- four of 8 bits behind the first
+  -- four of 8 bits after the first
   pub next_four : bit_or (bit_or two three) four < 128 → five < 128 → BeginsWithFour (drop 1 ds)
   next_four middle last =
       let bits = middle_bits ds one two three four h1 h2 h3 h4 middle in

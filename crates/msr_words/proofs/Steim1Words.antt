@@ -211,7 +211,7 @@ module _ (words : ℕ) (ds : List ℤ) (n : ℕ) (within : n ≤ length ds) (som
         ((ends_is_division One words e.1 e.0).0 (subst (λ xs. EndsIn One true words (reverse xs)) e.2 ends))
   ]
 
--- a last word behind others
+-- a last word after others
 one_last : (words : ℕ) (ds : List ℤ) (m size n : ℕ) → m + size ≡ n → n ≤ length ds → 0 < size → IsGroup One (take size (drop m ds)) → StandIn words ds m → CanDivide One (suc words) (take n ds)
 one_last words ds m size n e within some is a =
     let few = a.few in

@@ -14,7 +14,7 @@ use Rattle.msr_words.specs.Groups.{IsCapacity, IsOneBelow}
 use Rattle.msr_words.specs.Lemmas.LeastCounts.{a_group_has_few, too_many}
 use Rattle.msr_words.proofs.Parts.{HasDivision, HasParts}
 
--- the number is one of so many bits, in two's complement
+-- the number is one of that many bits, in two's complement
 abbrev pub IsOfBits : ℕ → ℤ → Type 0
 IsOfBits bits d = (neg_ℤ (pos (2 ^ (bits - 1))) ≤ℤ d) × (d ≤ℤ pos (2 ^ (bits - 1) - 1))
 

@@ -59,11 +59,11 @@ abbrev pub GreedyLaw : Type 0
 GreedyLaw = (bytes : ℕ) (samples : List ℤ) (g reach : ℕ) → g ≤ length samples → IsGreedyReach (words_of bytes) (map (λ p. p.1) (run_points samples g (latest_end Steim2 bytes samples g))) reach →
     IsRun (Fits Steim2 bytes) samples g (g + reach) × ((s b : ℕ) → s ≤ g → IsRun (Fits Steim2 bytes) samples s b → b ≤ g + reach)
 
--- a sample of so many bits
+-- a sample of that many bits
 abbrev pub IsOfBits : ℕ → ℤ → Type 0
 IsOfBits bits sample = FitsBits bits sample
 
--- The runs that fit this kind are those of numbers of so many bits that are no longer than its longest.
+-- The runs that fit this kind are those of numbers of that many bits that are no longer than its longest.
 pub record AreIntegers (kind : Kind) (bits bytes : ℕ) : Type 0 where
   pub takes : (run : List (ℤ × ℤ)) → All (λ p. IsOfBits bits p.0) run → length run ≤ most_of kind bytes → Fits kind bytes run
   pub needs : (run : List (ℤ × ℤ)) → Fits kind bytes run → All (λ p. IsOfBits bits p.0) run

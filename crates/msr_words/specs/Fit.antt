@@ -15,7 +15,7 @@ most_counted = 65535
 
 -- ---- the room that a record of each kind has
 
--- integers of so many bits, in so many bytes each, behind the 64 bytes of the header
+-- integers of that many bits, in that many bytes each, after the 64 bytes of the header
 abbrev pub FitsIntegers : ℕ → ℕ → ℕ → List (ℤ × ℤ) → Type 0
 FitsIntegers bits size bytes run = All (λ p. FitsBits bits p.0) run × (size * length run + 64 ≤ bytes)
 

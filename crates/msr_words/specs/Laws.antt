@@ -10,13 +10,13 @@ use Rattle.msr_words.specs.RecordLength.{words_of}
 abbrev pub PrefixLaw : (List (ℤ × ℤ) → Type 0) → Type 0
 PrefixLaw fits = (front back : List (ℤ × ℤ)) → fits (front ++ back) → fits front
 
--- where a run is cut, the part behind the cut fits with at most so many of the samples before it
+-- where a run is cut, the part after the cut fits with at most so many of the samples before it
 abbrev pub BackStepLaw : ℕ → (List (ℤ × ℤ) → Type 0) → Type 0
 BackStepLaw places fits =
     (front back : List (ℤ × ℤ)) → fits (front ++ back) →
     (k : ℕ) × (k ≤ length front) × (length front ≤ k + places) × fits (drop k front ++ back)
 
--- where a run is cut, the part behind the cut fits by itself
+-- where a run is cut, the part after the cut fits by itself
 abbrev pub SuffixLaw : (List (ℤ × ℤ) → Type 0) → Type 0
 SuffixLaw fits = (front back : List (ℤ × ℤ)) → fits (front ++ back) → fits back
 
@@ -24,7 +24,7 @@ SuffixLaw fits = (front back : List (ℤ × ℤ)) → fits (front ++ back) → f
 abbrev pub IsNarrow : ℤ → Type 0
 IsNarrow d = (FitsBits 16 d → FitsBits 15 d) × FitsBits 30 d
 
--- where a run fits the one and is cut, and each difference behind the cut is narrow, the part behind the cut fits the other
+-- where a run fits the one and is cut, and each difference after the cut is narrow, the part after the cut fits the other
 abbrev pub DominanceLaw : (List (ℤ × ℤ) → Type 0) → (List (ℤ × ℤ) → Type 0) → Type 0
 DominanceLaw one other = (front back : List (ℤ × ℤ)) → All (λ p. IsNarrow p.1) back → one (front ++ back) → other back
 
@@ -49,7 +49,7 @@ abbrev pub FitsShort : (List (ℤ × ℤ) → Type 0) → Type 0
 FitsShort fits = (run : List (ℤ × ℤ)) → length run ≤ 4 → fits run
 
 -- how many of the samples before a cut a run of each kind may need: a Steim-1 group of four that is cut
--- behind its first leaves three, which no group may follow
+-- after its first leaves three, which no group may follow
 abbrev pub look_back_of : Kind → ℕ
 look_back_of Int16 = 0
 look_back_of Int24 = 0

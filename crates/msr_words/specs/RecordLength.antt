@@ -15,7 +15,7 @@ pub record IsRecordLength (bytes : ℕ) : Type 0 where
   pub most : exponent ≤ most_exponent
   pub power : bytes ≡ 2 ^ exponent
 
--- the frames of 64 bytes behind the header, which has 64 bytes
+-- the frames of 64 bytes after the header, which has 64 bytes
 abbrev pub frames_of : ℕ → ℕ
 frames_of bytes = bytes / 64 - 1
 

@@ -5,7 +5,7 @@ use Rattle.msr_steim.specs.Word.{FitsBits}
 use Rattle.msr_words.specs.Counts.{AtMost}
 use Rattle.msr_words.specs.Division.{CanDivide}
 
--- there is a difference at this place, and it is of so many bits
+-- there is a difference at this place, and it is of that many bits
 abbrev pub IsOfBitsAt : List ℤ → ℕ → ℕ → Type 0
 IsOfBitsAt ds at width = (at < length ds) × FitsBits width (slice_index_or ds at (pos 0))
 

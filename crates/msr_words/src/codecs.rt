@@ -30,8 +30,8 @@ pub trait Tracker {
     /// How many samples a record of that many bytes has at most.
     ghost most: { ℕ → ℕ };
 
-    /// How many starts before a cut may be needed where a run is cut: the part behind the cut fits with
-    /// at most so many of the samples before it. Where it is 0, each part behind a cut fits by itself.
+    /// How many starts before a cut may be needed where a run is cut: the part after the cut fits with
+    /// at most so many of the samples before it. Where it is 0, each part after a cut fits by itself.
     const LOOK_BACK: usize;
 
     /// How many samples a record of that length has at most.
@@ -46,7 +46,7 @@ pub trait Tracker {
     fn push(&mut self, sample: i32, diff: i64) -> bool
         ensures { (bytes : ℕ) (run : List (ℤ × ℤ)) → follows bytes run self.old → follows bytes (run ++ (sample, diff) ∷ []) self.new × (IsTrue result ↔ fits bytes (run ++ (sample, diff) ∷ [])) };
 
-    /// A front of what fits fits, and the part behind a cut with at most `LOOK_BACK` samples before it, three at most;
+    /// A prefix of what fits fits, and the part after a cut with at most `LOOK_BACK` samples before it, three at most;
     /// no samples fit, and no more than `most`.
     ghost laws: { TrackerLaws LOOK_BACK most fits };
 }
@@ -102,7 +102,7 @@ fn is_integer(sample: i32, bits: u32) -> bool
     }
 }
 
-/// Whether a sample is taken behind others that fit, where there is room for `left` more.
+/// Whether a sample is taken after others that fit, where there is room for `left` more.
 fn is_taken(sample: i32, bits: u32, left: usize, fits: bool) -> bool
     ensures { IsTrue result ↔ IsTrue fits × (0 < left) × IsInteger (integers_of bits) sample }
 {

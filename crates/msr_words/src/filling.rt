@@ -33,7 +33,7 @@ struct Form {
     width: u32,
 }
 
-/// The field of `width` bits that a difference of so many bits is in two's complement.
+/// The field of `width` bits that a difference of that many bits is in two's complement.
 pub(crate) fn field_of(difference: i64, width: u32) -> u64
     requires positive { 0 < width }
     requires small { width ≤ 32 }

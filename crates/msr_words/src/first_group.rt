@@ -6,7 +6,7 @@ ghost use Rattle.msr_words.specs.FirstGroup.{IsBest, IsFirstGroup};
 
 use crate::counts::magnitude;
 
-/// How many differences the first group has, and the least number of groups behind it.
+/// How many differences the first group has, and the least number of groups after it.
 #[derive(Clone, Copy, Debug)]
 struct FirstGroup {
     size: u8,

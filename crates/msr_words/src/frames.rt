@@ -36,7 +36,7 @@ pub(crate) fn put_word(area: &mut [u8], number: usize, word: u32)
     BigEndian::write_u32(&mut area[4 * number..], word);
 }
 
-/// Writes the constants behind the codes of the first frame, and gives how many words of this frame they take.
+/// Writes the constants after the codes of the first frame, and gives how many words of this frame they take.
 fn put_constants(area: &mut [u8], frame: usize, first: u32, last: u32) -> usize
     requires { 64 * frame + 64 ≤ length area.old }
     ensures most { result ≤ 2 }

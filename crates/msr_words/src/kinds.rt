@@ -150,7 +150,7 @@ pub(crate) fn longest_group(before: Option<i32>, run: &[i32], at: usize) -> usiz
 }
 
 /// The differences of the run can be divided into so many Steim-2 groups. Each part of a group is a group,
-/// so it is enough to take the longest one from the front on.
+/// so it is enough to take the longest one from the start on.
 fn fits_steim2(before: Option<i32>, run: &[i32], words: u32) -> bool
     ensures { IsTrue result ↔ CanDivide Two words (differences before run.now) }
 {
@@ -180,7 +180,7 @@ pub(crate) fn difference_after(before: Option<i32>, run: &[i32], at: usize) -> i
     }
 }
 
-/// Each sample is of so many bits.
+/// Each sample is of that many bits.
 fn all_of_bits(run: &[i32], bits: u32) -> bool
     requires positive { 0 < bits }
     requires small { bits ≤ 32 }
@@ -250,7 +250,7 @@ pub fn difference(samples: &[i32], at: usize) -> i64
     }
 }
 
-/// Where no difference behind a cut is of exactly 16 bits, or of more than 30, the part behind the cut fits
+/// Where no difference after a cut is of exactly 16 bits, or of more than 30, the part after the cut fits
 /// Steim-2 where the run fits Steim-1: each group of Steim-1 is then one of Steim-2.
 pub fn steim2_dominates()
     ensures { (bytes : ℕ) → DominanceLaw (Fits FirstSteim bytes) (Fits SecondSteim bytes) }

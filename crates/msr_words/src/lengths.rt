@@ -53,7 +53,7 @@ impl Length {
         self.exponent
     }
 
-    /// How many frames of 64 bytes stand behind the header.
+    /// How many frames of 64 bytes stand after the header.
     pub fn frames(self) -> u32
         ensures { result ≡ frames_of (bytes_of self) }
     {

@@ -153,7 +153,7 @@ impl Window {
     }
 
     /// How many differences, from a place on, the first Steim-1 group has in the division that is
-    /// written. It is not told where four of 8 bits come behind a larger one that has room for the
+    /// written. It is not told where four of 8 bits come after a larger one that has room for the
     /// first of them beside it: whether it takes that one depends on all that follow.
     #[inline(always)]
     pub(crate) fn first_steim1_group(&self, place: usize) -> Option<usize>

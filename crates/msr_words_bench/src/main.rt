@@ -47,7 +47,7 @@ fn make_day(alloc: Global) -> Result<Vec<Point>, AllocError> {
     Ok(points)
 }
 
-/// How many records the tracker fills, where each one begins behind the sample that the one before it refused.
+/// How many records the tracker fills, where each one begins after the sample that the one before it refused.
 fn records<T: Tracker + Drop>(points: &[Point], record_length: Length) -> u64 {
     let mut count: u64 = 0;
     let mut tracker = T::start(record_length);

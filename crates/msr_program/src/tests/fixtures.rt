@@ -21,7 +21,7 @@ pub struct Ran {
     pub complaint: Vec<u8>,
 }
 
-/// Runs the program with these words behind its name; standard input and output are devices that behave so.
+/// Runs the program with these words after its name; standard input and output are devices that behave so.
 pub fn run_through<R: Files + AllocGlobal>(
     rt: &R,
     words: &[&str],

@@ -137,7 +137,7 @@ fn ended(rt: &impl Abort, alloc: Global, worked: Worked<'_>, odd: Odd) -> Left {
     }
 }
 
-// The call ends well, and wrote all; or it answers the fault of the device, each sink holds a front of what it is to
+// The call ends well, and wrote all; or it answers the fault of the device, each sink holds a prefix of what it is to
 // hold, and the text is not begun unless the fault is its own.
 fn ends(rt: &impl Abort, alloc: Global, worked: Worked<'_>, odd: Odd, well: bool) -> Left {
     let call = worked.call;

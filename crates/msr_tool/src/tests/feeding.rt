@@ -4,7 +4,7 @@ use crate::{TestSink, TestSource, ToolFault, feed, repack};
 use msr_devices::Behavior;
 use std::test::Fail;
 
-// Full records of 301 samples of 0, each behind the one before it, and one without samples before the last.
+// Full records of 301 samples of 0, each after the one before it, and one without samples before the last.
 const RECORDS: [Edits<'static>; 5] = [
     &[],
     &[(5, &[0x32]), (26, &[0x0f, 0x00, 0x01, 0xf4])],
@@ -14,7 +14,7 @@ const RECORDS: [Edits<'static>; 5] = [
 ];
 
 // A read gives one record. The first record that is written ends where the second can begin at the latest, and where
-// that one ends is known once a sample behind it is there: with the third record, and so on.
+// that one ends is known once a sample after it is there: with the third record, and so on.
 #[test]
 fn decided_records_are_written_before_each_read(rt: HostRuntime) -> Result<(), Fail> {
     let alloc = rt.alloc();

@@ -297,7 +297,7 @@ const ONE_MORE: Worked = Worked {
     ..FULL
 };
 
-// What differs in a record of one sample behind that of 301.
+// What differs in a record of one sample after that of 301.
 const ONE_SAMPLE: [(usize, &[u8]); 5] = [
     (5, &[0x32]),
     (30, &[0x00, 0x01]),

@@ -1,11 +1,11 @@
-//! Inputs that are refused: the text, and that what was written is a front of what the records before give.
+//! Inputs that are refused: the text, and that what was written is a prefix of what the records before give.
 use crate::ToolFault;
 use crate::tests::fixtures::{Edits, Outcome, choice, edited, joined, plain, repacked, steim};
 use std::alloc::Global;
 use std::process::Abort;
 use std::test::Fail;
 
-// The call was refused with this text, and wrote a front of `usual`.
+// The call was refused with this text, and wrote a prefix of `usual`.
 fn refused(
     rt: &impl Abort,
     alloc: Global,
@@ -127,7 +127,7 @@ fn inputs_that_are_refused(rt: HostRuntime) -> Result<(), Fail> {
     let found = repacked(alloc, &with_zeros, options);
     refused(&rt, alloc, found, "offset 512: 1 Truncated", &usual)?;
 
-    // The second begins 15.05 seconds after the first. Alone it ends in the year behind the last one.
+    // The second begins 15.05 seconds after the first. Alone it ends in the year after the last one.
     let late: [Edits; 2] = [
         &[(
             20,

@@ -42,7 +42,7 @@ fn both_tell(
 // The reverse constant of the record is not its last sample,
 const DIFFERS: (usize, &[u8]) = (72, &[0x00, 0x00, 0x00, 0x01]);
 
-// and the record ends in the year behind the last one.
+// and the record ends in the year after the last one.
 const LATE: (usize, &[u8]) = (
     20,
     &[0x08, 0x34, 0x01, 0x6d, 0x17, 0x3b, 0x3b, 0x00, 0x00, 0x00],

@@ -1,4 +1,4 @@
--- The laws of each kind: what a run begins with fits, and a part behind a cut fits with a few of the samples before it.
+-- The laws of each kind: what a run begins with fits, and a part after a cut fits with a few of the samples before it.
 use Rattle.std.specs.Prelude.{◌≡◌, ◌==◌, ℕ, ◌+◌, ◌-◌, ◌*◌, ◌/◌, ◌<◌, ◌≤◌, ◌⊎◌, ℤ, List, [], ◌∷◌, ◌++◌, true, false, cond, length, drop, map, All}
 use Rattle.std.proofs.Common.{arith, length-append, subst, refl, sym, ap, ◌∙◌, inl, inr}
 use Rattle.std.proofs.lemmas.List.{take_at, drop_at, drop_all, map-append, length-drop, length-map, drop-map}
@@ -18,7 +18,7 @@ use Rattle.msr_words.specs.Bounds.{AreIntegers}
 use Rattle.msr_words.specs.Fit.{FitsIntegers, FitsInt32, FitsSteim, HasRoom, Fits, FitsAny}
 use Rattle.msr_words.specs.RecordLength.{words_of}
 
--- where each part behind a cut fits by itself, none of the samples before it is needed; and the other way round
+-- where each part after a cut fits by itself, none of the samples before it is needed; and the other way round
 pub back_step_by_suffix : (fits : List (ℤ × ℤ) → Type 0) → SuffixLaw fits → BackStepLaw 0 fits
 back_step_by_suffix fits suffix front back h =
     let none : drop (length front) front ≡ [] = drop_all (length front) front (omega arith) in
@@ -76,7 +76,7 @@ front_divides version n front back can = elim (last_of front) [
   | inr e ↦ subst (CanDivide version n) (sym e.2) (prefix_law version n e.0 back e.1 (subst (λ f. CanDivide version n (f ++ back)) e.2 can))
 ]
 
--- the two laws of divisions, by how many differences stay behind
+-- the two laws of divisions, by how many differences are left
 BackPart : Version → ℕ → List ℤ → List ℤ → Type 0
 BackPart version n front back = (k : ℕ) × (k ≤ length front) × (length front ≤ k + places_of version) × CanDivide version n (drop k front ++ back)
 

@@ -97,7 +97,7 @@ none_divides version n = record { groups = []; are_groups = tt; join = refl; few
 
 -- ---- the back-step law
 
--- How many of the differences before a cut may be needed: a Steim-1 group of four that is cut behind
+-- How many of the differences before a cut may be needed: a Steim-1 group of four that is cut after
 -- its first leaves three, which no group may follow.
 abbrev pub places_of : Version → ℕ
 places_of One = 1

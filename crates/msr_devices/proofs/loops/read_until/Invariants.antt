@@ -2,7 +2,7 @@ use Rattle.std.proofs.Common.{◌-◌, ◌^◌, ◌<◌, ◌≤◌, length, take
 use Rattle.msr_devices.specs.Device.{GivesOnto, IsCalm}
 use Rattle.msr_devices.proofs.loops.read_until.Given as goal
 
--- what came so far stands behind what was there
+-- what came so far stands after what was there
 abbrev pub invariant-loop-filled : goal.invariant-loop-filled
 invariant-loop-filled g l = record {
   within : l.filled ≤ length l.room;

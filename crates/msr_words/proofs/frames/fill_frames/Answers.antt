@@ -26,7 +26,7 @@ loop-slot-init c = record {
     | inl later ↦ omega arith
     | inr none ↦ (let put = c.put_constants-from.ensures.first (omega arith) in let two = put.0 in omega arith)
   ];
-  -- behind the codes and, in the first frame, the constants
+  -- after the codes and, in the first frame, the constants
   filled = λ gs chosen.
       let ds = differences c.args.before c.args.run.now in
       let first = slice_index_or c.args.run.now 0 (pos 0) in
