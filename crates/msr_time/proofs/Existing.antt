@@ -1,9 +1,9 @@
 -- Each instant of the years 1900 to 2100 is that of a time.
-use Rattle.std.proofs.Common.{◌≡◌, ℕ, zero, suc, ◌+◌, ◌-◌, ◌*◌, ◌/◌, ◌%◌, ◌<◌, ◌≤◌, inl, inr, refl, arith, ap, sym, ◌∙◌, ℤ, pos, neg_ℤ, ◌+ℤ◌, ◌-ℤ◌, ◌≤ℤ◌}
+use Rattle.std.proofs.Common.{◌≡◌, ℕ, zero, suc, ◌+◌, ◌-◌, ◌*◌, ◌/◌, ◌%◌, ◌<◌, ◌≤◌, inl, inr, arith, ap, ◌∙◌, ℤ, pos, ◌-ℤ◌}
 use Rattle.std.proofs.lemmas.Bool.{cases_lt}
-use Rattle.jiff_core.specs.Calendar.{IsBetween, days_in_year, day_count, days_of_years, days_of_months}
+use Rattle.jiff_core.specs.Calendar.{days_in_year, day_count, days_of_years, days_of_months}
 use Rattle.jiff_core.proofs.SignedLemmas.{signed_arith}
-use Rattle.msr_time.specs.Instant.{IsInstant, IsSplit, IsTime, day_number, micros_of_day}
+use Rattle.msr_time.specs.Instant.{IsInstant, IsSplit}
 use Rattle.msr_time.specs.declared.btime.BTime.{BTime}
 use Rattle.msr_time.proofs.CalendarLemmas.{day_number_parts, count_1900, count_2101}
 use borrow.Author.Differences.{up, down}
