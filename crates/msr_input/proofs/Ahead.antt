@@ -69,11 +69,11 @@ came-short a b c w w' w'' n filling.Read first unended stops =
     )
 came-short a b c w w' w'' n filling.Memory first unended stops = rw (stops.0, stops.1) first
 
-pub refused-short : (strict : Bool) (b c : Device) (w' w'' : Window) (offset : ℕ) (fill : FillFault) → (HoldsRecord w'.bytes → ⊥) → StopsFilling (length w'.bytes + 1) b c w' w'' fill → StopsDecoding strict w'' offset (fault_of_fill fill)
-refused-short strict b c w' w'' offset filling.Read none stops =
+pub refused-short : (takes : List ℕ → Type 0) (strict : Bool) (b c : Device) (w' w'' : Window) (offset : ℕ) (fill : FillFault) → (HoldsRecord w'.bytes → ⊥) → StopsFilling (length w'.bytes + 1) b c w' w'' fill → StopsDecoding takes strict w'' offset (fault_of_fill fill)
+refused-short takes strict b c w' w'' offset filling.Read none stops =
     let same : w''.bytes ≡ w'.bytes = none-more w'.bytes w''.bytes stops.1.onto.more stops.1.onto.whole stops.4 in
     λ holds. none (rw same at holds)
-refused-short strict b c w' w'' offset filling.Memory none stops = inl (rw stops.1 (omega (arith, stops.2)))
+refused-short takes strict b c w' w'' offset filling.Memory none stops = inl (rw stops.1 (omega (arith, stops.2)))
 
 -- no read was made
 pub record IsUnread (a b : Device) (w w' : Window) : Type 0 where

@@ -1,5 +1,5 @@
 -- The records that came from a source, step by step, and why no further one comes.
-use Rattle.std.proofs.Common.{◌≡◌, ◌≢◌, ℕ, ◌+◌, ◌^◌, ◌<◌, ◌-◌, ◌⊎◌, inl, inr, Bool, true, false, List, [], ◌∷◌, ◌++◌, length, drop, refl, sym, ap, subst, ◌∙◌, arith, append_assoc, length-append, length-drop, Option, Result, Ok, Err, IfErr, MatchResult}
+use Rattle.std.proofs.Common.{◌≡◌, ◌≢◌, ℕ, ◌+◌, ◌^◌, ◌<◌, ◌≤◌, ◌-◌, ◌⊎◌, inl, inr, Bool, true, false, List, [], ◌∷◌, ◌++◌, length, drop, refl, sym, ap, subst, ◌∙◌, arith, append_assoc, length-append, length-drop, Option, Result, Ok, Err, IfErr, MatchResult}
 use Rattle.std.proofs.lemmas.List.{append-nil, drop-append-le}
 use Rattle.msr_record.specs.Records.{IsRecordOf}
 use Rattle.msr_record.specs.declared.row.Record.{Record}
@@ -10,7 +10,7 @@ use Rattle.msr_devices.specs.ReadBuffer.{Window, IsFilled}
 use Rattle.msr_devices.proofs.Chaining.{calm-same, calm-calm, calm-failed, steady-steady, left-of}
 use Rattle.msr_report.specs.declared.report.Counts.{Counts}
 use Rattle.msr_input.specs.Input.{Agrees, AllAgree, BeginsWith, IsRefusedAlone, counts_of}
-use Rattle.msr_input.specs.Reading.{HoldsRecord, TakesMemoryFor}
+use Rattle.msr_input.specs.Reading.{HoldsRecord}
 use Rattle.msr_input.specs.Records.{Position, HaveCome, HaveComeShort, HasGiven, IsRefusedAfter, StopsRecords}
 use Rattle.msr_input.specs.Steps.{CameBefore, StopsDecoding}
 use Rattle.msr_input.specs.declared.fault.Fault.{Fault}
@@ -97,8 +97,8 @@ refused-with-rest s a position records kind come refused more (inr unended) = re
 }
 
 -- the next record is refused by itself
-decode-stops : (s a : Device) (strict : Bool) (window : Window) (counts : Counts) (offset : ℕ) (records : List Record) (f : Fault) → HaveCome s a (at_window strict window counts offset) records → StopsDecoding strict window offset (fault.Input f) → IsRefusedAfter strict s records f
-decode-stops s a strict window counts offset records f come stop =
+decode-stops : (takes : List ℕ → Type 0) (s a : Device) (strict : Bool) (window : Window) (counts : Counts) (offset : ℕ) (records : List Record) (f : Fault) → HaveCome s a (at_window strict window counts offset) records → StopsDecoding takes strict window offset (fault.Input f) → IsRefusedAfter strict s records f
+decode-stops takes s a strict window counts offset records f come stop =
     let refused = refused-with-rest s a (at_window strict window counts offset) records f.kind come stop.2 stop.3 (open-or-ended window.ended) in
     let begun = come.begins refused.rest refused.left in
     record {
@@ -109,20 +109,20 @@ decode-stops s a strict window counts offset records f come stop =
     }
 
 -- after the next record was given, or none
-pub come-next : (s a b : Device) (strict : Bool) (w w' : Window) (counts : Counts) (offset : ℕ) (records : List Record) (result : Result (Option Record) ReadFault) → HaveCome s a (at_window strict w counts offset) records → MatchResult result (λ _. IsFilled 0 a b w w') (CameBefore a b w w') → IfErr result (StopsDecoding strict w' offset)
+pub come-next : {X : Type 0} (takes : List ℕ → Type 0) (s a b : Device) (strict : Bool) (w w' : Window) (counts : Counts) (offset : ℕ) (records : List Record) (result : Result (Option X) ReadFault) → HaveCome s a (at_window strict w counts offset) records → MatchResult result (λ _. IsFilled 0 a b w w') (CameBefore a b w w') → IfErr result (StopsDecoding takes strict w' offset)
     → MatchResult result (λ _. HaveCome s b (at_window strict w' counts offset) records) (StopsRecords strict s b records)
-come-next s a b strict w w' counts offset records (Ok next) come came stops = come-filled s a b strict w w' counts offset 0 records come came
-come-next s a b strict w w' counts offset records (Err (fault.Input f)) come came stops =
+come-next takes s a b strict w w' counts offset records (Ok next) come came stops = come-filled s a b strict w w' counts offset 0 records come came
+come-next takes s a b strict w w' counts offset records (Err (fault.Input f)) come came stops =
     let filled = come-filled s a b strict w w' counts offset 0 records come came in
-    (decode-stops s b strict w' counts offset records f filled stops, filled.steady)
-come-next s a b strict w w' counts offset records (Err fault.Read) come came stops =
+    (decode-stops takes s b strict w' counts offset records f filled stops, filled.steady)
+come-next takes s a b strict w w' counts offset records (Err fault.Read) come came stops =
     (come-given s a (at_window strict w counts offset) records come, calm-failed s a b (come.calm came.1) came.0)
-come-next s a b strict w w' counts offset records (Err fault.Memory) come came stops =
+come-next takes s a b strict w w' counts offset records (Err fault.Memory) come came stops =
     let filled = come-filled s a b strict w w' counts offset 0 records come came in
     (come-given s b (at_window strict w' counts offset) records filled, filled.steady)
 
 -- unless the source failed, the reader stands before the same record
-pub come-keeps : (s a b : Device) (strict : Bool) (w w' : Window) (counts : Counts) (offset : ℕ) (records : List Record) (result : Result (Option Record) ReadFault) → HaveCome s a (at_window strict w counts offset) records → MatchResult result (λ _. IsFilled 0 a b w w') (CameBefore a b w w')
+pub come-keeps : {X : Type 0} (s a b : Device) (strict : Bool) (w w' : Window) (counts : Counts) (offset : ℕ) (records : List Record) (result : Result (Option X) ReadFault) → HaveCome s a (at_window strict w counts offset) records → MatchResult result (λ _. IsFilled 0 a b w w') (CameBefore a b w w')
     → IfErr result (λ why. why ≢ fault.Read → HaveCome s b (at_window strict w' counts offset) records)
 come-keeps s a b strict w w' counts offset records (Ok next) come came = tt
 come-keeps s a b strict w w' counts offset records (Err (fault.Input f)) come came = λ other. come-filled s a b strict w w' counts offset 0 records come came
@@ -130,7 +130,7 @@ come-keeps s a b strict w w' counts offset records (Err fault.Read) come came = 
 come-keeps s a b strict w w' counts offset records (Err fault.Memory) come came = λ other. come-filled s a b strict w w' counts offset 0 records come came
 
 -- where it did, so many bytes came
-pub come-short : (s a b : Device) (strict : Bool) (w w' : Window) (counts : Counts) (offset : ℕ) (records : List Record) (result : Result (Option Record) ReadFault) → HaveCome s a (at_window strict w counts offset) records → MatchResult result (λ _. IsFilled 0 a b w w') (CameBefore a b w w')
+pub come-short : {X : Type 0} (s a b : Device) (strict : Bool) (w w' : Window) (counts : Counts) (offset : ℕ) (records : List Record) (result : Result (Option X) ReadFault) → HaveCome s a (at_window strict w counts offset) records → MatchResult result (λ _. IsFilled 0 a b w w') (CameBefore a b w w')
     → result ≡ Err fault.Read → HaveComeShort s b records w'.bytes
 come-short s a b strict w w' counts offset records (Ok next) come came e = absurd cc
 come-short s a b strict w w' counts offset records (Err why) come came e =
@@ -144,13 +144,13 @@ come-short s a b strict w w' counts offset records (Err why) come came e =
     }
 
 -- why it stopped
-pub at-memory : (strict : Bool) (window : Window) (offset : ℕ) (result : Result (Option Record) ReadFault) → IfErr result (StopsDecoding strict window offset) → result ≡ Err fault.Memory → TakesMemoryFor window.bytes window.room
-at-memory strict window offset (Ok next) stops e = absurd cc
-at-memory strict window offset (Err why) stops e = let same : why ≡ fault.Memory = cc in subst (λ (w : ReadFault). StopsDecoding strict window offset w) same stops
+pub at-memory : {X : Type 0} (takes : List ℕ → Type 0) (strict : Bool) (window : Window) (offset : ℕ) (result : Result (Option X) ReadFault) → IfErr result (StopsDecoding takes strict window offset) → result ≡ Err fault.Memory → (window.room ≤ length window.bytes) ⊎ takes window.bytes
+at-memory takes strict window offset (Ok next) stops e = absurd cc
+at-memory takes strict window offset (Err why) stops e = let same : why ≡ fault.Memory = cc in subst (λ (w : ReadFault). StopsDecoding takes strict window offset w) same stops
 
-pub at-failure : (strict : Bool) (window : Window) (offset : ℕ) (result : Result (Option Record) ReadFault) → IfErr result (StopsDecoding strict window offset) → result ≡ Err fault.Read → HoldsRecord window.bytes → ⊥
-at-failure strict window offset (Ok next) stops e = absurd cc
-at-failure strict window offset (Err why) stops e = let same : why ≡ fault.Read = cc in subst (λ (w : ReadFault). StopsDecoding strict window offset w) same stops
+pub at-failure : {X : Type 0} (takes : List ℕ → Type 0) (strict : Bool) (window : Window) (offset : ℕ) (result : Result (Option X) ReadFault) → IfErr result (StopsDecoding takes strict window offset) → result ≡ Err fault.Read → HoldsRecord window.bytes → ⊥
+at-failure takes strict window offset (Ok next) stops e = absurd cc
+at-failure takes strict window offset (Err why) stops e = let same : why ≡ fault.Read = cc in subst (λ (w : ReadFault). StopsDecoding takes strict window offset w) same stops
 
 -- the place behind a record
 pub record Passes (old new : Position) (found : Record) (counts : Counts) : Type 0 where

@@ -1,5 +1,5 @@
 -- What a reader of segments has read, step by step, and why it stops.
-use Rattle.std.proofs.Common.{◌≡◌, ◌≢◌, ℕ, suc, inl, inr, true, List, [], ◌∷◌, ◌++◌, refl, sym, ap, subst, ◌∙◌, arith, length-append, Option, Some, None, All, get_or, IfSome, IsSome, Result, Ok, Err, IfErr, MatchResult}
+use Rattle.std.proofs.Common.{◌≡◌, ◌≢◌, ℕ, suc, inl, inr, true, List, [], ◌∷◌, ◌++◌, refl, sym, ap, subst, ◌∙◌, arith, length-append, Option, Some, None, All, get_or, IfSome, IsSome, Result, Ok, Err, IfErr, IfOk, MatchOption, MatchResult, Bool, ◌≤◌}
 use Rattle.std.specs.Option.{option_to_list}
 use Rattle.std.proofs.lemmas.List.{append-nil, get_or_append_left}
 use Rattle.std.proofs.lemmas.List.Elements.{All-append}
@@ -20,10 +20,10 @@ use Rattle.msr_segments.proofs.Histories.{joined_none}
 use Rattle.msr_segments.proofs.StepLaws.{pushes_grow, overruns_out}
 use Rattle.msr_input.specs.Input.{Agrees, BeginsWith, NoneOverruns, HaveBegun, rows_of_records}
 use Rattle.msr_input.specs.Records.{Position, HaveCome, HasGiven, IsRefusedAfter, StopsRecords}
-use Rattle.msr_input.specs.Reading.{Reading, IsWritable, HasRead, HasReadAll, GaveReadable, StopsAfter, StopsAtFault, StopsReading, AllReadIsReadable, position_of, settings_of}
+use Rattle.msr_input.specs.Reading.{Reading, IsWritable, HasRead, HasReadAll, GaveReadable, StopsAfter, StopsAtFault, StopsReading, AllReadIsReadable, position_of, room_with, settings_of}
 use Rattle.msr_input.specs.declared.settings.Settings.{Settings}
 use Rattle.msr_input.specs.declared.fault.Fault.{Fault}
-use Rattle.msr_input.specs.Steps.{JoinsRecord, OverrunsWith, StopsJoining}
+use Rattle.msr_input.specs.Steps.{CanJoin, IsGiven, JoinsRecord, OverrunsWith, StopsJoining}
 use Rattle.msr_input.specs.declared.fault.ReadFault.{ReadFault}
 use Rattle.msr_input.specs.declared.fault.ReadFault.TheVariants as fault
 use Rattle.msr_input.proofs.Coming.{come-given}
@@ -51,6 +51,20 @@ settings_at position joining = record { tolerance = joining.tolerance; strict = 
 
 pub same-settings : (a b : Reading) → a.joining ≡ b.joining → a.strict ≡ b.strict → settings_of a ≡ settings_of b
 same-settings a b joining strict = rw (joining, strict) refl
+
+-- what was made of a record with its samples is that record
+pub given-record : (strict : Bool) (bytes : List ℕ) (ended : Bool) (room before : ℕ) (result : Result (Option Record) ReadFault) → IfOk result (λ next. MatchOption next ((bytes ≡ []) × (ended ≡ true)) (λ made. IsGiven (λ found. made ≡ found) strict bytes room before))
+    → IfOk result (λ next. MatchOption next ((bytes ≡ []) × (ended ≡ true)) (λ found. IsRecordOf bytes found × IfSome found.row CanJoin × Agrees strict found))
+given-record strict bytes ended room before (Err why) given = tt
+given-record strict bytes ended room before (Ok None) given = given
+given-record strict bytes ended room before (Ok (Some made)) given =
+    rw given.judged.stands_for (given.judged.is_record, given.judged.can_join, given.judged.agrees)
+
+pub given-room : (strict : Bool) (bytes : List ℕ) (ended : Bool) (room before : ℕ) (result : Result (Option Record) ReadFault) → IfOk result (λ next. MatchOption next ((bytes ≡ []) × (ended ≡ true)) (λ made. IsGiven (λ found. made ≡ found) strict bytes room before))
+    → IfOk result (λ next. IfSome next (λ found. room ≤ room_with found.length before))
+given-room strict bytes ended room before (Err why) given = tt
+given-room strict bytes ended room before (Ok None) given = tt
+given-room strict bytes ended room before (Ok (Some made)) given = rw given.judged.stands_for given.room_is
 
 -- before the first record
 pub read-none : (start : Device) (position : Position) (tolerance : ℕ) → HaveCome start start position [] → HasRead start start (at_place position (record { tolerance = tolerance; current = None })) [] []

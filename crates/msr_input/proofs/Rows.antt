@@ -18,11 +18,15 @@ use Rattle.msr_segments.proofs.Histories.{followed_none, followed_step}
 use Rattle.msr_input.specs.Input.{Agrees, NoneOverruns, HaveBegun, rows_of_records}
 use Rattle.msr_input.specs.Records.{Position, HaveCome, StopsRecords}
 use Rattle.msr_input.specs.Reading.{GaveReadable, IsWritable, StopsReading}
-use Rattle.msr_input.specs.Rows.{RowReading, HasReadRows, ReadsRow, ReadsNoRow, ReadsToEnd, StepsTo, StopsRows, AllRowsAreReadable, row_settings}
-use Rattle.msr_input.specs.Steps.{CanJoin, FollowsRecord, FollowsRow, OverrunsWith, StopsFollowing}
+use Rattle.msr_input.specs.Outlines.{outline_of, row_outline, outline_span}
+use Rattle.msr_input.specs.Rows.{RowReading, HasReadRows, ReadsOutline, ReadsRow, ReadsNoRow, ReadsToEnd, StepsTo, StopsRows, AllRowsAreReadable, next_outline, next_row, row_settings}
+use Rattle.msr_input.specs.Steps.{CanJoin, Follows, FollowsRow, IsJudged, IsNext, OverrunsAt, OverrunsWith, StopsFollowing}
+use Rattle.msr_input.specs.declared.outline.Outline.{Outline}
+use Rattle.msr_input.specs.declared.outline.RowOutline.{RowOutline}
 use Rattle.msr_input.specs.declared.settings.Settings.{Settings}
 use Rattle.msr_input.specs.declared.fault.ReadFault.{ReadFault}
 use Rattle.msr_input.specs.declared.fault.ReadFault.TheVariants as fault
+use Rattle.msr_input.specs.declared.row_reader.NextOutline.{NextOutline}
 use Rattle.msr_input.specs.declared.row_reader.NextRow.{NextRow}
 use Rattle.msr_input.proofs.Records.{rows-snoc}
 use Rattle.msr_input.proofs.Histories.{in-range-more, none-overrun, overrun-stops, readable-at-end, row-writable, rows-with, stops-reading}
@@ -75,12 +79,20 @@ rows-come s a b reading new records answers has come = record { came = come; in_
 pub rows-stop : (settings : Settings) (s a : Device) (records : List Record) (why : ReadFault) → StopsRecords settings.strict s a records why → NoneOverruns settings.tolerance records → StopsRows settings s a records why
 rows-stop settings s a records why stop none = λ given begun. stops-reading settings s a records given why stop none begun
 
+-- a row lies where its outline does
+overruns-row : (following : Following) (row : Option Row) → OverrunsAt following (option_map row_outline row) → OverrunsWith following row
+overruns-row following None over = let none = over.has_row in absurd cc
+overruns-row following (Some row) over =
+    let some = over.has_row in
+    let same : row_outline row ≡ over.the_row = cc in
+    record { the_row = row; has_row = refl; overruns = subst (λ (at : RowOutline). Overruns following (outline_span at)) (sym same) over.overruns }
+
 -- the row of the next record ends its segment out of range
-pub follow-stops : (s a : Device) (reading : RowReading) (records : List Record) (answers : List Step) (found : Record) (why : ReadFault) → HasReadRows s a reading records answers → IsRecordOf reading.position.waiting found → Agrees reading.position.strict found → StopsFollowing reading.following found.row reading.position.offset why → StopsRows (row_settings reading) s a records why
+pub follow-stops : (s a : Device) (reading : RowReading) (records : List Record) (answers : List Step) (found : Record) (why : ReadFault) → HasReadRows s a reading records answers → IsRecordOf reading.position.waiting found → Agrees reading.position.strict found → StopsFollowing reading.following (option_map row_outline found.row) reading.position.offset why → StopsRows (row_settings reading) s a records why
 follow-stops s a reading records answers found (fault.Input f) has is agrees stop = λ given begun.
     let at = stands-so reading.following (rows_of_records records) answers has.followed in
     let same = same-tolerance reading.following (rows_of_records records) at in
-    let over : OverrunsWith (following_of at.joining) found.row = subst (λ (f : Following). OverrunsWith f found.row) at.stands stop.2 in
+    let over : OverrunsWith (following_of at.joining) found.row = subst (λ (f : Following). OverrunsWith f found.row) at.stands (overruns-row reading.following found.row stop.2) in
     let none = subst (λ (t : ℕ). NoneOverruns t records) same has.in_range in
     let begun-at = subst (λ (t : ℕ). HaveBegun t records given) same begun in
     let stops = overrun-stops s a reading.position at.joining records at.given given found f has.came none at.joined is agrees stop.0 stop.1 over begun-at in
@@ -96,18 +108,9 @@ in-range-followed following records answers found none followed in_time within =
     let more = in-range-more at.joining records at.given found none-at at.joined in_time (λ row e over. within row e (subst (λ (f : Following). Overruns f (row_span row)) (sym at.stands) over)) in
     subst (λ (t : ℕ). NoneOverruns t (records ++ found ∷ [])) (sym same) more
 
-pub step-tolerance : (old new : Following) (row : Span) (answer : Step) → IsStep old row answer new → new.tolerance ≡ old.tolerance
+step-tolerance : (old new : Following) (row : Span) (answer : Step) → IsStep old row answer new → new.tolerance ≡ old.tolerance
 step-tolerance old new row Begins k = ap (λ (f : Following). f.tolerance) k.after
 step-tolerance old new row Joins k = ap (λ (f : Following). f.tolerance) k.after
-
-pub follows-tolerance : (old new : Following) (row : Option Row) (next : Option NextRow) → FollowsRecord old row next new → new.tolerance ≡ old.tolerance
-follows-tolerance old new None next follows = ap (λ (f : Following). f.tolerance) follows.1
-follows-tolerance old new (Some row) next follows = step-tolerance old new (row_span row) follows.answer follows.step
-
--- a follower stays where it is where there is no row
-pub stays : (old new : Following) (row : Option Row) (next : Option NextRow) → FollowsRecord old row next new → next ≡ None → new ≡ old
-stays old new None next follows none = follows.1
-stays old new (Some row) next follows none = let told = follows.told in absurd cc
 
 -- after a record without a row
 passed-none : (s a : Device) (old new : Position) (before : Following) (records : List Record) (answers : List Step) (found : Record) → HasReadRows s a (record { position = old; following = before }) records answers → IsRecordOf old.waiting found → found.row ≡ None → HaveCome s a new (records ++ found ∷ []) → ReadsNoRow s a (record { position = new; following = before }) records answers
@@ -145,35 +148,91 @@ passed-row s a old new before after records answers found row answer has is some
 abbrev pub ReadsOn : Device → Device → RowReading → List Record → List Step → Option NextRow → Type 0
 ReadsOn s a reading records answers next = MatchOption next (ReadsNoRow s a reading records answers) (ReadsRow s a reading records answers)
 
-passed-some : (s a : Device) (old new : Position) (before after : Following) (records : List Record) (answers : List Step) (found : Record) (row : Row) (next : Option NextRow) → HasReadRows s a (record { position = old; following = before }) records answers → IsRecordOf old.waiting found → found.row ≡ Some row → FollowsRow before row next after → HaveCome s a new (records ++ found ∷ [])
-    → ReadsOn s a (record { position = new; following = after }) records answers next
-passed-some s a old new before after records answers found row next has is some follows come =
-    subst (λ (n : Option NextRow). ReadsOn s a (record { position = new; following = after }) records answers n) (sym follows.told) (passed-row s a old new before after records answers found row follows.answer has is some follows.step follows.in_range come)
-
-passed-so : (s a : Device) (old new : Position) (before after : Following) (records : List Record) (answers : List Step) (found : Record) (row : Option Row) (next : Option NextRow) → HasReadRows s a (record { position = old; following = before }) records answers → IsRecordOf old.waiting found → found.row ≡ row → FollowsRecord before row next after → HaveCome s a new (records ++ found ∷ [])
-    → ReadsOn s a (record { position = new; following = after }) records answers next
-passed-so s a old new before after records answers found None next has is none follows come =
+passed-so : (s a : Device) (old new : Position) (before after : Following) (records : List Record) (answers : List Step) (found : Record) (row : Option Row) (step : Option Step) → HasReadRows s a (record { position = old; following = before }) records answers → IsRecordOf old.waiting found → found.row ≡ row → Follows before (option_map row_outline row) step after
+    → HaveCome s a new (records ++ found ∷ []) → ReadsOn s a (record { position = new; following = after }) records answers (next_row step row)
+passed-so s a old new before after records answers found None step has is none follows come =
     rw (follows.0, follows.1) (passed-none s a old new before records answers found has is none come)
-passed-so s a old new before after records answers found (Some row) next has is some follows come =
-    passed-some s a old new before after records answers found row next has is some follows come
+passed-so s a old new before after records answers found (Some row) step has is some follows come =
+    subst (λ (told : Option Step). ReadsOn s a (record { position = new; following = after }) records answers (next_row told (Some row))) (sym follows.told) (passed-row s a old new before after records answers found row follows.answer has is some follows.is_step follows.in_range come)
 
 -- after a record was passed
-pub rows-passed : (s a : Device) (old new : Position) (before after : Following) (records : List Record) (answers : List Step) (found : Record) (next : Option NextRow) → HasReadRows s a (record { position = old; following = before }) records answers → IsRecordOf old.waiting found → FollowsRecord before found.row next after → HaveCome s a new (records ++ found ∷ [])
-    → ReadsOn s a (record { position = new; following = after }) records answers next
-rows-passed s a old new before after records answers found next has is follows come =
-    passed-so s a old new before after records answers found found.row next has is refl follows come
+pub rows-passed : (s a : Device) (old new : Position) (before after : Following) (records : List Record) (answers : List Step) (found : Record) (step : Option Step) → HasReadRows s a (record { position = old; following = before }) records answers → IsRecordOf old.waiting found → Follows before (option_map row_outline found.row) step after
+    → HaveCome s a new (records ++ found ∷ []) → ReadsOn s a (record { position = new; following = after }) records answers (next_row step found.row)
+rows-passed s a old new before after records answers found step has is follows come =
+    passed-so s a old new before after records answers found found.row step has is refl follows come
 
 -- a record's row can be joined and written
 abbrev pub CanBeTaken : NextRow → Type 0
 CanBeTaken next = CanJoin next.row × IsWritable (row_segment next.row)
 
-row-given-so : (bytes : List ℕ) (old new : Following) (found : Record) (row : Option Row) (next : Option NextRow) → IsRecordOf bytes found → found.row ≡ row → IfSome row CanJoin → FollowsRecord old row next new → IfSome next CanBeTaken
-row-given-so bytes old new found None next is e can follows = rw follows.0 tt
-row-given-so bytes old new found (Some row) next is e can follows =
-    subst (λ (n : Option NextRow). IfSome n CanBeTaken) (sym follows.told) (can, row-writable bytes found row is e)
+row-given-so : (bytes : List ℕ) (found : Record) (row : Option Row) (step : Option Step) → IsRecordOf bytes found → found.row ≡ row → IfSome row CanJoin → IfSome (next_row step row) CanBeTaken
+row-given-so bytes found row None is e can = tt
+row-given-so bytes found None (Some answer) is e can = tt
+row-given-so bytes found (Some row) (Some answer) is e can = (can, row-writable bytes found row is e)
 
-pub row-given : (bytes : List ℕ) (old new : Following) (found : Record) (next : Option NextRow) → IsRecordOf bytes found → IfSome found.row CanJoin → FollowsRecord old found.row next new → IfSome next CanBeTaken
-row-given bytes old new found next is can follows = row-given-so bytes old new found found.row next is refl can follows
+pub row-given : (bytes : List ℕ) (found : Record) (step : Option Step) → IsRecordOf bytes found → IfSome found.row CanJoin → IfSome (next_row step found.row) CanBeTaken
+row-given bytes found step is can = row-given-so bytes found found.row step is refl can
+
+-- the record that was read stands behind its outline
+pub next-of : (position : Position) (outline : Outline) → IsJudged (λ found. outline ≡ outline_of found) position.strict position.waiting → (found : Record) × IsNext position outline found
+next-of position outline judged = (judged.found, record { outline_is = judged.stands_for; is_record = judged.is_record; can_join = judged.can_join; agrees = judged.agrees })
+
+-- a record that was read with its samples is the one that the bytes begin with
+pub next-read : (position : Position) (found : Record) (outline : Outline) → IsJudged (λ other. found ≡ other) position.strict position.waiting → outline ≡ outline_of found → IsNext position outline found
+next-read position found outline judged same = record {
+  outline_is = same;
+  is_record = subst (λ (it : Record). IsRecordOf position.waiting it) (sym judged.stands_for) judged.is_record;
+  can_join = subst (λ (it : Record). IfSome it.row CanJoin) (sym judged.stands_for) judged.can_join;
+  agrees = subst (λ (it : Record). Agrees position.strict it) (sym judged.stands_for) judged.agrees;
+}
+
+-- a row was told, by its outline
+outline-told-so : (s a : Device) (bytes : List ℕ) (reading : RowReading) (records : List Record) (answers : List Step) (found : Record) (row : Option Row) (step : Option Step) (next : NextOutline) → IsRecordOf bytes found → found.row ≡ row → next_outline step (option_map row_outline row) ≡ Some next
+    → ReadsOn s a reading records answers (next_row step row) → ReadsOutline s a reading records answers next
+outline-told-so s a bytes reading records answers found None None next is e told reads = absurd cc
+outline-told-so s a bytes reading records answers found None (Some answer) next is e told reads = absurd cc
+outline-told-so s a bytes reading records answers found (Some row) None next is e told reads = absurd cc
+outline-told-so s a bytes reading records answers found (Some row) (Some answer) next is e told reads =
+    let same : ◌≡◌ {A = NextOutline} (record { step = answer; row = row_outline row }) next = cc in
+    let outline : ReadsOutline s a reading records answers (record { step = answer; row = row_outline row }) = record { row = row; outline_is = refl; writable = row-writable bytes found row is e; reads = reads } in
+    subst (λ (n : NextOutline). ReadsOutline s a reading records answers n) same outline
+
+pub outline-told : (s a : Device) (position : Position) (reading : RowReading) (records : List Record) (answers : List Step) (outline : Outline) (found : Record) (step : Option Step) (next : NextOutline) → IsNext position outline found → next_outline step outline.row ≡ Some next → ReadsOn s a reading records answers (next_row step found.row)
+    → ReadsOutline s a reading records answers next
+outline-told s a position reading records answers outline found step next given told reads =
+    let same = ap (λ (o : Outline). next_outline step o.row) given.outline_is in
+    outline-told-so s a position.waiting reading records answers found found.row step next given.is_record refl (sym same ∙ told) reads
+
+-- none was told
+outline-none-so : (s a : Device) (reading : RowReading) (records : List Record) (answers : List Step) (row : Option Row) (step : Option Step) → next_outline step (option_map row_outline row) ≡ None → ReadsOn s a reading records answers (next_row step row) → ReadsNoRow s a reading records answers
+outline-none-so s a reading records answers row None told reads = reads
+outline-none-so s a reading records answers None (Some answer) told reads = reads
+outline-none-so s a reading records answers (Some row) (Some answer) told reads = absurd cc
+
+pub outline-none : (s a : Device) (position : Position) (reading : RowReading) (records : List Record) (answers : List Step) (outline : Outline) (found : Record) (step : Option Step) → IsNext position outline found → next_outline step outline.row ≡ None → ReadsOn s a reading records answers (next_row step found.row) → ReadsNoRow s a reading records answers
+outline-none s a position reading records answers outline found step given told reads =
+    let same = ap (λ (o : Outline). next_outline step o.row) given.outline_is in
+    outline-none-so s a reading records answers found.row step (sym same ∙ told) reads
+
+-- and the follower stays where it is
+pub outline-stays : (old new : Following) (row : Option RowOutline) (step : Option Step) → Follows old row step new → next_outline step row ≡ None → new ≡ old
+outline-stays old new None step follows told = follows.1
+outline-stays old new (Some row) step follows told =
+    let some : next_outline (Some follows.answer) (Some row) ≡ None = subst (λ (s : Option Step). next_outline s (Some row) ≡ None) follows.told told in
+    absurd cc
+
+pub outline-bounds : (P : Type 0) (row : Option RowOutline) (step : Option Step) (next : NextOutline) → next_outline step row ≡ Some next → IfSome step (λ answer. P) → P
+outline-bounds P row None next told holds = absurd cc
+outline-bounds P row (Some answer) next told holds = holds
+
+-- what it says of the row that was told
+pub outline-steps : (old new : Following) (row : Option RowOutline) (step : Option Step) (next : NextOutline) → Follows old row step new → next_outline step row ≡ Some next → IsStep old (outline_span next.row) next.step new
+outline-steps old new None None next follows told = absurd cc
+outline-steps old new None (Some answer) next follows told = absurd cc
+outline-steps old new (Some row) step next follows told =
+    let some : next_outline (Some follows.answer) (Some row) ≡ Some next = subst (λ (s : Option Step). next_outline s (Some row) ≡ Some next) follows.told told in
+    let same : ◌≡◌ {A = NextOutline} (record { step = follows.answer; row = row }) next = cc in
+    subst (λ (n : NextOutline). IsStep old (outline_span n.row) n.step new) same follows.is_step
 
 -- behind records without rows the same holds
 pub stops-behind : (settings : Settings) (s a b : Device) (reading : RowReading) (records : List Record) (answers : List Step) (why : ReadFault) (none : ReadsNoRow s a reading records answers) → StopsRows settings s b none.after why → StopsRows settings s b records why
@@ -188,6 +247,14 @@ row-behind s a b reading new records answers next none more = record {
   after = more.after;
   rows = more.rows ∙ ap (λ (rows : List Row). rows ++ next.row ∷ []) none.rows;
   read = more.read;
+}
+
+pub outline-behind : (s a b : Device) (reading new : RowReading) (records : List Record) (answers : List Step) (next : NextOutline) (none : ReadsNoRow s a reading records answers) → ReadsOutline s b new none.after answers next → ReadsOutline s b new records answers next
+outline-behind s a b reading new records answers next none more = record {
+  row = more.row;
+  outline_is = more.outline_is;
+  writable = more.writable;
+  reads = row-behind s a b reading new records answers (record { step = next.step; row = more.row }) none more.reads;
 }
 
 pub all_rows_are_readable : AllRowsAreReadable
@@ -205,6 +272,6 @@ end-behind s a b reading new records answers none end = record {
 }
 
 -- what a record does with a follower, by what is told of its row
-pub steps-to : (old new : Following) (row : Option Row) (next : Option NextRow) → FollowsRecord old row next new → StepsTo old next new
-steps-to old new None next follows = rw follows.0 follows.1
-steps-to old new (Some row) next follows = rw follows.told follows.step
+pub steps-to : (old new : Following) (row : Option Row) (step : Option Step) → Follows old (option_map row_outline row) step new → StepsTo old (next_row step row) new
+steps-to old new None step follows = rw follows.0 follows.1
+steps-to old new (Some row) step follows = rw follows.told follows.is_step

@@ -13,7 +13,7 @@ use Rattle.msr_header.specs.declared.header.Order.TheVariants.{Big, Little}
 use Rattle.msr_header.proofs.ChainLemmas.{offsets_end, offsets_more}
 use Rattle.msr_header.proofs.FoundLemmas.{header_sound}
 use Rattle.msr_header.proofs.ShownLemmas.{AreBytes, AllWithin, Covers, SameFirst, header_alike}
-use Rattle.msr_record.specs.Records.{IsRefused, TakesMemory}
+use Rattle.msr_record.specs.Records.{IsRefused}
 use Rattle.msr_record.specs.declared.fault.FaultKind.{FaultKind}
 use Rattle.msr_record.specs.declared.fault.FaultKind.TheVariants.{Header, NoRate, OtherEncoding, BadDataOffset, DataShort, BadCode, TimeRange, ReverseMismatch, Memory}
 use Rattle.msr_header.specs.declared.fault.HeaderFault.{HeaderFault}
@@ -100,15 +100,15 @@ header-some bytes reason ended some decided (inl e) = some e
 header-some bytes reason ended some decided (inr e) = omega (arith, ltb-false (length bytes) 1_048_576 (decided e))
 
 -- so a record that is refused stops reading once no bytes could change it, and so does want of memory
-pub decoding-stops : (strict : Bool) (window : Window) (offset : ℕ) (kind : FaultKind) → AreBytes window.bytes → (kind ≢ Memory → IsRefusedAlone strict window.bytes kind) → (kind ≡ Memory → TakesMemory window.bytes) → (window.ended ≡ true → 0 < length window.bytes) → (window.ended ≡ false → may_change kind (length window.bytes) ≡ false) → StopsDecoding strict window offset (fault_at offset kind)
-decoding-stops strict window offset Memory are refused takes some decided = inr (takes refl)
-decoding-stops strict window offset (Header reason) are refused takes some decided = (
+pub decoding-stops : (takes : List ℕ → Type 0) (strict : Bool) (window : Window) (offset : ℕ) (kind : FaultKind) → AreBytes window.bytes → (kind ≢ Memory → IsRefusedAlone strict window.bytes kind) → (kind ≡ Memory → takes window.bytes) → (window.ended ≡ true → 0 < length window.bytes) → (window.ended ≡ false → may_change kind (length window.bytes) ≡ false) → StopsDecoding takes strict window offset (fault_at offset kind)
+decoding-stops takes strict window offset Memory are refused memory some decided = inr (memory refl)
+decoding-stops takes strict window offset (Header reason) are refused memory some decided = (
   refl,
   header-some window.bytes reason window.ended some decided (open-or-ended window.ended),
   refused (λ e. cc),
   λ unended rest. still_refused strict window.bytes rest (Header reason) are (ltb-false (length window.bytes) 1_048_576 (decided unended)) (refused (λ e. cc)),
 )
-decoding-stops strict window offset kind are refused takes some decided =
+decoding-stops takes strict window offset kind are refused memory some decided =
     let is = refused (λ e. cc) in
     let holds = behind-alone strict window.bytes kind (λ reason e. cc) is in
     (refl, held-some window.bytes holds, is, λ unended rest. held-refused strict window.bytes rest kind holds is)

@@ -6,7 +6,9 @@
 #![tactic(auto)]
 
 mod fault;
+mod from_record;
 mod laws;
+mod outline;
 mod reader;
 mod record_reader;
 mod row_reader;
@@ -19,7 +21,8 @@ pub use laws::{
     one_list_of_records, readable_has_no_fault,
 };
 pub use reader::SegmentReader;
-pub use row_reader::{NextRecord, NextRow, RowReader};
+pub use outline::RowOutline;
+pub use row_reader::{NextOutline, NextRecord, NextRow, RowReader};
 pub use settings::Settings;
 
 #[cfg(test)]

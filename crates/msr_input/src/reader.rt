@@ -1,8 +1,9 @@
 //! Reading records, and joining their rows.
 use crate::fault::ReadFault;
+use crate::from_record::outline_of;
 use crate::record_reader::RecordReader;
 use crate::settings::Settings;
-use crate::step::{counted, join};
+use crate::step::join;
 use msr_devices::Source;
 use msr_record::Record;
 use msr_report::Counts;
@@ -76,7 +77,7 @@ impl SegmentReader {
         // What is left to read does not grow.
         ensures left { OnOk result (left_to_read (R.device source.new) self.new ≤ left_to_read (R.device source.old) self.old) }
     {
-        self.records.next(source)
+        self.records.next::<R, Record>(source)
     }
 
     /// Takes the record that [`next_record`](Self::next_record) gave, and gives the segment that it ended. For
@@ -94,9 +95,9 @@ impl SegmentReader {
         ensures unchanged { OnErr result (self.new ≡ self.old) }
         ensures fewer { OnOk result (length self.new.waiting < length self.old.waiting) }
     {
-        let counts = counted(self.records.counts(), &found);
+        let outline = outline_of(&found);
         let ended = join(&mut self.joiner, found.row, self.records.offset())?;
-        self.records.pass(found.length, counts);
+        self.records.pass(&outline);
         Ok(ended)
     }
 

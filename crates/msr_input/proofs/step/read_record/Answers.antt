@@ -20,7 +20,7 @@ returns-then-has_ended-2-clause-refused g c =
     let window = c.bytes.buffer in
     let are_now : AreBytes c.bytes-bytes.result.now = search rules in
     let are : AreBytes window.bytes = rw c.bytes-bytes.ensures at are_now in
-    let wraps : c.in-Err.kind ≡ Memory → ◌≡◌ {A = Result Record FaultKind} (Err c.in-Err.kind) (Err Memory) = λ e. ap (λ (kind : FaultKind). Err kind) e in
+    let wraps : c.in-Err.kind ≡ Memory → ◌≡◌ {A = Result g.row.F.Denot FaultKind} (Err c.in-Err.kind) (Err Memory) = λ e. ap (λ (kind : FaultKind). Err kind) e in
     let refused = rw c.bytes-bytes.ensures at c.in-Err.ensures.refused in
     let memory = rw c.bytes-bytes.ensures at c.in-Err.ensures.memory in
     let some : window.ended ≡ true → 0 < length window.bytes = λ ended. elim c.else-is_empty.branch [
@@ -31,7 +31,7 @@ returns-then-has_ended-2-clause-refused g c =
       | then-has_ended-2-via-then-has_ended-2 w ↦ absurd cc
       | then-has_ended-2-via-else-has_ended-2+then-not-may_change w ↦ rw c.bytes-bytes.ensures at (sym w.may_change.ensures ∙ w.if-not-may_change.true)
     ] in
-    rw c.fault_at.ensures (decoding-stops c.args.strict window c.args.offset c.in-Err.kind are refused (λ e. memory (wraps e)) some decided)
+    rw c.fault_at.ensures (decoding-stops g.F.FromRecord.takes c.args.strict window c.args.offset c.in-Err.kind are refused (λ e. memory (wraps e)) some decided)
 
 pub bytes-init : goal.bytes-init
 bytes-init g c = record {
@@ -40,8 +40,10 @@ bytes-init g c = record {
   unread = λ holds. record { source = refl; bytes = refl };
 }
 
-pub returns-in-Ok-clause-room : goal.returns-in-Ok-clause-room
-returns-in-Ok-clause-room g c = room-found c.args.buffer.now.room c.bytes.buffer c.in-Ok.found c.bytes.invariant.room (rw c.bytes-bytes.ensures at c.in-Ok.ensures.found)
+pub returns-in-Ok-clause-next : goal.returns-in-Ok-clause-next
+returns-in-Ok-clause-next g c =
+    let judged = rw c.bytes-bytes.ensures at c.in-Ok.ensures.found in
+    record { judged = judged; room_is = room-found c.args.buffer.now.room c.bytes.buffer judged.found c.bytes.invariant.room judged.is_record }
 
 pub bytes-preserved : goal.bytes-preserved
 bytes-preserved g c =
@@ -66,4 +68,4 @@ returns-in_err-fill-clause-refused g c =
     let p = err_from_is_err_and c.from_residual.result c.from_residual.ensures.1 in
     let at_hand = rw c.bytes-bytes.ensures at c.in_err-fill.ensures.filled in
     let none = none-held c.args.strict c.bytes.buffer.bytes c.in-Err.kind (length c.bytes-bytes.result.now) (sym c.may_change.ensures ∙ c.if-not-may_change.false) (rw c.bytes-bytes.ensures at c.in-Err.ensures.refused) in
-    rw (p.1, p.2) (refused-short c.args.strict (g.R.Source.device c.bytes.source) (g.R.Source.device c.fill.new.source) c.bytes.buffer c.fill.new.self c.args.offset c.in_err-fill.field-0.0 none at_hand)
+    rw (p.1, p.2) (refused-short g.F.FromRecord.takes c.args.strict (g.R.Source.device c.bytes.source) (g.R.Source.device c.fill.new.source) c.bytes.buffer c.fill.new.self c.args.offset c.in_err-fill.field-0.0 none at_hand)

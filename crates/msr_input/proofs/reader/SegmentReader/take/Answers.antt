@@ -1,10 +1,9 @@
-use Rattle.std.proofs.Common.{◌≡◌, arith, length-drop}
+use Rattle.std.proofs.Common.{◌≡◌}
 use Rattle.std.proofs.lemmas.Result.{err_from_is_err_and}
 use Rattle.msr_record.specs.Records.{IsRecordOf}
-use Rattle.msr_record.proofs.Shown.{record_fits}
 use Rattle.msr_input.specs.Input.{Agrees}
+use Rattle.msr_input.specs.Steps.{IsNext}
 use Rattle.msr_input.specs.declared.fault.ReadFault.TheVariants.{Memory, Read}
-use Rattle.msr_input.proofs.Coming.{CountsOneMore, Passes, come-passed}
 use Rattle.msr_input.proofs.Histories.{at_place, read-taken, join-stops, join-memory, join-failure}
 use Rattle.msr_input.proofs.reader.SegmentReader.take.Goals as goal
 
@@ -31,27 +30,18 @@ returns-in_err-ended-clause-unread c =
 pub pass-requires : goal.pass-requires
 pass-requires c =
     let is : IsRecordOf c.self.inside.records.waiting c.args.found = rw (← c.self.view_is) at c.requires.is_record in
-    (record_fits c.self.inside.records.waiting c.args.found is).1
+    let agrees : Agrees c.self.inside.records.strict c.args.found = rw (← c.self.view_is) at c.requires.agrees in
+    (c.args.found, record { outline_is = c.outline_of-outline.ensures; is_record = is; can_join = c.requires.can_join; agrees = agrees })
 
 pub returns-clause-read : goal.returns-clause-read
 returns-clause-read c =
     let old = c.self.inside.records in
     let is : IsRecordOf old.waiting c.args.found = rw (← c.self.view_is) at c.requires.is_record in
     let agrees : Agrees old.strict c.args.found = rw (← c.self.view_is) at c.requires.agrees in
-    let counted : CountsOneMore old.counts c.counted-counts.result c.args.found = rw c.counts.ensures at c.counted-counts.ensures in
-    let passes : Passes old c.pass.new.self c.args.found c.counted-counts.result = record {
-      waiting = c.pass.ensures.waiting;
-      ended = c.pass.ensures.ended;
-      strict = c.pass.ensures.strict;
-      counted = c.pass.ensures.counts;
-      offset = c.pass.ensures.offset;
-    } in
+    let next : IsNext old c.outline_of-outline.result c.args.found = record { outline_is = c.outline_of-outline.ensures; is_record = is; can_join = c.requires.can_join; agrees = agrees } in
     rw (← c.self.view_is) (λ start now records given has.
-    let come = come-passed start now old c.pass.new.self records c.args.found c.counted-counts.result has.came is agrees counted passes in
-    read-taken start now old c.pass.new.self c.self.inside.joiner c.join.new.joiner records given c.args.found c.in_ok-ended.ended has is c.in_ok-ended.ensures.joined come)
+    read-taken start now old c.pass.new.self c.self.inside.joiner c.join.new.joiner records given c.args.found c.in_ok-ended.ended has is c.in_ok-ended.ensures.joined
+    (c.pass.ensures.passed start now records c.args.found has.came next))
 
 pub returns-clause-fewer : goal.returns-clause-fewer
-returns-clause-fewer c =
-    let is : IsRecordOf c.self.inside.records.waiting c.args.found = rw (← c.self.view_is) at c.requires.is_record in
-    let fits = record_fits c.self.inside.records.waiting c.args.found is in
-    rw (c.pass.ensures.waiting, ← c.self.view_is) (omega (arith, fits.0, fits.1, length-drop c.args.found.length c.self.inside.records.waiting))
+returns-clause-fewer c = rw (← c.self.view_is) c.pass.ensures.fewer

@@ -4,7 +4,7 @@ use Rattle.msr_devices.specs.Device.{Device, IsSteady}
 use Rattle.msr_segments.specs.declared.follow.Step.{Step}
 use Rattle.msr_input.specs.Records.{left_with}
 use Rattle.msr_input.specs.Rows.{HasReadRows, ReadsNoRow, row_settings}
-use Rattle.msr_input.proofs.row_reader.RowReader.next_row.Given as goal
+use Rattle.msr_input.proofs.row_reader.RowReader.next_outline.Given as goal
 
 abbrev pub invariant-records : goal.invariant-records
 invariant-records g l = record {
