@@ -1,5 +1,5 @@
 //! What readers do, which no clause says: printed faults, sources that play, and each call once.
-use crate::{Fault, NextRow, ReadFault, RowReader, SegmentReader, Settings};
+use crate::{Fault, NextOutline, ReadFault, RowReader, SegmentReader, Settings};
 use msr_devices::{Behavior, FillFault, TestSource};
 use msr_header::HeaderFault;
 use msr_record::FaultKind;
@@ -214,10 +214,10 @@ fn reverse_constants_that_do_not_agree(rt: HostRuntime) -> Result<(), Fail> {
     let mut reader = RowReader::new(rt.alloc(), STRICT);
     let mut source = TestSource::new(&two_records, WHOLE);
     assert_eq!(rt;
-        told(&rt, reader.next_row(&mut source)),
+        told(&rt, reader.next_outline(&mut source)),
         Some((Step::Begins, 48))
     );
-    match reader.next_row(&mut source) {
+    match reader.next_outline(&mut source) {
         Ok(_) => panic!(rt; "a row"),
         Err(fault) => {
             assert_eq!(rt;
@@ -230,9 +230,9 @@ fn reverse_constants_that_do_not_agree(rt: HostRuntime) -> Result<(), Fail> {
 }
 
 // What the next row does, and how many samples it has, where there is one.
-fn told(rt: &impl Abort, next: Result<Option<NextRow>, ReadFault>) -> Option<(Step, usize)> {
+fn told(rt: &impl Abort, next: Result<Option<NextOutline>, ReadFault>) -> Option<(Step, u16)> {
     match next {
-        Ok(Some(next)) => Some((next.step, next.row.samples.len())),
+        Ok(Some(next)) => Some((next.step, next.row.count)),
         Ok(None) => None,
         Err(fault) => panic!(rt; "{fault}"),
     }
@@ -247,10 +247,10 @@ fn rows_begin_and_join(rt: HostRuntime) {
     );
     let mut source = TestSource::new(&bytes, WHOLE);
     let mut reader = RowReader::new(rt.alloc(), LENIENT);
-    let first = told(&rt, reader.next_row(&mut source));
-    let second = told(&rt, reader.next_row(&mut source));
-    let third = told(&rt, reader.next_row(&mut source));
-    let end = told(&rt, reader.next_row(&mut source));
+    let first = told(&rt, reader.next_outline(&mut source));
+    let second = told(&rt, reader.next_outline(&mut source));
+    let third = told(&rt, reader.next_outline(&mut source));
+    let end = told(&rt, reader.next_outline(&mut source));
     assert_eq!(rt; first, Some((Step::Begins, 48)));
     assert_eq!(rt; second, Some((Step::Joins, 48)));
     assert_eq!(rt; third, Some((Step::Begins, 1)));

@@ -1,5 +1,5 @@
 -- The state of listing between two rows, and what is answered where it stops.
-use Rattle.std.proofs.Common.{◌≡◌, inl, inr, ℕ, ◌<◌, List, [], ◌++◌, ◌∙◌, length, length-append, refl, sym, ap, Result, Ok, Err, Option, Some, None, IfSome}
+use Rattle.std.proofs.Common.{◌≡◌, inl, inr, ℕ, ◌<◌, List, [], ◌++◌, ◌∙◌, length, length-append, refl, sym, ap, subst, Result, Ok, Err, Option, Some, None, IfSome}
 use Rattle.std.proofs.lemmas.List.{append-nil}
 use Rattle.std.specs.Prelude.{option_map}
 use Rattle.std.specs.Option.{option_to_list}
@@ -8,18 +8,20 @@ use Rattle.msr_segments.specs.declared.follow.Step.{Step}
 use Rattle.msr_segments.specs.declared.follow.Step.TheVariants.{Begins, Joins}
 use Rattle.msr_segments.specs.declared.joiner.Segment.{Segment}
 use Rattle.msr_segments.specs.declared.span.Span.{Span}
-use Rattle.msr_segments.specs.Spans.{Following, IsInBounds}
-use Rattle.msr_segments.specs.Segments.{segment_span}
+use Rattle.msr_segments.specs.Spans.{Following, IsInBounds, IsStep}
+use Rattle.msr_segments.specs.Segments.{row_span, segment_span}
 use Rattle.msr_segments.specs.Joining.{Joining}
 use Rattle.msr_devices.specs.Device.{Device, HasLeft, Takes}
 use Rattle.msr_report.specs.Text.{counts_line}
 use Rattle.msr_report.specs.declared.report.Counts.{Counts}
+use Rattle.msr_input.specs.Outlines.{outline_span, row_outline}
 use Rattle.msr_input.specs.Reading.{GaveReadable, StopsAfter, StopsReading}
-use Rattle.msr_input.specs.Rows.{RowReading, HasReadRows}
+use Rattle.msr_input.specs.Rows.{RowReading, HasReadRows, ReadsOutline, row_settings}
 use Rattle.msr_input.specs.declared.settings.Settings.{Settings}
 use Rattle.msr_input.specs.declared.fault.ReadFault.{ReadFault}
 use Rattle.msr_input.specs.declared.fault.ReadFault.TheVariants as read
-use Rattle.msr_input.specs.declared.row_reader.NextRow.{NextRow}
+use Rattle.msr_input.specs.declared.outline.RowOutline.{RowOutline}
+use Rattle.msr_input.specs.declared.row_reader.NextOutline.{NextOutline}
 use Rattle.msr_tool.specs.Fault.{fault_of_reading}
 use Rattle.msr_tool.specs.Listing.{IsListStopped, ListAnswers}
 use Rattle.msr_tool.specs.ListWriting.{Lister, HasListed, HasListedAll, HasListedFront, StopsListing, StopsListingAll, IsOpenInBounds, open_after, open_longer, open_of}
@@ -28,7 +30,7 @@ use Rattle.msr_tool.specs.declared.fault.ToolFault.{ToolFault}
 use Rattle.msr_tool.specs.declared.fault.ToolFault.TheVariants as fault
 use Rattle.msr_tool.specs.declared.open_segment.OpenSegment.{OpenSegment}
 use Rattle.msr_tool.proofs.Listed.{front-wider}
-use Rattle.msr_tool.proofs.RowsSoFar.{RowsSoFar, RowMore, no-rows}
+use Rattle.msr_tool.proofs.RowsSoFar.{RowsSoFar, RowMore, no-rows, row-more}
 
 -- A joiner of the rows so far says what was begun and what has ended.
 pub record UnderList (settings : Settings) (source0 source sink0 sink : Device) (reading : RowReading) (lister : Lister) : Type 0 where
@@ -59,24 +61,32 @@ pub last-in_bounds : (settings : Settings) (source0 source sink0 sink : Device) 
 last-in_bounds settings source0 source sink0 sink reading lister u =
     bounds-of reading.following.current u.joining.current lister.last u.rows.in_bounds (ap (λ (f : Following). f.current) u.rows.stands) u.last
 
-open-longer : (current : Option Segment) (row : Row) → open_longer (option_map open_of current) row ≡ option_map open_of (longer_current current row.samples)
+open-longer : (current : Option Segment) (row : Row) → open_longer (option_map open_of current) (row_outline row) ≡ option_map open_of (longer_current current row.samples)
 open-longer None row = refl
 open-longer (Some before) row = ap (λ (count : ℕ). Some (record { key = before.key; start = before.start; count = count })) (sym (length-append before.samples row.samples))
 
 -- what the line of the segment that was begun last tells, after a row
-open-told : (answer : Step) (current : Option Segment) (row : Row) → open_after answer (option_map open_of current) row ≡ option_map open_of (current_after answer current row)
+open-told : (answer : Step) (current : Option Segment) (row : Row) → open_after answer (option_map open_of current) (row_outline row) ≡ option_map open_of (current_after answer current row)
 open-told Begins current row = refl
 open-told Joins current row = open-longer current row
 
+-- the rows with the next one, of which its outline was told
+pub outline-more : (settings : Settings) (source0 source source' : Device) (reading reading' : RowReading) (given : List Segment) (joining : Joining) (next : NextOutline) (u : RowsSoFar settings source0 source reading given joining) (reads : ReadsOutline source0 source' reading' u.records u.answers next)
+    → IsStep reading.following (outline_span next.row) next.step reading'.following → row_settings reading' ≡ row_settings reading → IsInBounds reading'.following.current → RowMore settings source0 source' reading' given joining (record { step = next.step; row = reads.row })
+outline-more settings source0 source source' reading reading' given joining next u reads step still bounds =
+    let at : IsStep reading.following (row_span reads.row) next.step reading'.following = subst (λ (row : RowOutline). IsStep reading.following (outline_span row) next.step reading'.following) reads.outline_is step in
+    row-more settings source0 source source' reading reading' given joining (record { step = next.step; row = reads.row }) u reads.reads at still bounds reads.writable
+
 -- after the next row
-pub under-more : (settings : Settings) (source0 source' sink0 sink' : Device) (reading' : RowReading) (lister lister' : Lister) (given : List Segment) (joining : Joining) (next : NextRow) → lister.last ≡ option_map open_of joining.current → RowMore settings source0 source' reading' given joining next
+pub under-more : (settings : Settings) (source0 source' sink0 sink' : Device) (reading' : RowReading) (lister lister' : Lister) (given : List Segment) (joining : Joining) (next : NextOutline) (row : Row) → next.row ≡ row_outline row → lister.last ≡ option_map open_of joining.current → RowMore settings source0 source' reading' given joining (record { step = next.step; row = row })
     → HasListed sink0 sink' lister'.waiting (given ++ option_to_list (ended_by next.step joining.current)) → lister'.last ≡ open_after next.step lister.last next.row → length lister'.waiting < 65536 → UnderList settings source0 source' sink0 sink' reading' lister'
-under-more settings source0 source' sink0 sink' reading' lister lister' given joining next was m listed last few_wait = record {
+under-more settings source0 source' sink0 sink' reading' lister lister' given joining next row outline was m listed last few_wait = record {
   given = given ++ option_to_list (ended_by next.step joining.current);
   joining = m.new;
   rows = m.rows;
   listed = listed;
-  last = last ∙ ap (λ (before : Option OpenSegment). open_after next.step before next.row) was ∙ open-told next.step joining.current next.row ∙ ap (option_map open_of) (sym m.current);
+  last = last ∙ ap (λ (before : Option OpenSegment). open_after next.step before next.row) was ∙ ap (open_after next.step (option_map open_of joining.current)) outline ∙ open-told next.step joining.current row
+      ∙ ap (option_map open_of) (sym m.current);
   few_wait = few_wait;
 }
 
