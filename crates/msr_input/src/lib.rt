@@ -20,8 +20,8 @@ pub use laws::{
     all_read_is_readable, all_rows_are_readable, memory_is_no_fault, one_first_fault,
     one_list_of_records, readable_has_no_fault,
 };
-pub use reader::SegmentReader;
 pub use outline::RowOutline;
+pub use reader::SegmentReader;
 pub use row_reader::{NextOutline, NextRecord, NextRow, RowReader};
 pub use settings::Settings;
 

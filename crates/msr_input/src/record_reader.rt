@@ -62,10 +62,7 @@ impl RecordReader {
     /// further read; so is a refusal of what stands behind its header. One of the header waits for the input's end
     /// or for as many bytes as the longest record has, since more could change it.
     #[inline(always)]
-    pub fn next<R: Source, F: FromRecord>(
-        &mut self,
-        source: &mut R,
-    ) -> Result<Option<F>, ReadFault>
+    pub fn next<R: Source, F: FromRecord>(&mut self, source: &mut R) -> Result<Option<F>, ReadFault>
         requires { CanCountCall (R.device source.old) }
         ensures came { (start : Device) (records : List Found) → HaveCome start (R.device source.old) self.old records
             → MatchResult result

@@ -150,10 +150,10 @@ pub(crate) fn follow(
     ensures refused { IfErr result (StopsFollowing follow.old row.now offset) }
     ensures unchanged { OnErr result (follow.new ≡ follow.old) }
 {
-    let Some(row) = row else {
+    let Some(outline) = row else {
         return Ok(None);
     };
-    match follow.step(&row.key, row.start, row.count) {
+    match follow.step(&outline.key, outline.start, outline.count) {
         Ok(step) => Ok(Some(step)),
         Err(OutOfRange) => Err(ReadFault::Input(Fault {
             offset,
