@@ -58,9 +58,8 @@ impl Day {
         settle(&records)?;
         settle(&report)?;
         let shown = self.hold(rt, alloc, archive.check);
-        if !self.records.is_ours(rt, &records) || !self.report.is_ours(rt, &report) {
-            return Err(Refusal::Taken);
-        }
+        self.records.require_ours(rt, &records)?;
+        self.report.require_ours(rt, &report)?;
         shown?;
         self.keep(rt)?;
         Ok(repacked)

@@ -1,5 +1,5 @@
 //! Files that appear whole under their names, or not at all.
-ghost use Rattle.std.specs.Prelude.{◌≡◌, IfErr};
+ghost use Rattle.std.specs.Prelude.{◌≡◌, ◌⊎◌, IfErr};
 
 use crate::outcome::Refusal;
 use crate::paths::join;
@@ -123,14 +123,21 @@ impl NewFile {
         fs::remove_file(rt, self.part.as_str()).ok();
     }
 
-    /// Whether what stands beside its name is that file: another walk makes its own there, in the place of ours.
-    pub fn is_ours<R: Files>(&self, rt: &R, file: &R::File) -> bool {
-        let Ok(found) = fs::symlink_metadata(rt, self.part.as_str()) else {
-            return false;
+    /// Looks whether what stands beside its name is that file: another walk makes its own there, in the place of ours.
+    pub fn require_ours<R: Files>(&self, rt: &R, file: &R::File) -> Result<(), Refusal>
+        ensures { IfErr result (λ why. (why ≡ Refusal.CannotOpen) ⊎ (why ≡ Refusal.Taken)) }
+    {
+        let found = match fs::symlink_metadata(rt, self.part.as_str()) {
+            Ok(found) => found,
+            Err(error) => match error.kind() {
+                ErrorKind::NotFound => return Err(Refusal::Taken),
+                _ => return Err(Refusal::CannotOpen),
+            },
         };
         match file.metadata() {
-            Ok(made) => is_one(&made, &found),
-            Err(_) => false,
+            Ok(made) if is_one(&made, &found) => Ok(()),
+            Ok(_) => Err(Refusal::Taken),
+            Err(_) => Err(Refusal::CannotOpen),
         }
     }
 

@@ -1,8 +1,9 @@
 //! What command lines are read as, and the text and status that the others end with.
 use crate::words::{
     Archiving, Checking, Ending, Feeding, Folders, Listing, NoTask, Repacking, Task, Walking,
-    default_length, read_words,
+    read_words,
 };
+use msr_tool::Options;
 use msr_words::Length;
 use std::alloc::{AllocError, Global};
 use std::test::Fail;
@@ -19,17 +20,19 @@ fn ending(alloc: Global, words: &'static [&'static str]) -> Result<Ending, Alloc
     }
 }
 
+// The options of a task that is not strict.
+fn options(bytes: u32, tolerance: u32) -> Option<Options> {
+    Options::new(Length::new(bytes)?, tolerance)
+}
+
 fn repacking(
     bytes: u32,
     tolerance: u32,
     input: &'static str,
     output: Option<&'static str>,
 ) -> Option<Task<'static>> {
-    let length = Length::new(bytes)?;
     Some(Task::Repack(Repacking {
-        length,
-        tolerance,
-        strict: false,
+        options: options(bytes, tolerance)?,
         input,
         output,
     }))
@@ -79,11 +82,8 @@ fn reads_list(rt: HostRuntime) -> Result<(), Fail> {
         (&["msrepack", "list", "--tolerance", "7", "a"], 7, "a"),
     ];
     for (words, tolerance, input) in rows {
-        let want = Some(Task::List(Listing {
-            tolerance,
-            strict: false,
-            input,
-        }));
+        let options = options(512, tolerance).ok_or("no options")?;
+        let want = Some(Task::List(Listing { options, input }));
         assert_eq!(&rt; read_words(rt.alloc(), words).ok(), want, "at {words:?}");
     }
     Ok(())
@@ -103,13 +103,8 @@ fn reads_feed(rt: HostRuntime) -> Result<(), Fail> {
         ),
     ];
     for (words, bytes, tolerance, report) in rows {
-        let length = Length::new(bytes).ok_or("no length")?;
-        let want = Some(Task::Feed(Feeding {
-            length,
-            tolerance,
-            strict: false,
-            report,
-        }));
+        let options = options(bytes, tolerance).ok_or("no options")?;
+        let want = Some(Task::Feed(Feeding { options, report }));
         assert_eq!(&rt; read_words(rt.alloc(), words).ok(), want, "at {words:?}");
     }
     Ok(())
@@ -205,9 +200,7 @@ fn reads_archive(rt: HostRuntime) -> Result<(), Fail> {
     ];
     for (words, tolerance, [root, out, reports], below, (resume, check)) in rows {
         let want = Some(Task::Archive(Archiving {
-            length: default_length(),
-            tolerance,
-            strict: false,
+            options: options(512, tolerance).ok_or("no options")?,
             folders: Folders { root, out, reports },
             walking: Walking {
                 below: below.to_vec(rt.alloc())?,
@@ -223,10 +216,10 @@ fn reads_archive(rt: HostRuntime) -> Result<(), Fail> {
 // Whether a task is strict; none where it cannot be.
 fn strictness(task: Task<'_>) -> Option<bool> {
     match task {
-        Task::Repack(asked) => Some(asked.strict),
-        Task::List(asked) => Some(asked.strict),
-        Task::Archive(asked) => Some(asked.strict),
-        Task::Feed(asked) => Some(asked.strict),
+        Task::Repack(asked) => Some(asked.options.is_strict()),
+        Task::List(asked) => Some(asked.options.is_strict()),
+        Task::Archive(asked) => Some(asked.options.is_strict()),
+        Task::Feed(asked) => Some(asked.options.is_strict()),
         Task::Check(_) => None,
     }
 }
