@@ -1,10 +1,10 @@
 #!/usr/bin/env python3
 """Counts the instructions a sample of msrepack's repack at records of 512 bytes, for inputs of several kinds.
 
-    bench/kinds.py [--program FILE] [--functions N]
+    bench/kinds.py [--program FILE] [--functions N] [--list]
 
 Each input is made up, the same on every machine, at 100,000 and at 200,000 samples; the count is the difference of the
-two by callgrind, so that starting up does not count. --functions prints the functions that cost most, too.
+two by callgrind, so that starting up does not count. --functions prints the functions that cost most, too. --list counts `list` of the inputs in place of `repack`.
 """
 import argparse
 import math
@@ -113,11 +113,11 @@ INPUTS = [
 ]
 
 
-def counted(program, name, folder):
-    """The instructions of a repack, and those of each function."""
-    count = day.by_callgrind([program, "repack", "--length", "512", name, f"{folder}/out"], folder)
+def counted(words, folder):
+    """The instructions of these words, and those of each function."""
+    count = day.by_callgrind(words, folder)
     if count is None:
-        sys.exit(f"{program} failed under valgrind on {name}")
+        sys.exit(f"{words[0]} failed under valgrind")
     listed = subprocess.run(["callgrind_annotate", f"{folder}/callgrind"], capture_output=True, text=True).stdout
     functions = {}
     for each, function in re.findall(r"^ *([\d,]+) \(.*?\)  \S*?:(\S+)", listed, re.M):
@@ -129,6 +129,7 @@ def main():
     words = argparse.ArgumentParser(description=__doc__.splitlines()[0])
     words.add_argument("--program", default=f"{day.ROOT}/crates/msr_program/out/msr_program")
     words.add_argument("--functions", type=int, default=0, help="how many functions are printed below each input")
+    words.add_argument("--list", action="store_true", help="count `list` in place of `repack`")
     asked = words.parse_args()
     print("| input | records | instructions a sample |\n|---|---|---|")
     with tempfile.TemporaryDirectory(prefix="msrepack-bench-") as folder:
@@ -136,9 +137,11 @@ def main():
             totals = []
             for count in (FEW, MANY):
                 write(f"{folder}/in", make(count))
-                totals.append(counted(asked.program, f"{folder}/in", folder))
+                repack = ["repack", "--length", "512", f"{folder}/in", f"{folder}/out"]
+                call = ["list", f"{folder}/in"] if asked.list else repack
+                totals.append(counted([asked.program, *call], folder))
             (few, few_of), (many, many_of) = totals
-            records = os.path.getsize(f"{folder}/out") // 512
+            records = os.path.getsize(call[-1]) // 512
             print(f"| {title} | {records} | {(many - few) / (MANY - FEW):.1f} |", flush=True)
             each = {it: (many_of[it] - few_of.get(it, 0)) / (MANY - FEW) for it in many_of}
             for function in sorted(each, key=each.get, reverse=True)[: asked.functions]:

@@ -1,4 +1,4 @@
-// What no clause says: that a call succeeds, and the text of a list.
+//! What no clause says: that a call succeeds, and the text of a list.
 use crate::Samples;
 use std::test::Fail;
 

@@ -1,3 +1,4 @@
+-- Numbers of a fixed count of digits, read digit by digit.
 use Rattle.std.proofs.Common.{◌≡◌, ◌∙◌, ap, sym, refl, arith, ℕ, ◌+◌, ◌-◌, ◌*◌, ◌<◌, ◌≤◌, ◌^◌, Bool, true, false, ◌&&◌, ◌==◌, zero, List, [], ◌∷◌, ◌++◌, length, take, drop, decimal, replicate, suc, get_or, length-append}
 use Rattle.std.specs.Char.{is_ascii_digit}
 use Rattle.std.specs.Str.{all_ascii_digits}
@@ -27,17 +28,22 @@ pub record ReadsDigits (digits : List ℕ) (i : ℕ) (value : ℕ) : Type 0 wher
   pub is : value ≡ number_after 0 (take i digits)
   pub small : value < 10 ^ 6
 
-pub reads_more : (digits : List ℕ) (i value d : ℕ) → ReadsDigits digits i value → i < length digits → length digits ≤ 6 → d ≡ get_or digits i 0 → is_ascii_digit d ≡ true
+pub reads_more : (digits : List ℕ) (i value d : ℕ) → ReadsDigits digits i value → i < length digits
+    → length digits ≤ 6 → d ≡ get_or digits i 0 → is_ascii_digit d ≡ true
     → ReadsDigits digits (i + 1) (value * 10 + (d - 48))
 reads_more digits i value d so_far more short is digit =
     let front : take (i + 1) digits ≡ take i digits ++ d ∷ [] = rw is (take_more digits i 0 more) in
-    let every : all_ascii_digits (take (i + 1) digits) ≡ true = rw (front, digits_more (take i digits) d, so_far.all, digit) refl in
-    let sum : value * 10 + (d - 48) ≡ number_after 0 (take (i + 1) digits) = rw (front, value_more 0 (take i digits) d) (omega (arith, so_far.is)) in
+    let every : all_ascii_digits (take (i + 1) digits) ≡ true =
+    rw (front, digits_more (take i digits) d, so_far.all, digit) refl in
+    let sum : value * 10 + (d - 48) ≡ number_after 0 (take (i + 1) digits) =
+    rw (front, value_more 0 (take i digits) d) (omega (arith, so_far.is)) in
     let few : length (take (i + 1) digits) ≤ 6 = grind (arith, common_steps) in
-    let bound : number_after 0 (take (i + 1) digits) < 10 ^ 6 = digits_value_short own (take (i + 1) digits) 6 every few in
+    let bound : number_after 0 (take (i + 1) digits) < 10 ^ 6 =
+    digits_value_short own (take (i + 1) digits) 6 every few in
     record { all = every; is = sum; small = omega arith }
 
-pub all_are_digits : (digits : List ℕ) (i : ℕ) → all_ascii_digits digits ≡ true → i < length digits → is_ascii_digit (get_or digits i 0) ≡ true
+pub all_are_digits : (digits : List ℕ) (i : ℕ) → all_ascii_digits digits ≡ true → i < length digits
+    → is_ascii_digit (get_or digits i 0) ≡ true
 all_are_digits digits i all within =
     let range = digit_at digits i (own.to digits all) within in grind (arith, nat_tests)
 
@@ -49,27 +55,35 @@ not_48 d h is = grind (arith, nat_tests)
 
 -- digits are the decimal of their number with leading zeros
 pads_behind_zero : (d : ℕ) (ds : List ℕ) → d ≡ 48 → 0 < length ds → length ds ≤ 6 → all_ascii_digits ds ≡ true
-    → padded_decimal (length ds) (number_after 0 ds) ≡ ds → padded_decimal (length (d ∷ ds)) (number_after 0 (d ∷ ds)) ≡ d ∷ ds
+    → padded_decimal (length ds) (number_after 0 ds) ≡ ds
+    → padded_decimal (length (d ∷ ds)) (number_after 0 (d ∷ ds)) ≡ d ∷ ds
 pads_behind_zero d ds is some few all before =
     let short : number_after 0 ds < 10 ^ length ds = digits_value_short own ds (length ds) all (omega arith) in
     let small : number_after 0 ds < 10 ^ 6 = digits_value_short own ds 6 all few in
-    let fits : length (decimal (number_after 0 ds)) ≤ length ds = length-decimal-le (length ds) (number_after 0 ds) some short (omega arith) in
-    let longer : suc (length ds) - length (decimal (number_after 0 ds)) ≡ suc (length ds - length (decimal (number_after 0 ds))) = omega arith in
+    let fits : length (decimal (number_after 0 ds)) ≤ length ds =
+    length-decimal-le (length ds) (number_after 0 ds) some short (omega arith) in
+    let longer : suc (length ds) - length (decimal (number_after 0 ds))
+    ≡ suc (length ds - length (decimal (number_after 0 ds))) = omega arith in
     rw (is, longer) (ap (λ (l : List ℕ). 48 ∷ l) before)
 
 pads_whole : (ds : List ℕ) → decimal (number_after 0 ds) ≡ ds → padded_decimal (length ds) (number_after 0 ds) ≡ ds
 pads_whole ds is =
     let none : length ds - length ds ≡ 0 = omega arith in rw (is, none) refl
 
-pads_from : (b : Bool) (d : ℕ) (ds : List ℕ) → (d == 48) ≡ b → 0 < length ds → length (d ∷ ds) ≤ 6 → all_ascii_digits (d ∷ ds) ≡ true
-    → padded_decimal (length ds) (number_after 0 ds) ≡ ds → padded_decimal (length (d ∷ ds)) (number_after 0 (d ∷ ds)) ≡ d ∷ ds
+pads_from : (b : Bool) (d : ℕ) (ds : List ℕ) → (d == 48) ≡ b → 0 < length ds → length (d ∷ ds) ≤ 6
+    → all_ascii_digits (d ∷ ds) ≡ true
+    → padded_decimal (length ds) (number_after 0 ds) ≡ ds
+    → padded_decimal (length (d ∷ ds)) (number_after 0 (d ∷ ds)) ≡ d ∷ ds
 pads_from true d ds test some few all before =
-    pads_behind_zero d ds (is_48 d test) some (omega arith) (both_true (is_ascii_digit d) (all_ascii_digits ds) all).1 before
+    pads_behind_zero d ds (is_48 d test) some (omega arith)
+    (both_true (is_ascii_digit d) (all_ascii_digits ds) all).1 before
 pads_from false d ds test some few all before =
     let small : number_after 0 (d ∷ ds) < 10 ^ 6 = digits_value_short own (d ∷ ds) 6 all few in
-    pads_whole (d ∷ ds) (decimal-digits_value own (d ∷ ds) all (omega arith) (λ is. absurd (not_48 d test is)) (omega arith))
+    pads_whole (d ∷ ds) (decimal-digits_value own (d ∷ ds) all (omega arith) (λ is. absurd (not_48 d test is))
+    (omega arith))
 
-pub pads : (ds : List ℕ) → all_ascii_digits ds ≡ true → 0 < length ds → length ds ≤ 6 → padded_decimal (length ds) (number_after 0 ds) ≡ ds
+pub pads : (ds : List ℕ) → all_ascii_digits ds ≡ true → 0 < length ds → length ds ≤ 6
+    → padded_decimal (length ds) (number_after 0 ds) ≡ ds
 pads [] all some few = absurd (omega arith)
 pads (d ∷ []) all some few =
     let small : number_after 0 (d ∷ []) < 10 ^ 6 = digits_value_short own (d ∷ []) 6 all few in
@@ -102,7 +116,8 @@ reads_padded width n some fits small =
       long = simp (length-append, length-replicate) (omega arith);
     }
 
-pub padded_parts : (text rest front back word : List ℕ) (width : ℕ) → front ≡ take width text → back ≡ drop width text → text ≡ word ++ rest → length word ≡ width
+pub padded_parts : (text rest front back word : List ℕ) (width : ℕ) → front ≡ take width text
+    → back ≡ drop width text → text ≡ word ++ rest → length word ≡ width
     → (front ≡ word) × (back ≡ rest)
 padded_parts text rest front back word width is_front is_back is long =
     (rw (is_front, is, sym long) (take-append_seam word rest), rw (is_back, is, sym long) (drop-append_seam word rest))

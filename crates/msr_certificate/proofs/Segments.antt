@@ -33,7 +33,8 @@ Next segments records (suc n) w P = Second segments (records + n) w P
 
 abbrev pub opening_body : Key → List ℕ → ℕ → ℕ → List ℕ
 opening_body key word samples records =
-    key_then key (codes " start " ++ (word ++ (codes " samples " ++ (decimal samples ++ (codes " records " ++ decimal records)))))
+    key_then key (codes " start " ++ (word ++ (codes " samples "
+    ++ (decimal samples ++ (codes " records " ++ decimal records)))))
 
 pub record IsOpeningBody (records : ℕ) (body : List ℕ) : Type 0 where
   pub key : Key
@@ -47,7 +48,8 @@ pub record IsOpeningBody (records : ℕ) (body : List ℕ) : Type 0 where
   pub is : body ≡ opening_body key word samples records
 
 abbrev pub end_body : ℕ → ℕ → List ℕ
-end_body segments records = codes "end " ++ (decimal segments ++ (codes " segments " ++ (decimal records ++ codes " records")))
+end_body segments records = codes "end " ++ (decimal segments
+    ++ (codes " segments " ++ (decimal records ++ codes " records")))
 
 pub record IsEndBody (segments records : ℕ) (body : List ℕ) : Type 0 where
   pub fits : records < 2 ^ 64
@@ -57,10 +59,18 @@ abbrev pub LineBody : ℕ → ℕ → ℕ → List ℕ → Type 0
 LineBody segments records zero body = IsEndBody segments records body
 LineBody segments records (suc n) body = IsOpeningBody n body
 
-pub at_map : (L L' : List ℕ → Type 0 → Type 0) (text rest : List ℕ) (i : ℕ) → ((w : List ℕ) (P : Type 0) → L w P → L' w P) → AtLine L text rest i → AtLine L' text rest i
+pub at_map : (L L' : List ℕ → Type 0 → Type 0) (text rest : List ℕ) (i : ℕ)
+    → ((w : List ℕ) (P : Type 0) → L w P → L' w P) → AtLine L text rest i → AtLine L' text rest i
 at_map L L' text rest i f at = record {
   begins = λ m n e b. let x = at.begins m n e b in
-      record { first = x.first; behind = x.behind; rest = x.rest; lines = x.lines; shown = x.shown; within = f (x.first ++ x.rest) (x.rest ≡ []) x.within };
+      record {
+        first = x.first;
+        behind = x.behind;
+        rest = x.rest;
+        lines = x.lines;
+        shown = x.shown;
+        within = f (x.first ++ x.rest) (x.rest ≡ []) x.within;
+      };
   whole = λ form is_form sum is_text. f rest (Unit {0}) (at.whole form is_form sum is_text);
 }
 
@@ -78,36 +88,47 @@ tail_from_first w P i = record {
   sum = i.sum;
 }
 
-pub end_then : (segments records : ℕ) (more : List ℕ) → end_line segments records ++ more ≡ end_body segments records ++ (10 ∷ more)
+pub end_then : (segments records : ℕ) (more : List ℕ)
+    → end_line segments records ++ more ≡ end_body segments records ++ (10 ∷ more)
 end_then segments records more = simp append_assoc
 
 pub opening_then : (key : Key) (word : List ℕ) (samples records : ℕ) (more : List ℕ)
     → opening_body key word samples records ++ (10 ∷ more)
-    ≡ key_then key (codes " start " ++ (word ++ (codes " samples " ++ (decimal samples ++ (codes " records " ++ (decimal records ++ (10 ∷ more)))))))
+    ≡ key_then key (codes " start " ++ (word ++ (codes " samples "
+    ++ (decimal samples ++ (codes " records " ++ (decimal records ++ (10 ∷ more)))))))
 opening_then key word samples records more = simp append_assoc
 
 abbrev pub start_then : List ℕ → ℕ → List ℕ → List ℕ
 start_then word samples more = codes " start " ++ (word ++ (codes " samples " ++ (decimal samples ++ more)))
 
-words_key : (key : Key) (word : List ℕ) (samples : ℕ) (more : List ℕ) → segment_words key word samples more ≡ key_then key (start_then word samples more)
+words_key : (key : Key) (word : List ℕ) (samples : ℕ) (more : List ℕ)
+    → segment_words key word samples more ≡ key_then key (start_then word samples more)
 words_key key word samples more = simp append_assoc
 
 key_append : (key : Key) (x more : List ℕ) → key_then key x ++ more ≡ key_then key (x ++ more)
 key_append key x more = simp append_assoc
 
-start_append : (word : List ℕ) (samples : ℕ) (x more : List ℕ) → start_then word samples x ++ more ≡ start_then word samples (x ++ more)
+start_append : (word : List ℕ) (samples : ℕ) (x more : List ℕ)
+    → start_then word samples x ++ more ≡ start_then word samples (x ++ more)
 start_append word samples x more = simp append_assoc
 
-records_append : (records : ℕ) (x more : List ℕ) → (codes " records " ++ (decimal records ++ (10 ∷ x))) ++ more ≡ codes " records " ++ (decimal records ++ (10 ∷ (x ++ more)))
+records_append : (records : ℕ) (x more : List ℕ)
+    → (codes " records " ++ (decimal records ++ (10 ∷ x))) ++ more ≡ codes " records "
+    ++ (decimal records ++ (10 ∷ (x ++ more)))
 records_append records x more = simp append_assoc
 
 pub words_then : (key : Key) (word : List ℕ) (samples records : ℕ) (separators more : List ℕ)
-    → segment_words key word samples (codes " records " ++ (decimal records ++ (10 ∷ separators_line separators))) ++ more
-    ≡ key_then key (start_then word samples (codes " records " ++ (decimal records ++ (10 ∷ (separators_line separators ++ more)))))
+    → segment_words key word samples (codes " records " ++ (decimal records ++ (10 ∷ separators_line separators)))
+    ++ more
+    ≡ key_then key (start_then word samples (codes " records "
+    ++ (decimal records ++ (10 ∷ (separators_line separators ++ more)))))
 words_then key word samples records separators more =
-    ap (λ (l : List ℕ). l ++ more) (words_key key word samples (codes " records " ++ (decimal records ++ (10 ∷ separators_line separators))))
-    ∙ key_append key (start_then word samples (codes " records " ++ (decimal records ++ (10 ∷ separators_line separators)))) more
-    ∙ ap (key_then key) (start_append word samples (codes " records " ++ (decimal records ++ (10 ∷ separators_line separators))) more
+    ap (λ (l : List ℕ). l ++ more) (words_key key word samples
+    (codes " records " ++ (decimal records ++ (10 ∷ separators_line separators))))
+    ∙ key_append key (start_then word samples (codes " records "
+    ++ (decimal records ++ (10 ∷ separators_line separators)))) more
+    ∙ ap (key_then key) (start_append word samples
+    (codes " records " ++ (decimal records ++ (10 ∷ separators_line separators))) more
     ∙ ap (start_then word samples) (records_append records (separators_line separators) more))
 
 -- more text after the first line of a segment, in the words of its line
@@ -122,13 +143,17 @@ first_line_then key word samples records more =
     ∙ sym (words_key key word samples (codes " records " ++ (decimal records ++ (10 ∷ more))))
 
 -- the two lines of a segment at the start of a text
-pub line_text : (line : FormLine) (text more rest : List ℕ) → (opening : IsOpening line.key line.start line.samples line.records more text) → more ≡ separators_line line.separators ++ rest
+pub line_text : (line : FormLine) (text more rest : List ℕ)
+    → (opening : IsOpening line.key line.start line.samples line.records more text)
+    → more ≡ separators_line line.separators ++ rest
     → (word : List ℕ) × (IsFormLineText line word × (text ≡ word ++ rest))
 line_text line text more rest opening is = (
-  segment_words line.key opening.word line.samples (codes " records " ++ (decimal line.records ++ (10 ∷ separators_line line.separators))),
+  segment_words line.key opening.word line.samples
+      (codes " records " ++ (decimal line.records ++ (10 ∷ separators_line line.separators))),
   (
     record { word = opening.word; time = opening.time; is = refl },
-    opening.is ∙ ap (λ (l : List ℕ). key_then line.key (start_then opening.word line.samples (codes " records " ++ (decimal line.records ++ (10 ∷ l))))) is
+    opening.is ∙ ap (λ (l : List ℕ). key_then line.key
+        (start_then opening.word line.samples (codes " records " ++ (decimal line.records ++ (10 ∷ l))))) is
         ∙ sym (words_then line.key opening.word line.samples line.records line.separators rest),
   ),
 )

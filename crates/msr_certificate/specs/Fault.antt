@@ -10,7 +10,8 @@ IsOneLine (byte ∷ bytes) = ((byte == 10) ≡ false) × IsOneLine bytes
 -- so many lines, each with its line feed
 abbrev pub AreLines : ℕ → List ℕ → Type 0
 AreLines zero text = text ≡ []
-AreLines (suc n) text = (line : List ℕ) × ((more : List ℕ) × (IsOneLine line × AreLines n more × (text ≡ line ++ (10 ∷ more))))
+AreLines (suc n) text = (line : List ℕ) × ((more : List ℕ)
+    × (IsOneLine line × AreLines n more × (text ≡ line ++ (10 ∷ more))))
 
 -- The text begins with so many lines, each with its line feed.
 pub record HasLines (text : List ℕ) (n : ℕ) : Type 0 where

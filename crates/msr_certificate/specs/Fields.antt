@@ -14,7 +14,8 @@ EndsNumber (byte ∷ _) = is_ascii_digit byte ≡ false
 -- how many bytes a `-` and digits are that the text begins with
 abbrev pub signed_len : List ℕ → ℕ
 signed_len [] = 0
-signed_len (byte ∷ bytes) = cond (byte == 45) (1 + prefix_len is_ascii_digit bytes) (prefix_len is_ascii_digit (byte ∷ bytes))
+signed_len (byte ∷ bytes) = cond (byte == 45) (1 + prefix_len is_ascii_digit bytes)
+    (prefix_len is_ascii_digit (byte ∷ bytes))
 
 -- so many bytes
 pub record AreBytes (count : ℕ) (bytes : List ℕ) : Type 0 where
@@ -36,15 +37,18 @@ clock_then hour minute second more =
 
 abbrev pub split_then : BTime → ℕ → List ℕ → List ℕ
 split_then time micros more =
-    date_then time.year time.day (44 ∷ clock_then time.hour time.minute time.second (46 ∷ (padded_decimal 6 (100 * time.fract + micros) ++ more)))
+    date_then time.year time.day (44 ∷ clock_then time.hour time.minute time.second
+    (46 ∷ (padded_decimal 6 (100 * time.fract + micros) ++ more)))
 
 -- a name, a rate and flags, and then more text
 abbrev pub name_then : List ℕ → List ℕ → List ℕ → List ℕ → List ℕ → List ℕ
 name_then network station location channel more =
-    field_text network ++ (46 ∷ (field_text station ++ (46 ∷ (field_text location ++ (46 ∷ (field_text channel ++ more))))))
+    field_text network ++ (46 ∷ (field_text station
+    ++ (46 ∷ (field_text location ++ (46 ∷ (field_text channel ++ more))))))
 
 abbrev pub rate_then : ℤ → ℤ → List ℕ → List ℕ
-rate_then factor multiplier more = codes " rate " ++ (signed_decimal factor ++ (32 ∷ (signed_decimal multiplier ++ more)))
+rate_then factor multiplier more = codes " rate "
+    ++ (signed_decimal factor ++ (32 ∷ (signed_decimal multiplier ++ more)))
 
 abbrev pub flags_then : ℕ → ℕ → ℕ → List ℕ → List ℕ
 flags_then activity clock quality more =

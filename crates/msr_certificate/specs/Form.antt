@@ -44,7 +44,8 @@ key_then key more =
 pub record IsOpening (key : Key) (start : ℤ) (samples records : ℕ) (more text : List ℕ) : Type 0 where
   pub word : List ℕ
   pub time : IsTimeText start word
-  pub is : text ≡ key_then key (codes " start " ++ (word ++ (codes " samples " ++ (decimal samples ++ (codes " records " ++ (decimal records ++ (10 ∷ more)))))))
+  pub is : text ≡ key_then key (codes " start "
+      ++ (word ++ (codes " samples " ++ (decimal samples ++ (codes " records " ++ (decimal records ++ (10 ∷ more)))))))
 
 -- what the two lines of a segment say
 pub record FormLine : Type 0 where
@@ -90,27 +91,43 @@ form_records (line ∷ lines) = line.records + form_records lines
 pub record IsFormLineText (line : FormLine) (text : List ℕ) : Type 0 where
   pub word : List ℕ
   pub time : IsTimeText line.start word
-  pub is : text ≡ segment_words line.key word line.samples (codes " records " ++ (decimal line.records ++ (10 ∷ separators_line line.separators)))
+  pub is : text ≡ segment_words line.key word line.samples
+      (codes " records " ++ (decimal line.records ++ (10 ∷ separators_line line.separators)))
 
 abbrev pub AreFormLineTexts : List FormLine → List ℕ → Type 0
 AreFormLineTexts [] text = text ≡ []
 AreFormLineTexts (line ∷ lines) text =
-    (first : List ℕ) × ((more : List ℕ) × (IsFormLineText line first × AreFormLineTexts lines more × (text ≡ first ++ more)))
+    (first : List ℕ) × ((more : List ℕ) × (IsFormLineText line first × AreFormLineTexts lines more
+    × (text ≡ first ++ more)))
 
 -- the four lines before the segments, and then more text
 abbrev pub first_then : ℕ → ℕ → Counts → List ℕ → List ℕ
 first_then bytes tolerance counts more =
-    codes "msrepack 1" ++ (10 ∷ (codes "length " ++ (decimal bytes ++ (10 ∷ (codes "tolerance " ++ (decimal tolerance ++ (10 ∷ (counts_line counts ++ more))))))))
+    codes "msrepack 1" ++ (10 ∷ (codes "length "
+    ++ (decimal bytes ++ (10 ∷ (codes "tolerance "
+    ++ (decimal tolerance ++ (10 ∷ (counts_line counts ++ more))))))))
 
 -- the text of what a report says
 pub record IsFormText (form : Form) (text : List ℕ) : Type 0 where
   pub segments : List ℕ
   pub are : AreFormLineTexts form.segments segments
-  pub is : text ≡ first_then form.bytes form.tolerance form.counts (segments ++ end_line (length form.segments) (form_records form.segments))
+  pub is : text ≡ first_then form.bytes form.tolerance form.counts
+      (segments ++ end_line (length form.segments) (form_records form.segments))
 
 -- what the lines of a segment and of a report say
 abbrev pub form_line : SegmentLine → FormLine
-form_line line = record { key = line.key; start = line.start; samples = line.samples; records = line.records; separators = line.separators.items }
+form_line line = record {
+  key = line.key;
+  start = line.start;
+  samples = line.samples;
+  records = line.records;
+  separators = line.separators.items;
+}
 
 abbrev pub form_of : Report → Form
-form_of report = record { bytes = bytes_of report.length; tolerance = report.tolerance; counts = report.counts; segments = map form_line report.segments.items }
+form_of report = record {
+  bytes = bytes_of report.length;
+  tolerance = report.tolerance;
+  counts = report.counts;
+  segments = map form_line report.segments.items;
+}

@@ -35,7 +35,8 @@ abbrev pub body_3 : Form → List ℕ
 body_3 form = codes "tolerance " ++ decimal form.tolerance
 
 abbrev pub counts_body : Counts → List ℕ
-counts_body counts = codes "read " ++ (decimal counts.read ++ (codes " empty " ++ (decimal counts.empty ++ (codes " mismatched " ++ decimal counts.mismatched))))
+counts_body counts = codes "read " ++ (decimal counts.read
+    ++ (codes " empty " ++ (decimal counts.empty ++ (codes " mismatched " ++ decimal counts.mismatched))))
 
 abbrev pub body_4 : Form → List ℕ
 body_4 form = counts_body form.counts
@@ -58,4 +59,5 @@ tail_1 form more = body_1 form ++ (10 ∷ tail_2 form more)
 -- i lines were read, and the rest of the text goes on in the language
 pub record AtLine (L : List ℕ → Type 0 → Type 0) (text rest : List ℕ) (i : ℕ) : Type 0 where
   pub begins : (m n : ℕ) → m ≡ i + n → BeginsReport text m → Begins L rest n
-  pub whole : (form : Form) → IsForm form → form_records form.segments < 2 ^ 64 → IsFormText form text → L rest (Unit {0})
+  pub whole : (form : Form) → IsForm form → form_records form.segments < 2 ^ 64 → IsFormText form text
+      → L rest (Unit {0})

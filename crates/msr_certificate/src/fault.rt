@@ -1,4 +1,4 @@
-// Why a report is not read.
+//! Why a report is not read.
 ghost use Rattle.std.specs.Prelude.{◌≡◌};
 ghost use Rattle.msr_certificate.specs.declared.fault.ReportFault.TheVariants.{Read, Memory};
 ghost use Rattle.msr_certificate.specs.Reading.{fault_of_fill};

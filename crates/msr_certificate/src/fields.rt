@@ -1,4 +1,4 @@
-// The fields at the start of a text: each reader answers the field and the text after it.
+//! The fields at the start of a text: each reader answers the field and the text after it.
 ghost use Rattle.std.specs.Prelude.{◌≡◌, ◌<◌, ◌≤◌, ◌^◌, ◌++◌, ◌∷◌, [], ℕ, ℤ, List, IfSome, IsSomeAnd, false, true, length, drop};
 ghost use Rattle.std.specs.Fmt.{decimal, signed_decimal, digit_glyph};
 ghost use Rattle.std.specs.Int.{w16, w32};
@@ -11,7 +11,7 @@ ghost use Rattle.msr_certificate.specs.Fields.{EndsNumber, signed_len};
 use itoa::Buffer;
 use std::str;
 
-// The text after the given word.
+/// The text after the given word.
 pub(crate) fn after<'a>(text: &'a [u8], word: &[u8]) -> Option<&'a [u8]>
     ensures found { IfSome result (λ rest. text.now ≡ word.now ++ rest.now) }
     ensures only { (rest : List ℕ) → text.now ≡ word.now ++ rest → IsSomeAnd result (λ x. x.now ≡ rest) }
@@ -19,7 +19,7 @@ pub(crate) fn after<'a>(text: &'a [u8], word: &[u8]) -> Option<&'a [u8]>
     text.strip_prefix(word)
 }
 
-// How many digits the text begins with.
+/// How many digits the text begins with.
 fn count_digits(text: &[u8]) -> usize
     ensures within { result ≤ length text.now }
     ensures count { result ≡ prefix_len is_ascii_digit text.now }
@@ -31,7 +31,7 @@ fn count_digits(text: &[u8]) -> usize
     count
 }
 
-// The number that the digits are the decimal of, with no leading zeros.
+/// The number that the digits are the decimal of, with no leading zeros.
 fn number_of(digits: &[u8]) -> Option<u64>
     ensures found { IfSome result (λ n. digits.now ≡ decimal n) }
     ensures only { (n : ℕ) → n < 2 ^ 64 → digits.now ≡ decimal n → IsSomeAnd result (λ x. x ≡ n) }
@@ -50,7 +50,7 @@ fn number_of(digits: &[u8]) -> Option<u64>
     }
 }
 
-// A number in decimal.
+/// A number in decimal.
 pub(crate) fn number(text: &[u8]) -> Option<(u64, &[u8])>
     ensures found { IfSome result (λ x. text.now ≡ decimal x.0 ++ x.1.now) }
     ensures only { (n : ℕ) (rest : List ℕ) → n < 2 ^ 64 → EndsNumber rest → text.now ≡ decimal n ++ rest
@@ -72,7 +72,7 @@ fn hex_digit(byte: u8) -> Option<u8>
     }
 }
 
-// Two lower-case hexadecimal digits.
+/// Two lower-case hexadecimal digits.
 pub(crate) fn hex_byte(text: &[u8]) -> Option<(u8, &[u8])>
     ensures found { IfSome result (λ x. text.now ≡ hex_text x.0 ++ x.1.now) }
     ensures only { (n : ℕ) (rest : List ℕ) → n < 256 → text.now ≡ hex_text n ++ rest
@@ -86,7 +86,7 @@ pub(crate) fn hex_byte(text: &[u8]) -> Option<(u8, &[u8])>
     Some((high * 16 + low, rest))
 }
 
-// A byte of a name.
+/// A byte of a name.
 fn name_byte(text: &[u8]) -> Option<(u8, &[u8])>
     ensures found { IfSome result (λ x. text.now ≡ byte_text x.0 ++ x.1.now) }
     ensures only { (b : ℕ) (rest : List ℕ) → b < 256 → text.now ≡ byte_text b ++ rest
@@ -139,7 +139,7 @@ pub(crate) fn five_bytes(text: &[u8]) -> Option<([u8; 5], &[u8])>
     Some(([first, second, third, fourth, fifth], text))
 }
 
-// The number, with a `-` before a negative one, that the word is the decimal of.
+/// The number, with a `-` before a negative one, that the word is the decimal of.
 fn signed_of(word: &[u8]) -> Option<i32>
     ensures found { IfSome result (λ z. word.now ≡ signed_decimal z) }
     ensures only { (z : ℤ) → FitsSigned w32 z → word.now ≡ signed_decimal z → IsSomeAnd result (λ x. x ≡ z) }
@@ -158,7 +158,7 @@ fn signed_of(word: &[u8]) -> Option<i32>
     }
 }
 
-// How many bytes a `-` and digits are that the text begins with.
+/// How many bytes a `-` and digits are that the text begins with.
 fn count_signed(text: &[u8]) -> usize
     ensures within { result ≤ length text.now }
     ensures count { result ≡ signed_len text.now }
@@ -169,7 +169,7 @@ fn count_signed(text: &[u8]) -> usize
     }
 }
 
-// A number in decimal, with a `-` before a negative one.
+/// A number in decimal, with a `-` before a negative one.
 pub(crate) fn signed(text: &[u8]) -> Option<(i32, &[u8])>
     ensures found { IfSome result (λ x. text.now ≡ signed_decimal x.0 ++ x.1.now) }
     ensures only { (z : ℤ) (rest : List ℕ) → FitsSigned w32 z → EndsNumber rest → text.now ≡ signed_decimal z ++ rest
@@ -180,7 +180,7 @@ pub(crate) fn signed(text: &[u8]) -> Option<(i32, &[u8])>
     Some((z, rest))
 }
 
-// The same of a number in 16 bits.
+/// The same of a number in 16 bits.
 pub(crate) fn signed_16(text: &[u8]) -> Option<(i16, &[u8])>
     ensures found { IfSome result (λ x. text.now ≡ signed_decimal x.0 ++ x.1.now) }
     ensures only { (z : ℤ) (rest : List ℕ) → FitsSigned w16 z → EndsNumber rest → text.now ≡ signed_decimal z ++ rest

@@ -1,4 +1,4 @@
-// What the records of a segment have in common, at the start of a text.
+//! What the records of a segment have in common, at the start of a text.
 ghost use Rattle.std.specs.Prelude.{◌≡◌, ◌≢◌, ◌<◌, ◌++◌, ◌∷◌, ℕ, ℤ, List, IfSome, IsSomeAnd, IsTrue, pos, codes};
 ghost use Rattle.std.specs.Fmt.{decimal, signed_decimal};
 ghost use Rattle.std.specs.Int.{w16, w32};
@@ -15,7 +15,7 @@ use crate::fields::{
 use msr_record::Key;
 use msr_time::Rate;
 
-// Two bytes of a name and a dot.
+/// Two bytes of a name and a dot.
 fn two_and_dot(text: &[u8]) -> Option<([u8; 2], &[u8])>
     ensures found { IfSome result (λ x. text.now ≡ field_text x.0 ++ (46 ∷ x.1.now)) }
     ensures only { (bytes rest : List ℕ) → AreBytes 2 bytes → text.now ≡ field_text bytes ++ (46 ∷ rest)
@@ -26,7 +26,7 @@ fn two_and_dot(text: &[u8]) -> Option<([u8; 2], &[u8])>
     Some((bytes, text))
 }
 
-// Five bytes of a name and a dot.
+/// Five bytes of a name and a dot.
 fn five_and_dot(text: &[u8]) -> Option<([u8; 5], &[u8])>
     ensures found { IfSome result (λ x. text.now ≡ field_text x.0 ++ (46 ∷ x.1.now)) }
     ensures only { (bytes rest : List ℕ) → AreBytes 5 bytes → text.now ≡ field_text bytes ++ (46 ∷ rest)
@@ -37,7 +37,7 @@ fn five_and_dot(text: &[u8]) -> Option<([u8; 5], &[u8])>
     Some((bytes, text))
 }
 
-// The name of a channel.
+/// The name of a channel.
 #[derive(Clone, Copy)]
 struct ChannelName {
     network: [u8; 2],
@@ -66,10 +66,11 @@ fn channel_name(text: &[u8]) -> Option<(ChannelName, &[u8])>
     Some((name, text))
 }
 
-// Two numbers with a space between them.
+/// Two numbers with a space between them.
 fn two_numbers(text: &[u8]) -> Option<(i16, i16, &[u8])>
     ensures found { IfSome result (λ x. text.now ≡ signed_decimal x.0 ++ (32 ∷ (signed_decimal x.1 ++ x.2.now))) }
-    ensures only { (factor multiplier : ℤ) (rest : List ℕ) → FitsSigned w16 factor → FitsSigned w16 multiplier → EndsNumber rest
+    ensures only { (factor multiplier : ℤ) (rest : List ℕ) → FitsSigned w16 factor → FitsSigned w16 multiplier
+        → EndsNumber rest
         → text.now ≡ signed_decimal factor ++ (32 ∷ (signed_decimal multiplier ++ rest))
         → IsSomeAnd result (λ x. (x.0 ≡ factor) × (x.1 ≡ multiplier) × (x.2.now ≡ rest)) }
 {
@@ -79,10 +80,11 @@ fn two_numbers(text: &[u8]) -> Option<(i16, i16, &[u8])>
     Some((factor, multiplier, text))
 }
 
-// The factor and the multiplier of a rate.
+/// The factor and the multiplier of a rate.
 fn rate(text: &[u8]) -> Option<(i16, i16, &[u8])>
     ensures found { IfSome result (λ x. text.now ≡ rate_then x.0 x.1 x.2.now) }
-    ensures only { (factor multiplier : ℤ) (rest : List ℕ) → FitsSigned w16 factor → FitsSigned w16 multiplier → EndsNumber rest
+    ensures only { (factor multiplier : ℤ) (rest : List ℕ) → FitsSigned w16 factor → FitsSigned w16 multiplier
+        → EndsNumber rest
         → text.now ≡ rate_then factor multiplier rest
         → IsSomeAnd result (λ x. (x.0 ≡ factor) × (x.1 ≡ multiplier) × (x.2.now ≡ rest)) }
 {
@@ -90,7 +92,7 @@ fn rate(text: &[u8]) -> Option<(i16, i16, &[u8])>
     two_numbers(text)
 }
 
-// A space and two hexadecimal digits.
+/// A space and two hexadecimal digits.
 fn spaced_byte(text: &[u8]) -> Option<(u8, &[u8])>
     ensures found { IfSome result (λ x. text.now ≡ 32 ∷ (hex_text x.0 ++ x.1.now)) }
     ensures only { (n : ℕ) (rest : List ℕ) → n < 256 → text.now ≡ 32 ∷ (hex_text n ++ rest)
@@ -100,7 +102,7 @@ fn spaced_byte(text: &[u8]) -> Option<(u8, &[u8])>
     hex_byte(text)
 }
 
-// The activity, clock and data quality flags.
+/// The activity, clock and data quality flags.
 fn flags(text: &[u8]) -> Option<(u8, u8, u8, &[u8])>
     ensures found { IfSome result (λ x. text.now ≡ flags_then x.0 x.1 x.2 x.3.now) }
     ensures only { (activity clock quality : ℕ) (rest : List ℕ) → activity < 256 → clock < 256 → quality < 256
@@ -126,7 +128,8 @@ fn correction(text: &[u8]) -> Option<(i32, &[u8])>
 
 fn timing(text: &[u8]) -> Option<(u8, &[u8])>
     ensures found { IfSome result (λ x. text.now ≡ codes " timing " ++ (decimal x.0 ++ x.1.now)) }
-    ensures only { (n : ℕ) (rest : List ℕ) → n < 256 → EndsNumber rest → text.now ≡ codes " timing " ++ (decimal n ++ rest)
+    ensures only { (n : ℕ) (rest : List ℕ) → n < 256 → EndsNumber rest
+        → text.now ≡ codes " timing " ++ (decimal n ++ rest)
         → IsSomeAnd result (λ x. (x.0 ≡ n) × (x.1.now ≡ rest)) }
 {
     let text = after(text, b" timing ")?;
@@ -137,12 +140,14 @@ fn timing(text: &[u8]) -> Option<(u8, &[u8])>
     Some((n as u8, text))
 }
 
-// The word `segment`, the name and the quality.
+/// The word `segment`, the name and the quality.
 fn named(text: &[u8]) -> Option<(ChannelName, u8, &[u8])>
-    ensures found { IfSome result (λ x. text.now ≡ codes "segment " ++ name_then x.0.network x.0.station x.0.location x.0.channel (32 ∷ (x.1 ∷ x.2.now))) }
+    ensures found { IfSome result (λ x. text.now ≡ codes "segment "
+        ++ name_then x.0.network x.0.station x.0.location x.0.channel (32 ∷ (x.1 ∷ x.2.now))) }
     ensures quality { IfSome result (λ x. IsTrue (is_quality x.1)) }
     ensures only { (network station location channel : List ℕ) (quality : ℕ) (rest : List ℕ)
-        → AreBytes 2 network → AreBytes 5 station → AreBytes 2 location → AreBytes 3 channel → IsTrue (is_quality quality)
+        → AreBytes 2 network → AreBytes 5 station → AreBytes 2 location → AreBytes 3 channel
+        → IsTrue (is_quality quality)
         → text.now ≡ codes "segment " ++ name_then network station location channel (32 ∷ (quality ∷ rest))
         → IsSomeAnd result (λ x. x.2.now ≡ rest) }
 {

@@ -1,4 +1,4 @@
-// The lines of a report at the start of a text: each reader answers what the line says and the text after it.
+//! The lines of a report at the start of a text: each reader answers what the line says and the text after it.
 ghost use Rattle.std.specs.Prelude.{◌≡◌, ◌<◌, ◌≤◌, ◌^◌, ◌++◌, ◌∷◌, [], ℕ, ℤ, List, IfSome, IsSomeAnd, IsTrue, codes};
 ghost use Rattle.std.specs.Fmt.{decimal};
 ghost use Rattle.msr_time.specs.Instant.{IsInstant};
@@ -19,7 +19,8 @@ use msr_words::Length;
 
 fn start(text: &[u8]) -> Option<(i64, &[u8])>
     ensures range { IfSome result (λ x. IsInstant x.0) }
-    ensures found { IfSome result (λ x. (word : List ℕ) × (IsTimeText x.0 word × (text.now ≡ codes " start " ++ (word ++ x.1.now)))) }
+    ensures found { IfSome result (λ x. (word : List ℕ)
+        × (IsTimeText x.0 word × (text.now ≡ codes " start " ++ (word ++ x.1.now)))) }
     ensures only { (t : ℤ) (word rest : List ℕ) → IsTimeText t word → text.now ≡ codes " start " ++ (word ++ rest)
         → IsSomeAnd result (λ x. (x.0 ≡ t) × (x.1.now ≡ rest)) }
 {
@@ -29,14 +30,15 @@ fn start(text: &[u8]) -> Option<(i64, &[u8])>
 
 fn samples(text: &[u8]) -> Option<(u64, &[u8])>
     ensures found { IfSome result (λ x. text.now ≡ codes " samples " ++ (decimal x.0 ++ x.1.now)) }
-    ensures only { (n : ℕ) (rest : List ℕ) → n < 2 ^ 64 → EndsNumber rest → text.now ≡ codes " samples " ++ (decimal n ++ rest)
+    ensures only { (n : ℕ) (rest : List ℕ) → n < 2 ^ 64 → EndsNumber rest
+        → text.now ≡ codes " samples " ++ (decimal n ++ rest)
         → IsSomeAnd result (λ x. (x.0 ≡ n) × (x.1.now ≡ rest)) }
 {
     let text = after(text, b" samples ")?;
     number(text)
 }
 
-// A word, a number and the end of the line.
+/// A word, a number and the end of the line.
 fn numbered<'a>(text: &'a [u8], word: &[u8]) -> Option<(u64, &'a [u8])>
     ensures found { IfSome result (λ x. text.now ≡ word.now ++ (decimal x.0 ++ (10 ∷ x.1.now))) }
     ensures only { (n : ℕ) (rest : List ℕ) → n < 2 ^ 64 → text.now ≡ word.now ++ (decimal n ++ (10 ∷ rest))
@@ -50,7 +52,8 @@ fn numbered<'a>(text: &'a [u8], word: &[u8]) -> Option<(u64, &'a [u8])>
 
 pub(crate) fn title(text: &[u8]) -> Option<&[u8]>
     ensures found { IfSome result (λ x. text.now ≡ codes "msrepack 1" ++ (10 ∷ x.now)) }
-    ensures only { (rest : List ℕ) → text.now ≡ codes "msrepack 1" ++ (10 ∷ rest) → IsSomeAnd result (λ x. x.now ≡ rest) }
+    ensures only { (rest : List ℕ) → text.now ≡ codes "msrepack 1" ++ (10 ∷ rest)
+        → IsSomeAnd result (λ x. x.now ≡ rest) }
 {
     after(text, b"msrepack 1\n")
 }
@@ -72,7 +75,8 @@ pub(crate) fn record_length(text: &[u8]) -> Option<(Length, &[u8])>
 pub(crate) fn tolerance(text: &[u8]) -> Option<(u32, &[u8])>
     ensures found { IfSome result (λ x. text.now ≡ codes "tolerance " ++ (decimal x.0 ++ (10 ∷ x.1.now))) }
     ensures range { IfSome result (λ x. (1 ≤ x.0) × (x.0 ≤ 1_000_000)) }
-    ensures only { (n : ℕ) (rest : List ℕ) → 1 ≤ n → n ≤ 1_000_000 → text.now ≡ codes "tolerance " ++ (decimal n ++ (10 ∷ rest))
+    ensures only { (n : ℕ) (rest : List ℕ) → 1 ≤ n → n ≤ 1_000_000
+        → text.now ≡ codes "tolerance " ++ (decimal n ++ (10 ∷ rest))
         → IsSomeAnd result (λ x. x.1.now ≡ rest) }
 {
     let (n, text) = numbered(text, b"tolerance ")?;
@@ -82,7 +86,7 @@ pub(crate) fn tolerance(text: &[u8]) -> Option<(u32, &[u8])>
     Some((n as u32, text))
 }
 
-// A word and a number.
+/// A word and a number.
 pub(crate) fn counted<'a>(text: &'a [u8], word: &[u8]) -> Option<(u64, &'a [u8])>
     ensures found { IfSome result (λ x. text.now ≡ word.now ++ (decimal x.0 ++ x.1.now)) }
     ensures only { (n : ℕ) (rest : List ℕ) → n < 2 ^ 64 → EndsNumber rest → text.now ≡ word.now ++ (decimal n ++ rest)
@@ -93,9 +97,12 @@ pub(crate) fn counted<'a>(text: &'a [u8], word: &[u8]) -> Option<(u64, &'a [u8])
 }
 
 pub(crate) fn counts(text: &[u8]) -> Option<(Counts, &[u8])>
-    ensures found { IfSome result (λ x. text.now ≡ codes "read " ++ (decimal x.0.read ++ (codes " empty " ++ (decimal x.0.empty ++ (codes " mismatched " ++ (decimal x.0.mismatched ++ (10 ∷ x.1.now))))))) }
+    ensures found { IfSome result (λ x. text.now ≡ codes "read "
+        ++ (decimal x.0.read ++ (codes " empty " ++ (decimal x.0.empty
+        ++ (codes " mismatched " ++ (decimal x.0.mismatched ++ (10 ∷ x.1.now))))))) }
     ensures only { (read empty mismatched : ℕ) (rest : List ℕ) → read < 2 ^ 64 → empty < 2 ^ 64 → mismatched < 2 ^ 64
-        → text.now ≡ codes "read " ++ (decimal read ++ (codes " empty " ++ (decimal empty ++ (codes " mismatched " ++ (decimal mismatched ++ (10 ∷ rest))))))
+        → text.now ≡ codes "read " ++ (decimal read ++
+        (codes " empty " ++ (decimal empty ++ (codes " mismatched " ++ (decimal mismatched ++ (10 ∷ rest))))))
         → IsSomeAnd result (λ x. x.1.now ≡ rest) }
 {
     let (read, text) = counted(text, b"read ")?;
@@ -109,11 +116,13 @@ pub(crate) fn counts(text: &[u8]) -> Option<(Counts, &[u8])>
     Some((counts, text))
 }
 
-// The two numbers of the last line.
+/// The two numbers of the last line.
 pub(crate) fn end(text: &[u8]) -> Option<(u64, u64, &[u8])>
-    ensures found { IfSome result (λ x. text.now ≡ codes "end " ++ (decimal x.0 ++ (codes " segments " ++ (decimal x.1 ++ (codes " records" ++ (10 ∷ x.2.now)))))) }
+    ensures found { IfSome result (λ x. text.now ≡ codes "end "
+        ++ (decimal x.0 ++ (codes " segments " ++ (decimal x.1 ++ (codes " records" ++ (10 ∷ x.2.now)))))) }
     ensures only { (segments records : ℕ) (rest : List ℕ) → segments < 2 ^ 64 → records < 2 ^ 64
-        → text.now ≡ codes "end " ++ (decimal segments ++ (codes " segments " ++ (decimal records ++ (codes " records" ++ (10 ∷ rest)))))
+        → text.now ≡ codes "end " ++ (decimal segments
+        ++ (codes " segments " ++ (decimal records ++ (codes " records" ++ (10 ∷ rest)))))
         → IsSomeAnd result (λ x. (x.0 ≡ segments) × (x.1 ≡ records) × (x.2.now ≡ rest)) }
 {
     let (segments, text) = counted(text, b"end ")?;
@@ -122,7 +131,7 @@ pub(crate) fn end(text: &[u8]) -> Option<(u64, u64, &[u8])>
     Some((segments, records, text))
 }
 
-// The first line of a segment.
+/// The first line of a segment.
 #[derive(Clone, Copy)]
 pub(crate) struct FirstLine {
     pub key: Key,
@@ -135,7 +144,8 @@ pub(crate) fn opening(text: &[u8]) -> Option<(FirstLine, &[u8])>
     ensures is_key { IfSome result (λ x. IsKey x.0.key) }
     ensures range { IfSome result (λ x. IsInstant x.0.start) }
     ensures found { IfSome result (λ x. IsOpening x.0.key x.0.start x.0.samples x.0.records x.1.now text.now) }
-    ensures only { (key : ChannelKey) (start : ℤ) (samples records : ℕ) (rest : List ℕ) → IsKey key → samples < 2 ^ 64 → records < 2 ^ 64
+    ensures only { (key : ChannelKey) (start : ℤ) (samples records : ℕ) (rest : List ℕ) → IsKey key
+        → samples < 2 ^ 64 → records < 2 ^ 64
         → IsOpening key start samples records rest text.now
         → IsSomeAnd result (λ x. (x.0.records ≡ records) × (x.1.now ≡ rest)) }
 {

@@ -1,4 +1,4 @@
-// A report read from a source.
+//! A report read from a source.
 ghost use Rattle.std.specs.Prelude.{◌↔◌, ◌≤◌, ◌==◌, ◌++◌, ℕ, List, IfOk, IfErr, OnOk, IsErrOf, IsTrue, count_by, Err};
 ghost use Rattle.msr_devices.specs.Device.{CanCountCall, CountsFew, HasFailed, HasLeft, IsSteady};
 ghost use Rattle.msr_certificate.specs.Reading.{ReadsReport};
@@ -10,7 +10,7 @@ use msr_devices::{ReadBuffer, Source};
 use msr_report::Report;
 use std::alloc::Global;
 
-// Whether the text has so many line feeds: then its first so many lines are whole.
+/// Whether the text has so many line feeds: then its first so many lines are whole.
 fn has_lines(text: &[u8], count: u64) -> bool
     ensures { IsTrue result ↔ (count ≤ count_by (λ byte. byte == 10) text.now) }
 {
@@ -18,7 +18,7 @@ fn has_lines(text: &[u8], count: u64) -> bool
     count <= feeds as u64
 }
 
-// Refuses a text in which a whole line is at fault, which it is however the text goes on.
+/// Refuses a text in which a whole line is at fault, which it is however the text goes on.
 fn judge_lines(alloc: Global, text: &[u8]) -> Result<(), ReportFault>
     ensures { IfErr result (λ fault. (more : List ℕ) → IsTextFault (text.now ++ more) fault) }
 {
@@ -35,14 +35,15 @@ fn judge_lines(alloc: Global, text: &[u8]) -> Result<(), ReportFault>
     }
 }
 
-// A buffer with all bytes that the source has left, unless a line of them is at fault: then none after it are asked
-// for. Each turn wants twice as many as stand there and one more, so that none is moved often, and the lines are
-// judged again only where they are twice as many.
+/// A buffer with all bytes that the source has left, unless a line of them is at fault: then none after it are asked
+/// for. Each turn wants twice as many as stand there and one more, so that none is moved often, and the lines are
+/// judged again only where they are twice as many.
 fn read_all<Q: Source>(alloc: Global, source: &mut Q) -> Result<ReadBuffer, ReportFault>
     requires { CanCountCall (Q.device source.old) }
     ensures all { IfOk result (λ buffer. HasLeft (Q.device source.old) buffer.bytes) }
     ensures steady { OnOk result (IsSteady (Q.device source.old) (Q.device source.new)) }
-    ensures fault { IfErr result (λ fault. (text : List ℕ) × HasLeft (Q.device source.old) text × ReadsReport text (Err fault)) }
+    ensures fault { IfErr result (λ fault. (text : List ℕ) × HasLeft (Q.device source.old) text
+        × ReadsReport text (Err fault)) }
     ensures read { IsErrOf result ReportFault.Read ↔ HasFailed (Q.device source.old) (Q.device source.new) }
     ensures few { CountsFew (Q.device source.old) (Q.device source.new) }
 {

@@ -1,4 +1,4 @@
-// A whole report.
+//! A whole report.
 ghost use Rattle.std.specs.Prelude.{◌≡◌, ◌<◌, ◌≤◌, ◌^◌, ◌++◌, ◌∷◌, [], ℕ, List, IfOk, IfErr, OnOk, IfSome, IsSomeAnd, SomeIff, All, codes, length, slice_index};
 ghost use Rattle.msr_words.specs.Lengths.{bytes_of};
 ghost use Rattle.msr_words.specs.RecordLength.{IsRecordLength};
@@ -18,15 +18,17 @@ use msr_report::{Counts, Report, SegmentLine};
 use msr_words::Length;
 use std::alloc::{AllocError, Global};
 
-// Takes the separators from the second line of a segment, and answers the text after it.
+/// Takes the separators from the second line of a segment, and answers the text after it.
 fn push_separators<'a>(
     numbers: &mut Vec<u64>,
     text: &'a [u8],
 ) -> Result<Option<&'a [u8]>, AllocError>
     requires { numbers.old.items ≡ [] }
     ensures fit { OnOk result ((place : ℕ) → slice_index numbers.new.items place < 2 ^ 64) }
-    ensures found { IfOk result (λ read. IfSome read (λ rest. text.now ≡ separators_line numbers.new.items ++ rest.now)) }
-    ensures only { (separators rest : List ℕ) → All (λ n. n < 2 ^ 64) separators → text.now ≡ separators_line separators ++ rest
+    ensures found { IfOk result (λ read. IfSome read
+        (λ rest. text.now ≡ separators_line numbers.new.items ++ rest.now)) }
+    ensures only { (separators rest : List ℕ) → All (λ n. n < 2 ^ 64) separators
+        → text.now ≡ separators_line separators ++ rest
         → IfOk result (λ read. IsSomeAnd read (λ x. x.now ≡ rest)) }
 {
     let Some(mut rest) = after(text, b"separators") else {
@@ -39,7 +41,7 @@ fn push_separators<'a>(
     Ok(after(rest, b"\n"))
 }
 
-// How many records the segments have in all, where that fits 64 bits.
+/// How many records the segments have in all, where that fits 64 bits.
 fn all_records(segments: &[SegmentLine]) -> Option<u64>
     ensures { SomeIff result (records_of segments.now < 2 ^ 64) (records_of segments.now) }
 {
@@ -50,7 +52,7 @@ fn all_records(segments: &[SegmentLine]) -> Option<u64>
     Some(records)
 }
 
-// What the lines before the segments say.
+/// What the lines before the segments say.
 #[derive(Clone, Copy)]
 struct FirstLines {
     length: Length,
@@ -58,7 +60,7 @@ struct FirstLines {
     counts: Counts,
 }
 
-// The number of the first of these lines that is at fault, from 1.
+/// The number of the first of these lines that is at fault, from 1.
 struct FaultAt(u64);
 
 fn first_lines(text: &[u8]) -> Result<(FirstLines, &[u8]), FaultAt>
@@ -87,7 +89,7 @@ fn first_lines(text: &[u8]) -> Result<(FirstLines, &[u8]), FaultAt>
     Ok((first, text))
 }
 
-// What stands after the segments of a report.
+/// What stands after the segments of a report.
 pub(crate) enum Ending {
     // The last line.
     Last,

@@ -1,3 +1,4 @@
+//! Reports from outside, and those that are at fault: which line is told, and that reading stops there.
 use super::{
     ReportFault, line_has_form, one_report, read_report, report_has_form, report_of,
     text_is_read_back,
@@ -12,7 +13,7 @@ const EMPTY: &str =
 const SEGMENT: &str =
     "msrepack 1\nlength 256\ntolerance 1000\nread 1 empty 0 mismatched 0\nsegment XX.TEST_.00.BHZ D rate 20 1 flags 00 00 00 correction 0 timing 0 start 2020,001,00:00:00.000000 samples 302 records 2\nseparators 0 301\nend 1 segments 2 records\n";
 
-// The fault of a text: the number of its line, 0 where it is a report.
+/// The fault of a text: the number of its line, 0 where it is a report.
 fn fault_line(alloc: Global, text: &str) -> u64 {
     match report_of(alloc, text.as_bytes()) {
         Ok(_) => 0,
@@ -21,7 +22,7 @@ fn fault_line(alloc: Global, text: &str) -> u64 {
     }
 }
 
-// The text of a report with a segment, a part of it replaced.
+/// The text of a report with a segment, a part of it replaced.
 fn edited(alloc: Global, part: &str, by: &str) -> u64 {
     match SEGMENT.replace(alloc, part, by) {
         Ok(text) => fault_line(alloc, text.as_str()),
@@ -76,7 +77,7 @@ fn names_the_line(rt: HostRuntime) {
     assert_eq!(rt; fault_line(alloc, ""), 1);
 }
 
-// Reads a report from a source that gives 7 bytes at a time, each after an interruption.
+/// Reads a report from a source that gives 7 bytes at a time, each after an interruption.
 fn read_from(alloc: Global, text: &str, fails_at: Option<u64>) -> Result<Report, ReportFault> {
     let behavior = Behavior {
         most: 7,
@@ -103,7 +104,7 @@ fn reads_from_a_source(rt: HostRuntime) {
     );
 }
 
-// Where a line at fault has come, nothing after it is read: the source would fail there.
+/// Where a line at fault has come, nothing after it is read: the source would fail there.
 #[test]
 fn stops_at_the_line_at_fault(rt: HostRuntime) {
     let alloc = rt.alloc();

@@ -1,4 +1,4 @@
-// Times at the start of a text.
+//! Times at the start of a text.
 ghost use Rattle.std.specs.Prelude.{◌≡◌, ◌<◌, ◌≤◌, ◌^◌, ◌++◌, ◌∷◌, ◌+◌, ◌*◌, ℕ, ℤ, List, IfSome, IsSomeAnd, SomeIff, true, length};
 ghost use Rattle.std.specs.Str.{all_ascii_digits};
 ghost use Rattle.msr_report.specs.Text.{padded_decimal};
@@ -10,7 +10,7 @@ ghost use Rattle.msr_time.specs.declared.btime.BTime.{BTime as Time};
 use crate::fields::after;
 use msr_time::BTime;
 
-// The number that so few digits give, where all bytes are digits.
+/// The number that so few digits give, where all bytes are digits.
 fn value_of(digits: &[u8]) -> Option<u32>
     requires { length digits.now ≤ 6 }
     ensures { SomeIff result (all_ascii_digits digits.now ≡ true) (number_after 0 digits.now) }
@@ -25,7 +25,7 @@ fn value_of(digits: &[u8]) -> Option<u32>
     Some(value)
 }
 
-// A number in so many digits.
+/// A number in so many digits.
 fn padded(text: &[u8], width: usize) -> Option<(u32, &[u8])>
     requires some { 1 ≤ width }
     requires few { width ≤ 6 }
@@ -67,11 +67,12 @@ fn clock(text: &[u8]) -> Option<(u8, u8, u8, &[u8])>
     Some((hour as u8, minute as u8, second as u8, text))
 }
 
-// The fields of a time, and the microseconds below its fraction.
+/// The fields of a time, and the microseconds below its fraction.
 fn fields(text: &[u8]) -> Option<(BTime, u8, &[u8])>
     ensures found { IfSome result (λ x. text.now ≡ split_then x.0 x.1 x.2.now) }
     ensures below { IfSome result (λ x. x.1 < 100) }
-    ensures only { (time : Time) (micros : ℕ) (rest : List ℕ) → IsTime time → micros < 100 → text.now ≡ split_then time micros rest
+    ensures only { (time : Time) (micros : ℕ) (rest : List ℕ) → IsTime time → micros < 100
+        → text.now ≡ split_then time micros rest
         → IsSomeAnd result (λ x. (x.0 ≡ time) × (x.1 ≡ micros) × (x.2.now ≡ rest)) }
 {
     let (year, day, text) = date(text)?;

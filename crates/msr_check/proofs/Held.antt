@@ -13,22 +13,35 @@ use Rattle.msr_check.specs.Held.{Holds}
 
 -- from none of the last `back` places up to the first sample a run of that kind that fits holds the second
 abbrev pub NoneFrom : Kind → ℕ → List ℤ → ℕ → ℕ → ℕ → Type 0
-NoneFrom kind bytes samples first second back = (start : ℕ) → start ≤ first → first < start + back → Fits kind bytes (run_points samples start (second + 1)) → ⊥
+NoneFrom kind bytes samples first second back = (start : ℕ) → start ≤ first → first < start + back
+    → Fits kind bytes (run_points samples start (second + 1)) → ⊥
 
-module _ (bytes : ℕ) (samples : List ℤ) (first second : ℕ) (order : first < second) (within : second < length samples) where
+module _ (bytes : ℕ) (samples : List ℤ) (first second : ℕ) (order : first < second)
+    (within : second < length samples) where
   module _ (kind : Kind) where
-    pub none_held : (back : ℕ) → min first (look_back_of kind) < back → NoneFrom kind bytes samples first second back → Holds kind bytes samples first second → ⊥
+    pub none_held : (back : ℕ) → min first (look_back_of kind) < back
+        → NoneFrom kind bytes samples first second back → Holds kind bytes samples first second → ⊥
     none_held back all none holds =
         let from = holds.from in
         let past = holds.past in
-        let shorter = prefix_run (Fits kind bytes) (prefix_kind kind bytes) samples holds.start (second + 1) holds.end (omega arith) (omega arith) holds.run in
-        let cut = back_step_run (Fits kind bytes) (look_back_of kind) (back_step_kind kind bytes) samples holds.start first (second + 1) from (omega arith) shorter in
+        let shorter = prefix_run (Fits kind bytes) (prefix_kind kind bytes) samples holds.start
+        (second + 1) holds.end (omega arith) (omega arith) holds.run in
+        let cut = back_step_run (Fits kind bytes) (look_back_of kind)
+        (back_step_kind kind bytes) samples holds.start first (second + 1) from (omega arith) shorter in
         none cut.0 cut.2 (omega arith) cut.4.2
 
-    pub held : (start : ℕ) → start ≤ first → Fits kind bytes (run_points samples start (second + 1)) → Holds kind bytes samples first second
-    held start before fits = record { start = start; end = second + 1; run = (omega arith, omega arith, fits); from = before; past = omega arith }
+    pub held : (start : ℕ) → start ≤ first → Fits kind bytes (run_points samples start (second + 1))
+        → Holds kind bytes samples first second
+    held start before fits = record {
+      start = start;
+      end = second + 1;
+      run = (omega arith, omega arith, fits);
+      from = before;
+      past = omega arith;
+    }
 
-    pub none_from_more : (back : ℕ) → back ≤ first → NoneFrom kind bytes samples first second back → (Fits kind bytes (run_points samples (first - back) (second + 1)) → ⊥) →
+    pub none_from_more : (back : ℕ) → back ≤ first → NoneFrom kind bytes samples first second back
+        → (Fits kind bytes (run_points samples (first - back) (second + 1)) → ⊥) →
         NoneFrom kind bytes samples first second (back + 1)
     none_from_more back le none not start before near fits = elim (cases_lt first (start + back)) [
       | inl tried ↦ none start before tried fits
@@ -37,28 +50,39 @@ module _ (bytes : ℕ) (samples : List ℤ) (first second : ℕ) (order : first 
 
   -- no run of any kind
   pub none_of_any : ((kind : Kind) → Holds kind bytes samples first second → ⊥) → NoneHolds bytes samples first second
-  none_of_any none = record { none = λ a b run p q r s. none run.2.0 (record { start = a; end = b; run = (run.0, run.1, run.2.1); from = p; past = s }) }
+  none_of_any none = record {
+    none = λ a b run p q r s. none run.2.0
+        (record { start = a; end = b; run = (run.0, run.1, run.2.1); from = p; past = s });
+  }
 
   pub some_of_any : (kind : Kind) → Holds kind bytes samples first second → NoneHolds bytes samples first second → ⊥
   some_of_any kind holds none =
       let from = holds.from in
       let past = holds.past in
-      none.none holds.start holds.end (holds.run.0, holds.run.1, (kind, holds.run.2)) from (omega arith) (omega arith) past
+      none.none holds.start holds.end (holds.run.0, holds.run.1, (kind, holds.run.2)) from (omega arith)
+      (omega arith) past
 
   Says : Bool → Kind → Type 0
   Says answer kind = IsTrue answer ↔ Holds kind bytes samples first second
 
   -- none of the answers for each kind is yes exactly where no run holds both
-  pub none_says : (two one short middle long : Bool) → (IsTrue two ↔ Holds Steim2 bytes samples first second) → (IsTrue one ↔ Holds Steim1 bytes samples first second) →
-      (IsTrue short ↔ Holds Int16 bytes samples first second) → (IsTrue middle ↔ Holds Int24 bytes samples first second) → (IsTrue long ↔ Holds Int32 bytes samples first second) →
+  pub none_says : (two one short middle long : Bool) → (IsTrue two ↔ Holds Steim2 bytes samples first second)
+      → (IsTrue one ↔ Holds Steim1 bytes samples first second) →
+      (IsTrue short ↔ Holds Int16 bytes samples first second)
+      → (IsTrue middle ↔ Holds Int24 bytes samples first second)
+      → (IsTrue long ↔ Holds Int32 bytes samples first second) →
       (IsFalse ((((two || one) || short) || middle) || long) ↔ NoneHolds bytes samples first second)
   unfolding Says
-  none_says two one short middle long p q r m s = (say two one short middle long p q r m s, hear two one short middle long p q r m s)
+  none_says two one short middle long p q r m s =
+      (say two one short middle long p q r m s, hear two one short middle long p q r m s)
     where
-      not : (answer : Bool) (kind : Kind) → Says answer kind → answer ≡ false → Holds kind bytes samples first second → ⊥
+      not : (answer : Bool) (kind : Kind) → Says answer kind → answer ≡ false
+          → Holds kind bytes samples first second → ⊥
       not answer kind says e holds = let t = says.1 holds in cc
 
-      say : (two one short middle long : Bool) → Says two Steim2 → Says one Steim1 → Says short Int16 → Says middle Int24 → Says long Int32 → IsFalse ((((two || one) || short) || middle) || long) → NoneHolds bytes samples first second
+      say : (two one short middle long : Bool) → Says two Steim2 → Says one Steim1 → Says short Int16
+          → Says middle Int24 → Says long Int32 → IsFalse ((((two || one) || short) || middle) || long)
+          → NoneHolds bytes samples first second
       say true one short middle long p q r m s h = absurd cc
       say false true short middle long p q r m s h = absurd cc
       say false false true middle long p q r m s h = absurd cc
@@ -72,7 +96,9 @@ module _ (bytes : ℕ) (samples : List ℤ) (first second : ℕ) (order : first 
           none Int24 = not false Int24 m refl
           none Int32 = not long Int32 s h
 
-      hear : (two one short middle long : Bool) → Says two Steim2 → Says one Steim1 → Says short Int16 → Says middle Int24 → Says long Int32 → NoneHolds bytes samples first second → IsFalse ((((two || one) || short) || middle) || long)
+      hear : (two one short middle long : Bool) → Says two Steim2 → Says one Steim1 → Says short Int16
+          → Says middle Int24 → Says long Int32 → NoneHolds bytes samples first second
+          → IsFalse ((((two || one) || short) || middle) || long)
       hear true one short middle long p q r m s none = absurd (some_of_any Steim2 (p.0 refl) none)
       hear false true short middle long p q r m s none = absurd (some_of_any Steim1 (q.0 refl) none)
       hear false false true middle long p q r m s none = absurd (some_of_any Int16 (r.0 refl) none)

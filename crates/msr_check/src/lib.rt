@@ -83,7 +83,8 @@ fn is_packing(samples: &[i32], record_length: Length, runs: &[Run]) -> bool
 
 /// The run is not empty, lies in the segment, and fits a record of its kind.
 fn is_run(samples: &[i32], record_length: Length, run: &Run) -> bool
-    ensures { IsTrue result ↔ (run.now.start < run.now.end) × IsRun (Fits run.now.kind (bytes_of record_length)) samples.now run.now.start run.now.end }
+    ensures { IsTrue result ↔ (run.now.start < run.now.end)
+        × IsRun (Fits run.now.kind (bytes_of record_length)) samples.now run.now.start run.now.end }
 {
     run.start < run.end
         && run.end <= samples.len() as u64
@@ -98,7 +99,8 @@ fn is_run(samples: &[i32], record_length: Length, run: &Run) -> bool
 
 /// The runs are a packing, the list is separating, and both have the same size; so the packing is least.
 pub fn shows_least(samples: &[i32], record_length: Length, runs: &[Run], separators: &[u64]) -> bool
-    ensures exact { IsTrue result ↔ IsPacking (bytes_of record_length) samples.now runs.now × IsSeparating (bytes_of record_length) samples.now separators.now × (length runs.now ≡ length separators.now) }
+    ensures exact { IsTrue result ↔ IsPacking (bytes_of record_length) samples.now runs.now
+        × IsSeparating (bytes_of record_length) samples.now separators.now × (length runs.now ≡ length separators.now) }
     ensures least { IsTrue result → IsLeast (bytes_of record_length) samples.now runs.now }
 {
     if runs.len() != separators.len() {

@@ -1,4 +1,4 @@
 pub mod Chaining
-pub mod Known
+pub mod KnownBytes
 pub mod Limited
 pub mod Filling

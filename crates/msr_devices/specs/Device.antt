@@ -81,7 +81,9 @@ pub record Writes (old new : Device) (result : Result ℕ Error) (buffer : List 
 -- Between two states the device failed, or was interrupted 64 times in a row: since the first state where
 -- nothing went through, and else since bytes last went through.
 abbrev pub HasFailed : Device → Device → Type 0
-HasFailed old new = (old.failures < new.failures) ⊎ (((new.moved ≡ old.moved) × (old.interruptions + 64 ≤ new.interruptions)) ⊎ ((old.moved < new.moved) × (64 ≤ new.interruptions)))
+HasFailed old new = (old.failures < new.failures)
+    ⊎ (((new.moved ≡ old.moved) × (old.interruptions + 64 ≤ new.interruptions))
+    ⊎ ((old.moved < new.moved) × (64 ≤ new.interruptions)))
 
 -- Between two states no call failed, and the last that moved bytes ended a row of interruptions.
 pub record IsSteady (old new : Device) : Type 0 where

@@ -34,5 +34,7 @@ pub record IsFilled (want : ℕ) (old new : Device) (before after : Window) : Ty
 -- The source failed: what came before it did stands there, and is less than was wanted. Or the memory was refused that the bytes wanted take:
 -- then nothing was read.
 abbrev pub StopsFilling : ℕ → Device → Device → Window → Window → FillFault → Type 0
-StopsFilling want old new before after Read = HasFailed old new × Fills old new before after × (before.ended ≡ false) × (after.ended ≡ false) × (length after.bytes < want)
+StopsFilling want old new before after Read =
+    HasFailed old new × Fills old new before after × (before.ended ≡ false) × (after.ended ≡ false)
+    × (length after.bytes < want)
 StopsFilling want old new before after Memory = (new ≡ old) × (after ≡ before) × (before.room < want)

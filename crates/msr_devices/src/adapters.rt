@@ -1,4 +1,4 @@
-// Readers and writers of std as sources and sinks, which count.
+//! Readers and writers of std as sources and sinks, which count.
 ghost use Rattle.std.specs.Prelude.{◌≡◌, ◌≢◌, ◌<◌, ◌+◌, ◌^◌, ◌-◌, Option, List, ℕ, take};
 ghost use Rattle.std.specs.IoError.{error_kind};
 ghost use Rattle.std.specs.Option.{option_map};
@@ -8,11 +8,13 @@ use crate::device::{Sink, Source};
 use std::io;
 use std::io::{ErrorKind, Read, Write};
 
-// Counts an interruption, or else a failure, which ends a row of interruptions.
+/// Counts an interruption, or else a failure, which ends a row of interruptions.
 fn count_error(error: &io::Error, failures: &mut u64, interruptions: &mut u64)
     requires { (failures.old < 2 ^ 64 - 1) × (interruptions.old < 2 ^ 64 - 1) }
-    ensures interrupted { error_kind error.now ≡ ErrorKind.Interrupted → (failures.new ≡ failures.old) × (interruptions.new ≡ interruptions.old + 1) }
-    ensures failed { error_kind error.now ≢ ErrorKind.Interrupted → (failures.new ≡ failures.old + 1) × (interruptions.new ≡ 0) }
+    ensures interrupted { error_kind error.now ≡ ErrorKind.Interrupted
+        → (failures.new ≡ failures.old) × (interruptions.new ≡ interruptions.old + 1) }
+    ensures failed { error_kind error.now ≢ ErrorKind.Interrupted
+        → (failures.new ≡ failures.old + 1) × (interruptions.new ≡ 0) }
 {
     if error.kind() == ErrorKind::Interrupted {
         *interruptions += 1;
@@ -34,7 +36,8 @@ pub struct FromRead<R> {
 impl<R: Read> FromRead<R> {
     /// A source of the reader's bytes, with all counts 0.
     pub fn new(inner: R) -> FromRead<R>
-        ensures { ⟦<FromRead<R> as Source>⟧.device result ≡ unused (option_map (λ xs. take (2 ^ 64 - 1) xs) (R.remaining inner)) }
+        ensures { ⟦<FromRead<R> as Source>⟧.device result
+            ≡ unused (option_map (λ xs. take (2 ^ 64 - 1) xs) (R.remaining inner)) }
     {
         FromRead {
             inner,

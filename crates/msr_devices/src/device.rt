@@ -1,4 +1,4 @@
-// A source and a sink of bytes.
+//! A source and a sink of bytes.
 ghost use Rattle.std.specs.Prelude.{ℕ, ◌^◌, ◌<◌};
 ghost use Rattle.msr_devices.specs.Device.{Device, CanCount, Reads, Writes};
 

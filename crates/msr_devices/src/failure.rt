@@ -1,4 +1,4 @@
-// What a loop over a device answers where the device failed.
+//! What a loop over a device answers where the device failed.
 use std::error::Error;
 use std::fmt;
 

@@ -1,4 +1,4 @@
-// The loops over a source and a sink: 64 interruptions in a row are a failure.
+//! The loops over a source and a sink: 64 interruptions in a row are a failure.
 ghost use Rattle.std.specs.Prelude.{◌≡◌, ◌+◌, ◌<◌, ◌≤◌, ◌^◌, ℕ, List, [], length, take, IfOk, IfErr, OnOk, OnErr, MatchResult, true, false};
 ghost use Rattle.msr_devices.specs.Device.{CanCountCall, HasLeft, Gives, GivesOnto, Takes, Moves, HasFailed, IsCalm, IsSteady, CountsFew};
 
@@ -6,7 +6,7 @@ use crate::device::{Sink, Source};
 use crate::failure::{SinkFailed, SourceFailed};
 use std::io::ErrorKind;
 
-// A device that is interrupted so often in a row has failed.
+/// A device that is interrupted so often in a row has failed.
 const MOST_INTERRUPTIONS: u32 = 64;
 
 /// Reads some bytes into the start of `buf`, again after an interruption. `Ok(0)` says that none are left, or
@@ -36,7 +36,7 @@ pub fn read_some<R: Source>(source: &mut R, buf: &mut [u8]) -> Result<usize, Sou
     Err(SourceFailed)
 }
 
-// Reads after the first `filled` bytes of `room` until `want` are filled, or no bytes are left: then true.
+/// Reads after the first `filled` bytes of `room` until `want` are filled, or no bytes are left: then true.
 pub(crate) fn read_until<R: Source>(
     source: &mut R,
     room: &mut [u8],
@@ -47,7 +47,8 @@ pub(crate) fn read_until<R: Source>(
     requires within { filled.old ≤ length room.old }
     requires want { want ≤ length room.old }
     ensures within { filled.new ≤ length room.new }
-    ensures onto { GivesOnto (R.device source.old) (R.device source.new) (take filled.old room.old) (take filled.new room.new) }
+    ensures onto { GivesOnto (R.device source.old) (R.device source.new) (take filled.old room.old)
+        (take filled.new room.new) }
     ensures short { filled.old < filled.new → (R.device source.new).moved < 2 ^ 64 }
     ensures enough { IfOk result (λ ended. ended ≡ false → want ≤ filled.new) }
     ensures lacking { IfOk result (λ ended. ended ≡ true → filled.new < want) }
@@ -112,20 +113,24 @@ pub fn write_all<W: Sink>(sink: &mut W, buf: &[u8]) -> Result<(), SinkFailed>
     }
 }
 
-// The sink failed after so many bytes.
+/// The sink failed after so many bytes.
 pub(crate) struct FailedAfter {
     pub written: usize,
 }
 
-// Writes all of `buf`, and tells at an `Err` how much of it was written.
+/// Writes all of `buf`, and tells at an `Err` how much of it was written.
 pub(crate) fn write_counted<W: Sink>(sink: &mut W, buf: &[u8]) -> Result<(), FailedAfter>
     requires { CanCountCall (W.device sink.old) }
     ensures all { OnOk result (Takes (W.device sink.old) (W.device sink.new) buf.now) }
     ensures calm { OnOk result (IsCalm (W.device sink.old) (W.device sink.new)) }
     ensures failed { OnErr result (HasFailed (W.device sink.old) (W.device sink.new)) }
-    ensures part { IfErr result (λ e. (e.written ≤ length buf.now) × Takes (W.device sink.old) (W.device sink.new) (take e.written buf.now)) }
-    ensures moved { MatchResult result (λ _. (W.device sink.new).moved ≡ (W.device sink.old).moved + length buf.now) (λ e. (W.device sink.new).moved ≡ (W.device sink.old).moved + e.written) }
-    ensures short { MatchResult result (λ _. 0 < length buf.now → (W.device sink.new).moved < 2 ^ 64) (λ e. 0 < e.written → (W.device sink.new).moved < 2 ^ 64) }
+    ensures part { IfErr result (λ e. (e.written ≤ length buf.now)
+        × Takes (W.device sink.old) (W.device sink.new) (take e.written buf.now)) }
+    ensures moved { MatchResult result (λ _. (W.device sink.new).moved
+        ≡ (W.device sink.old).moved + length buf.now) (λ e. (W.device sink.new).moved ≡ (W.device
+        sink.old).moved + e.written) }
+    ensures short { MatchResult result (λ _. 0 < length buf.now → (W.device sink.new).moved < 2 ^ 64)
+        (λ e. 0 < e.written → (W.device sink.new).moved < 2 ^ 64) }
     ensures few { CountsFew (W.device sink.old) (W.device sink.new) }
 {
     let mut written = 0;

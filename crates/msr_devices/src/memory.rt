@@ -1,4 +1,4 @@
-// Devices in memory, for tests: they move few bytes in a call, are interrupted, and fail once.
+//! Devices in memory, for tests: they move few bytes in a call, are interrupted, and fail once.
 ghost use Rattle.std.specs.Prelude.{◌≡◌, ◌-◌, ◌<◌, ◌≤◌, List, ℕ, length, drop, Some};
 ghost use Rattle.msr_devices.specs.Device.{Device, unused};
 
@@ -17,7 +17,7 @@ pub struct Behavior {
     pub fails_at: Option<u64>,
 }
 
-// What a test device does at a call.
+/// What a test device does at a call.
 #[derive(Clone, Copy)]
 enum Turn {
     Interrupted,
@@ -25,7 +25,7 @@ enum Turn {
     Succeeds,
 }
 
-// A behavior, and how far it has gone.
+/// A behavior, and how far it has gone.
 #[derive(Clone, Copy)]
 struct Script {
     behavior: Behavior,
@@ -56,7 +56,7 @@ impl Script {
         Turn::Succeeds
     }
 
-    // How many of so many bytes one call moves.
+    /// How many of so many bytes one call moves.
     fn share_of(self, len: usize) -> usize
         ensures within { result ≤ len }
         ensures some { 0 < len → 0 < result }

@@ -1,4 +1,4 @@
-// Bytes that are read ahead of their use.
+//! Bytes that are read ahead of their use.
 ghost use Rattle.std.specs.Prelude.{◌≡◌, ◌⊎◌, ◌≤◌, ◌+◌, ◌-◌, [], length, take, drop, slice_range, true, false, IsOk, OnOk, OnErr, MatchResult};
 ghost use Rattle.msr_devices.specs.Device.{CanCountCall, CountsFew};
 ghost use Rattle.msr_devices.specs.ReadBuffer.{IsFilled, StopsFilling, room_for};
@@ -48,7 +48,7 @@ impl From<AllocError> for FillFault {
     }
 }
 
-// For how many bytes memory is taken at first.
+/// For how many bytes memory is taken at first.
 const PIECE: usize = 65_536;
 
 /// Bytes that were read from a source and are not yet consumed. All calls take the same source.
@@ -103,8 +103,11 @@ impl ReadBuffer {
     /// `Err` the bytes that came stand there, and a further call goes on.
     pub fn fill<R: Source>(&mut self, source: &mut R, want: usize) -> Result<(), FillFault>
         requires { CanCountCall (R.device source.old) }
-        ensures filled { MatchResult result (λ _. IsFilled want (R.device source.old) (R.device source.new) self.old self.new) (StopsFilling want (R.device source.old) (R.device source.new) self.old self.new) }
-        ensures ready { (want ≤ length self.old.bytes) ⊎ (self.old.ended ≡ true) → IsOk result × (R.device source.new ≡ R.device source.old) × (self.new ≡ self.old) }
+        ensures filled { MatchResult result (λ _. IsFilled want (R.device source.old)
+            (R.device source.new) self.old self.new) (StopsFilling want (R.device source.old) (R.device
+            source.new) self.old self.new) }
+        ensures ready { (want ≤ length self.old.bytes) ⊎ (self.old.ended ≡ true)
+            → IsOk result × (R.device source.new ≡ R.device source.old) × (self.new ≡ self.old) }
         ensures room { self.new.room ≤ room_for want self.old.room }
         ensures few { CountsFew (R.device source.old) (R.device source.new) }
     {
@@ -128,8 +131,8 @@ impl ReadBuffer {
     }
 }
 
-// Makes the memory long enough for so many bytes, where it is not: at least twice as long, so that few bytes are
-// moved.
+/// Makes the memory long enough for so many bytes, where it is not: at least twice as long, so that few bytes are
+/// moved.
 fn grow(memory: &mut Vec<u8>, want: usize) -> Result<(), AllocError>
     ensures keeps { take (length memory.old.items) memory.new.items ≡ memory.old.items }
     ensures longer { OnOk result (want ≤ length memory.new.items) }
@@ -145,8 +148,8 @@ fn grow(memory: &mut Vec<u8>, want: usize) -> Result<(), AllocError>
     Ok(())
 }
 
-// Moves the bytes between these places to the front. Those of a record that comes in many small reads are moved
-// once, and not at each read.
+/// Moves the bytes between these places to the front. Those of a record that comes in many small reads are moved
+/// once, and not at each read.
 fn move_to_front(memory: &mut Vec<u8>, start: usize, end: usize)
     requires ordered { start ≤ end }
     requires within { end ≤ length memory.old.items }

@@ -1,4 +1,4 @@
-// What devices do, which no clause says: how a test device plays, how large the pieces are, and each call once.
+//! What devices do, which no clause says: how a test device plays, how large the pieces are, and each call once.
 use crate::{
     Behavior, FillFault, FromRead, FromWrite, ReadBuffer, SinkFailed, SourceFailed, TestSink,
     TestSource, WriteBuffer, read_some, write_all, write_some,
@@ -138,7 +138,7 @@ fn what_was_not_written_waits(rt: HostRuntime) -> Result<(), Fail> {
     Ok(())
 }
 
-// A reader and a writer that note the least room and the least piece, and move all of each.
+/// A reader and a writer that note the least room and the least piece, and move all of each.
 #[derive(Drop)]
 struct Noted {
     least: usize,

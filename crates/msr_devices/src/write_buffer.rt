@@ -1,4 +1,4 @@
-// Bytes that wait to be written.
+//! Bytes that wait to be written.
 ghost use Rattle.std.specs.Prelude.{◌≡◌, ◌<◌, [], length, OnOk, OnErr, IsOk};
 ghost use Rattle.msr_devices.specs.Device.{CanCountCall, CountsFew, HasFailed, IsCalm};
 ghost use Rattle.msr_devices.specs.WriteBuffer.{Passes};
@@ -8,7 +8,7 @@ use crate::failure::SinkFailed;
 use crate::loops::{FailedAfter, write_counted};
 use std::alloc::Global;
 
-// So many bytes wait at most where a call has ended well.
+/// So many bytes wait at most where a call has ended well.
 const PIECE: usize = 65_536;
 
 /// Bytes that wait to be written to a sink. All calls take the same sink.
@@ -35,7 +35,8 @@ impl WriteBuffer {
         ensures calm { OnOk result (IsCalm (W.device sink.old) (W.device sink.new)) }
         ensures failed { OnErr result (HasFailed (W.device sink.old) (W.device sink.new)) }
         ensures few_wait { OnOk result (length self.new.bytes.items < 65536) }
-        ensures waits { length self.old.bytes.items < 65536 → IsOk result × (W.device sink.new ≡ W.device sink.old) × (self.new ≡ self.old) }
+        ensures waits { length self.old.bytes.items < 65536
+            → IsOk result × (W.device sink.new ≡ W.device sink.old) × (self.new ≡ self.old) }
         ensures few { CountsFew (W.device sink.old) (W.device sink.new) }
     {
         if self.bytes.len() < PIECE {

@@ -3,7 +3,7 @@ use Rattle.std.proofs.Common.{◌≡◌, ℕ, ◌^◌, ◌≤◌, Bool, true, fa
 use Rattle.std.specs.Prelude.{is_some, nat_le}
 use Rattle.std.proofs.lemmas.Bool.{and_parts, leb-true}
 use Rattle.msr_time.specs.Instant.{IsTime, is_time}
-use Rattle.msr_time.proofs.TimeLemmas.{is_time-parts}
+use Rattle.msr_time.proofs.TimeLemmas.{is_time_parts}
 use Rattle.msr_header.specs.Layout.{order_of, time_at}
 use Rattle.msr_header.specs.Chain.{chain_end, chain_faults, chain_offsets}
 use Rattle.msr_header.specs.Reading.{first_fault, unless, faults_of, start_faults, data_faults, fields_of, fields_unless, header_of, is_data_record, is_quality, data_blockette, data_blockette_byte}
@@ -23,16 +23,19 @@ pub record IsSound (bytes : List ℕ) (h : Header) : Type 0 where
   pub exponent_is : h.exponent ≡ data_blockette_byte bytes 6
   pub chain_end_is : h.chain_end ≡ chain_end (chain_offsets (order_of bytes) bytes)
 
-ok_parts : (bytes : List ℕ) (h : Header) (f : Option HeaderFault) → fields_unless bytes f ≡ Ok h → (h ≡ fields_of bytes) × (f ≡ None)
+ok_parts : (bytes : List ℕ) (h : Header) (f : Option HeaderFault) → fields_unless bytes f ≡ Ok h
+    → (h ≡ fields_of bytes) × (f ≡ None)
 ok_parts bytes h None e = (cc, refl)
 ok_parts bytes h (Some fault) e = cc
 
-both_none : (xs ys : List (Option HeaderFault)) → first_fault (xs ++ ys) ≡ None → (first_fault xs ≡ None) × (first_fault ys ≡ None)
+both_none : (xs ys : List (Option HeaderFault)) → first_fault (xs ++ ys) ≡ None
+    → (first_fault xs ≡ None) × (first_fault ys ≡ None)
 both_none [] ys e = (refl, e)
 both_none (None ∷ xs) ys e = both_none xs ys e
 both_none (Some fault ∷ xs) ys e = cc
 
-passed : (test : Bool) (fault : HeaderFault) (rest : List (Option HeaderFault)) → first_fault (unless test fault ∷ rest) ≡ None → (test ≡ true) × (first_fault rest ≡ None)
+passed : (test : Bool) (fault : HeaderFault) (rest : List (Option HeaderFault))
+    → first_fault (unless test fault ∷ rest) ≡ None → (test ≡ true) × (first_fault rest ≡ None)
 passed true fault rest e = (refl, e)
 passed false fault rest e = cc
 
@@ -49,7 +52,7 @@ start_passed bytes e =
     let a = passed (nat_le 48 (length bytes)) Truncated second e in
     let b = passed (is_data_record bytes) NotARecord third a.1 in
     let c = passed (is_time (time_at (order_of bytes) bytes)) BadTime [] b.1 in
-    record { record_start = b.0; time = is_time-parts _ c.0 }
+    record { record_start = b.0; time = is_time_parts _ c.0 }
 
 -- and so did blockette 1000, the record's length and the chain's end
 record PassesData (bytes : List ℕ) : Type 0 where
@@ -73,7 +76,12 @@ data_passed bytes e =
     let d = passed (nat_le (2 ^ exponent) (length bytes)) RecordCut past c.1 in
     let f = passed (nat_le end (2 ^ exponent)) ChainPastRecord [] d.1 in
     let range = and_parts _ _ b.0 in
-    record { low = leb-true _ _ range.0; high = leb-true _ _ range.1; within = leb-true _ _ d.0; chain = leb-true _ _ f.0 }
+    record {
+      low = leb-true _ _ range.0;
+      high = leb-true _ _ range.1;
+      within = leb-true _ _ d.0;
+      chain = leb-true _ _ f.0;
+    }
 
 fields_sound : (bytes : List ℕ) → first_fault (faults_of bytes) ≡ None → IsSound bytes (fields_of bytes)
 unfolding faults_of fields_of

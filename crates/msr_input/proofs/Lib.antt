@@ -1,8 +1,8 @@
 pub mod Records
 pub mod Strict
-pub mod Seen
+pub mod SettledRefusals
 pub mod OneReading
 pub mod Rows
-pub mod Coming
+pub mod RecordsThatCame
 pub mod Histories
-pub mod Ahead
+pub mod BytesAhead

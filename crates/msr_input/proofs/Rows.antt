@@ -18,14 +18,18 @@ use Rattle.msr_segments.proofs.Histories.{followed_none, followed_step}
 use Rattle.msr_input.specs.Input.{Agrees, NoneOverruns, HaveBegun, rows_of_records}
 use Rattle.msr_input.specs.Records.{Position, HaveCome, StopsRecords}
 use Rattle.msr_input.specs.Reading.{GaveReadable, IsWritable, StopsReading}
-use Rattle.msr_input.specs.Rows.{RowReading, HasReadRows, ReadsRow, ReadsNoRow, ReadsToEnd, StepsTo, StopsRows, AllRowsAreReadable, row_settings}
-use Rattle.msr_input.specs.Steps.{CanJoin, FollowsRecord, FollowsRow, OverrunsWith, StopsFollowing}
+use Rattle.msr_input.specs.Outlines.{outline_of, row_outline, outline_span}
+use Rattle.msr_input.specs.Rows.{RowReading, HasReadRows, ReadsOutline, ReadsRow, ReadsNoRow, ReadsToEnd, StepsTo, StopsRows, AllRowsAreReadable, next_outline, next_row, row_settings}
+use Rattle.msr_input.specs.Steps.{CanJoin, Follows, IsJudged, IsNext, OverrunsAt, OverrunsWith, StopsFollowing}
+use Rattle.msr_input.specs.declared.outline.Outline.{Outline}
+use Rattle.msr_input.specs.declared.outline.RowOutline.{RowOutline}
 use Rattle.msr_input.specs.declared.settings.Settings.{Settings}
 use Rattle.msr_input.specs.declared.fault.ReadFault.{ReadFault}
 use Rattle.msr_input.specs.declared.fault.ReadFault.TheVariants as fault
+use Rattle.msr_input.specs.declared.row_reader.NextOutline.{NextOutline}
 use Rattle.msr_input.specs.declared.row_reader.NextRow.{NextRow}
-use Rattle.msr_input.proofs.Records.{rows-snoc}
-use Rattle.msr_input.proofs.Histories.{in-range-more, none-overrun, overrun-stops, readable-at-end, row-writable, rows-with, stops-reading}
+use Rattle.msr_input.proofs.Records.{rows_snoc}
+use Rattle.msr_input.proofs.Histories.{in_range_more, none_overrun, overrun_stops, readable_at_end, row_writable, rows_with, stops_reading}
 
 -- a joiner of the same rows, at the follower's place
 record Stands (following : Following) (rows : List Row) : Type 0 where
@@ -34,8 +38,10 @@ record Stands (following : Following) (rows : List Row) : Type 0 where
   joined : HasJoined joining rows given
   stands : following ≡ following_of joining
 
-stands-at : (following : Following) (rows : List Row) (ended : List Part) (last : Option Part) → IsDivision following.tolerance rows (ended ++ option_to_list last) → following.current ≡ option_map part_span last → (last ≡ None → rows ≡ []) → Stands following rows
-stands-at following rows ended None division current begun = record {
+stands_at : (following : Following) (rows : List Row) (ended : List Part) (last : Option Part)
+    → IsDivision following.tolerance rows (ended ++ option_to_list last)
+    → following.current ≡ option_map part_span last → (last ≡ None → rows ≡ []) → Stands following rows
+stands_at following rows ended None division current begun = record {
   joining = record { tolerance = following.tolerance; current = None };
   given = map segment_of ended;
   joined = record {
@@ -44,82 +50,139 @@ stands-at following rows ended None division current begun = record {
   };
   stands = ap (λ (at : Option Span). record { tolerance = following.tolerance; current = at }) current;
 }
-stands-at following rows ended (Some p) division current begun = record {
+stands_at following rows ended (Some p) division current begun = record {
   joining = record { tolerance = following.tolerance; current = Some (segment_of p) };
   given = map segment_of ended;
   joined = record {
-    segments = record { parts = ended ++ p ∷ []; division = division; each = sym (map-append segment_of ended (p ∷ [])) };
+    segments = record {
+      parts = ended ++ p ∷ [];
+      division = division;
+      each = sym (map-append segment_of ended (p ∷ []));
+    };
     begun = λ e. absurd cc;
   };
   stands = ap (λ (at : Option Span). record { tolerance = following.tolerance; current = at }) current;
 }
 
-stands-so : (following : Following) (rows : List Row) (answers : List Step) → HasFollowed following rows answers → Stands following rows
-stands-so following rows answers followed = stands-at following rows followed.ended followed.last followed.division followed.current followed.begun
+stands_so : (following : Following) (rows : List Row) (answers : List Step) → HasFollowed following rows answers
+    → Stands following rows
+stands_so following rows answers followed =
+    stands_at following rows followed.ended followed.last followed.division followed.current followed.begun
 
-same-tolerance : (following : Following) (rows : List Row) (at : Stands following rows) → following.tolerance ≡ at.joining.tolerance
-same-tolerance following rows at = ap (λ (f : Following). f.tolerance) at.stands
+same_tolerance : (following : Following) (rows : List Row) (at : Stands following rows)
+    → following.tolerance ≡ at.joining.tolerance
+same_tolerance following rows at = ap (λ (f : Following). f.tolerance) at.stands
 
-pub same-row-settings : (a b : RowReading) → a.following ≡ b.following → a.position.strict ≡ b.position.strict → row_settings a ≡ row_settings b
-same-row-settings a b following strict = rw (following, strict) refl
+pub same_row_settings : (a b : RowReading) → a.following ≡ b.following → a.position.strict ≡ b.position.strict
+    → row_settings a ≡ row_settings b
+same_row_settings a b following strict = rw (following, strict) refl
 
 -- before the first record
-pub rows-none : (start : Device) (position : Position) (tolerance : ℕ) → HaveCome start start position [] → HasReadRows start start (record { position = position; following = record { tolerance = tolerance; current = None } }) [] []
-rows-none start position tolerance come = record { came = come; in_range = none-overrun tolerance; followed = followed_none tolerance }
+pub rows_none : (start : Device) (position : Position) (tolerance : ℕ) → HaveCome start start position []
+    → HasReadRows start start (record {
+      position = position;
+      following = record { tolerance = tolerance; current = None };
+    }) [] []
+rows_none start position tolerance come = record
+    { came = come; in_range = none_overrun tolerance; followed = followed_none tolerance }
 
 -- after bytes were read ahead
-pub rows-come : (s a b : Device) (reading : RowReading) (new : Position) (records : List Record) (answers : List Step) → HasReadRows s a reading records answers → HaveCome s b new records → HasReadRows s b (record { position = new; following = reading.following }) records answers
-rows-come s a b reading new records answers has come = record { came = come; in_range = has.in_range; followed = has.followed }
+pub rows_come : (s a b : Device) (reading : RowReading) (new : Position) (records : List Record)
+    (answers : List Step) → HasReadRows s a reading records answers → HaveCome s b new records
+    → HasReadRows s b (record { position = new; following = reading.following }) records answers
+rows_come s a b reading new records answers has come =
+    record { came = come; in_range = has.in_range; followed = has.followed }
 
 -- no further record was given
-pub rows-stop : (settings : Settings) (s a : Device) (records : List Record) (why : ReadFault) → StopsRecords settings.strict s a records why → NoneOverruns settings.tolerance records → StopsRows settings s a records why
-rows-stop settings s a records why stop none = λ given begun. stops-reading settings s a records given why stop none begun
+pub rows_stop : (settings : Settings) (s a : Device) (records : List Record) (why : ReadFault)
+    → StopsRecords settings.strict s a records why → NoneOverruns settings.tolerance records
+    → StopsRows settings s a records why
+rows_stop settings s a records why stop none =
+    λ given begun. stops_reading settings s a records given why stop none begun
+
+-- a row lies where its outline does
+overruns_row : (following : Following) (row : Option Row) → OverrunsAt following (option_map row_outline row)
+    → OverrunsWith following row
+overruns_row following None over = let none = over.has_row in absurd cc
+overruns_row following (Some row) over =
+    let some = over.has_row in
+    let same : row_outline row ≡ over.the_row = cc in
+    record {
+      the_row = row;
+      has_row = refl;
+      overruns =
+          subst (λ (at : RowOutline). Overruns following (outline_span at)) (sym same) over.overruns;
+    }
 
 -- the row of the next record ends its segment out of range
-pub follow-stops : (s a : Device) (reading : RowReading) (records : List Record) (answers : List Step) (found : Record) (why : ReadFault) → HasReadRows s a reading records answers → IsRecordOf reading.position.waiting found → Agrees reading.position.strict found → StopsFollowing reading.following found.row reading.position.offset why → StopsRows (row_settings reading) s a records why
-follow-stops s a reading records answers found (fault.Input f) has is agrees stop = λ given begun.
-    let at = stands-so reading.following (rows_of_records records) answers has.followed in
-    let same = same-tolerance reading.following (rows_of_records records) at in
-    let over : OverrunsWith (following_of at.joining) found.row = subst (λ (f : Following). OverrunsWith f found.row) at.stands stop.2 in
+pub follow_stops : (s a : Device) (reading : RowReading) (records : List Record) (answers : List Step)
+    (found : Record) (why : ReadFault) → HasReadRows s a reading records answers
+    → IsRecordOf reading.position.waiting found → Agrees reading.position.strict found
+    → StopsFollowing reading.following (option_map row_outline found.row) reading.position.offset why
+    → StopsRows (row_settings reading) s a records why
+follow_stops s a reading records answers found (fault.Input f) has is agrees stop = λ given begun.
+    let at = stands_so reading.following (rows_of_records records) answers has.followed in
+    let same = same_tolerance reading.following (rows_of_records records) at in
+    let over : OverrunsWith (following_of at.joining) found.row =
+    subst (λ (f : Following). OverrunsWith f found.row) at.stands
+    (overruns_row reading.following found.row stop.2) in
     let none = subst (λ (t : ℕ). NoneOverruns t records) same has.in_range in
     let begun-at = subst (λ (t : ℕ). HaveBegun t records given) same begun in
-    let stops = overrun-stops s a reading.position at.joining records at.given given found f has.came none at.joined is agrees stop.0 stop.1 over begun-at in
-    subst (λ (t : ℕ). StopsReading (record { tolerance = t; strict = reading.position.strict }) s a given (fault.Input f)) (sym same) (stops, has.came.steady)
-follow-stops s a reading records answers found fault.Read has is agrees stop = absurd stop
-follow-stops s a reading records answers found fault.Memory has is agrees stop = absurd stop
+    let stops = overrun_stops s a reading.position at.joining records at.given given found f has.came none
+    at.joined is agrees stop.0 stop.1 over begun-at in
+    subst (λ (t : ℕ). StopsReading (record { tolerance = t; strict = reading.position.strict }) s a given
+    (fault.Input f)) (sym same) (stops, has.came.steady)
+follow_stops s a reading records answers found fault.Read has is agrees stop = absurd stop
+follow_stops s a reading records answers found fault.Memory has is agrees stop = absurd stop
 
-in-range-followed : (following : Following) (records : List Record) (answers : List Step) (found : Record) → NoneOverruns following.tolerance records → HasFollowed following (rows_of_records records) answers → IfSome found.row RowIsInTime → ((row : Row) → found.row ≡ Some row → Overruns following (row_span row) → ⊥) → NoneOverruns following.tolerance (records ++ found ∷ [])
-in-range-followed following records answers found none followed in_time within =
-    let at = stands-so following (rows_of_records records) answers followed in
-    let same = same-tolerance following (rows_of_records records) at in
+in_range_followed : (following : Following) (records : List Record) (answers : List Step) (found : Record)
+    → NoneOverruns following.tolerance records → HasFollowed following (rows_of_records records) answers
+    → IfSome found.row RowIsInTime → ((row : Row) → found.row ≡ Some row → Overruns following (row_span row) → ⊥)
+    → NoneOverruns following.tolerance (records ++ found ∷ [])
+in_range_followed following records answers found none followed in_time within =
+    let at = stands_so following (rows_of_records records) answers followed in
+    let same = same_tolerance following (rows_of_records records) at in
     let none-at = subst (λ (t : ℕ). NoneOverruns t records) same none in
-    let more = in-range-more at.joining records at.given found none-at at.joined in_time (λ row e over. within row e (subst (λ (f : Following). Overruns f (row_span row)) (sym at.stands) over)) in
+    let more = in_range_more at.joining records at.given found none-at at.joined in_time
+    (λ row e over. within row e (subst (λ (f : Following). Overruns f (row_span row)) (sym at.stands) over)) in
     subst (λ (t : ℕ). NoneOverruns t (records ++ found ∷ [])) (sym same) more
 
-step-tolerance : (old new : Following) (row : Span) (answer : Step) → IsStep old row answer new → new.tolerance ≡ old.tolerance
-step-tolerance old new row Begins k = ap (λ (f : Following). f.tolerance) k.after
-step-tolerance old new row Joins k = ap (λ (f : Following). f.tolerance) k.after
+step_tolerance : (old new : Following) (row : Span) (answer : Step) → IsStep old row answer new
+    → new.tolerance ≡ old.tolerance
+step_tolerance old new row Begins k = ap (λ (f : Following). f.tolerance) k.after
+step_tolerance old new row Joins k = ap (λ (f : Following). f.tolerance) k.after
 
 -- after a record without a row
-passed-none : (s a : Device) (old new : Position) (before : Following) (records : List Record) (answers : List Step) (found : Record) → HasReadRows s a (record { position = old; following = before }) records answers → IsRecordOf old.waiting found → found.row ≡ None → HaveCome s a new (records ++ found ∷ []) → ReadsNoRow s a (record { position = new; following = before }) records answers
-passed-none s a old new before records answers found has is none come =
-    let rows : rows_of_records (records ++ found ∷ []) ≡ rows_of_records records = rows-snoc records found ∙ ap (λ (row : Option Row). rows_of_records records ++ option_to_list row) none ∙ append-nil (rows_of_records records) in
+passed_none : (s a : Device) (old new : Position) (before : Following) (records : List Record)
+    (answers : List Step) (found : Record) → HasReadRows s a
+    (record { position = old; following = before }) records answers → IsRecordOf old.waiting found
+    → found.row ≡ None → HaveCome s a new (records ++ found ∷ [])
+    → ReadsNoRow s a (record { position = new; following = before }) records answers
+passed_none s a old new before records answers found has is none come =
+    let rows : rows_of_records (records ++ found ∷ []) ≡ rows_of_records records = rows_snoc records found
+    ∙ ap (λ (row : Option Row). rows_of_records records ++ option_to_list row) none
+    ∙ append-nil (rows_of_records records) in
     record {
       after = records ++ found ∷ [];
       rows = rows;
       read = record {
         came = come;
-        in_range = in-range-followed before records answers found has.in_range has.followed is.in_time (λ row e over. let no : ◌≡◌ {A = Option Row} None (Some row) = sym none ∙ e in cc);
+        in_range = in_range_followed before records answers found has.in_range has.followed is.in_time
+            (λ row e over. let no : ◌≡◌ {A = Option Row} None (Some row) = sym none ∙ e in cc);
         followed = subst (λ (all : List Row). HasFollowed before all answers) (sym rows) has.followed;
       };
     }
 
 -- after one with a row
-passed-row : (s a : Device) (old new : Position) (before after : Following) (records : List Record) (answers : List Step) (found : Record) (row : Row) (answer : Step) → HasReadRows s a (record { position = old; following = before }) records answers → IsRecordOf old.waiting found → found.row ≡ Some row → IsStep before (row_span row) answer after → (Overruns before (row_span row) → ⊥) → HaveCome s a new (records ++ found ∷ [])
+passed_row : (s a : Device) (old new : Position) (before after : Following) (records : List Record)
+    (answers : List Step) (found : Record) (row : Row) (answer : Step)
+    → HasReadRows s a (record { position = old; following = before }) records answers
+    → IsRecordOf old.waiting found → found.row ≡ Some row → IsStep before (row_span row) answer after
+    → (Overruns before (row_span row) → ⊥) → HaveCome s a new (records ++ found ∷ [])
     → ReadsRow s a (record { position = new; following = after }) records answers (record { step = answer; row = row })
-passed-row s a old new before after records answers found row answer has is some step within come =
-    let rows = rows-with records found row some in
-    let none = in-range-followed before records answers found has.in_range has.followed is.in_time (λ other e over.
+passed_row s a old new before after records answers found row answer has is some step within come =
+    let rows = rows_with records found row some in
+    let none = in_range_followed before records answers found has.in_range has.followed is.in_time (λ other e over.
     (let same : other ≡ row = (let both : ◌≡◌ {A = Option Row} (Some other) (Some row) = sym e ∙ some in cc) in
     within (subst (λ (r : Row). Overruns before (row_span r)) same over))) in
     record {
@@ -127,75 +190,186 @@ passed-row s a old new before after records answers found row answer has is some
       rows = rows;
       read = record {
         came = come;
-        in_range = subst (λ (t : ℕ). NoneOverruns t (records ++ found ∷ [])) (sym (step-tolerance before after (row_span row) answer step)) none;
-        followed = subst (λ (all : List Row). HasFollowed after all (answers ++ answer ∷ [])) (sym rows) (followed_step before after (rows_of_records records) answers row answer has.followed step);
+        in_range = subst (λ (t : ℕ). NoneOverruns t (records ++ found ∷ []))
+            (sym (step_tolerance before after (row_span row) answer step)) none;
+        followed = subst (λ (all : List Row). HasFollowed after all (answers ++ answer ∷ [])) (sym rows)
+            (followed_step before after (rows_of_records records) answers row answer has.followed step);
       };
     }
 
 -- what a reader of rows shows after a record, by what its row did
 abbrev pub ReadsOn : Device → Device → RowReading → List Record → List Step → Option NextRow → Type 0
-ReadsOn s a reading records answers next = MatchOption next (ReadsNoRow s a reading records answers) (ReadsRow s a reading records answers)
+ReadsOn s a reading records answers next = MatchOption next (ReadsNoRow s a reading records answers)
+    (ReadsRow s a reading records answers)
 
-passed-some : (s a : Device) (old new : Position) (before after : Following) (records : List Record) (answers : List Step) (found : Record) (row : Row) (next : Option NextRow) → HasReadRows s a (record { position = old; following = before }) records answers → IsRecordOf old.waiting found → found.row ≡ Some row → FollowsRow before row next after → HaveCome s a new (records ++ found ∷ [])
-    → ReadsOn s a (record { position = new; following = after }) records answers next
-passed-some s a old new before after records answers found row next has is some follows come =
-    subst (λ (n : Option NextRow). ReadsOn s a (record { position = new; following = after }) records answers n) (sym follows.told) (passed-row s a old new before after records answers found row follows.answer has is some follows.step follows.in_range come)
-
-passed-so : (s a : Device) (old new : Position) (before after : Following) (records : List Record) (answers : List Step) (found : Record) (row : Option Row) (next : Option NextRow) → HasReadRows s a (record { position = old; following = before }) records answers → IsRecordOf old.waiting found → found.row ≡ row → FollowsRecord before row next after → HaveCome s a new (records ++ found ∷ [])
-    → ReadsOn s a (record { position = new; following = after }) records answers next
-passed-so s a old new before after records answers found None next has is none follows come =
-    rw (follows.0, follows.1) (passed-none s a old new before records answers found has is none come)
-passed-so s a old new before after records answers found (Some row) next has is some follows come =
-    passed-some s a old new before after records answers found row next has is some follows come
+passed_so : (s a : Device) (old new : Position) (before after : Following) (records : List Record)
+    (answers : List Step) (found : Record) (row : Option Row) (step : Option Step)
+    → HasReadRows s a (record { position = old; following = before }) records answers
+    → IsRecordOf old.waiting found → found.row ≡ row → Follows before (option_map row_outline row) step after
+    → HaveCome s a new (records ++ found ∷ []) → ReadsOn s a
+    (record { position = new; following = after }) records answers (next_row step row)
+passed_so s a old new before after records answers found None step has is none follows come =
+    rw (follows.0, follows.1) (passed_none s a old new before records answers found has is none come)
+passed_so s a old new before after records answers found (Some row) step has is some follows come =
+    subst (λ (told : Option Step). ReadsOn s a (record { position = new; following = after }) records answers
+    (next_row told (Some row))) (sym follows.told) (passed_row s a old new before after records answers found
+    row follows.answer has is some follows.is_step follows.in_range come)
 
 -- after a record was passed
-pub rows-passed : (s a : Device) (old new : Position) (before after : Following) (records : List Record) (answers : List Step) (found : Record) (next : Option NextRow) → HasReadRows s a (record { position = old; following = before }) records answers → IsRecordOf old.waiting found → FollowsRecord before found.row next after → HaveCome s a new (records ++ found ∷ [])
-    → ReadsOn s a (record { position = new; following = after }) records answers next
-rows-passed s a old new before after records answers found next has is follows come =
-    passed-so s a old new before after records answers found found.row next has is refl follows come
+pub rows_passed : (s a : Device) (old new : Position) (before after : Following) (records : List Record)
+    (answers : List Step) (found : Record) (step : Option Step)
+    → HasReadRows s a (record { position = old; following = before }) records answers
+    → IsRecordOf old.waiting found → Follows before (option_map row_outline found.row) step after
+    → HaveCome s a new (records ++ found ∷ []) → ReadsOn s a
+    (record { position = new; following = after }) records answers (next_row step found.row)
+rows_passed s a old new before after records answers found step has is follows come =
+    passed_so s a old new before after records answers found found.row step has is refl follows come
 
 -- a record's row can be joined and written
 abbrev pub CanBeTaken : NextRow → Type 0
 CanBeTaken next = CanJoin next.row × IsWritable (row_segment next.row)
 
-row-given-so : (bytes : List ℕ) (old new : Following) (found : Record) (row : Option Row) (next : Option NextRow) → IsRecordOf bytes found → found.row ≡ row → IfSome row CanJoin → FollowsRecord old row next new → IfSome next CanBeTaken
-row-given-so bytes old new found None next is e can follows = rw follows.0 tt
-row-given-so bytes old new found (Some row) next is e can follows =
-    subst (λ (n : Option NextRow). IfSome n CanBeTaken) (sym follows.told) (can, row-writable bytes found row is e)
+row_given_so : (bytes : List ℕ) (found : Record) (row : Option Row) (step : Option Step) → IsRecordOf bytes found
+    → found.row ≡ row → IfSome row CanJoin → IfSome (next_row step row) CanBeTaken
+row_given_so bytes found row None is e can = tt
+row_given_so bytes found None (Some answer) is e can = tt
+row_given_so bytes found (Some row) (Some answer) is e can = (can, row_writable bytes found row is e)
 
-pub row-given : (bytes : List ℕ) (old new : Following) (found : Record) (next : Option NextRow) → IsRecordOf bytes found → IfSome found.row CanJoin → FollowsRecord old found.row next new → IfSome next CanBeTaken
-row-given bytes old new found next is can follows = row-given-so bytes old new found found.row next is refl can follows
+pub row_given : (bytes : List ℕ) (found : Record) (step : Option Step) → IsRecordOf bytes found
+    → IfSome found.row CanJoin → IfSome (next_row step found.row) CanBeTaken
+row_given bytes found step is can = row_given_so bytes found found.row step is refl can
+
+-- the record that was read stands behind its outline
+pub next_of : (position : Position) (outline : Outline)
+    → IsJudged (λ found. outline ≡ outline_of found) position.strict position.waiting
+    → (found : Record) × IsNext position outline found
+next_of position outline judged = (
+  judged.found,
+  record {
+    outline_is = judged.stands_for;
+    is_record = judged.is_record;
+    can_join = judged.can_join;
+    agrees = judged.agrees;
+  },
+)
+
+-- a record that was read with its samples is the one that the bytes begin with
+pub next_read : (position : Position) (found : Record) (outline : Outline)
+    → IsJudged (λ other. found ≡ other) position.strict position.waiting → outline ≡ outline_of found
+    → IsNext position outline found
+next_read position found outline judged same = record {
+  outline_is = same;
+  is_record = subst (λ (it : Record). IsRecordOf position.waiting it) (sym judged.stands_for) judged.is_record;
+  can_join = subst (λ (it : Record). IfSome it.row CanJoin) (sym judged.stands_for) judged.can_join;
+  agrees = subst (λ (it : Record). Agrees position.strict it) (sym judged.stands_for) judged.agrees;
+}
+
+-- a row was told, by its outline
+outline_told_so : (s a : Device) (bytes : List ℕ) (reading : RowReading) (records : List Record)
+    (answers : List Step) (found : Record) (row : Option Row) (step : Option Step) (next : NextOutline)
+    → IsRecordOf bytes found → found.row ≡ row → next_outline step (option_map row_outline row) ≡ Some next
+    → ReadsOn s a reading records answers (next_row step row) → ReadsOutline s a reading records answers next
+outline_told_so s a bytes reading records answers found None None next is e told reads = absurd cc
+outline_told_so s a bytes reading records answers found None (Some answer) next is e told reads = absurd cc
+outline_told_so s a bytes reading records answers found (Some row) None next is e told reads = absurd cc
+outline_told_so s a bytes reading records answers found (Some row) (Some answer) next is e told reads =
+    let same : ◌≡◌ {A = NextOutline} (record { step = answer; row = row_outline row }) next = cc in
+    let outline : ReadsOutline s a reading records answers (record { step = answer; row = row_outline row }) =
+    record { row = row; outline_is = refl; writable = row_writable bytes found row is e; reads = reads } in
+    subst (λ (n : NextOutline). ReadsOutline s a reading records answers n) same outline
+
+pub outline_told : (s a : Device) (position : Position) (reading : RowReading) (records : List Record)
+    (answers : List Step) (outline : Outline) (found : Record) (step : Option Step) (next : NextOutline)
+    → IsNext position outline found → next_outline step outline.row ≡ Some next
+    → ReadsOn s a reading records answers (next_row step found.row)
+    → ReadsOutline s a reading records answers next
+outline_told s a position reading records answers outline found step next given told reads =
+    let same = ap (λ (o : Outline). next_outline step o.row) given.outline_is in
+    outline_told_so s a position.waiting reading records answers found found.row step next given.is_record refl
+    (sym same ∙ told) reads
+
+-- none was told
+outline_none_so : (s a : Device) (reading : RowReading) (records : List Record) (answers : List Step)
+    (row : Option Row) (step : Option Step) → next_outline step (option_map row_outline row) ≡ None
+    → ReadsOn s a reading records answers (next_row step row) → ReadsNoRow s a reading records answers
+outline_none_so s a reading records answers row None told reads = reads
+outline_none_so s a reading records answers None (Some answer) told reads = reads
+outline_none_so s a reading records answers (Some row) (Some answer) told reads = absurd cc
+
+pub outline_none : (s a : Device) (position : Position) (reading : RowReading) (records : List Record)
+    (answers : List Step) (outline : Outline) (found : Record) (step : Option Step) → IsNext position outline found
+    → next_outline step outline.row ≡ None → ReadsOn s a reading records answers (next_row step found.row)
+    → ReadsNoRow s a reading records answers
+outline_none s a position reading records answers outline found step given told reads =
+    let same = ap (λ (o : Outline). next_outline step o.row) given.outline_is in
+    outline_none_so s a reading records answers found.row step (sym same ∙ told) reads
+
+-- and the follower stays where it is
+pub outline_stays : (old new : Following) (row : Option RowOutline) (step : Option Step) → Follows old row step new
+    → next_outline step row ≡ None → new ≡ old
+outline_stays old new None step follows told = follows.1
+outline_stays old new (Some row) step follows told =
+    let some : next_outline (Some follows.answer) (Some row) ≡ None =
+    subst (λ (s : Option Step). next_outline s (Some row) ≡ None) follows.told told in
+    absurd cc
+
+pub outline_bounds : (P : Type 0) (row : Option RowOutline) (step : Option Step) (next : NextOutline)
+    → next_outline step row ≡ Some next → IfSome step (λ answer. P) → P
+outline_bounds P row None next told holds = absurd cc
+outline_bounds P row (Some answer) next told holds = holds
 
 -- after records without rows the same holds
-pub stops-behind : (settings : Settings) (s a b : Device) (reading : RowReading) (records : List Record) (answers : List Step) (why : ReadFault) (none : ReadsNoRow s a reading records answers) → StopsRows settings s b none.after why → StopsRows settings s b records why
-stops-behind settings s a b reading records answers why none stops = λ given begun.
+pub stops_behind : (settings : Settings) (s a b : Device) (reading : RowReading) (records : List Record)
+    (answers : List Step) (why : ReadFault) (none : ReadsNoRow s a reading records answers)
+    → StopsRows settings s b none.after why → StopsRows settings s b records why
+stops_behind settings s a b reading records answers why none stops = λ given begun.
     stops given (record { others = begun.others; are_segments = rw none.rows begun.are_segments })
 
-pub none-behind : (s a b : Device) (reading new : RowReading) (records : List Record) (answers : List Step) (none : ReadsNoRow s a reading records answers) → ReadsNoRow s b new none.after answers → ReadsNoRow s b new records answers
-none-behind s a b reading new records answers none more = record { after = more.after; rows = more.rows ∙ none.rows; read = more.read }
+pub none_behind : (s a b : Device) (reading new : RowReading) (records : List Record) (answers : List Step)
+    (none : ReadsNoRow s a reading records answers) → ReadsNoRow s b new none.after answers
+    → ReadsNoRow s b new records answers
+none_behind s a b reading new records answers none more =
+    record { after = more.after; rows = more.rows ∙ none.rows; read = more.read }
 
-pub row-behind : (s a b : Device) (reading new : RowReading) (records : List Record) (answers : List Step) (next : NextRow) (none : ReadsNoRow s a reading records answers) → ReadsRow s b new none.after answers next → ReadsRow s b new records answers next
-row-behind s a b reading new records answers next none more = record {
+pub row_behind : (s a b : Device) (reading new : RowReading) (records : List Record) (answers : List Step)
+    (next : NextRow) (none : ReadsNoRow s a reading records answers) → ReadsRow s b new none.after answers next
+    → ReadsRow s b new records answers next
+row_behind s a b reading new records answers next none more = record {
   after = more.after;
   rows = more.rows ∙ ap (λ (rows : List Row). rows ++ next.row ∷ []) none.rows;
   read = more.read;
+}
+
+pub outline_behind : (s a b : Device) (reading new : RowReading) (records : List Record) (answers : List Step)
+    (next : NextOutline) (none : ReadsNoRow s a reading records answers)
+    → ReadsOutline s b new none.after answers next → ReadsOutline s b new records answers next
+outline_behind s a b reading new records answers next none more = record {
+  row = more.row;
+  outline_is = more.outline_is;
+  writable = more.writable;
+  reads = row_behind s a b reading new records answers (record { step = next.step; row = more.row }) none more.reads;
 }
 
 pub all_rows_are_readable : AllRowsAreReadable
 all_rows_are_readable start now reading records answers joining given end joined same =
     let none = subst (λ (t : ℕ). NoneOverruns t end.none.after) (sym same) end.none.read.in_range in
     let all = subst (λ (rows : List Row). HasJoined joining rows given) (sym end.none.rows) joined in
-    subst (λ (t : ℕ). GaveReadable start (record { tolerance = t; strict = reading.position.strict }) (given ++ option_to_list joining.current) reading.position.counts) same
-    (readable-at-end start now reading.position joining end.none.after given end.none.read.came end.none_wait end.ended none all)
+    subst (λ (t : ℕ). GaveReadable start (record { tolerance = t; strict = reading.position.strict })
+    (given ++ option_to_list joining.current) reading.position.counts) same
+    (readable_at_end start now reading.position joining end.none.after given end.none.read.came end.none_wait
+    end.ended none all)
 
-pub end-behind : (s a b : Device) (reading new : RowReading) (records : List Record) (answers : List Step) (none : ReadsNoRow s a reading records answers) → ReadsToEnd s b new none.after answers → ReadsToEnd s b new records answers
-end-behind s a b reading new records answers none end = record {
-  none = none-behind s a b reading new records answers none end.none;
+pub end_behind : (s a b : Device) (reading new : RowReading) (records : List Record) (answers : List Step)
+    (none : ReadsNoRow s a reading records answers) → ReadsToEnd s b new none.after answers
+    → ReadsToEnd s b new records answers
+end_behind s a b reading new records answers none end = record {
+  none = none_behind s a b reading new records answers none end.none;
   none_wait = end.none_wait;
   ended = end.ended;
 }
 
 -- what a record does with a follower, by what is told of its row
-pub steps-to : (old new : Following) (row : Option Row) (next : Option NextRow) → FollowsRecord old row next new → StepsTo old next new
-steps-to old new None next follows = rw follows.0 follows.1
-steps-to old new (Some row) next follows = rw follows.told follows.step
+pub steps_to : (old new : Following) (row : Option Row) (step : Option Step)
+    → Follows old (option_map row_outline row) step new → StepsTo old (next_row step row) new
+steps_to old new None step follows = rw follows.0 follows.1
+steps_to old new (Some row) step follows = rw follows.told follows.is_step

@@ -10,50 +10,69 @@ use Rattle.msr_record.proofs.OneAnswer.{not_refused, one_fault, reverse_not_refu
 use Rattle.msr_input.specs.Input.{Agrees, IsRefusedAlone, Mismatches}
 
 -- every fault but that of the time comes before the reverse constant
-pub alone-before : (strict : Bool) (bytes : List ℕ) (kind : FaultKind) → IsRefused bytes kind → kind ≢ TimeRange → IsRefusedAlone strict bytes kind
-alone-before strict bytes kind refused before =
-    inr ((λ m. reverse_not_refused bytes false m.reverse (record { fault = kind; refused = refused; before = before })), refused)
+pub alone_before : (strict : Bool) (bytes : List ℕ) (kind : FaultKind) → IsRefused bytes kind → kind ≢ TimeRange
+    → IsRefusedAlone strict bytes kind
+alone_before strict bytes kind refused before =
+    inr (
+      (λ m. reverse_not_refused bytes false m.reverse
+          (record { fault = kind; refused = refused; before = before })),
+      refused,
+    )
 
 -- reading that is not strict does not look at it
-pub alone-lenient : (bytes : List ℕ) (kind : FaultKind) → IsRefused bytes kind → IsRefusedAlone false bytes kind
-alone-lenient bytes kind refused = inr ((λ m. let e = m.is_strict in cc), refused)
+pub alone_lenient : (bytes : List ℕ) (kind : FaultKind) → IsRefused bytes kind → IsRefusedAlone false bytes kind
+alone_lenient bytes kind refused = inr ((λ m. let e = m.is_strict in cc), refused)
 
 -- strict reading does, and refuses a record that does not agree
-pub alone-mismatched : (strict : Bool) (bytes : List ℕ) (found : Record) → IsRecordOf bytes found → strict ≡ true → found.reverse_agrees ≡ false → IsRefusedAlone strict bytes ReverseMismatch
-alone-mismatched strict bytes found is is_strict differs =
-    inl (record { is_strict = is_strict; reverse = subst (λ (agrees : Bool). HasReverse bytes agrees) differs (reverse_of_record bytes found is) }, refl)
+pub alone_mismatched : (strict : Bool) (bytes : List ℕ) (found : Record) → IsRecordOf bytes found → strict ≡ true
+    → found.reverse_agrees ≡ false → IsRefusedAlone strict bytes ReverseMismatch
+alone_mismatched strict bytes found is is_strict differs =
+    inl (
+      record {
+        is_strict = is_strict;
+        reverse =
+            subst (λ (agrees : Bool). HasReverse bytes agrees) differs (reverse_of_record bytes found is);
+      },
+      refl,
+    )
 
 -- but none where nothing is said of it, or that it agrees
-pub alone-agreed : (strict : Bool) (bytes : List ℕ) (kind : FaultKind) (agrees : Bool) → HasReverse bytes agrees → agrees ≢ false → IsRefused bytes kind → IsRefusedAlone strict bytes kind
-alone-agreed strict bytes kind agrees has other refused =
+pub alone_agreed : (strict : Bool) (bytes : List ℕ) (kind : FaultKind) (agrees : Bool) → HasReverse bytes agrees
+    → agrees ≢ false → IsRefused bytes kind → IsRefusedAlone strict bytes kind
+alone_agreed strict bytes kind agrees has other refused =
     inr ((λ m. other (reverse_one bytes agrees false has m.reverse)), refused)
 
-pub alone-unsaid : (strict : Bool) (bytes : List ℕ) (kind : FaultKind) → IsRefusedBeforeTime bytes → IsRefused bytes kind → IsRefusedAlone strict bytes kind
-alone-unsaid strict bytes kind before refused = inr ((λ m. reverse_not_refused bytes false m.reverse before), refused)
+pub alone_unsaid : (strict : Bool) (bytes : List ℕ) (kind : FaultKind) → IsRefusedBeforeTime bytes
+    → IsRefused bytes kind → IsRefusedAlone strict bytes kind
+alone_unsaid strict bytes kind before refused = inr ((λ m. reverse_not_refused bytes false m.reverse before), refused)
 
 -- a record whose reverse constant agrees where reading is strict
-pub not-mismatched : (strict : Bool) (bytes : List ℕ) (found : Record) → IsRecordOf bytes found → Agrees strict found → Mismatches strict bytes → ⊥
-not-mismatched strict bytes found is agrees m =
+pub not_mismatched : (strict : Bool) (bytes : List ℕ) (found : Record) → IsRecordOf bytes found
+    → Agrees strict found → Mismatches strict bytes → ⊥
+not_mismatched strict bytes found is agrees m =
     let one = reverse_one bytes false found.reverse_agrees m.reverse (reverse_of_record bytes found is) in
     let yes = agrees m.is_strict in
     cc
 
-pub not-alone : (strict : Bool) (bytes : List ℕ) (found : Record) (kind : FaultKind) → IsRecordOf bytes found → Agrees strict found → IsRefusedAlone strict bytes kind → ⊥
-not-alone strict bytes found kind is agrees (inl m) = not-mismatched strict bytes found is agrees m.0
-not-alone strict bytes found kind is agrees (inr r) = not_refused bytes found kind is r.1
+pub not_alone : (strict : Bool) (bytes : List ℕ) (found : Record) (kind : FaultKind) → IsRecordOf bytes found
+    → Agrees strict found → IsRefusedAlone strict bytes kind → ⊥
+not_alone strict bytes found kind is agrees (inl m) = not_mismatched strict bytes found is agrees m.0
+not_alone strict bytes found kind is agrees (inr r) = not_refused bytes found kind is r.1
 
 -- a record has one fault by itself
-pub one-alone : (strict : Bool) (bytes : List ℕ) (kind other : FaultKind) → IsRefusedAlone strict bytes kind → IsRefusedAlone strict bytes other → kind ≡ other
-one-alone strict bytes kind other (inl m) (inl n) = m.1 ∙ sym n.1
-one-alone strict bytes kind other (inl m) (inr r) = absurd (r.0 m.0)
-one-alone strict bytes kind other (inr r) (inl m) = absurd (r.0 m.0)
-one-alone strict bytes kind other (inr r) (inr s) = one_fault bytes kind other r.1 s.1
+pub one_alone : (strict : Bool) (bytes : List ℕ) (kind other : FaultKind) → IsRefusedAlone strict bytes kind
+    → IsRefusedAlone strict bytes other → kind ≡ other
+one_alone strict bytes kind other (inl m) (inl n) = m.1 ∙ sym n.1
+one_alone strict bytes kind other (inl m) (inr r) = absurd (r.0 m.0)
+one_alone strict bytes kind other (inr r) (inl m) = absurd (r.0 m.0)
+one_alone strict bytes kind other (inr r) (inr s) = one_fault bytes kind other r.1 s.1
 
 -- bytes that begin with the same record have the same fault
-mismatches-same : (strict : Bool) (xs ys : List ℕ) → SameRecord xs ys → Mismatches strict xs → Mismatches strict ys
-mismatches-same strict xs ys s m = record { is_strict = m.is_strict; reverse = reverse_same xs ys false s m.reverse }
+mismatches_same : (strict : Bool) (xs ys : List ℕ) → SameRecord xs ys → Mismatches strict xs → Mismatches strict ys
+mismatches_same strict xs ys s m = record { is_strict = m.is_strict; reverse = reverse_same xs ys false s m.reverse }
 
-pub alone-same : (strict : Bool) (xs ys : List ℕ) (kind : FaultKind) → SameRecord xs ys → IsRefusedAlone strict xs kind → IsRefusedAlone strict ys kind
-alone-same strict xs ys kind s (inl m) = inl (mismatches-same strict xs ys s m.0, m.1)
-alone-same strict xs ys kind s (inr r) =
-    inr ((λ m. r.0 (mismatches-same strict ys xs (turned xs ys s) m)), refused_same xs ys kind s r.1)
+pub alone_same : (strict : Bool) (xs ys : List ℕ) (kind : FaultKind) → SameRecord xs ys
+    → IsRefusedAlone strict xs kind → IsRefusedAlone strict ys kind
+alone_same strict xs ys kind s (inl m) = inl (mismatches_same strict xs ys s m.0, m.1)
+alone_same strict xs ys kind s (inr r) =
+    inr ((λ m. r.0 (mismatches_same strict ys xs (turned xs ys s) m)), refused_same xs ys kind s r.1)

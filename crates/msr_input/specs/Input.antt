@@ -68,7 +68,8 @@ pub record AreRead (settings : Settings) (input : List ℕ) (records : List Reco
 
 -- A readable input: these records, none of which is refused, and nothing after them; and these are the segments
 -- of their rows.
-pub record IsReadable (settings : Settings) (input : List ℕ) (records : List Record) (segments : List Segment) : Type 0 where
+pub record IsReadable (settings : Settings) (input : List ℕ) (records : List Record)
+    (segments : List Segment) : Type 0 where
   pub are_read : AreRead settings input records []
   pub are_segments : AreSegments settings.tolerance (rows_of_records records) segments
 
@@ -141,5 +142,6 @@ ReadableHasNoFault =
 -- running out of memory is no fault of an input
 abbrev pub MemoryIsNoFault : Type 0
 MemoryIsNoFault =
-    (settings : Settings) (input : List ℕ) (records : List Record) (fault : Fault) → IsFirstFault settings input records fault
+    (settings : Settings) (input : List ℕ) (records : List Record) (fault : Fault)
+    → IsFirstFault settings input records fault
     → fault.kind ≢ Memory

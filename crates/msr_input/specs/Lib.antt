@@ -1,4 +1,5 @@
 pub mod Input
+pub mod Outlines
 pub mod Records
 pub mod Reading
 pub mod Rows

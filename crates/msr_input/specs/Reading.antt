@@ -75,7 +75,8 @@ pub record IsWritable (segment : Segment) : Type 0 where
 
 -- From the one state of the source to the other these records came, none refused; the rest waits. They ended
 -- these segments.
-pub record HasRead (start now : Device) (reading : Reading) (records : List Record) (given : List Segment) : Type 0 where
+pub record HasRead (start now : Device) (reading : Reading) (records : List Record)
+    (given : List Segment) : Type 0 where
   pub came : HaveCome start now (position_of reading) records
   pub in_range : NoneOverruns reading.joining.tolerance records
   pub joined : HasJoined reading.joining (rows_of_records records) given
@@ -112,7 +113,8 @@ StopsReading settings start now given Read = StopsAfter settings start given × 
 StopsReading settings start now given Memory = StopsAfter settings start given × IsSteady start now
 
 -- the source's bytes are a readable input, these are its segments, and these its counts
-pub record GaveReadable (start : Device) (settings : Settings) (segments : List Segment) (counts : Counts) : Type 0 where
+pub record GaveReadable (start : Device) (settings : Settings) (segments : List Segment)
+    (counts : Counts) : Type 0 where
   pub input : List ℕ
   pub records : List Record
   pub left : HasLeft start input

@@ -25,7 +25,8 @@ left_with source waiting = (2 ^ 64 - source.moved) + length waiting
 
 -- From the one state of the source to the other these records came; the rest waits.
 pub record HaveCome (start now : Device) (position : Position) (records : List Record) : Type 0 where
-  pub begins : (rest : List ℕ) → HasLeft now rest → (input : List ℕ) × HasLeft start input × BeginsWith records input (position.waiting ++ rest)
+  pub begins : (rest : List ℕ) → HasLeft now rest
+      → (input : List ℕ) × HasLeft start input × BeginsWith records input (position.waiting ++ rest)
   pub agree : AllAgree position.strict records
   pub counts : position.counts ≡ counts_of records
   pub offset : position.offset ≡ bytes_of_records records
@@ -38,11 +39,13 @@ pub record HaveCome (start now : Device) (position : Position) (records : List R
 -- the counts of one record more; a source gives too few bytes for more records
 abbrev pub CountsOneMore : Counts → Counts → Record → Type 0
 CountsOneMore old new found =
-    (records : List Record) → old ≡ counts_of records → length records < 2 ^ 64 - 1 → new ≡ counts_of (records ++ found ∷ [])
+    (records : List Record) → old ≡ counts_of records → length records < 2 ^ 64 - 1
+    → new ≡ counts_of (records ++ found ∷ [])
 
 -- From the one state of the source to the other these records came, and these bytes after them.
 pub record HaveComeShort (start now : Device) (records : List Record) (waiting : List ℕ) : Type 0 where
-  pub begins : (rest : List ℕ) → HasLeft now rest → (input : List ℕ) × HasLeft start input × BeginsWith records input (waiting ++ rest)
+  pub begins : (rest : List ℕ) → HasLeft now rest
+      → (input : List ℕ) × HasLeft start input × BeginsWith records input (waiting ++ rest)
   pub moved : now.moved ≡ start.moved + (bytes_of_records records + length waiting)
 
 -- The source's bytes begin with these records, none of which is refused by itself.

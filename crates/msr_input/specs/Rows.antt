@@ -2,17 +2,21 @@
 use Rattle.std.specs.Prelude.{◌≡◌, true, List, [], ◌∷◌, ◌++◌, Option, None, Some, MatchOption}
 use Rattle.std.specs.Option.{option_to_list}
 use Rattle.msr_record.specs.declared.row.Record.{Record}
+use Rattle.msr_record.specs.declared.row.Row.{Row}
 use Rattle.msr_devices.specs.Device.{Device}
 use Rattle.msr_segments.specs.Spans.{Following, IsStep}
-use Rattle.msr_segments.specs.Segments.{row_span}
+use Rattle.msr_segments.specs.Segments.{row_segment, row_span}
 use Rattle.msr_segments.specs.Joining.{Joining, HasJoined, HasFollowed}
 use Rattle.msr_segments.specs.declared.follow.Step.{Step}
 use Rattle.msr_segments.specs.declared.joiner.Segment.{Segment}
 use Rattle.msr_input.specs.Input.{NoneOverruns, HaveBegun, rows_of_records}
 use Rattle.msr_input.specs.Records.{Position, HaveCome}
-use Rattle.msr_input.specs.Reading.{StopsReading, GaveReadable}
+use Rattle.msr_input.specs.Outlines.{row_outline}
+use Rattle.msr_input.specs.Reading.{StopsReading, GaveReadable, IsWritable}
 use Rattle.msr_input.specs.declared.settings.Settings.{Settings}
 use Rattle.msr_input.specs.declared.fault.ReadFault.{ReadFault}
+use Rattle.msr_input.specs.declared.outline.RowOutline.{RowOutline}
+use Rattle.msr_input.specs.declared.row_reader.NextOutline.{NextOutline}
 use Rattle.msr_input.specs.declared.row_reader.NextRecord.{NextRecord}
 use Rattle.msr_input.specs.declared.row_reader.NextRow.{NextRow}
 
@@ -27,19 +31,30 @@ row_settings reading = record { tolerance = reading.following.tolerance; strict 
 
 -- From the one state of the source to the other these records came, none refused; the rest waits. These answers
 -- were given for their rows.
-pub record HasReadRows (start now : Device) (reading : RowReading) (records : List Record) (answers : List Step) : Type 0 where
+pub record HasReadRows (start now : Device) (reading : RowReading) (records : List Record)
+    (answers : List Step) : Type 0 where
   pub came : HaveCome start now reading.position records
   pub in_range : NoneOverruns reading.following.tolerance records
   pub followed : HasFollowed reading.following (rows_of_records records) answers
 
 -- Further records came, and with them one row: this one, which does what is told.
-pub record ReadsRow (start now : Device) (reading : RowReading) (records : List Record) (answers : List Step) (next : NextRow) : Type 0 where
+pub record ReadsRow (start now : Device) (reading : RowReading) (records : List Record) (answers : List Step)
+    (next : NextRow) : Type 0 where
   pub after : List Record
   pub rows : rows_of_records after ≡ rows_of_records records ++ next.row ∷ []
   pub read : HasReadRows start now reading after (answers ++ next.step ∷ [])
 
+-- The same, where the row's samples were not read into memory: this is its outline. It can be written.
+pub record ReadsOutline (start now : Device) (reading : RowReading) (records : List Record) (answers : List Step)
+    (next : NextOutline) : Type 0 where
+  pub row : Row
+  pub outline_is : next.row ≡ row_outline row
+  pub writable : IsWritable (row_segment row)
+  pub reads : ReadsRow start now reading records answers (record { step = next.step; row = row })
+
 -- Further records came, and no row with them.
-pub record ReadsNoRow (start now : Device) (reading : RowReading) (records : List Record) (answers : List Step) : Type 0 where
+pub record ReadsNoRow (start now : Device) (reading : RowReading) (records : List Record)
+    (answers : List Step) : Type 0 where
   pub after : List Record
   pub rows : rows_of_records after ≡ rows_of_records records
   pub read : HasReadRows start now reading after answers
@@ -49,13 +64,24 @@ abbrev pub ReadsRecord : Device → Device → RowReading → List Record → Li
 ReadsRecord start now reading records answers next =
     MatchOption next.row (ReadsNoRow start now reading records answers) (ReadsRow start now reading records answers)
 
+-- what is told of a record: the answer for its row, where it has one
+abbrev pub next_row : Option Step → Option Row → Option NextRow
+next_row (Some answer) (Some row) = Some (record { step = answer; row = row })
+next_row _ _ = None
+
+-- the same, without its samples
+abbrev pub next_outline : Option Step → Option RowOutline → Option NextOutline
+next_outline (Some answer) (Some row) = Some (record { step = answer; row = row })
+next_outline _ _ = None
+
 -- what a record does with a follower: nothing, where it has no row
 abbrev pub StepsTo : Following → Option NextRow → Following → Type 0
 StepsTo old None new = new ≡ old
 StepsTo old (Some next) new = IsStep old (row_span next.row) next.step new
 
 -- The same, and no record is left: the input has ended.
-pub record ReadsToEnd (start now : Device) (reading : RowReading) (records : List Record) (answers : List Step) : Type 0 where
+pub record ReadsToEnd (start now : Device) (reading : RowReading) (records : List Record)
+    (answers : List Step) : Type 0 where
   pub none : ReadsNoRow start now reading records answers
   pub none_wait : reading.position.waiting ≡ []
   pub ended : reading.position.ended ≡ true
@@ -70,7 +96,8 @@ StopsRows settings start now records why =
 -- one included.
 abbrev pub AllRowsAreReadable : Type 0
 AllRowsAreReadable =
-    (start now : Device) (reading : RowReading) (records : List Record) (answers : List Step) (joining : Joining) (given : List Segment)
+    (start now : Device) (reading : RowReading) (records : List Record) (answers : List Step) (joining : Joining)
+    (given : List Segment)
     → ReadsToEnd start now reading records answers
     → HasJoined joining (rows_of_records records) given
     → joining.tolerance ≡ reading.following.tolerance

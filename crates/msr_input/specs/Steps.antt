@@ -1,6 +1,8 @@
--- What the steps of reading do: bytes are read ahead, a record is decoded, and its row is joined.
-use Rattle.std.specs.Prelude.{◌≡◌, ℕ, ◌<◌, ◌≤◌, Bool, false, nat_lt, List, ◌++◌, length, Option, None, Some, IsSome}
+-- What the steps of reading do: bytes are read ahead, a record is read, and its row is joined.
+use Rattle.std.specs.Prelude.{◌≡◌, ◌⊎◌, ℕ, ◌<◌, ◌≤◌, Bool, false, nat_lt, List, ◌++◌, length, Option, None, Some, IsSome, IfSome}
 use Rattle.msr_time.specs.Instant.{IsInstant}
+use Rattle.msr_record.specs.Records.{IsRecordOf}
+use Rattle.msr_record.specs.declared.row.Record.{Record}
 use Rattle.msr_record.specs.declared.row.Row.{Row}
 use Rattle.msr_record.specs.declared.fault.FaultKind.{FaultKind}
 use Rattle.msr_record.specs.declared.fault.FaultKind.TheVariants as refusal
@@ -13,10 +15,13 @@ use Rattle.msr_segments.specs.Segments.{row_span}
 use Rattle.msr_segments.specs.Joining.{Joining, following_of, IsPush}
 use Rattle.msr_segments.specs.declared.follow.Step.{Step}
 use Rattle.msr_segments.specs.declared.joiner.Segment.{Segment}
-use Rattle.msr_input.specs.Input.{IsRefusedAlone}
-use Rattle.msr_input.specs.Reading.{HoldsRecord, TakesMemoryFor}
+use Rattle.msr_input.specs.Input.{Agrees, IsRefusedAlone}
+use Rattle.msr_input.specs.Outlines.{outline_of, outline_span}
+use Rattle.msr_input.specs.Reading.{HoldsRecord, room_with}
+use Rattle.msr_input.specs.Records.{Position}
 use Rattle.msr_input.specs.declared.fault.ReadFault.{ReadFault}
-use Rattle.msr_input.specs.declared.row_reader.NextRow.{NextRow}
+use Rattle.msr_input.specs.declared.outline.Outline.{Outline}
+use Rattle.msr_input.specs.declared.outline.RowOutline.{RowOutline}
 use Rattle.msr_input.specs.declared.fault.ReadFault.TheVariants as fault
 
 -- why reading stops where the bytes of a record did not come
@@ -39,17 +44,19 @@ may_change kind size = false
 -- ended, after those that stood there
 abbrev pub CameBefore : Device → Device → Window → Window → ReadFault → Type 0
 CameBefore old new before after (fault.Input f) = IsFilled 0 old new before after
-CameBefore old new before after fault.Read = HasFailed old new × (before.ended ≡ false) × GivesOnto old new before.bytes after.bytes
+CameBefore old new before after fault.Read =
+    HasFailed old new × (before.ended ≡ false) × GivesOnto old new before.bytes after.bytes
 CameBefore old new before after fault.Memory = IsFilled 0 old new before after
 
 -- Why no record was given from the bytes that came: the one at that offset is refused, whatever more comes after
--- them; they hold no whole record, and the source failed; or there was no memory.
-abbrev pub StopsDecoding : (strict : Bool) → Window → ℕ → ReadFault → Type 0
-StopsDecoding strict window offset (fault.Input f) =
+-- them; they hold no whole record, and the source failed; or there was no memory, for more bytes where these fill the
+-- room that there is, or for what is made of the record.
+abbrev pub StopsDecoding : (takes : List ℕ → Type 0) → (strict : Bool) → Window → ℕ → ReadFault → Type 0
+StopsDecoding takes strict window offset (fault.Input f) =
     (f.offset ≡ offset) × (0 < length window.bytes) × IsRefusedAlone strict window.bytes f.kind
     × (window.ended ≡ false → (rest : List ℕ) → IsRefusedAlone strict (window.bytes ++ rest) f.kind)
-StopsDecoding strict window offset fault.Read = HoldsRecord window.bytes → ⊥
-StopsDecoding strict window offset fault.Memory = TakesMemoryFor window.bytes window.room
+StopsDecoding takes strict window offset fault.Read = HoldsRecord window.bytes → ⊥
+StopsDecoding takes strict window offset fault.Memory = (window.room ≤ length window.bytes) ⊎ takes window.bytes
 
 -- a joiner takes such rows
 pub record CanJoin (row : Row) : Type 0 where
@@ -57,12 +64,37 @@ pub record CanJoin (row : Row) : Type 0 where
   pub few : length row.samples ≤ 65_535
   pub start : IsInstant row.start
 
+-- a follower takes it
+pub record CanFollow (row : RowOutline) : Type 0 where
+  pub some : 1 ≤ row.count
+  pub start : IsInstant row.start
+
+-- The bytes begin with this record, which is not refused by itself, and what was made of it stands for it.
+pub record IsJudged (stands : Record → Type 0) (strict : Bool) (bytes : List ℕ) : Type 0 where
+  pub found : Record
+  pub stands_for : stands found
+  pub is_record : IsRecordOf bytes found
+  pub can_join : IfSome found.row CanJoin
+  pub agrees : Agrees strict found
+
+-- There is no more room for bytes than it needs, or than there was before.
+pub record IsGiven (stands : Record → Type 0) (strict : Bool) (bytes : List ℕ) (room before : ℕ) : Type 0 where
+  pub judged : IsJudged stands strict bytes
+  pub room_is : room ≤ room_with judged.found.length before
+
+-- this is the outline of the record that the bytes at this place begin with, which is not refused by itself
+pub record IsNext (position : Position) (outline : Outline) (found : Record) : Type 0 where
+  pub outline_is : outline ≡ outline_of found
+  pub is_record : IsRecordOf position.waiting found
+  pub can_join : IfSome found.row CanJoin
+  pub agrees : Agrees position.strict found
+
 -- a follower's answer for the row, which is in range
-pub record FollowsRow (old : Following) (row : Row) (next : Option NextRow) (new : Following) : Type 0 where
+pub record FollowsRow (old : Following) (row : RowOutline) (step : Option Step) (new : Following) : Type 0 where
   pub answer : Step
-  pub told : next ≡ Some (record { step = answer; row = row })
-  pub step : IsStep old (row_span row) answer new
-  pub in_range : Overruns old (row_span row) → ⊥
+  pub told : step ≡ Some answer
+  pub is_step : IsStep old (outline_span row) answer new
+  pub in_range : Overruns old (outline_span row) → ⊥
 
 -- what a record's row does with a joiner: nothing, where there is none
 abbrev pub JoinsRecord : Joining → Option Row → Option Segment → Joining → Type 0
@@ -70,9 +102,9 @@ JoinsRecord old None ended new = (ended ≡ None) × (new ≡ old)
 JoinsRecord old (Some row) ended new = IsPush old row ended new × (Overruns (following_of old) (row_span row) → ⊥)
 
 -- and what it does with a follower
-abbrev pub FollowsRecord : Following → Option Row → Option NextRow → Following → Type 0
-FollowsRecord old None next new = (next ≡ None) × (new ≡ old)
-FollowsRecord old (Some row) next new = FollowsRow old row next new
+abbrev pub Follows : Following → Option RowOutline → Option Step → Following → Type 0
+Follows old None step new = (step ≡ None) × (new ≡ old)
+Follows old (Some row) step new = FollowsRow old row step new
 
 -- the row ends the segment that was begun last out of range
 pub record OverrunsWith (old : Following) (row : Option Row) : Type 0 where
@@ -80,14 +112,20 @@ pub record OverrunsWith (old : Following) (row : Option Row) : Type 0 where
   pub has_row : row ≡ Some the_row
   pub overruns : Overruns old (row_span the_row)
 
+pub record OverrunsAt (old : Following) (row : Option RowOutline) : Type 0 where
+  pub the_row : RowOutline
+  pub has_row : row ≡ Some the_row
+  pub overruns : Overruns old (outline_span the_row)
+
 -- why a row was not joined: it ends its segment out of range, or there was no memory for it
 abbrev pub StopsJoining : Joining → Option Row → ℕ → ReadFault → Type 0
-StopsJoining old row offset (fault.Input f) = (f.offset ≡ offset) × (f.kind ≡ refusal.TimeRange) × OverrunsWith (following_of old) row
+StopsJoining old row offset (fault.Input f) =
+    (f.offset ≡ offset) × (f.kind ≡ refusal.TimeRange) × OverrunsWith (following_of old) row
 StopsJoining old row offset fault.Read = ⊥
 StopsJoining old row offset fault.Memory = IsSome row
 
 -- and why it was not followed, which takes no memory
-abbrev pub StopsFollowing : Following → Option Row → ℕ → ReadFault → Type 0
-StopsFollowing old row offset (fault.Input f) = (f.offset ≡ offset) × (f.kind ≡ refusal.TimeRange) × OverrunsWith old row
+abbrev pub StopsFollowing : Following → Option RowOutline → ℕ → ReadFault → Type 0
+StopsFollowing old row offset (fault.Input f) = (f.offset ≡ offset) × (f.kind ≡ refusal.TimeRange) × OverrunsAt old row
 StopsFollowing old row offset fault.Read = ⊥
 StopsFollowing old row offset fault.Memory = ⊥

@@ -6,7 +6,9 @@
 #![tactic(auto)]
 
 mod fault;
+mod from_record;
 mod laws;
+mod outline;
 mod reader;
 mod record_reader;
 mod row_reader;
@@ -18,8 +20,9 @@ pub use laws::{
     all_read_is_readable, all_rows_are_readable, memory_is_no_fault, one_first_fault,
     one_list_of_records, readable_has_no_fault,
 };
+pub use outline::RowOutline;
 pub use reader::SegmentReader;
-pub use row_reader::{NextRecord, NextRow, RowReader};
+pub use row_reader::{NextOutline, NextRecord, NextRow, RowReader};
 pub use settings::Settings;
 
 #[cfg(test)]

@@ -1,8 +1,9 @@
 //! Reading records, and joining their rows.
 use crate::fault::ReadFault;
+use crate::from_record::outline_of;
 use crate::record_reader::RecordReader;
 use crate::settings::Settings;
-use crate::step::{counted, join};
+use crate::step::join;
 use msr_base::Counts;
 use msr_devices::Source;
 use msr_record::Record;
@@ -54,29 +55,35 @@ impl SegmentReader {
     /// bytes as the longest record has, since more could change it.
     pub fn next_record<R: Source>(&mut self, source: &mut R) -> Result<Option<Record>, ReadFault>
         requires { CanCountCall (R.device source.old) }
-        ensures read { (start : Device) (records : List Found) (given : List Joined) → HasRead start (R.device source.old) self.old records given
-            → MatchResult result (λ _. HasRead start (R.device source.new) self.new records given) (StopsReading (settings_of self.old) start (R.device source.new) given) }
+        ensures read { (start : Device) (records : List Found) (given : List Joined)
+            → HasRead start (R.device source.old) self.old records given
+            → MatchResult result (λ _. HasRead start (R.device source.new) self.new records given)
+            (StopsReading (settings_of self.old) start (R.device source.new) given) }
         ensures next { IfOk result (λ next. MatchOption next
             ((self.new.waiting ≡ []) × (self.new.ended ≡ true))
             (λ found. IsRecordOf self.new.waiting found × IfSome found.row CanJoin × Agrees self.new.strict found)) }
-        ensures kept { (start : Device) (records : List Found) (given : List Joined) → HasRead start (R.device source.old) self.old records given
-            → IfErr result (λ fault. fault ≢ ReadFault.Read → HasRead start (R.device source.new) self.new records given) }
+        ensures kept { (start : Device) (records : List Found) (given : List Joined)
+            → HasRead start (R.device source.old) self.old records given
+            → IfErr result (λ fault. fault ≢ ReadFault.Read
+            → HasRead start (R.device source.new) self.new records given) }
         ensures memory { IsErrOf result ReadFault.Memory → TakesMemoryNext self.new }
 
         // A read fails only where no whole record had come: so none is made once one has.
         ensures awaited { IsErrOf result ReadFault.Read → HoldsRecord self.new.waiting → ⊥ }
 
         // Room is taken for 64 KiB, and for more only where a record needs it.
-        ensures room { IfOk result (λ next. IfSome next (λ found. self.new.room ≤ room_with found.length self.old.room)) }
+        ensures room { IfOk result (λ next. IfSome next
+            (λ found. self.new.room ≤ room_with found.length self.old.room)) }
         ensures joining { self.new.joining ≡ self.old.joining }
         ensures strict { self.new.strict ≡ self.old.strict }
         ensures steady { OnOk result (IsSteady (R.device source.old) (R.device source.new)) }
         ensures few { CountsFew (R.device source.old) (R.device source.new) }
 
         // What is left to read does not grow.
-        ensures left { OnOk result (left_to_read (R.device source.new) self.new ≤ left_to_read (R.device source.old) self.old) }
+        ensures left { OnOk result (left_to_read (R.device source.new) self.new ≤ left_to_read
+            (R.device source.old) self.old) }
     {
-        self.records.next(source)
+        self.records.next::<R, Record>(source)
     }
 
     /// Takes the record that [`next_record`](Self::next_record) gave, and gives the segment that it ended. For
@@ -85,8 +92,10 @@ impl SegmentReader {
         requires is_record { IsRecordOf self.old.waiting found }
         requires can_join { IfSome found.row CanJoin }
         requires agrees { Agrees self.old.strict found }
-        ensures read { (start now : Device) (records : List Found) (given : List Joined) → HasRead start now self.old records given
-            → MatchResult result (λ ended. HasRead start now self.new (records ++ found ∷ []) (given ++ option_to_list ended)) (StopsReading (settings_of self.old) start now given) }
+        ensures read { (start now : Device) (records : List Found) (given : List Joined)
+            → HasRead start now self.old records given
+            → MatchResult result (λ ended. HasRead start now self.new (records ++ found ∷ [])
+            (given ++ option_to_list ended)) (StopsReading (settings_of self.old) start now given) }
         ensures step { IfOk result (λ ended. JoinsRecord self.old.joining found.row ended self.new.joining) }
         ensures settings { settings_of self.new ≡ settings_of self.old }
         ensures memory { IsErrOf result ReadFault.Memory → TakesMemory self.old.waiting }
@@ -94,9 +103,9 @@ impl SegmentReader {
         ensures unchanged { OnErr result (self.new ≡ self.old) }
         ensures fewer { OnOk result (length self.new.waiting < length self.old.waiting) }
     {
-        let counts = counted(self.records.counts(), &found);
+        let outline = outline_of(&found);
         let ended = join(&mut self.joiner, found.row, self.records.offset())?;
-        self.records.pass(found.length, counts);
+        self.records.pass(&outline);
         Ok(ended)
     }
 
@@ -105,14 +114,17 @@ impl SegmentReader {
     /// the same fault again, or tries again to get memory.
     pub fn next_segment<R: Source>(&mut self, source: &mut R) -> Result<Option<Segment>, ReadFault>
         requires { CanCountCall (R.device source.old) }
-        ensures read { (start : Device) (records : List Found) (given : List Joined) → HasRead start (R.device source.old) self.old records given
+        ensures read { (start : Device) (records : List Found) (given : List Joined)
+            → HasRead start (R.device source.old) self.old records given
             → MatchResult result
             (λ next. MatchOption next
             (HasReadAll start (R.device source.new) self.new given)
             (λ segment. (now : List Found) × HasRead start (R.device source.new) self.new now (given ++ segment ∷ [])))
             (StopsReading (settings_of self.old) start (R.device source.new) given) }
-        ensures kept { (start : Device) (records : List Found) (given : List Joined) → HasRead start (R.device source.old) self.old records given
-            → IfErr result (λ fault. fault ≢ ReadFault.Read → (now : List Found) × HasRead start (R.device source.new) self.new now given) }
+        ensures kept { (start : Device) (records : List Found) (given : List Joined)
+            → HasRead start (R.device source.old) self.old records given
+            → IfErr result (λ fault. fault ≢ ReadFault.Read
+            → (now : List Found) × HasRead start (R.device source.new) self.new now given) }
 
         // Running out of memory comes only where memory is taken.
         ensures memory { IsErrOf result ReadFault.Memory → TakesMemoryNext self.new }
@@ -120,7 +132,8 @@ impl SegmentReader {
         // Of a record whose bytes have come none are awaited.
         ensures awaited { IsErrOf result ReadFault.Read → HoldsRecord self.new.waiting → ⊥ }
         ensures settings { settings_of self.new ≡ settings_of self.old }
-        ensures less { IfOk result (λ next. IfSome next (λ _. left_to_read (R.device source.new) self.new < left_to_read (R.device source.old) self.old)) }
+        ensures less { IfOk result (λ next. IfSome next
+            (λ _. left_to_read (R.device source.new) self.new < left_to_read (R.device source.old) self.old)) }
         ensures few { CountsFew (R.device source.old) (R.device source.new) }
     {
         'records: while let Some(found) = self.next_record(source)? {

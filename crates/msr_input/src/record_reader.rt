@@ -1,10 +1,11 @@
 //! Reading records one after another.
 use crate::fault::ReadFault;
-use crate::step::read_record;
+use crate::from_record::FromRecord;
+use crate::outline::Outline;
+use crate::step::{counted, read_record};
 use msr_base::Counts;
 use msr_devices::{ReadBuffer, Source};
 use msr_header::read_header;
-use msr_record::Record;
 use std::alloc::Global;
 use std::marker::Model;
 
@@ -30,14 +31,12 @@ impl Model for RecordReader {
 }
 
 impl RecordReader {
-    ghost use Rattle.std.specs.Prelude.{◌≡◌, ◌≢◌, ◌↔◌, ◌≤◌, ◌<◌, ◌+◌, ◌^◌, List, [], ◌∷◌, ◌++◌, drop, length, true, IsTrue, OnOk, IfOk, IfErr, IsErrOf, IfSome, MatchResult, MatchOption};
+    ghost use Rattle.std.specs.Prelude.{◌≡◌, ◌≢◌, ◌↔◌, ◌≤◌, ◌<◌, ◌⊎◌, List, [], ◌∷◌, ◌++◌, length, true, IsTrue, OnOk, IfOk, IfErr, IsErrOf, MatchResult, MatchOption};
     ghost use Rattle.msr_devices.specs.Device.{Device, CanCountCall, CountsFew, IsSteady};
-    ghost use Rattle.msr_record.specs.Records.{IsRecordOf};
     ghost use Rattle.msr_record.specs.declared.row.Record.{Record as Found};
-    ghost use Rattle.msr_input.specs.Input.{Agrees};
-    ghost use Rattle.msr_input.specs.Records.{CountsOneMore, HaveCome, HaveComeShort, StopsRecords, left_with};
-    ghost use Rattle.msr_input.specs.Reading.{HoldsRecord, TakesMemoryFor, room_with};
-    ghost use Rattle.msr_input.specs.Steps.{CanJoin};
+    ghost use Rattle.msr_input.specs.Records.{HaveCome, HaveComeShort, StopsRecords, left_with};
+    ghost use Rattle.msr_input.specs.Reading.{HoldsRecord};
+    ghost use Rattle.msr_input.specs.Steps.{IsGiven, IsNext};
 
     /// A reader before the first record; a strict one refuses a record whose reverse constant does not agree. It
     /// takes no memory yet.
@@ -58,12 +57,12 @@ impl RecordReader {
         }
     }
 
-    /// The next record, which [`pass`](Self::pass) then passes; `None` where the input has ended. A further
-    /// call gives the same record again. A record is given as soon as its own bytes have come, before a further
-    /// read; so is a refusal of what stands after its header. One of the header waits for the input's end or for
-    /// as many bytes as the longest record has, since more could change it.
+    /// What is made of the next record, which [`pass`](Self::pass) then passes; `None` where the input has ended. A
+    /// further call gives the same record again. A record is given as soon as its own bytes have come, before a
+    /// further read; so is a refusal of what stands after its header. One of the header waits for the input's end
+    /// or for as many bytes as the longest record has, since more could change it.
     #[inline(always)]
-    pub fn next<R: Source>(&mut self, source: &mut R) -> Result<Option<Record>, ReadFault>
+    pub fn next<R: Source, F: FromRecord>(&mut self, source: &mut R) -> Result<Option<F>, ReadFault>
         requires { CanCountCall (R.device source.old) }
         ensures came { (start : Device) (records : List Found) → HaveCome start (R.device source.old) self.old records
             → MatchResult result
@@ -71,18 +70,17 @@ impl RecordReader {
             (StopsRecords self.old.strict start (R.device source.new) records) }
         ensures next { IfOk result (λ next. MatchOption next
             ((self.new.waiting ≡ []) × (self.new.ended ≡ true))
-            (λ found. IsRecordOf self.new.waiting found × IfSome found.row CanJoin × Agrees self.new.strict found)) }
+            (λ made. IsGiven (F.stands made) self.new.strict self.new.waiting self.new.room self.old.room)) }
         ensures kept { (start : Device) (records : List Found) → HaveCome start (R.device source.old) self.old records
             → IfErr result (λ fault. fault ≢ ReadFault.Read
             → HaveCome start (R.device source.new) self.new records) }
-        ensures memory { IsErrOf result ReadFault.Memory → TakesMemoryFor self.new.waiting self.new.room }
+        ensures memory { IsErrOf result ReadFault.Memory
+            → (self.new.room ≤ length self.new.waiting) ⊎ F.takes self.new.waiting }
         ensures awaited { IsErrOf result ReadFault.Read → HoldsRecord self.new.waiting → ⊥ }
         ensures unread { HoldsRecord self.old.waiting → R.device source.new ≡ R.device source.old }
         ensures failed { (start : Device) (records : List Found) → HaveCome start (R.device source.old) self.old records
             → IsErrOf result ReadFault.Read
             → HaveComeShort start (R.device source.new) records self.new.waiting }
-        ensures room { IfOk result (λ next. IfSome next (λ found.
-            self.new.room ≤ room_with found.length self.old.room)) }
         ensures strict { self.new.strict ≡ self.old.strict }
         ensures steady { OnOk result (IsSteady (R.device source.old) (R.device source.new)) }
         ensures few { CountsFew (R.device source.old) (R.device source.new) }
@@ -105,22 +103,19 @@ impl RecordReader {
         read_header(self.buffer.bytes()).is_ok()
     }
 
-    /// Passes a record of so many bytes; the counts are those with it.
-    pub fn pass(&mut self, size: u32, counts: Counts)
-        requires { size ≤ length self.old.waiting }
-        ensures passed { (start now : Device) (records : List Found) (found : Found) → HaveCome start now self.old records
-            → IsRecordOf self.old.waiting found → Agrees self.old.strict found → size ≡ found.length
-            → CountsOneMore self.old.counts counts found → HaveCome start now self.new (records ++ found ∷ []) }
-        ensures waiting { self.new.waiting ≡ drop size self.old.waiting }
-        ensures ended { self.new.ended ≡ self.old.ended }
+    /// Passes the record that [`next`](Self::next) gave, by its outline, and counts it.
+    #[inline(always)]
+    pub fn pass(&mut self, outline: &Outline)
+        requires { (found : Found) × IsNext self.old outline.now found }
+        ensures passed { (start now : Device) (records : List Found) (found : Found)
+            → HaveCome start now self.old records → IsNext self.old outline.now found
+            → HaveCome start now self.new (records ++ found ∷ []) }
         ensures strict { self.new.strict ≡ self.old.strict }
-        ensures room { self.new.room ≡ self.old.room }
-        ensures counts { self.new.counts ≡ counts }
-        ensures offset { self.old.offset + size < 2 ^ 64 → self.new.offset ≡ self.old.offset + size }
+        ensures fewer { length self.new.waiting < length self.old.waiting }
     {
-        self.buffer.consume(size as usize);
-        self.counts = counts;
-        self.offset = self.offset.saturating_add(size as u64);
+        self.buffer.consume(outline.length as usize);
+        self.counts = counted(self.counts, outline);
+        self.offset = self.offset.saturating_add(outline.length as u64);
     }
 
     /// The counts of the records that were passed.

@@ -1,8 +1,10 @@
 //! Reading rows, each with what it does.
 use crate::fault::ReadFault;
+use crate::from_record::outline_of;
+use crate::outline::{Outline, RowOutline};
 use crate::record_reader::RecordReader;
 use crate::settings::Settings;
-use crate::step::{counted, follow};
+use crate::step::{follow, next_outline, next_row};
 use msr_base::Counts;
 use msr_devices::Source;
 use msr_record::{Record, Row};
@@ -16,6 +18,14 @@ pub struct NextRow {
     /// It begins a segment, so that the one before it has ended, or joins the one that was begun last.
     pub step: Step,
     pub row: Row,
+}
+
+/// The next row without its samples, and what it does.
+#[derive(Clone, Copy, Debug)]
+pub struct NextOutline {
+    /// As that of `NextRow`.
+    pub step: Step,
+    pub row: RowOutline,
 }
 
 /// The next record.
@@ -44,16 +54,15 @@ impl Model for RowReader {
 impl RowReader {
     ghost use Rattle.std.specs.Prelude.{◌≡◌, ◌≢◌, ◌↔◌, ◌≤◌, ◌<◌, List, [], ◌∷◌, ◌++◌, length, None, IsTrue, OnOk, OnErr, IfOk, IfErr, IsErrOf, IfSome, MatchResult, MatchOption};
     ghost use Rattle.msr_devices.specs.Device.{Device, CanCountCall, CountsFew, IsSteady};
-    ghost use Rattle.msr_record.specs.Records.{IsRecordOf};
     ghost use Rattle.msr_record.specs.declared.row.Record.{Record as Found};
     ghost use Rattle.msr_segments.specs.Spans.{IsInBounds, IsStep};
-    ghost use Rattle.msr_segments.specs.Segments.{row_span, row_segment};
+    ghost use Rattle.msr_segments.specs.Segments.{row_segment};
     ghost use Rattle.msr_segments.specs.declared.follow.Step.{Step as Answer};
-    ghost use Rattle.msr_input.specs.Input.{Agrees};
+    ghost use Rattle.msr_input.specs.Outlines.{outline_span};
     ghost use Rattle.msr_input.specs.Records.{HaveComeShort, left_with};
     ghost use Rattle.msr_input.specs.Reading.{HoldsRecord, IsWritable, TakesMemoryFor};
-    ghost use Rattle.msr_input.specs.Rows.{HasReadRows, ReadsRecord, ReadsRow, ReadsNoRow, ReadsToEnd, StepsTo, StopsRows, row_settings};
-    ghost use Rattle.msr_input.specs.Steps.{CanJoin, FollowsRecord};
+    ghost use Rattle.msr_input.specs.Rows.{HasReadRows, ReadsNoRow, ReadsOutline, ReadsRecord, ReadsRow, ReadsToEnd, StepsTo, StopsRows, next_row, row_settings};
+    ghost use Rattle.msr_input.specs.Steps.{CanFollow, CanJoin, Follows, IsNext};
 
     /// A reader before the first record, with a tolerance in its range. It takes no memory yet.
     pub fn new(alloc: Global, settings: Settings) -> RowReader
@@ -68,17 +77,21 @@ impl RowReader {
         }
     }
 
-    /// The next row, after records that have none; `None` where the input has ended, and with it the last
-    /// segment. At an `Err` but `Read` the reader stands before the record that it did not take: a further call
-    /// gives the same fault again, or tries again to get memory.
-    pub fn next_row<R: Source>(&mut self, source: &mut R) -> Result<Option<NextRow>, ReadFault>
+    /// The next row without its samples, after records that have no row; `None` where the input has ended, and with
+    /// it the last segment. The samples are looked at where they stand, so memory is taken for the bytes ahead alone.
+    /// At an `Err` but `Read` the reader stands before the record that it did not take: a further call gives the same
+    /// fault again, or tries again to get memory.
+    pub fn next_outline<R: Source>(
+        &mut self,
+        source: &mut R,
+    ) -> Result<Option<NextOutline>, ReadFault>
         requires { CanCountCall (R.device source.old) }
         ensures read { (start : Device) (records : List Found) (answers : List Answer)
             → HasReadRows start (R.device source.old) self.old records answers
             → MatchResult result
             (λ next. MatchOption next
             (ReadsToEnd start (R.device source.new) self.new records answers)
-            (ReadsRow start (R.device source.new) self.new records answers))
+            (ReadsOutline start (R.device source.new) self.new records answers))
             (StopsRows (row_settings self.old) start (R.device source.new) records) }
         ensures kept { (start : Device) (records : List Found) (answers : List Answer)
             → HasReadRows start (R.device source.old) self.old records answers
@@ -87,15 +100,14 @@ impl RowReader {
 
         // What the row does, and what rows are given.
         ensures step { IfOk result (λ next. IfSome next (λ given.
-            IsStep self.old.following (row_span given.row) given.step self.new.following)) }
-        ensures row { IfOk result (λ next. IfSome next (λ given.
-            CanJoin given.row × IsWritable (row_segment given.row))) }
+            IsStep self.old.following (outline_span given.row) given.step self.new.following)) }
+        ensures row { IfOk result (λ next. IfSome next (λ given. CanFollow given.row)) }
         ensures in_bounds { IfOk result (λ next. IfSome next (λ _. IsInBounds self.new.following.current)) }
         ensures settings { row_settings self.new ≡ row_settings self.old }
 
-        // Running out of memory comes only where memory is taken.
+        // Running out of memory comes only where the bytes that wait fill the room that there is.
         ensures memory { IsErrOf result ReadFault.Memory
-            → TakesMemoryFor self.new.position.waiting self.new.position.room }
+            → self.new.position.room ≤ length self.new.position.waiting }
 
         // Of a record whose bytes have come none are awaited.
         ensures awaited { IsErrOf result ReadFault.Read → HoldsRecord self.new.position.waiting → ⊥ }
@@ -104,8 +116,9 @@ impl RowReader {
             < left_with (R.device source.old) self.old.position.waiting)) }
         ensures few { CountsFew (R.device source.old) (R.device source.new) }
     {
-        'records: while let Some(NextRecord { row }) = self.next_record(source)? {
-            if let Some(next) = row {
+        'records: while let Some(found) = self.records.next::<R, Outline>(source)? {
+            let step = self.take(&found)?;
+            if let Some(next) = next_outline(step, found.row) {
                 return Ok(Some(next));
             }
         }
@@ -114,7 +127,7 @@ impl RowReader {
 
     /// The next record, with or without a row; `None` where the input has ended, and with it the last segment. No
     /// read is made where its bytes have come ([`holds_record`](Self::holds_record)). At an `Err` but `Read` the
-    /// reader stands before it, as `next_row` says.
+    /// reader stands before it, as `next_outline` says.
     #[inline(always)]
     pub fn next_record<R: Source>(
         &mut self,
@@ -157,10 +170,11 @@ impl RowReader {
         ensures steady { OnOk result (IsSteady (R.device source.old) (R.device source.new)) }
         ensures few { CountsFew (R.device source.old) (R.device source.new) }
     {
-        let Some(found) = self.records.next(source)? else {
+        let Some(found) = self.records.next::<R, Record>(source)? else {
             return Ok(None);
         };
-        let row = self.take(found)?;
+        let step = self.take(&outline_of(&found))?;
+        let row = next_row(step, found.row);
         Ok(Some(NextRecord { row }))
     }
 
@@ -171,33 +185,29 @@ impl RowReader {
         self.records.holds_record()
     }
 
-    // Takes the record that was read, and says what its row does, where it has one.
+    /// Takes the record that was read, by its outline, and says what its row does, where it has one.
     #[inline(always)]
-    fn take(&mut self, found: Record) -> Result<Option<NextRow>, ReadFault>
-        requires is_record { IsRecordOf self.old.position.waiting found }
-        requires can_join { IfSome found.row CanJoin }
-        requires agrees { Agrees self.old.position.strict found }
-        ensures read { (start now : Device) (records : List Found) (answers : List Answer)
+    fn take(&mut self, outline: &Outline) -> Result<Option<Step>, ReadFault>
+        requires { (found : Found) × IsNext self.old.position outline.now found }
+        ensures read { (start now : Device) (records : List Found) (answers : List Answer) (found : Found)
             → HasReadRows start now self.old records answers
+            → IsNext self.old.position outline.now found
             → MatchResult result
-            (λ next. MatchOption next
+            (λ step. MatchOption (next_row step found.row)
             (ReadsNoRow start now self.new records answers)
             (ReadsRow start now self.new records answers))
             (StopsRows (row_settings self.old) start now records) }
         ensures strict { self.new.position.strict ≡ self.old.position.strict }
-        ensures step { IfOk result (λ next. FollowsRecord self.old.following found.row next self.new.following) }
-        ensures row { IfOk result (λ next. IfSome next (λ given.
-            CanJoin given.row × IsWritable (row_segment given.row))) }
-        ensures in_bounds { IfOk result (λ next. IfSome next (λ _. IsInBounds self.new.following.current)) }
+        ensures step { IfOk result (λ step. Follows self.old.following outline.now.row step self.new.following) }
+        ensures in_bounds { IfOk result (λ step. IfSome step (λ _. IsInBounds self.new.following.current)) }
         ensures no_memory { IsErrOf result ReadFault.Memory → ⊥ }
         ensures unread { IsErrOf result ReadFault.Read → ⊥ }
         ensures unchanged { OnErr result (self.new ≡ self.old) }
         ensures fewer { OnOk result (length self.new.position.waiting < length self.old.position.waiting) }
     {
-        let counts = counted(self.records.counts(), &found);
-        let next = follow(&mut self.follow, found.row, self.records.offset())?;
-        self.records.pass(found.length, counts);
-        Ok(next)
+        let step = follow(&mut self.follow, &outline.row, self.records.offset())?;
+        self.records.pass(outline);
+        Ok(step)
     }
 
     /// The counts of the records so far.

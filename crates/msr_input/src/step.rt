@@ -1,26 +1,30 @@
 //! The steps of reading: bytes ahead, a record, its row, its counts.
 ghost use Rattle.std.specs.Prelude.{◌≡◌, ◌≢◌, ◌+◌, ◌<◌, ◌≤◌, ◌-◌, ◌^◌, ℕ, true, List, [], ◌∷◌, ◌++◌, length, IfOk, IfErr, IfSome, IsErrOf, OnErr, MatchResult, MatchOption, if◌then◌else◌};
-ghost use Rattle.msr_record.specs.Records.{IsRecordOf, IsRefused, TakesMemory};
+ghost use Rattle.msr_record.specs.Records.{IsRecordOf, IsRefused};
 ghost use Rattle.msr_record.specs.declared.row.Record.{Record as Found};
 ghost use Rattle.msr_devices.specs.Device.{CanCountCall, CountsFew};
 ghost use Rattle.msr_devices.specs.ReadBuffer.{IsFilled};
 ghost use Rattle.msr_segments.specs.Spans.{IsInBounds};
 ghost use Rattle.msr_input.specs.Input.{Agrees, IsRefusedAlone, counts_of};
-ghost use Rattle.msr_input.specs.Reading.{HoldsRecord, room_with};
-ghost use Rattle.msr_input.specs.Steps.{CanJoin, CameBefore, FollowsRecord, JoinsRecord, StopsDecoding, StopsFollowing, StopsJoining, may_change};
+ghost use Rattle.msr_input.specs.Outlines.{outline_of};
+ghost use Rattle.msr_input.specs.Reading.{HoldsRecord};
+ghost use Rattle.msr_input.specs.Rows.{next_outline, next_row};
+ghost use Rattle.msr_input.specs.Steps.{CanFollow, CanJoin, CameBefore, Follows, IsGiven, IsJudged, JoinsRecord, StopsDecoding, StopsFollowing, StopsJoining, may_change};
 
 use crate::fault::{Fault, ReadFault, fault_at};
-use crate::row_reader::NextRow;
+use crate::from_record::FromRecord;
+use crate::outline::{Outline, RowOutline};
+use crate::row_reader::{NextOutline, NextRow};
 use msr_base::Counts;
 use msr_devices::{ReadBuffer, Source};
-use msr_record::{FaultKind, Record, Row, decode_record, reverse_in};
-use msr_segments::{Follow, JoinFault, JoinKind, Joiner, OutOfRange, Segment};
+use msr_record::{FaultKind, Row, reverse_in};
+use msr_segments::{Follow, JoinFault, JoinKind, Joiner, OutOfRange, Segment, Step};
 use std::alloc::Global;
 
-// As many bytes as the longest record has.
+/// As many bytes as the longest record has.
 const LONGEST: usize = 1_048_576;
 
-// Whether more bytes after these might change why they are refused.
+/// Whether more bytes after these might change why they are refused.
 fn may_change(kind: FaultKind, len: usize) -> bool
     ensures { result ≡ may_change kind len }
 {
@@ -30,8 +34,8 @@ fn may_change(kind: FaultKind, len: usize) -> bool
     }
 }
 
-// Why a record is refused, where it has that fault by itself: before that of its time comes, where reading is strict,
-// that of its reverse constant.
+/// Why a record is refused, where it has that fault by itself: before that of its time comes, where reading is strict,
+/// that of its reverse constant.
 #[cold]
 fn fault_of(kind: FaultKind, bytes: &[u8], strict: bool) -> FaultKind
     requires { kind ≢ FaultKind.Memory → IsRefused bytes.now kind }
@@ -50,46 +54,43 @@ fn fault_of(kind: FaultKind, bytes: &[u8], strict: bool) -> FaultKind
     }
 }
 
-// The record that the bytes begin with, or why it is refused. Where reading is strict its reverse constant agrees.
+/// What is made of the record that the bytes begin with, or why it is refused. Where reading is strict its reverse
+/// constant agrees.
 #[inline(always)]
-fn judge(alloc: Global, bytes: &[u8], strict: bool) -> Result<Record, FaultKind>
-    ensures found { IfOk result (IsRecordOf bytes.now) }
-    ensures can_join { IfOk result (λ found. IfSome found.row CanJoin) }
-    ensures agrees { IfOk result (Agrees strict) }
+fn judge<F: FromRecord>(alloc: Global, bytes: &[u8], strict: bool) -> Result<F, FaultKind>
+    ensures found { IfOk result (λ made. IsJudged (F.stands made) strict bytes.now) }
     ensures refused { IfErr result (λ kind. kind ≢ FaultKind.Memory → IsRefusedAlone strict bytes.now kind) }
-    ensures memory { IsErrOf result FaultKind.Memory → TakesMemory bytes.now }
+    ensures memory { IsErrOf result FaultKind.Memory → F.takes bytes.now }
 {
-    match decode_record(alloc, bytes) {
-        Ok(found) => {
-            if strict && !found.reverse_agrees {
+    match F::read(alloc, bytes) {
+        Ok(made) => {
+            if strict && !made.reverse_agrees() {
                 return Err(FaultKind::ReverseMismatch);
             }
-            Ok(found)
+            Ok(made)
         }
         Err(kind) => Err(fault_of(kind, bytes, strict)),
     }
 }
 
-// The record that the bytes left begin with, which is the one at the offset; `None` where there are none. It is
-// given as soon as its own bytes are there; a refusal waits while more bytes might change it.
+/// What is made of the record that the bytes left begin with, which is the one at the offset; `None` where there are
+/// none. It is given as soon as the record's own bytes are there; a refusal waits while more bytes might change it.
 #[inline(always)]
-pub(crate) fn read_record<R: Source>(
+pub(crate) fn read_record<R: Source, F: FromRecord>(
     alloc: Global,
     buffer: &mut ReadBuffer,
     source: &mut R,
     strict: bool,
     offset: u64,
-) -> Result<Option<Record>, ReadFault>
+) -> Result<Option<F>, ReadFault>
     requires { CanCountCall (R.device source.old) }
     ensures came { MatchResult result
         (λ _. IsFilled 0 (R.device source.old) (R.device source.new) buffer.old buffer.new)
         (CameBefore (R.device source.old) (R.device source.new) buffer.old buffer.new) }
     ensures next { IfOk result (λ next. MatchOption next
         ((buffer.new.bytes ≡ []) × (buffer.new.ended ≡ true))
-        (λ found. IsRecordOf buffer.new.bytes found × IfSome found.row CanJoin × Agrees strict found)) }
-    ensures refused { IfErr result (StopsDecoding strict buffer.new offset) }
-    ensures room { IfOk result (λ next. IfSome next (λ found.
-        buffer.new.room ≤ room_with found.length buffer.old.room)) }
+        (λ made. IsGiven (F.stands made) strict buffer.new.bytes buffer.new.room buffer.old.room)) }
+    ensures refused { IfErr result (StopsDecoding F.takes strict buffer.new offset) }
     ensures unread { HoldsRecord buffer.old.bytes → R.device source.new ≡ R.device source.old }
     ensures few { CountsFew (R.device source.old) (R.device source.new) }
 {
@@ -98,8 +99,8 @@ pub(crate) fn read_record<R: Source>(
         if bytes.is_empty() && buffer.has_ended() {
             return Ok(None);
         }
-        let kind = match judge(alloc, bytes, strict) {
-            Ok(found) => return Ok(Some(found)),
+        let kind = match judge::<F>(alloc, bytes, strict) {
+            Ok(made) => return Ok(Some(made)),
             Err(kind) => kind,
         };
         if buffer.has_ended() || !may_change(kind, bytes.len()) {
@@ -110,7 +111,7 @@ pub(crate) fn read_record<R: Source>(
     }
 }
 
-// Joins the row of the record at the offset, where it has one, and gives the segment that it ended.
+/// Joins the row of the record at the offset, where it has one, and gives the segment that it ended.
 pub(crate) fn join(
     joiner: &mut Joiner,
     row: Option<Row>,
@@ -136,23 +137,24 @@ pub(crate) fn join(
     }
 }
 
-// Says what the row of the record at the offset does, where it has one.
+/// Says what the row of the record at the offset does, where it has one.
+#[inline(always)]
 pub(crate) fn follow(
     follow: &mut Follow,
-    row: Option<Row>,
+    row: &Option<RowOutline>,
     offset: u64,
-) -> Result<Option<NextRow>, ReadFault>
-    requires { IfSome row CanJoin }
-    ensures followed { IfOk result (λ next. FollowsRecord follow.old row next follow.new) }
-    ensures in_bounds { IfOk result (λ next. IfSome next (λ _. IsInBounds follow.new.current)) }
-    ensures refused { IfErr result (StopsFollowing follow.old row offset) }
+) -> Result<Option<Step>, ReadFault>
+    requires { IfSome row.now CanFollow }
+    ensures followed { IfOk result (λ step. Follows follow.old row.now step follow.new) }
+    ensures in_bounds { IfOk result (λ step. IfSome step (λ _. IsInBounds follow.new.current)) }
+    ensures refused { IfErr result (StopsFollowing follow.old row.now offset) }
     ensures unchanged { OnErr result (follow.new ≡ follow.old) }
 {
-    let Some(next) = row else {
+    let Some(outline) = row else {
         return Ok(None);
     };
-    match follow.step(&next.key, next.start, next.samples.len() as u16) {
-        Ok(step) => Ok(Some(NextRow { step, row: next })),
+    match follow.step(&outline.key, outline.start, outline.count) {
+        Ok(step) => Ok(Some(step)),
         Err(OutOfRange) => Err(ReadFault::Input(Fault {
             offset,
             kind: FaultKind::TimeRange,
@@ -160,19 +162,42 @@ pub(crate) fn follow(
     }
 }
 
-// One to count where that does not hold.
+/// What is told of a record: the answer for its row, where it has one.
+#[inline(always)]
+pub(crate) fn next_row(step: Option<Step>, row: Option<Row>) -> Option<NextRow>
+    ensures { result ≡ next_row step row }
+{
+    match (step, row) {
+        (Some(step), Some(row)) => Some(NextRow { step, row }),
+        _ => None,
+    }
+}
+
+/// The same, without its samples.
+pub(crate) fn next_outline(step: Option<Step>, row: Option<RowOutline>) -> Option<NextOutline>
+    ensures { result ≡ next_outline step row }
+{
+    match (step, row) {
+        (Some(step), Some(row)) => Some(NextOutline { step, row }),
+        _ => None,
+    }
+}
+
+/// One to count where that does not hold.
 fn one_unless(holds: bool) -> u64
     ensures { result ≡ (if holds then 0 else 1) }
 {
     if holds { 0 } else { 1 }
 }
 
-// The counts with those of one record more. A source has fewer than 2^64 bytes, so none saturates.
-pub(crate) fn counted(counts: Counts, found: &Record) -> Counts
-    ensures { (records : List Found) → counts ≡ counts_of records → length records < 2 ^ 64 - 1 → result ≡ counts_of (records ++ found.now ∷ []) }
+/// The counts with those of one record more. A source has fewer than 2^64 bytes, so none saturates.
+pub(crate) fn counted(counts: Counts, outline: &Outline) -> Counts
+    ensures { (records : List Found) (found : Found) → outline.now ≡ outline_of found
+        → counts ≡ counts_of records → length records < 2 ^ 64 - 1
+        → result ≡ counts_of (records ++ found ∷ []) }
 {
-    let empty = one_unless(found.row.is_some());
-    let mismatched = one_unless(found.reverse_agrees);
+    let empty = one_unless(outline.row.is_some());
+    let mismatched = one_unless(outline.reverse_agrees);
     Counts {
         read: counts.read.saturating_add(1),
         empty: counts.empty.saturating_add(empty),

@@ -1,7 +1,8 @@
 //! What readers do, which no clause says: printed faults, sources that play, and each call once.
-use crate::{Fault, NextRow, ReadFault, RowReader, SegmentReader, Settings};
+use crate::{Fault, NextOutline, ReadFault, RowReader, SegmentReader, Settings};
 use msr_base::Counts;
 use msr_devices::{Behavior, FillFault, TestSource};
+use msr_fixtures::{Edit, START, int32_record};
 use msr_header::HeaderFault;
 use msr_record::FaultKind;
 use msr_segments::{Segment, Step};
@@ -9,52 +10,37 @@ use std::alloc::Global;
 use std::process::Abort;
 use std::test::Fail;
 
-// 48 samples of 0 from 2020-01-01 00:00:00 at 20 per second, as numbers of 32 bits, in a record of 256 bytes.
-const HEADER: [u8; 64] = [
-    0x30, 0x30, 0x30, 0x30, 0x30, 0x31, 0x44, 0x20, 0x54, 0x45, 0x53, 0x54, 0x20, 0x30, 0x30, 0x42,
-    0x48, 0x5a, 0x58, 0x58, 0x07, 0xe4, 0x00, 0x01, 0x00, 0x00, 0x00, 0x00, 0x00, 0x00, 0x00, 0x30,
-    0x00, 0x14, 0x00, 0x01, 0x00, 0x00, 0x00, 0x02, 0x00, 0x00, 0x00, 0x00, 0x00, 0x40, 0x00, 0x30,
-    0x03, 0xe8, 0x00, 0x38, 0x03, 0x01, 0x08, 0x00, 0x03, 0xe9, 0x00, 0x00, 0x00, 0x00, 0x00, 0x00,
+/// Edits of the record of 48 samples: without samples,
+const EMPTY: &[Edit<'static>] = &[Edit::Samples(0)];
+
+/// where those samples end, 2.4 seconds later, and a second after that;
+const NEXT: &[Edit<'static>] = &[Edit::Clock(0, 0, 2, 4000)];
+
+const LATER: &[Edit<'static>] = &[Edit::Clock(0, 0, 3, 4000)];
+
+/// at the end of 2100, and where those samples end but for 6 milliseconds;
+const NEAR_THE_END: &[Edit<'static>] = &[Edit::Day(2100, 365), Edit::Clock(23, 59, 55, 2510)];
+
+const AT_THE_END: &[Edit<'static>] = &[Edit::Day(2100, 365), Edit::Clock(23, 59, 57, 6450)];
+
+/// one sample of 0 as Steim-2, whose reverse constant is 1, and the same so late that it is out of time.
+const MISMATCHED: &[Edit<'static>] = &[
+    Edit::Clock(0, 0, 10, 0),
+    Edit::Samples(1),
+    Edit::Encoding(11),
+    Edit::Frames(3),
+    Edit::Bytes(64, &[0x01, 0x00, 0x00, 0x00]),
+    Edit::Bytes(75, &[0x01]),
 ];
 
-const START: i64 = 1_577_836_800_000_000;
-
-// Edits of the record, each with its place: without samples,
-const EMPTY: &[(usize, &[u8])] = &[(30, &[0x00, 0x00])];
-
-// where those samples end, 2.4 seconds later, and a second after that;
-const NEXT: &[(usize, &[u8])] = &[(26, &[0x02, 0x00, 0x0f, 0xa0])];
-
-const LATER: &[(usize, &[u8])] = &[(26, &[0x03, 0x00, 0x0f, 0xa0])];
-
-// at the end of 2100, and where those samples end but for 6 milliseconds;
-const NEAR_THE_END: &[(usize, &[u8])] = &[(
-    20,
-    &[0x08, 0x34, 0x01, 0x6d, 0x17, 0x3b, 0x37, 0x00, 0x09, 0xce],
-)];
-
-const AT_THE_END: &[(usize, &[u8])] = &[(
-    20,
-    &[0x08, 0x34, 0x01, 0x6d, 0x17, 0x3b, 0x39, 0x00, 0x19, 0x32],
-)];
-
-// one sample of 0 as Steim-2, whose reverse constant is 1, and the same so late that it is out of time.
-const MISMATCHED: &[(usize, &[u8])] = &[
-    (26, &[0x0a, 0x00, 0x00, 0x00]),
-    (30, &[0x00, 0x01]),
-    (52, &[0x0b]),
-    (63, &[0x03]),
-    (64, &[0x01, 0x00, 0x00, 0x00]),
-    (75, &[0x01]),
-];
-
-const MISMATCHED_LATE: &[(usize, &[u8])] = &[
-    (20, &[0x08, 0x34, 0x01, 0x6d, 0x17, 0x3b, 0x3c]),
-    (30, &[0x00, 0x01]),
-    (52, &[0x0b]),
-    (63, &[0x03]),
-    (64, &[0x01, 0x00, 0x00, 0x00]),
-    (75, &[0x01]),
+const MISMATCHED_LATE: &[Edit<'static>] = &[
+    Edit::Day(2100, 365),
+    Edit::Clock(23, 59, 60, 0),
+    Edit::Samples(1),
+    Edit::Encoding(11),
+    Edit::Frames(3),
+    Edit::Bytes(64, &[0x01, 0x00, 0x00, 0x00]),
+    Edit::Bytes(75, &[0x01]),
 ];
 
 const LENIENT: Settings = Settings {
@@ -73,22 +59,7 @@ const WHOLE: Behavior = Behavior {
     fails_at: None,
 };
 
-// The record after some edits.
-fn record(rt: &impl Abort, edits: &[(usize, &[u8])]) -> [u8; 256] {
-    let mut bytes = [0; 256];
-    bytes[..64].copy_from_slice(&HEADER);
-    for (at, values) in edits {
-        for (place, value) in values.iter().enumerate() {
-            match bytes.get_mut(at.saturating_add(place)) {
-                Some(byte) => *byte = *value,
-                None => panic!(rt; "no byte {at}"),
-            }
-        }
-    }
-    bytes
-}
-
-// Records one after another.
+/// Records one after another.
 fn two(first: &[u8; 256], second: &[u8; 256]) -> [u8; 512] {
     let mut bytes = [0; 512];
     bytes[..256].copy_from_slice(first);
@@ -103,15 +74,19 @@ fn three(first: &[u8; 256], second: &[u8; 256], third: &[u8; 256]) -> [u8; 768] 
     bytes
 }
 
-// Two records that join, and an empty one between them.
-fn joining(rt: &impl Abort) -> [u8; 768] {
-    three(&record(rt, &[]), &record(rt, EMPTY), &record(rt, NEXT))
+/// Two records that join, and an empty one between them.
+fn joining() -> [u8; 768] {
+    three(
+        &int32_record(&[]),
+        &int32_record(EMPTY),
+        &int32_record(NEXT),
+    )
 }
 
-// Where a segment begins, and how many samples it has.
+/// Where a segment begins, and how many samples it has.
 type Place = (i64, usize);
 
-// The place of the segment that was given, where one was.
+/// The place of the segment that was given, where one was.
 fn given(rt: &impl Abort, next: Result<Option<Segment>, ReadFault>) -> Option<Place> {
     match next {
         Ok(Some(segment)) => Some((segment.start, segment.samples.len())),
@@ -120,7 +95,7 @@ fn given(rt: &impl Abort, next: Result<Option<Segment>, ReadFault>) -> Option<Pl
     }
 }
 
-// The first two segments that end before the last one of these bytes, the last one, and the counts.
+/// The first two segments that end before the last one of these bytes, the last one, and the counts.
 fn segments_of(
     rt: &impl Abort,
     alloc: Global,
@@ -140,7 +115,7 @@ fn segments_of(
     (first, second, last, counts)
 }
 
-// How many segments were given before the bytes were refused, and why they are; the second call tells it again.
+/// How many segments were given before the bytes were refused, and why they are; the second call tells it again.
 fn fault_of(rt: &impl Abort, alloc: Global, bytes: &[u8], strict: bool) -> (u32, ReadFault) {
     let settings = Settings {
         tolerance: 10_000,
@@ -162,7 +137,7 @@ fn fault_of(rt: &impl Abort, alloc: Global, bytes: &[u8], strict: bool) -> (u32,
 
 #[test]
 fn an_empty_record_between_two_that_join(rt: HostRuntime) {
-    let found = segments_of(&rt, rt.alloc(), &joining(&rt), WHOLE);
+    let found = segments_of(&rt, rt.alloc(), &joining(), WHOLE);
     let counts = Counts {
         read: 3,
         empty: 1,
@@ -174,9 +149,9 @@ fn an_empty_record_between_two_that_join(rt: HostRuntime) {
 #[test]
 fn segments_end_at_a_gap(rt: HostRuntime) {
     let bytes = three(
-        &record(&rt, &[]),
-        &record(&rt, LATER),
-        &record(&rt, MISMATCHED),
+        &int32_record(&[]),
+        &int32_record(LATER),
+        &int32_record(MISMATCHED),
     );
     let counts = Counts {
         read: 3,
@@ -192,13 +167,17 @@ fn segments_end_at_a_gap(rt: HostRuntime) {
     assert_eq!(rt; segments_of(&rt, rt.alloc(), &bytes, WHOLE), want);
 }
 
-// Strict reading refuses a record for its reverse constant, before its time is looked at.
+/// Strict reading refuses a record for its reverse constant, before its time is looked at.
 #[test]
 fn reverse_constants_that_do_not_agree(rt: HostRuntime) -> Result<(), Fail> {
-    let first = record(&rt, &[]);
-    let two_records = two(&first, &record(&rt, MISMATCHED));
-    let late = two(&first, &record(&rt, MISMATCHED_LATE));
-    let cut = record(&rt, &[(30, &[0xff, 0xff]), (52, &[0x0b]), (75, &[0x01])]);
+    let first = int32_record(&[]);
+    let two_records = two(&first, &int32_record(MISMATCHED));
+    let late = two(&first, &int32_record(MISMATCHED_LATE));
+    let cut = int32_record(&[
+        Edit::Samples(65535),
+        Edit::Encoding(11),
+        Edit::Bytes(75, &[0x01]),
+    ]);
     let rows: [(&[u8], bool, &str); 5] = [
         (&two_records, true, "offset 256: 18 ReverseMismatch"),
         (&late, true, "offset 256: 18 ReverseMismatch"),
@@ -214,10 +193,10 @@ fn reverse_constants_that_do_not_agree(rt: HostRuntime) -> Result<(), Fail> {
     let mut reader = RowReader::new(rt.alloc(), STRICT);
     let mut source = TestSource::new(&two_records, WHOLE);
     assert_eq!(rt;
-        told(&rt, reader.next_row(&mut source)),
+        told(&rt, reader.next_outline(&mut source)),
         Some((Step::Begins, 48))
     );
-    match reader.next_row(&mut source) {
+    match reader.next_outline(&mut source) {
         Ok(_) => panic!(rt; "a row"),
         Err(fault) => {
             assert_eq!(rt;
@@ -229,10 +208,10 @@ fn reverse_constants_that_do_not_agree(rt: HostRuntime) -> Result<(), Fail> {
     Ok(())
 }
 
-// What the next row does, and how many samples it has, where there is one.
-fn told(rt: &impl Abort, next: Result<Option<NextRow>, ReadFault>) -> Option<(Step, usize)> {
+/// What the next row does, and how many samples it has, where there is one.
+fn told(rt: &impl Abort, next: Result<Option<NextOutline>, ReadFault>) -> Option<(Step, u16)> {
     match next {
-        Ok(Some(next)) => Some((next.step, next.row.samples.len())),
+        Ok(Some(next)) => Some((next.step, next.row.count)),
         Ok(None) => None,
         Err(fault) => panic!(rt; "{fault}"),
     }
@@ -241,16 +220,16 @@ fn told(rt: &impl Abort, next: Result<Option<NextRow>, ReadFault>) -> Option<(St
 #[test]
 fn rows_begin_and_join(rt: HostRuntime) {
     let bytes = three(
-        &record(&rt, &[]),
-        &record(&rt, NEXT),
-        &record(&rt, MISMATCHED),
+        &int32_record(&[]),
+        &int32_record(NEXT),
+        &int32_record(MISMATCHED),
     );
     let mut source = TestSource::new(&bytes, WHOLE);
     let mut reader = RowReader::new(rt.alloc(), LENIENT);
-    let first = told(&rt, reader.next_row(&mut source));
-    let second = told(&rt, reader.next_row(&mut source));
-    let third = told(&rt, reader.next_row(&mut source));
-    let end = told(&rt, reader.next_row(&mut source));
+    let first = told(&rt, reader.next_outline(&mut source));
+    let second = told(&rt, reader.next_outline(&mut source));
+    let third = told(&rt, reader.next_outline(&mut source));
+    let end = told(&rt, reader.next_outline(&mut source));
     assert_eq!(rt; first, Some((Step::Begins, 48)));
     assert_eq!(rt; second, Some((Step::Joins, 48)));
     assert_eq!(rt; third, Some((Step::Begins, 1)));
@@ -258,10 +237,10 @@ fn rows_begin_and_join(rt: HostRuntime) {
     assert_eq!(rt; reader.counts().read, 3);
 }
 
-// Two records come with the first read, and the second one is given without another.
+/// Two records come with the first read, and the second one is given without another.
 #[test]
 fn records_at_hand_need_no_read(rt: HostRuntime) {
-    let bytes = two(&record(&rt, EMPTY), &record(&rt, &[]));
+    let bytes = two(&int32_record(EMPTY), &int32_record(&[]));
     let once = Behavior {
         most: 512,
         interruptions: 0,
@@ -306,12 +285,12 @@ fn one_byte_for_each_read_between_interruptions(rt: HostRuntime) {
         interruptions: 63,
         fails_at: None,
     };
-    let (first, second, last, counts) = segments_of(&rt, rt.alloc(), &joining(&rt), slow);
+    let (first, second, last, counts) = segments_of(&rt, rt.alloc(), &joining(), slow);
     assert_eq!(rt; (first, second, last), (None, None, Some((START, 96))));
     assert_eq!(rt; counts.read, 3);
 }
 
-// What the first call answers where the source plays so.
+/// What the first call answers where the source plays so.
 fn failure_of(rt: &impl Abort, alloc: Global, bytes: &[u8], behavior: Behavior) -> ReadFault {
     let mut source = TestSource::new(bytes, behavior);
     let mut reader = SegmentReader::new(alloc, LENIENT);
@@ -321,10 +300,10 @@ fn failure_of(rt: &impl Abort, alloc: Global, bytes: &[u8], behavior: Behavior) 
     }
 }
 
-// A source that fails is neither taken for one that has ended, nor for one with a fault.
+/// A source that fails is neither taken for one that has ended, nor for one with a fault.
 #[test]
 fn failures(rt: HostRuntime) {
-    let bytes = joining(&rt);
+    let bytes = joining();
     for fails_at in 0u64..=9 {
         let behavior = Behavior {
             most: 90,
@@ -345,7 +324,7 @@ fn failures(rt: HostRuntime) {
     );
 }
 
-// How long the first record is that a source gives, which moves so many bytes in a call and fails at that one.
+/// How long the first record is that a source gives, which moves so many bytes in a call and fails at that one.
 fn first_of(
     alloc: Global,
     bytes: &[u8],
@@ -364,12 +343,12 @@ fn first_of(
     }
 }
 
-// A record is given before a read is made after its bytes.
+/// A record is given before a read is made after its bytes.
 #[test]
 fn records_are_given_once_they_are_there(rt: HostRuntime) -> Result<(), Fail> {
-    let bytes = two(&record(&rt, &[]), &record(&rt, NEXT));
+    let bytes = two(&int32_record(&[]), &int32_record(NEXT));
     let mut long = Vec::new(rt.alloc());
-    long.extend_from_slice(&record(&rt, &[(54, &[0x11])]))?;
+    long.extend_from_slice(&int32_record(&[Edit::Exponent(17)]))?;
     long.resize(140_000, 0)?;
     let rows: [(&[u8], usize, u64, u32); 5] = [
         (&bytes, 256, 1, 256),
@@ -385,12 +364,12 @@ fn records_are_given_once_they_are_there(rt: HostRuntime) -> Result<(), Fail> {
     Ok(())
 }
 
-// A refusal is given once no more bytes could change it, and not before.
+/// A refusal is given once no more bytes could change it, and not before.
 #[test]
 fn refusals_wait_where_bytes_could_change_them(rt: HostRuntime) -> Result<(), Fail> {
-    let bytes = record(&rt, &[]);
-    let coded = record(&rt, &[(52, &[0x04])]);
-    let misplaced = record(&rt, &[(6, &[0x58])]);
+    let bytes = int32_record(&[]);
+    let coded = int32_record(&[Edit::Encoding(4)]);
+    let misplaced = int32_record(&[Edit::Quality(b'X')]);
     let rows: [(&[u8], usize, u64, &str); 6] = [
         (&bytes, 1, 47, "read fault"),
         (&bytes, 50, 1, "read fault"),
@@ -410,14 +389,14 @@ fn refusals_wait_where_bytes_could_change_them(rt: HostRuntime) -> Result<(), Fa
 
 #[test]
 fn faults_stand_at_their_records(rt: HostRuntime) -> Result<(), Fail> {
-    let joined = joining(&rt);
-    let refused = record(&rt, &[(56, &[0x01, 0xf4])]);
-    let gaps = three(&record(&rt, &[]), &record(&rt, LATER), &refused);
+    let joined = joining();
+    let refused = int32_record(&[Edit::SecondType(500)]);
+    let gaps = three(&int32_record(&[]), &int32_record(LATER), &refused);
 
     // the second row joins some milliseconds before its nominal start, so its last sample counts as of 2101
     let end = three(
-        &record(&rt, NEAR_THE_END),
-        &record(&rt, AT_THE_END),
+        &int32_record(NEAR_THE_END),
+        &int32_record(AT_THE_END),
         &refused,
     );
     let rows: [(&[u8], u32, &str); 6] = [

@@ -13,21 +13,22 @@ use Rattle.msr_words.specs.Fit.{Fits}
 use Rattle.msr_words.specs.Packing.{IsCanonical}
 use Rattle.msr_words.specs.RecordLength.{IsRecordLength, least_exponent}
 use Rattle.msr_words.specs.Segment.{points}
-use Rattle.msr_packer.proofs.Exist.{has_packing}
+use Rattle.msr_packer.proofs.PackingsExist.{has_packing}
 use Rattle.msr_packer.proofs.Least.{found}
 use Rattle.msr_record.specs.declared.row.Row.{Row}
 use Rattle.msr_record.proofs.Existing.{has_record}
 use Rattle.msr_segments.specs.declared.joiner.Segment.{Segment}
 use Rattle.msr_output.specs.Output.{Packed, IsPacked, Cut, IsRecordOfRun, IsWritableSegment, AreWritten, IsOutput, IsFrontOfOutput, next_number, number_after, sample_before, cuts_at, cuts_of, segment_of_packed}
-use Rattle.msr_output.proofs.Appending.{written-append, cuts-more}
-use Rattle.msr_output.proofs.Cutting.{IsFitting}
-use Rattle.msr_output.proofs.Once.{all-first, all-rest}
-use Rattle.msr_output.proofs.Progress.{all-one}
+use Rattle.msr_output.proofs.Appending.{written_append, cuts_further}
+use Rattle.msr_output.proofs.CutRows.{IsFitting}
+use Rattle.msr_output.proofs.OneOutput.{all_first, all_rest}
+use Rattle.msr_output.proofs.BetweenSegments.{all_one}
 use Rattle.msr_output.proofs.Runs.{points_of_run, record_of_run}
 use Rattle.msr_output.proofs.Times.{nominal_between, rounded_parts}
 
 -- where one sample has a rounded instant, each has
-nominal_exists : (rate : SampleRate) (t0 last : ℤ) (n m : ℕ) → IsRoundedNominal rate t0 m last → (q : ℤ) × IsRoundedNominal rate t0 n q
+nominal_exists : (rate : SampleRate) (t0 last : ℤ) (n m : ℕ) → IsRoundedNominal rate t0 m last
+    → (q : ℤ) × IsRoundedNominal rate t0 n q
 nominal_exists rate t0 last n m h =
     let num = (period_of rate).0 in
     let den = (period_of rate).1 in
@@ -39,7 +40,8 @@ nominal_exists rate t0 last n m h =
     (t0 +ℤ pos q, nominal_is rate t0 n q bounds.0 bounds.1)
 
 pub enough_bytes : (size : ℕ) → IsRecordLength size → 256 ≤ size
-enough_bytes size power = let least : 2 ^ least_exponent ≤ 2 ^ power.exponent = pow_mono {i = least_exponent} {j = power.exponent} power.least in omega (arith, least, power.power)
+enough_bytes size power = let least : 2 ^ least_exponent ≤ 2 ^ power.exponent =
+    pow_mono {i = least_exponent} {j = power.exponent} power.least in omega (arith, least, power.power)
 
 -- ---- the records of runs
 
@@ -51,11 +53,12 @@ record HasRecords (size n : ℕ) (cuts : List Cut) : Type 0 where
 no_records : (size n : ℕ) → HasRecords size n []
 no_records size n = record { rows = []; bytes = []; written = (refl, refl) }
 
-more_records : (size n : ℕ) (xs ys : List Cut) → HasRecords size n xs → HasRecords size (number_after n xs) ys → HasRecords size n (xs ++ ys)
+more_records : (size n : ℕ) (xs ys : List Cut) → HasRecords size n xs → HasRecords size (number_after n xs) ys
+    → HasRecords size n (xs ++ ys)
 more_records size n xs ys first second = record {
   rows = first.rows ++ second.rows;
   bytes = first.bytes ++ second.bytes;
-  written = written-append size n xs ys first.rows second.rows first.bytes second.bytes first.written second.written;
+  written = written_append size n xs ys first.rows second.rows first.bytes second.bytes first.written second.written;
 }
 
 abbrev IsSome : Run → Type 0
@@ -66,7 +69,8 @@ record HasOne (size n : ℕ) (segment : Segment) (run : Run) : Type 0 where
   bytes : List ℕ
   is_record : IsRecordOfRun size n segment run row bytes
 
-one_record : (size n : ℕ) (segment : Segment) (run : Run) → IsRecordLength size → IsWritableSegment segment → IsSome run → IsFitting size segment.samples run → HasOne size n segment run
+one_record : (size n : ℕ) (segment : Segment) (run : Run) → IsRecordLength size → IsWritableSegment segment
+    → IsSome run → IsFitting size segment.samples run → HasOne size n segment run
 one_record size n segment run power writable some fits =
     let in_time = writable.in_time in
     let rate = segment.key.rate in
@@ -74,26 +78,44 @@ one_record size n segment run power writable some fits =
     let nominal = nominal_exists rate segment.start in_time.last run.start (count - 1) in_time.nominal in
     let within : run.end ≤ count = fits.1 in
     let earlier : run.start ≤ count - 1 = omega arith in
-    let instant = nominal_between rate segment.start nominal.0 in_time.last run.start (count - 1) earlier nominal.1 in_time.nominal in_time.first_in in_time.last_in in
+    let instant = nominal_between rate segment.start nominal.0 in_time.last run.start
+    (count - 1) earlier nominal.1 in_time.nominal in_time.first_in in_time.last_in in
     let samples = slice_range segment.samples run.start run.end in
     let before = sample_before segment.samples run.start in
     let behind : length (drop run.start segment.samples) ≡ count - run.start = length-drop run.start segment.samples in
     let long : 1 ≤ length samples = omega (arith, length-take (run.end - run.start) (drop run.start segment.samples)) in
-    let fit : All (FitsSigned w32) samples = All-take (FitsSigned w32) (run.end - run.start) (drop run.start segment.samples) (All-drop (FitsSigned w32) run.start segment.samples writable.samples) in
-    let fits_points : Fits run.kind size (points before samples) = subst (Fits run.kind size) (sym (points_of_run segment.samples run.start run.end (omega arith))) fits.2 in
-    let r = has_record [] segment.key nominal.0 n before samples run.kind size power writable.key.is_key writable.key.quality writable.key.normal instant long fit fits_points in
+    let fit : All (FitsSigned w32) samples = All-take (FitsSigned w32) (run.end - run.start)
+    (drop run.start segment.samples) (All-drop (FitsSigned w32) run.start segment.samples writable.samples) in
+    let fits_points : Fits run.kind size (points before samples) =
+    subst (Fits run.kind size) (sym (points_of_run segment.samples run.start run.end (omega arith))) fits.2 in
+    let r = has_record [] segment.key nominal.0 n before samples run.kind size power writable.key.is_key
+    writable.key.quality writable.key.normal instant long fit fits_points in
     let a = record_of_run size n segment run nominal.0 [] ([] ++ r.bytes) nominal.1 r.appended in
     record { row = a.row; bytes = a.bytes; is_record = a.is_record }
 
-run_records : (size n : ℕ) (segment : Segment) (runs : List Run) → IsRecordLength size → IsWritableSegment segment → All IsSome runs → All (IsFitting size segment.samples) runs → HasRecords size n (cuts_at segment runs)
+run_records : (size n : ℕ) (segment : Segment) (runs : List Run) → IsRecordLength size → IsWritableSegment segment
+    → All IsSome runs → All (IsFitting size segment.samples) runs → HasRecords size n (cuts_at segment runs)
 run_records size n segment [] power writable some fits = no_records size n
 run_records size n segment (run ∷ runs) power writable some fits =
-    let one = one_record size n segment run power writable (all-first IsSome run runs some) (all-first (IsFitting size segment.samples) run runs fits) in
-    let rest = run_records size (next_number n) segment runs power writable (all-rest IsSome run runs some) (all-rest (IsFitting size segment.samples) run runs fits) in
+    let one = one_record size n segment run power writable (all_first IsSome run runs some)
+    (all_first (IsFitting size segment.samples) run runs fits) in
+    let rest = run_records size (next_number n) segment runs power writable (all_rest IsSome run runs some)
+    (all_rest (IsFitting size segment.samples) run runs fits) in
     record {
       rows = one.row ∷ rest.rows;
       bytes = one.bytes ++ rest.bytes;
-      written = (rest.rows, rest.bytes, record { row = one.row; first = one.bytes; is_record = one.is_record; all_rows = refl; all_bytes = refl }, rest.written);
+      written = (
+        rest.rows,
+        rest.bytes,
+        record {
+          row = one.row;
+          first = one.bytes;
+          is_record = one.is_record;
+          all_rows = refl;
+          all_bytes = refl;
+        },
+        rest.written,
+      );
     }
 
 -- ---- the output of segments
@@ -103,15 +125,27 @@ record HasPacked (size : ℕ) (segment : Segment) : Type 0 where
   same : packed.segment ≡ segment
   is_packed : IsPacked size packed
 
-is_packed_by : (size : ℕ) (segment : Segment) (runs : List Run) (separators : List ℕ) → 256 ≤ size → IsCanonical size segment.samples runs separators → IsPacked size (record { segment = segment; runs = runs; separators = separators })
+is_packed_by : (size : ℕ) (segment : Segment) (runs : List Run) (separators : List ℕ) → 256 ≤ size
+    → IsCanonical size segment.samples runs separators
+    → IsPacked size (record { segment = segment; runs = runs; separators = separators })
 is_packed_by size segment runs separators enough canonical =
     let f = found size segment.samples enough runs separators canonical in
-    record { packing = f.packing; least = f.least; separating = f.separating; as_many = f.as_many; canonical = f.canonical }
+    record {
+      packing = f.packing;
+      least = f.least;
+      separating = f.separating;
+      as_many = f.as_many;
+      canonical = f.canonical;
+    }
 
 packed_of : (size : ℕ) (segment : Segment) → 256 ≤ size → HasPacked size segment
 packed_of size segment enough =
     let p = has_packing size segment.samples enough in
-    record { packed = record { segment = segment; runs = p.others; separators = p.places }; same = refl; is_packed = is_packed_by size segment p.others p.places enough p.canonical }
+    record {
+      packed = record { segment = segment; runs = p.others; separators = p.places };
+      same = refl;
+      is_packed = is_packed_by size segment p.others p.places enough p.canonical;
+    }
 
 record HasOutputFrom (size n : ℕ) (segments : List Segment) : Type 0 where
   packed : List Packed
@@ -119,19 +153,26 @@ record HasOutputFrom (size n : ℕ) (segments : List Segment) : Type 0 where
   packings : All (IsPacked size) packed
   records : HasRecords size n (flat_map cuts_of packed)
 
-output_from : (size n : ℕ) (segments : List Segment) → IsRecordLength size → All IsWritableSegment segments → HasOutputFrom size n segments
-output_from size n [] power writable = record { packed = []; same = refl; packings = All-nil (IsPacked size); records = no_records size n }
+output_from : (size n : ℕ) (segments : List Segment) → IsRecordLength size → All IsWritableSegment segments
+    → HasOutputFrom size n segments
+output_from size n [] power writable = record
+    { packed = []; same = refl; packings = All-nil (IsPacked size); records = no_records size n }
 output_from size n (segment ∷ segments) power writable =
     let p = packed_of size segment (enough_bytes size power) in
     let is = p.is_packed in
     let packing = is.packing in
-    let here : IsWritableSegment p.packed.segment = subst IsWritableSegment (sym p.same) (all-first IsWritableSegment segment segments writable) in
-    let rest = output_from size (number_after n (cuts_of p.packed)) segments power (all-rest IsWritableSegment segment segments writable) in
+    let here : IsWritableSegment p.packed.segment =
+    subst IsWritableSegment (sym p.same) (all_first IsWritableSegment segment segments writable) in
+    let rest = output_from size (number_after n (cuts_of p.packed)) segments power
+    (all_rest IsWritableSegment segment segments writable) in
     record {
       packed = p.packed ∷ rest.packed;
-      same = ap (λ (s : Segment). s ∷ map segment_of_packed rest.packed) p.same ∙ ap (λ (l : List Segment). segment ∷ l) rest.same;
+      same = ap (λ (s : Segment). s ∷ map segment_of_packed rest.packed) p.same
+          ∙ ap (λ (l : List Segment). segment ∷ l) rest.same;
       packings = All-cons (IsPacked size) p.packed rest.packed is rest.packings;
-      records = more_records size n (cuts_of p.packed) (flat_map cuts_of rest.packed) (run_records size n p.packed.segment p.packed.runs power here packing.none_empty packing.each_fits) rest.records;
+      records = more_records size n (cuts_of p.packed) (flat_map cuts_of rest.packed)
+          (run_records size n p.packed.segment p.packed.runs power here packing.none_empty packing.each_fits)
+          rest.records;
     }
 
 pub record HasOutput (size : ℕ) (segments : List Segment) : Type 0 where
@@ -141,74 +182,105 @@ pub record HasOutput (size : ℕ) (segments : List Segment) : Type 0 where
   pub same : map segment_of_packed packed ≡ segments
   pub output : IsOutput size packed rows bytes
 
-pub has_output : (size : ℕ) (segments : List Segment) → IsRecordLength size → All IsWritableSegment segments → HasOutput size segments
+pub has_output : (size : ℕ) (segments : List Segment) → IsRecordLength size → All IsWritableSegment segments
+    → HasOutput size segments
 has_output size segments power writable =
     let o = output_from size 1 segments power writable in
-    record { packed = o.packed; rows = o.records.rows; bytes = o.records.bytes; same = o.same; output = record { packings = o.packings; records = o.records.written } }
+    record {
+      packed = o.packed;
+      rows = o.records.rows;
+      bytes = o.records.bytes;
+      same = o.same;
+      output = record { packings = o.packings; records = o.records.written };
+    }
 
 -- ---- the prefix of an output
 
-pub all-behind : {X : Type 0} (P : X → Type 0) (xs ys : List X) → All P (xs ++ ys) → All P ys
-all-behind P [] ys all = all
-all-behind P (x ∷ xs) ys all = all-behind P xs ys (all-rest P x (xs ++ ys) all)
+pub all_behind : {X : Type 0} (P : X → Type 0) (xs ys : List X) → All P (xs ++ ys) → All P ys
+all_behind P [] ys all = all
+all_behind P (x ∷ xs) ys all = all_behind P xs ys (all_rest P x (xs ++ ys) all)
 
-pub front_of_output : (size : ℕ) (packed : List Packed) (segment : Segment) (runs others : List Run) (separators : List ℕ) (more : List Segment) (rows : List Row) (bytes : List ℕ)
-    → IsRecordLength size → All (IsPacked size) packed → IsWritableSegment segment → IsCanonical size segment.samples (runs ++ others) separators
+pub front_of_output : (size : ℕ) (packed : List Packed) (segment : Segment) (runs others : List Run)
+    (separators : List ℕ) (more : List Segment) (rows : List Row) (bytes : List ℕ)
+    → IsRecordLength size → All (IsPacked size) packed → IsWritableSegment segment
+    → IsCanonical size segment.samples (runs ++ others) separators
     → AreWritten size 1 (flat_map cuts_of packed ++ cuts_at segment runs) rows bytes
     → IsFrontOfOutput size (map segment_of_packed packed ++ segment ∷ more) bytes
 front_of_output size packed segment runs others separators more rows bytes power packings writable canonical written =
     let one : Packed = record { segment = segment; runs = runs ++ others; separators = separators } in
-    let is : IsPacked size one = is_packed_by size segment (runs ++ others) separators (enough_bytes size power) canonical in
+    let is : IsPacked size one = is_packed_by size segment (runs ++ others) separators
+    (enough_bytes size power) canonical in
     let packing = is.packing in
     let so_far = flat_map cuts_of packed ++ cuts_at segment runs in
-    let rest = run_records size (number_after 1 so_far) segment others power writable (all-behind IsSome runs others packing.none_empty) (all-behind (IsFitting size segment.samples) runs others packing.each_fits) in
-    let both = written-append size 1 so_far (cuts_at segment others) rows rest.rows bytes rest.bytes written rest.written in
+    let rest = run_records size (number_after 1 so_far) segment others power writable
+    (all_behind IsSome runs others packing.none_empty)
+    (all_behind (IsFitting size segment.samples) runs others packing.each_fits) in
+    let both = written_append size 1 so_far
+    (cuts_at segment others) rows rest.rows bytes rest.bytes written rest.written in
     let cuts : flat_map cuts_of (packed ++ one ∷ []) ≡ so_far ++ cuts_at segment others =
-    cuts-more packed one
-    ∙ ap (λ (l : List Cut). flat_map cuts_of packed ++ l) (map-append (λ (r : Run). record { segment = segment; run = r }) runs others)
+    cuts_further packed one
+    ∙ ap (λ (l : List Cut). flat_map cuts_of packed ++ l)
+    (map-append (λ (r : Run). record { segment = segment; run = r }) runs others)
     ∙ sym (append_assoc (flat_map cuts_of packed) (cuts_at segment runs) (cuts_at segment others)) in
     record {
       packed = packed ++ one ∷ [];
       others = more;
       rows = rows ++ rest.rows;
       tail = rest.bytes;
-      some_first = sym (ap (λ (l : List Segment). l ++ more) (map-append segment_of_packed packed (one ∷ [])) ∙ append_assoc (map segment_of_packed packed) (segment ∷ []) more);
-      output = record { packings = All-append (IsPacked size) packed (one ∷ []) packings (all-one (IsPacked size) one is); records = rw cuts both };
+      some_first = sym (ap (λ (l : List Segment). l ++ more) (map-append segment_of_packed packed (one ∷ []))
+          ∙ append_assoc (map segment_of_packed packed) (segment ∷ []) more);
+      output = record {
+        packings = All-append (IsPacked size) packed (one ∷ []) packings
+            (all_one (IsPacked size) one is);
+        records = rw cuts both;
+      };
     }
 
 -- ---- a segment that grows
 
-range-longer : (xs ys : List ℤ) (a b : ℕ) → a ≤ b → b ≤ length xs → slice_range (xs ++ ys) a b ≡ slice_range xs a b
-range-longer xs ys a b order within =
+range_longer : (xs ys : List ℤ) (a b : ℕ) → a ≤ b → b ≤ length xs → slice_range (xs ++ ys) a b ≡ slice_range xs a b
+range_longer xs ys a b order within =
     let behind : length (drop a xs) ≡ length xs - a = length-drop a xs in
     ap (take (b - a)) (drop-append-le a xs ys (omega arith)) ∙ take-append-le (b - a) (drop a xs) ys (omega arith)
 
-get-longer : (xs ys : List ℤ) (i : ℕ) → i < length xs → slice_get (xs ++ ys) i ≡ slice_get xs i
-get-longer [] ys i lt = absurd (omega arith)
-get-longer (x ∷ xs) ys zero lt = refl
-get-longer (x ∷ xs) ys (suc i) lt = get-longer xs ys i (omega arith)
+get_longer : (xs ys : List ℤ) (i : ℕ) → i < length xs → slice_get (xs ++ ys) i ≡ slice_get xs i
+get_longer [] ys i lt = absurd (omega arith)
+get_longer (x ∷ xs) ys zero lt = refl
+get_longer (x ∷ xs) ys (suc i) lt = get_longer xs ys i (omega arith)
 
-before-longer : (xs ys : List ℤ) (a : ℕ) → a ≤ length xs → sample_before (xs ++ ys) a ≡ sample_before xs a
-before-longer xs ys zero le = refl
-before-longer xs ys (suc i) le = get-longer xs ys i (omega arith)
+before_longer : (xs ys : List ℤ) (a : ℕ) → a ≤ length xs → sample_before (xs ++ ys) a ≡ sample_before xs a
+before_longer xs ys zero le = refl
+before_longer xs ys (suc i) le = get_longer xs ys i (omega arith)
 
 -- the records of runs of a segment stay those of its runs when it grows
-pub written_longer : (size n : ℕ) (segment : Segment) (more : List ℤ) (runs : List Run) (rows : List Row) (bytes : List ℕ) → All (λ run. (run.start ≤ run.end) × (run.end ≤ length segment.samples)) runs → AreWritten size n (cuts_at segment runs) rows bytes
-    → AreWritten size n (cuts_at (record { key = segment.key; start = segment.start; samples = segment.samples ++ more }) runs) rows bytes
+pub written_longer : (size n : ℕ) (segment : Segment) (more : List ℤ) (runs : List Run) (rows : List Row)
+    (bytes : List ℕ) → All (λ run. (run.start ≤ run.end) × (run.end ≤ length segment.samples)) runs
+    → AreWritten size n (cuts_at segment runs) rows bytes
+    → AreWritten size n (cuts_at (record {
+      key = segment.key;
+      start = segment.start;
+      samples = segment.samples ++ more;
+    }) runs) rows bytes
 written_longer size n segment more [] rows bytes within are = are
 written_longer size n segment more (run ∷ runs) rows bytes within are =
     let w = are.2 in
     let r = w.is_record in
     let row = r.of_run in
-    let inside = all-first (λ run. (run.start ≤ run.end) × (run.end ≤ length segment.samples)) run runs within in
-    let before = before-longer segment.samples more run.start (omega (arith, inside.0, inside.1)) in (
+    let inside = all_first (λ run. (run.start ≤ run.end) × (run.end ≤ length segment.samples)) run runs within in
+    let before = before_longer segment.samples more run.start (omega (arith, inside.0, inside.1)) in (
       are.0,
       are.1,
       record {
         row = w.row;
         first = w.first;
         is_record = record {
-          of_run = record { key = row.key; start = row.start; kind = row.kind; samples = row.samples ∙ sym (range-longer segment.samples more run.start run.end inside.0 inside.1) };
+          of_run = record {
+            key = row.key;
+            start = row.start;
+            kind = row.kind;
+            samples = row.samples
+                ∙ sym (range_longer segment.samples more run.start run.end inside.0 inside.1);
+          };
           size_is = r.size_is;
           written = rw before r.written;
           decodes = r.decodes;
@@ -217,5 +289,6 @@ written_longer size n segment more (run ∷ runs) rows bytes within are =
         all_rows = w.all_rows;
         all_bytes = w.all_bytes;
       },
-      written_longer size (next_number n) segment more runs are.0 are.1 (all-rest (λ run. (run.start ≤ run.end) × (run.end ≤ length segment.samples)) run runs within) are.3,
+      written_longer size (next_number n) segment more runs are.0 are.1
+          (all_rest (λ run. (run.start ≤ run.end) × (run.end ≤ length segment.samples)) run runs within) are.3,
     )

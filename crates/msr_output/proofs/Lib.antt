@@ -1,10 +1,10 @@
 pub mod Times
 pub mod Runs
 pub mod Appending
-pub mod Progress
+pub mod BetweenSegments
 pub mod Sizes
-pub mod Once
-pub mod Cutting
+pub mod OneOutput
+pub mod CutRows
 pub mod Existing
-pub mod Begun
-pub mod Decided
+pub mod OpenSegments
+pub mod DecidedRecords

@@ -12,18 +12,27 @@ use Rattle.msr_output.specs.Output.{sample_before}
 use Rattle.msr_output.specs.Writing.{AppendsRecordOfRun}
 
 -- the samples of a run with their differences are those of the segment at its place
-pub points_of_run : (samples : List ℤ) (a b : ℕ) → a ≤ length samples → points (sample_before samples a) (slice_range samples a b) ≡ run_points samples a b
-points_of_run samples zero b within = let e : b - 0 ≡ b = omega arith in rw e (run_from_start samples b ∙ ap (λ n. take n (points None samples)) e)
+pub points_of_run : (samples : List ℤ) (a b : ℕ) → a ≤ length samples
+    → points (sample_before samples a) (slice_range samples a b) ≡ run_points samples a b
+points_of_run samples zero b within = let e : b - 0 ≡ b = omega arith in
+    rw e (run_from_start samples b ∙ ap (λ n. take n (points None samples)) e)
 points_of_run samples (suc i) b within =
     let e : suc i - 1 ≡ i = omega arith in
     ap (λ before. points before (slice_range samples (suc i) b)) (slice_get-get_or samples i (pos 0) (omega arith))
     ∙ rw e at (run_from samples (suc i) b (omega arith))
 
-pub record_of_run : (size number : ℕ) (segment : Segment) (run : Run) (start : ℤ) (old new : List ℕ) → IsRoundedNominal segment.key.rate segment.start run.start start
-    → AppendsRecord old new segment.key start number (sample_before segment.samples run.start) (slice_range segment.samples run.start run.end) run.kind size
+pub record_of_run : (size number : ℕ) (segment : Segment) (run : Run) (start : ℤ) (old new : List ℕ)
+    → IsRoundedNominal segment.key.rate segment.start run.start start
+    → AppendsRecord old new segment.key start number (sample_before segment.samples run.start)
+    (slice_range segment.samples run.start run.end) run.kind size
     → AppendsRecordOfRun size number segment run old new
 record_of_run size number segment run start old new h a = record {
-  row = record { key = segment.key; start = start; kind = run.kind; samples = slice_range segment.samples run.start run.end };
+  row = record {
+    key = segment.key;
+    start = start;
+    kind = run.kind;
+    samples = slice_range segment.samples run.start run.end;
+  };
   bytes = a.bytes;
   joined = a.joined;
   is_record = record {

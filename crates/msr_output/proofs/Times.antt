@@ -9,7 +9,10 @@ use Rattle.msr_time.proofs.RateLemmas.{scaled, nominal_is, quotient_bounds}
 use borrow.Author.Differences.{up, down}
 
 -- the parts of a rounded instant, over naturals: times the denominator
-pub rounded_parts : (rate : SampleRate) (t0 : ℤ) (n : ℕ) (r : ℤ) → IsRoundedNominal rate t0 n r → (let den = (period_of rate).1 in let span = n * (period_of rate).0 in (2 * (up r * den) + 2 * (down t0 * den) ≤ 2 * (down r * den) + 2 * (up t0 * den) + 2 * span + den) × (2 * (up t0 * den) + 2 * span + 2 * (down r * den) < 2 * (up r * den) + den + 2 * (down t0 * den)))
+pub rounded_parts : (rate : SampleRate) (t0 : ℤ) (n : ℕ) (r : ℤ) → IsRoundedNominal rate t0 n r
+    → (let den = (period_of rate).1 in let span = n * (period_of rate).0 in
+    (2 * (up r * den) + 2 * (down t0 * den) ≤ 2 * (down r * den) + 2 * (up t0 * den) + 2 * span + den)
+    × (2 * (up t0 * den) + 2 * span + 2 * (down r * den) < 2 * (up r * den) + den + 2 * (down t0 * den)))
 rounded_parts rate t0 n r h =
     let den = (period_of rate).1 in
     let base = scaled t0 (up t0) (down t0) den (omega arith) in
@@ -20,7 +23,8 @@ rounded_parts rate t0 n r h =
     (omega (arith, signed_arith), omega (arith, signed_arith))
 
 -- no rounded instant lies before the start
-not_before_start : (rate : SampleRate) (t0 : ℤ) (n : ℕ) (r : ℤ) → IsRoundedNominal rate t0 n r → up r + down t0 < up t0 + down r → ⊥
+not_before_start : (rate : SampleRate) (t0 : ℤ) (n : ℕ) (r : ℤ) → IsRoundedNominal rate t0 n r
+    → up r + down t0 < up t0 + down r → ⊥
 not_before_start rate t0 n r h before =
     let den = (period_of rate).1 in
     let a = rounded_parts rate t0 n r h in
@@ -28,7 +32,8 @@ not_before_start rate t0 n r h before =
     omega arith
 
 -- nor after that of a later sample
-not_after : (rate : SampleRate) (t0 : ℤ) (n m : ℕ) (r q : ℤ) → n ≤ m → IsRoundedNominal rate t0 n r → IsRoundedNominal rate t0 m q → up q + down r < up r + down q → ⊥
+not_after : (rate : SampleRate) (t0 : ℤ) (n m : ℕ) (r q : ℤ) → n ≤ m → IsRoundedNominal rate t0 n r
+    → IsRoundedNominal rate t0 m q → up q + down r < up r + down q → ⊥
 not_after rate t0 n m r q later h k before =
     let den = (period_of rate).1 in
     let a = rounded_parts rate t0 n r h in
@@ -37,7 +42,8 @@ not_after rate t0 n m r q later h k before =
     let step : (up q + down r + 1) * den ≤ (up r + down q) * den = mul-le-mul_right den (omega arith) in
     omega arith
 
-pub nominal_between : (rate : SampleRate) (t0 r last : ℤ) (n m : ℕ) → n ≤ m → IsRoundedNominal rate t0 n r → IsRoundedNominal rate t0 m last → IsInstant t0 → IsInstant last → IsInstant r
+pub nominal_between : (rate : SampleRate) (t0 r last : ℤ) (n m : ℕ) → n ≤ m → IsRoundedNominal rate t0 n r
+    → IsRoundedNominal rate t0 m last → IsInstant t0 → IsInstant last → IsInstant r
 nominal_between rate t0 r last n m later h k first end =
     let a : up r + down t0 < up t0 + down r → ⊥ = not_before_start rate t0 n r h in
     let b : up last + down r < up r + down last → ⊥ = not_after rate t0 n m r last later h k in
@@ -61,12 +67,15 @@ pub some_where : (found : Option ℤ) (P : Type 0) (v : ℤ) → SomeIff found P
 some_where None P v h p = absurd (h p)
 some_where (Some x) P v h p = refl
 
-pub nominal_found : (rate : SampleRate) (t0 v : ℤ) (n : ℕ) (found : Option ℤ) → ((r : ℤ) × IsRoundedNominal rate t0 n r × SomeIff found (IsInstant r) r) → found ≡ Some v → IsRoundedNominal rate t0 n v
+pub nominal_found : (rate : SampleRate) (t0 v : ℤ) (n : ℕ) (found : Option ℤ)
+    → ((r : ℤ) × IsRoundedNominal rate t0 n r × SomeIff found (IsInstant r) r) → found ≡ Some v
+    → IsRoundedNominal rate t0 n v
 nominal_found rate t0 v n None h e = absurd cc
 nominal_found rate t0 v n (Some x) h e = let is : x ≡ h.0 = h.2.1 in let same : v ≡ h.0 = cc in rw same h.1
 
 -- a sample counted from a rounded instant has one too
-nominal_on : (rate : SampleRate) (t0 r : ℤ) (n m : ℕ) → IsRoundedNominal rate t0 n r → (q : ℤ) × IsRoundedNominal rate r m q
+nominal_on : (rate : SampleRate) (t0 r : ℤ) (n m : ℕ) → IsRoundedNominal rate t0 n r
+    → (q : ℤ) × IsRoundedNominal rate r m q
 nominal_on rate t0 r n m h =
     let num = (period_of rate).0 in
     let den = (period_of rate).1 in
@@ -78,7 +87,8 @@ nominal_on rate t0 r n m h =
     (r +ℤ pos q, nominal_is rate r m q bounds.0 bounds.1)
 
 -- counted so, it lies at most a microsecond after where it does counted from the start
-not_far_after : (rate : SampleRate) (t0 r last q : ℤ) (n m k : ℕ) → n + m ≤ k → IsRoundedNominal rate t0 n r → IsRoundedNominal rate t0 k last → IsRoundedNominal rate r m q → up last + down q + 1 < up q + down last → ⊥
+not_far_after : (rate : SampleRate) (t0 r last q : ℤ) (n m k : ℕ) → n + m ≤ k → IsRoundedNominal rate t0 n r
+    → IsRoundedNominal rate t0 k last → IsRoundedNominal rate r m q → up last + down q + 1 < up q + down last → ⊥
 not_far_after rate t0 r last q n m k later first end counted far =
     let den = (period_of rate).1 in
     let a = rounded_parts rate t0 n r first in
@@ -90,11 +100,18 @@ not_far_after rate t0 r last q n m k later first end counted far =
 
 -- the samples of a row that begins at a rounded instant lie in the supported years, where the segment's last sample
 -- is not in the last microsecond
-pub nominal_within : (rate : SampleRate) (t0 r last : ℤ) (n m k : ℕ) → n + m ≤ k → IsRoundedNominal rate t0 n r → IsRoundedNominal rate t0 k last → IsInstant t0 → IsInstant (last +ℤ pos 1) → (q : ℤ) × IsRoundedNominal rate r m q × IsInstant r × IsInstant q
+pub nominal_within : (rate : SampleRate) (t0 r last : ℤ) (n m k : ℕ) → n + m ≤ k → IsRoundedNominal rate t0 n r
+    → IsRoundedNominal rate t0 k last → IsInstant t0 → IsInstant (last +ℤ pos 1)
+    → (q : ℤ) × IsRoundedNominal rate r m q × IsInstant r × IsInstant q
 nominal_within rate t0 r last n m k later first end start before =
     let on = nominal_on rate t0 r n m first in
     let a : up r + down t0 < up t0 + down r → ⊥ = not_before_start rate t0 n r first in
     let b : up on.0 + down r < up r + down on.0 → ⊥ = not_before_start rate r m on.0 on.1 in
-    let c : up last + down on.0 + 1 < up on.0 + down last → ⊥ = not_far_after rate t0 r last on.0 n m k later first end on.1 in
-    let d : up last + down r < up r + down last → ⊥ = not_after rate t0 n k r last (omega arith) first end in
-    (on.0, on.1, (omega (arith, signed_arith), omega (arith, signed_arith)), (omega (arith, signed_arith), omega (arith, signed_arith)))
+    let c : up last + down on.0 + 1 < up on.0 + down last
+    → ⊥ = not_far_after rate t0 r last on.0 n m k later first end on.1 in
+    let d : up last + down r < up r + down last → ⊥ = not_after rate t0 n k r last (omega arith) first end in (
+      on.0,
+      on.1,
+      (omega (arith, signed_arith), omega (arith, signed_arith)),
+      (omega (arith, signed_arith), omega (arith, signed_arith)),
+    )

@@ -84,19 +84,22 @@ pub record CanEncode (size : ℕ) (key : Key) (start : ℤ) (packer : Holding) (
   pub fits : Fits run.kind size (points packer.before packer.shown)
 
 -- Records of further runs of the segment stand after the old bytes, from this sequence number on to before the next.
-pub record AppendsSome (whole : Bool) (segment : Segment) (runs : List Run) (opened : Opened) (number : ℕ) (old new : List ℕ) (next : ℕ) : Type 0 where
+pub record AppendsSome (whole : Bool) (segment : Segment) (runs : List Run) (opened : Opened) (number : ℕ)
+    (old new : List ℕ) (next : ℕ) : Type 0 where
   pub more : List Run
   pub is_open : IsOpen whole segment (runs ++ more) opened
   pub appends : AppendsRecords opened.size number (cuts_at segment more) old new next
 
 -- Where the segment is whole, these are the records of all its runs that were left.
-pub record AppendsMore (whole : Bool) (segment : Segment) (runs : List Run) (opened : Opened) (number : ℕ) (old new : List ℕ) (next : ℕ) : Type 0 where
+pub record AppendsMore (whole : Bool) (segment : Segment) (runs : List Run) (opened : Opened) (number : ℕ)
+    (old new : List ℕ) (next : ℕ) : Type 0 where
   pub some : AppendsSome whole segment runs opened number old new next
   pub all : whole ≡ true → IsCanonical opened.size segment.samples (runs ++ some.more) opened.separators
 
 -- From the one state of the sink to the other the records of these segments, and those of the first runs of the open
 -- one, were written or wait.
-pub record HasBegun (start now : Device) (writing : Writing) (packed : List Packed) (segment : Segment) (opened : Opened) : Type 0 where
+pub record HasBegun (start now : Device) (writing : Writing) (packed : List Packed) (segment : Segment)
+    (opened : Opened) : Type 0 where
   pub runs : List Run
   pub rows : List Row
   pub bytes : List ℕ
@@ -115,5 +118,9 @@ pub record HasBegun (start now : Device) (writing : Writing) (packed : List Pack
 
 -- One record more stands after the old bytes; or there is none, and all were given where the segment is whole.
 abbrev pub EncodesNext : Bool → Segment → List Run → Opened → ℕ → List ℕ → List ℕ → Bool → Type 0
-EncodesNext whole segment runs opened number old new true = (run : Run) × IsOpen whole segment (runs ++ run ∷ []) opened × AppendsRecordOfRun opened.size number segment run old new
-EncodesNext whole segment runs opened number old new false = IsOpen whole segment runs opened × (new ≡ old) × (whole ≡ true → IsCanonical opened.size segment.samples runs opened.separators)
+EncodesNext whole segment runs opened number old new true =
+    (run : Run) × IsOpen whole segment (runs ++ run ∷ []) opened
+    × AppendsRecordOfRun opened.size number segment run old new
+EncodesNext whole segment runs opened number old new false =
+    IsOpen whole segment runs opened × (new ≡ old)
+    × (whole ≡ true → IsCanonical opened.size segment.samples runs opened.separators)

@@ -50,9 +50,11 @@ pub record IsRowOfRun (segment : Segment) (run : Run) (row : Row) : Type 0 where
 pub record IsRecordOfRun (size number : ℕ) (segment : Segment) (run : Run) (row : Row) (bytes : List ℕ) : Type 0 where
   pub of_run : IsRowOfRun segment run row
   pub size_is : length bytes ≡ size
-  pub written : IsWritten bytes segment.key row.start number (sample_before segment.samples run.start) row.samples run.kind size
+  pub written : IsWritten bytes segment.key row.start number
+      (sample_before segment.samples run.start) row.samples run.kind size
   pub decodes : (rest : List ℕ) → IsRowOf (bytes ++ rest) row
-  pub reads : (rest : List ℕ) → RowIsInTime row → IsRecordOf (bytes ++ rest) (record { length = size; row = Some row; reverse_agrees = true })
+  pub reads : (rest : List ℕ) → RowIsInTime row
+      → IsRecordOf (bytes ++ rest) (record { length = size; row = Some row; reverse_agrees = true })
 
 -- sequence numbers run from 1 to 999999, and then again from 1
 abbrev pub next_number : ℕ → ℕ
@@ -76,7 +78,8 @@ number_after number [] = number
 number_after number (cut ∷ cuts) = number_after (next_number number) cuts
 
 -- The first of these cuts is a record.
-pub record WritesFirst (size number : ℕ) (cut : Cut) (rows : List Row) (bytes : List ℕ) (other_rows : List Row) (rest : List ℕ) : Type 0 where
+pub record WritesFirst (size number : ℕ) (cut : Cut) (rows : List Row) (bytes : List ℕ) (other_rows : List Row)
+    (rest : List ℕ) : Type 0 where
   pub row : Row
   pub first : List ℕ
   pub is_record : IsRecordOfRun size number cut.segment cut.run row first
@@ -86,7 +89,9 @@ pub record WritesFirst (size number : ℕ) (cut : Cut) (rows : List Row) (bytes 
 -- the bytes are the records of these cuts, one after another, from this sequence number on; these are their rows
 abbrev pub AreWritten : ℕ → ℕ → List Cut → List Row → List ℕ → Type 0
 AreWritten size number [] rows bytes = (rows ≡ []) × (bytes ≡ [])
-AreWritten size number (cut ∷ cuts) rows bytes = (other_rows : List Row) × (rest : List ℕ) × WritesFirst size number cut rows bytes other_rows rest × AreWritten size (next_number number) cuts other_rows rest
+AreWritten size number (cut ∷ cuts) rows bytes =
+    (other_rows : List Row) × (rest : List ℕ) × WritesFirst size number cut rows bytes other_rows rest
+    × AreWritten size (next_number number) cuts other_rows rest
 
 -- The output of these segments, each packed so, in records of so many bytes; these are the rows of the records.
 pub record IsOutput (size : ℕ) (packed : List Packed) (rows : List Row) (bytes : List ℕ) : Type 0 where
@@ -161,4 +166,8 @@ RecordsStay =
     (size number : ℕ) (segment : Segment) (more : List ℤ) (runs : List Run) (rows : List Row) (bytes : List ℕ)
     → All (λ run. (run.start ≤ run.end) × (run.end ≤ length segment.samples)) runs
     → AreWritten size number (cuts_at segment runs) rows bytes
-    → AreWritten size number (cuts_at (record { key = segment.key; start = segment.start; samples = segment.samples ++ more }) runs) rows bytes
+    → AreWritten size number (cuts_at (record {
+      key = segment.key;
+      start = segment.start;
+      samples = segment.samples ++ more;
+    }) runs) rows bytes

@@ -52,7 +52,8 @@ pub record HasWritten (start now : Device) (writing : Writing) (packed : List Pa
   pub calm : IsCalm start now
 
 -- all of it was written, and fewer bytes than a sink accepts at most
-pub record HasWrittenAll (start now : Device) (writing : Writing) (packed : List Packed) (rows : List Row) : Type 0 where
+pub record HasWrittenAll (start now : Device) (writing : Writing) (packed : List Packed)
+    (rows : List Row) : Type 0 where
   pub bytes : List ℕ
   pub output : IsOutput writing.size packed rows bytes
   pub takes : Takes start now bytes
@@ -60,7 +61,8 @@ pub record HasWrittenAll (start now : Device) (writing : Writing) (packed : List
   pub calm : IsCalm start now
 
 -- the segment was packed and stands after the others, and this is its line
-pub record WritesSegment (start now : Device) (writing : Writing) (packed : List Packed) (segment : Segment) (line : SegmentLine) : Type 0 where
+pub record WritesSegment (start now : Device) (writing : Writing) (packed : List Packed) (segment : Segment)
+    (line : SegmentLine) : Type 0 where
   pub more : Packed
   pub rows : List Row
   pub same : more.segment ≡ segment

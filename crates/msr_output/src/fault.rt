@@ -1,4 +1,4 @@
-// Why writing stops.
+//! Why writing stops.
 ghost use Rattle.std.specs.Prelude.{◌≡◌};
 ghost use Rattle.msr_output.specs.declared.fault.WriteFault.TheVariants.{Write, Memory};
 

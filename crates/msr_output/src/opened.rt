@@ -67,11 +67,15 @@ fn begins_in_time(key: &Key, start: i64)
 
 /// The next piece, of samples that others may follow, or of all.
 fn next_piece(packer: &mut BlockPacker, whole: bool) -> Option<Piece>
-    ensures given { (bytes : ℕ) (samples : List ℤ) (runs : List Run) (separators : List ℕ) → Gives whole bytes samples runs separators packer.old
-        → Gives whole bytes samples (runs ++ runs_of (pieces_of result)) (separators ++ separators_of (pieces_of result)) packer.new }
-    ensures shows { (bytes : ℕ) (samples : List ℤ) (runs : List Run) (separators : List ℕ) → Gives whole bytes samples runs separators packer.old
+    ensures given { (bytes : ℕ) (samples : List ℤ) (runs : List Run) (separators : List ℕ)
+        → Gives whole bytes samples runs separators packer.old
+        → Gives whole bytes samples (runs ++ runs_of (pieces_of result))
+        (separators ++ separators_of (pieces_of result)) packer.new }
+    ensures shows { (bytes : ℕ) (samples : List ℤ) (runs : List Run) (separators : List ℕ)
+        → Gives whole bytes samples runs separators packer.old
         → IfSome result (Shows samples packer.new.shown packer.new.before) }
-    ensures all { (bytes : ℕ) (samples : List ℤ) (runs : List Run) (separators : List ℕ) → Gives whole bytes samples runs separators packer.old
+    ensures all { (bytes : ℕ) (samples : List ℤ) (runs : List Run) (separators : List ℕ)
+        → Gives whole bytes samples runs separators packer.old
         → whole ≡ true → IsNone result → IsCanonical bytes samples runs separators }
     ensures fewer { IfSome result (λ _. left_of packer.new < left_of packer.old) }
     ensures count { pushed packer.new ≡ pushed packer.old }
@@ -82,37 +86,6 @@ fn next_piece(packer: &mut BlockPacker, whole: bool) -> Option<Piece>
     } else {
         packer.next_piece()
     }
-}
-
-/// Appends the record of the run whose samples the packer shows.
-fn encode_shown(
-    alloc: Global,
-    key: &Key,
-    start: i64,
-    record_length: Length,
-    packer: &BlockPacker,
-    run: Run,
-    number: u32,
-    out: &mut Vec<u8>,
-) -> Result<(), AllocError>
-    requires can { CanEncode (bytes_of record_length) key.now start packer.now run }
-    requires least { 1 ≤ number }
-    requires most { number ≤ 999_999 }
-    ensures { (segment : Segment) (separator : ℕ) → key.now ≡ segment.key → start ≡ segment.start → Shows segment.samples packer.now.shown packer.now.before (record { run = run; separator = separator })
-        → OnOk result (AppendsRecordOfRun (bytes_of record_length) number segment run out.old.items out.new.items) }
-{
-    let first = key.rate.nominal(start, run.start).unwrap();
-    encode_record(
-        alloc,
-        key,
-        first,
-        number,
-        packer.sample_before(),
-        packer.run_samples(),
-        run.kind,
-        record_length,
-        out,
-    )
 }
 
 impl OpenSegment {
@@ -143,13 +116,45 @@ impl OpenSegment {
     pub(crate) fn push(&mut self, samples: &[i32]) -> Result<(), AllocError>
         requires { pushed self.old.packer + length samples.now < 2 ^ 64 }
         ensures taken { (segment : Segment) (runs : List Run) → IsOpen false segment runs self.old
-            → MatchResult result (λ _. IsOpen false (longer_by segment samples.now) runs self.new) (λ _. IsOpen false segment runs self.new) }
+            → MatchResult result (λ _. IsOpen false (longer_by segment samples.now) runs self.new)
+            (λ _. IsOpen false segment runs self.new) }
         ensures size { self.new.size ≡ self.old.size }
         ensures key { self.new.key ≡ self.old.key }
         ensures start { self.new.start ≡ self.old.start }
-        ensures count { MatchResult result (λ _. pushed self.new.packer ≡ pushed self.old.packer + length samples.now) (λ _. pushed self.new.packer ≡ pushed self.old.packer) }
+        ensures count { MatchResult result (λ _. pushed self.new.packer
+            ≡ pushed self.old.packer + length samples.now) (λ _. pushed self.new.packer ≡ pushed self.old.packer) }
     {
         self.packer.push_all(samples)
+    }
+
+    /// Appends the record of the run whose samples the packer shows.
+    fn encode_shown(
+        &self,
+        alloc: Global,
+        run: Run,
+        number: u32,
+        out: &mut Vec<u8>,
+    ) -> Result<(), AllocError>
+        requires can { CanEncode self.now.size self.now.key self.now.start self.now.packer run }
+        requires least { 1 ≤ number }
+        requires most { number ≤ 999_999 }
+        ensures { (segment : Segment) (separator : ℕ) → self.now.key ≡ segment.key → self.now.start ≡ segment.start
+            → Shows segment.samples self.now.packer.shown self.now.packer.before
+            (record { run = run; separator = separator })
+            → OnOk result (AppendsRecordOfRun self.now.size number segment run out.old.items out.new.items) }
+    {
+        let first = self.key.rate.nominal(self.start, run.start).unwrap();
+        encode_record(
+            alloc,
+            &self.key,
+            first,
+            number,
+            self.packer.sample_before(),
+            self.packer.run_samples(),
+            run.kind,
+            self.record_length,
+            out,
+        )
     }
 
     /// Appends the record of the next run, where there is one, and says whether there was.
@@ -176,16 +181,7 @@ impl OpenSegment {
         let Some(piece) = next_piece(&mut self.packer, whole) else {
             return Ok(false);
         };
-        encode_shown(
-            alloc,
-            &self.key,
-            self.start,
-            self.record_length,
-            &self.packer,
-            piece.run,
-            number,
-            out,
-        )?;
+        self.encode_shown(alloc, piece.run, number, out)?;
         self.separators.push(piece.separator)?;
         Ok(true)
     }

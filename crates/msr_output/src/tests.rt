@@ -10,6 +10,7 @@ use crate::{
 };
 use msr_base::Samples;
 use msr_devices::{Behavior, Sink, TestSink};
+use msr_fixtures::{Edit, START, record, steim_record};
 use msr_record::Key;
 use msr_report::SegmentLine;
 use msr_segments::Segment;
@@ -19,70 +20,18 @@ use std::alloc::{AllocError, Global};
 use std::process::Abort;
 use std::test::Fail;
 
-// 2020-01-01 00:00:00.
-const START: i64 = 1_577_836_800_000_000;
-
-// The header of a record of 301 samples at 20 samples a second, and its three frames: the differences are 0,
-// seven in a word.
-const FIRST: [u8; 64] = [
-    0x30, 0x30, 0x30, 0x30, 0x30, 0x31, 0x44, 0x20, 0x54, 0x45, 0x53, 0x54, 0x20, 0x30, 0x30, 0x42,
-    0x48, 0x5a, 0x58, 0x58, 0x07, 0xe4, 0x00, 0x01, 0x00, 0x00, 0x00, 0x00, 0x00, 0x00, 0x01, 0x2d,
-    0x00, 0x14, 0x00, 0x01, 0x00, 0x00, 0x00, 0x02, 0x00, 0x00, 0x00, 0x00, 0x00, 0x40, 0x00, 0x30,
-    0x03, 0xe8, 0x00, 0x38, 0x0b, 0x01, 0x08, 0x00, 0x03, 0xe9, 0x00, 0x00, 0x00, 0x00, 0x00, 0x03,
+/// Where the second record differs from the first: its number, its time, one sample in one frame, and the only data
+/// word.
+const SECOND: &[Edit<'static>] = &[
+    Edit::Sequence(*b"000002"),
+    Edit::Clock(0, 0, 15, 500),
+    Edit::Samples(1),
+    Edit::Frames(1),
+    Edit::Bytes(64, &[0x02, 0x00, 0x00, 0x00]),
+    Edit::Bytes(76, &[0x40, 0x00, 0x00, 0x00]),
 ];
 
-const FIRST_CODES: [(usize, [u8; 4]); 3] = [
-    (64, [0x03, 0xff, 0xff, 0xff]),
-    (128, [0x3f, 0xff, 0xff, 0xff]),
-    (192, [0x3f, 0xff, 0xff, 0xff]),
-];
-
-// Where the next record differs: its number, its time, one sample in one frame, and the only data word.
-const SECOND: [(usize, &[u8]); 6] = [
-    (5, &[0x32]),
-    (
-        20,
-        &[0x07, 0xe4, 0x00, 0x01, 0x00, 0x00, 0x0f, 0x00, 0x01, 0xf4],
-    ),
-    (30, &[0x00, 0x01]),
-    (63, &[0x01]),
-    (64, &[0x02, 0x00, 0x00, 0x00]),
-    (76, &[0x40, 0x00, 0x00, 0x00]),
-];
-
-fn put(rt: &impl Abort, bytes: &mut [u8; 256], at: usize, part: &[u8]) {
-    for (i, byte) in part.iter().enumerate() {
-        let Some(place) = bytes.get_mut(at.saturating_add(i)) else {
-            panic!(rt; "no place")
-        };
-        *place = *byte;
-    }
-}
-
-fn first_record(rt: &impl Abort) -> [u8; 256] {
-    let mut bytes = [0; 256];
-    put(rt, &mut bytes, 0, &FIRST);
-    for word in 3..48usize {
-        if word % 16 != 0 {
-            put(rt, &mut bytes, 64 + 4 * word, &[0x80, 0x00, 0x00, 0x00]);
-        }
-    }
-    for (at, codes) in FIRST_CODES {
-        put(rt, &mut bytes, at, &codes);
-    }
-    bytes
-}
-
-fn second_record(rt: &impl Abort) -> [u8; 256] {
-    let mut bytes = [0; 256];
-    put(rt, &mut bytes, 0, &FIRST);
-    for (at, part) in SECOND {
-        put(rt, &mut bytes, at, part);
-    }
-    bytes
-}
-
-// So many samples of 0 at 20 samples a second.
+/// So many samples of 0 at 20 samples a second.
 fn zeros(rt: &impl Abort, alloc: Global, count: usize) -> Result<Segment, AllocError> {
     let Some(rate) = Rate::new(20, 1) else {
         panic!(rt; "no rate")
@@ -110,7 +59,7 @@ fn zeros(rt: &impl Abort, alloc: Global, count: usize) -> Result<Segment, AllocE
     })
 }
 
-// Whether the segment can be written, as one of a joiner can.
+/// Whether the segment can be written, as one of a joiner can.
 fn is_writable(segment: &Segment) -> bool
     ensures quality { IsTrue result → IsTrue (is_quality segment.now.key.quality) }
     ensures normal { IsTrue result → is_pending segment.now.key.activity segment.now.key.correction ≡ false }
@@ -144,7 +93,7 @@ fn behavior(most: usize, fails_at: Option<u64>) -> Behavior {
     }
 }
 
-// Writes a segment whose samples are pushed at once.
+/// Writes a segment whose samples are pushed at once.
 fn write<W: Sink>(
     writer: &mut SegmentWriter,
     sink: &mut W,
@@ -181,12 +130,12 @@ fn two_records(rt: HostRuntime) -> Result<(), Fail> {
     assert_eq!(rt; writer.finish(&mut sink), Ok(()));
     assert_eq!(rt; sink.bytes().len(), 512);
     let (first, second) = sink.bytes().split_at(256);
-    assert!(rt; first == first_record(&rt).as_slice());
-    assert!(rt; second == second_record(&rt).as_slice());
+    assert!(rt; first == steim_record(&[]).as_slice());
+    assert!(rt; second == record(SECOND).as_slice());
     Ok(())
 }
 
-// The sequence numbers of two records that are decided, where they begin so.
+/// The sequence numbers of two records that are decided, where they begin so.
 fn numbers_behind(
     rt: &impl Abort,
     alloc: Global,
@@ -224,7 +173,7 @@ fn numbers_begin_again(rt: HostRuntime) -> Result<(), Fail> {
     Ok(())
 }
 
-// What a sink of that behavior holds after two segments of so many samples, and why it does not hold all.
+/// What a sink of that behavior holds after two segments of so many samples, and why it does not hold all.
 fn written(
     rt: &impl Abort,
     alloc: Global,
@@ -245,7 +194,7 @@ fn written(
     Ok((fault, sink))
 }
 
-// The records of the second segment are numbered on from those of the first.
+/// The records of the second segment are numbered on from those of the first.
 #[test]
 fn numbers_go_on(rt: HostRuntime) -> Result<(), Fail> {
     let (fault, sink) = written(&rt, rt.alloc(), 302, behavior(100, None))?;
@@ -261,7 +210,7 @@ fn numbers_go_on(rt: HostRuntime) -> Result<(), Fail> {
     Ok(())
 }
 
-// Each call that writes is refused in turn. All waits until the end, or much is written with its segment.
+/// Each call that writes is refused in turn. All waits until the end, or much is written with its segment.
 #[test]
 fn failing_sinks_hold_a_front(rt: HostRuntime) -> Result<(), Fail> {
     for (count, most, size, calls) in [
@@ -286,7 +235,7 @@ fn failing_sinks_hold_a_front(rt: HostRuntime) -> Result<(), Fail> {
     Ok(())
 }
 
-// What waits is in the sink after a flush.
+/// What waits is in the sink after a flush.
 #[test]
 fn what_waits_is_flushed(rt: HostRuntime) -> Result<(), Fail> {
     let segment = zeros(&rt, rt.alloc(), 302)?;

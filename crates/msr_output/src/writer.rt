@@ -1,4 +1,4 @@
-// A writer of segments.
+//! A writer of segments.
 use crate::fault::WriteFault;
 use crate::opened::OpenSegment;
 use msr_devices::{Sink, WriteBuffer};
@@ -67,7 +67,8 @@ impl SegmentWriter {
         requires quality { IsTrue (is_quality key.quality) }
         requires normal { is_pending key.activity key.correction ≡ false }
         requires start { IsInstant start }
-        ensures begun { (first now : Device) (packed : List Packed) (rows : List Row) → HasWritten first now self.now packed rows
+        ensures begun { (first now : Device) (packed : List Packed) (rows : List Row)
+            → HasWritten first now self.now packed rows
             → HasBegun first now self.now packed (empty_segment key start) result }
         ensures can { CanGoOn false result }
         ensures size { result.size ≡ self.now.size }
@@ -90,14 +91,17 @@ impl SegmentWriter {
         requires can { CanGoOn false segment.old }
         requires size { segment.old.size ≡ self.old.size }
         requires number { pushed segment.old.packer + length samples.now < 2 ^ 64 }
-        requires in_time { SpanIsInTime (span_of segment.old.key segment.old.start (pushed segment.old.packer + length samples.now)) }
-        ensures written { (start : Device) (packed : List Packed) (before : Whole) → HasBegun start (W.device sink.old) self.old packed before segment.old
+        requires in_time { SpanIsInTime (span_of segment.old.key segment.old.start
+            (pushed segment.old.packer + length samples.now)) }
+        ensures written { (start : Device) (packed : List Packed) (before : Whole)
+            → HasBegun start (W.device sink.old) self.old packed before segment.old
             → MatchResult result
             (λ _. HasBegun start (W.device sink.new) self.new packed (longer_by before samples.now) segment.new)
             (StopsWriting self.old.size start (W.device sink.new) (map segment_of_packed packed ++ longer_by before samples.now ∷ [])) }
         ensures can { OnOk result (CanGoOn false segment.new) }
         ensures size { self.new.size ≡ self.old.size }
-        ensures same { (segment.new.size ≡ segment.old.size) × (segment.new.key ≡ segment.old.key) × (segment.new.start ≡ segment.old.start) }
+        ensures same { (segment.new.size ≡ segment.old.size) × (segment.new.key ≡ segment.old.key)
+            × (segment.new.start ≡ segment.old.start) }
         ensures encoded { OnOk result (IsEncoded segment.new) }
         ensures few_wait { OnOk result (length self.new.waiting < 65536) }
         ensures number { OnOk result (pushed segment.new.packer ≡ pushed segment.old.packer + length samples.now) }
@@ -120,7 +124,8 @@ impl SegmentWriter {
         requires count { CanCountCall (W.device sink.old) }
         requires can { CanGoOn false segment }
         requires size { segment.size ≡ self.old.size }
-        ensures written { (start : Device) (packed : List Packed) (all : Whole) → HasBegun start (W.device sink.old) self.old packed all segment
+        ensures written { (start : Device) (packed : List Packed) (all : Whole)
+            → HasBegun start (W.device sink.old) self.old packed all segment
             → MatchResult result
             (WritesSegment start (W.device sink.new) self.new packed all)
             (StopsWriting self.old.size start (W.device sink.new) (map segment_of_packed packed ++ all ∷ [])) }
@@ -137,13 +142,15 @@ impl SegmentWriter {
     /// Writes all that waits, while segments may still come.
     pub fn flush<W: Sink>(&mut self, sink: &mut W) -> Result<(), WriteFault>
         requires { CanCountCall (W.device sink.old) }
-        ensures written { (start : Device) (packed : List Packed) (rows : List Row) → HasWritten start (W.device sink.old) self.old packed rows
+        ensures written { (start : Device) (packed : List Packed) (rows : List Row)
+            → HasWritten start (W.device sink.old) self.old packed rows
             → MatchResult result
             (λ _. HasWritten start (W.device sink.new) self.new packed rows)
             (StopsWriting self.old.size start (W.device sink.new) (map segment_of_packed packed)) }
 
         // The same where a segment is open.
-        ensures begun { (start : Device) (packed : List Packed) (before : Whole) (opened : Opened) → CanGoOn false opened
+        ensures begun { (start : Device) (packed : List Packed) (before : Whole) (opened : Opened)
+            → CanGoOn false opened
             → HasBegun start (W.device sink.old) self.old packed before opened
             → MatchResult result
             (λ _. HasBegun start (W.device sink.new) self.new packed before opened)
@@ -159,7 +166,8 @@ impl SegmentWriter {
     /// Writes all that waits.
     pub fn finish<W: Sink>(self, sink: &mut W) -> Result<(), WriteFault>
         requires { CanCountCall (W.device sink.old) }
-        ensures written { (start : Device) (packed : List Packed) (rows : List Row) → HasWritten start (W.device sink.old) self packed rows
+        ensures written { (start : Device) (packed : List Packed) (rows : List Row)
+            → HasWritten start (W.device sink.old) self packed rows
             → MatchResult result
             (λ _. HasWrittenAll start (W.device sink.new) self packed rows)
             (StopsWriting self.size start (W.device sink.new) (map segment_of_packed packed)) }

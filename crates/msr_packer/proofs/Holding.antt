@@ -17,12 +17,13 @@ use Rattle.msr_packer.specs.Held.{BeginsAll, GivesPiece, Holds, InsideIfAny, IsC
 use Rattle.msr_packer.specs.declared.held.Current.{Current}
 use Rattle.msr_packer.specs.declared.held.Held.{Held}
 use Rattle.msr_packer.specs.declared.held.Piece.{Piece}
-use Rattle.msr_packer.proofs.Exist.{HasRest, has_packing, rest_of}
+use Rattle.msr_packer.proofs.PackingsExist.{HasRest, has_packing, rest_of}
 use Rattle.msr_packer.proofs.Least.{forth, goes_on, last_one, one_more}
 use Rattle.msr_packer.proofs.Windows.{front_of_all, near_by_one, run_of_window, run_points_stay, run_points_window, so_far_stays, step_of_window}
 
 -- no run has more samples than a record of some kind
-pub run_size : (bytes : ℕ) (samples : List ℤ) (a b : ℕ) (kind : Kind) → IsRun (Fits kind bytes) samples a b → b ≤ a + most_any bytes
+pub run_size : (bytes : ℕ) (samples : List ℤ) (a b : ℕ) (kind : Kind) → IsRun (Fits kind bytes) samples a b
+    → b ≤ a + most_any bytes
 run_size bytes samples a b kind run =
     let size = size_any bytes (run_points samples a b) (kind, run.2) in
     let long = length_run_points samples a b run.0 run.1 in
@@ -30,14 +31,18 @@ run_size bytes samples a b kind run =
 
 -- ---- samples that follow, and samples that are not needed any more
 
-pub current_in_order : (bytes : ℕ) → 256 ≤ bytes → (samples : List ℤ) (runs : List Run) (separators : List ℕ) (offset : ℕ) (c : Current) → IsCurrent bytes samples runs separators offset c → (c.start ≤ c.frontier) × (c.frontier < c.end)
+pub current_in_order : (bytes : ℕ) → 256 ≤ bytes
+    → (samples : List ℤ) (runs : List Run) (separators : List ℕ) (offset : ℕ) (c : Current)
+    → IsCurrent bytes samples runs separators offset c → (c.start ≤ c.frontier) × (c.frontier < c.end)
 current_in_order bytes enough samples runs separators offset c is =
     let s = is.so_far in
     let before = s.step.before in
     let on = goes_on bytes samples enough (offset + c.frontier) (offset + c.end) (offset + c.start) s.within s.step in
     (omega arith, omega arith)
 
-pub window_more : (bytes : ℕ) → 256 ≤ bytes → (samples more : List ℤ) (runs : List Run) (separators : List ℕ) (held : List ℤ) (offset : ℕ) (current : Option Current) → IsWindow bytes samples runs separators held offset current → Stays current (length held)
+pub window_more : (bytes : ℕ) → 256 ≤ bytes → (samples more : List ℤ) (runs : List Run) (separators : List ℕ)
+    (held : List ℤ) (offset : ℕ) (current : Option Current)
+    → IsWindow bytes samples runs separators held offset current → Stays current (length held)
     → IsWindow bytes (samples ++ more) runs separators (held ++ more) offset current
 window_more bytes enough samples more runs separators held offset current w stays = record {
   window = ap (λ xs. xs ++ more) w.window ∙ sym (drop-append-le offset samples more w.within);
@@ -45,21 +50,26 @@ window_more bytes enough samples more runs separators held offset current w stay
   at = at_more current w.at stays;
 }
   where
-    at_more : (current : Option Current) → StandsAt bytes samples runs separators offset current → Stays current (length held) → StandsAt bytes (samples ++ more) runs separators offset current
+    at_more : (current : Option Current) → StandsAt bytes samples runs separators offset current
+        → Stays current (length held) → StandsAt bytes (samples ++ more) runs separators offset current
     at_more None at stays = at
     at_more (Some c) at stays =
         let order = current_in_order bytes enough samples runs separators offset c at in
         let long : length held ≡ length samples - offset = ap length w.window ∙ length-drop offset samples in
         let last : offset + c.end < length samples = omega arith in
         record {
-          so_far = so_far_stays bytes enough samples more runs separators (offset + c.frontier) (offset + c.end) (offset + c.start) c.whole last at.so_far;
+          so_far = so_far_stays bytes enough samples more runs separators (offset + c.frontier) (offset + c.end)
+              (offset + c.start) c.whole last at.so_far;
           one_before = at.one_before;
-          whole = rw (run_points_stay samples more (offset + c.start) (offset + c.end) (omega arith) (omega arith)) at.whole;
-          short = rw (run_points_stay samples more (offset + c.start) (offset + c.end - 1) (omega arith) (omega arith)) at.short;
+          whole = rw (run_points_stay samples more (offset + c.start) (offset + c.end) (omega arith)
+              (omega arith)) at.whole;
+          short = rw (run_points_stay samples more (offset + c.start) (offset + c.end - 1) (omega arith)
+              (omega arith)) at.short;
         }
 
 -- the samples before the one before the run are not needed
-pub window_less : (bytes : ℕ) (samples : List ℤ) (runs : List Run) (separators : List ℕ) (held : List ℤ) (offset k : ℕ) (c d : Current) → IsWindow bytes samples runs separators held offset (Some c) → k < c.start
+pub window_less : (bytes : ℕ) (samples : List ℤ) (runs : List Run) (separators : List ℕ) (held : List ℤ)
+    (offset k : ℕ) (c d : Current) → IsWindow bytes samples runs separators held offset (Some c) → k < c.start
     → d.frontier + k ≡ c.frontier → d.start + k ≡ c.start → d.end + k ≡ c.end → d.whole ≡ c.whole → d.short ≡ c.short
     → IsWindow bytes samples runs separators (drop k held) (offset + k) (Some d)
 window_less bytes samples runs separators held offset k c d w small frontier start end whole short =
@@ -83,23 +93,32 @@ window_less bytes samples runs separators held offset k c d w small frontier sta
 
 -- ---- the step from the frontier, and the piece before it
 
-pub record Gives (bytes : ℕ) (samples : List ℤ) (runs : List Run) (separators : List ℕ) (offset : ℕ) (current : Option Current) (h a : ℕ) (kind : Kind) : Type 0 where
-  pub so_far : IsSoFar bytes samples (runs ++ runs_of (pieces_of (piece_of offset current a))) (separators ++ separators_of (pieces_of (piece_of offset current a))) (offset + frontier_of current) (offset + h) (offset + a) kind
+pub record Gives (bytes : ℕ) (samples : List ℤ) (runs : List Run) (separators : List ℕ) (offset : ℕ)
+    (current : Option Current) (h a : ℕ) (kind : Kind) : Type 0 where
+  pub so_far : IsSoFar bytes samples (runs ++ runs_of (pieces_of (piece_of offset current a)))
+      (separators ++ separators_of (pieces_of (piece_of offset current a))) (offset + frontier_of current)
+      (offset + h) (offset + a) kind
   pub one_before : (offset ≡ 0) ⊎ (1 ≤ a)
 
 -- the kind of the run that is cut where the next one starts
-cut_kind : (bytes : ℕ) (samples : List ℤ) (offset : ℕ) (c : Current) (a : ℕ) (b : Bool) → eqb a c.end ≡ b → a ≤ c.end → c.end ≤ a + 1
-    → IsFirstKind bytes (run_points samples (offset + c.start) (offset + c.end)) c.whole → IsFirstKind bytes (run_points samples (offset + c.start) (offset + c.end - 1)) c.short
+cut_kind : (bytes : ℕ) (samples : List ℤ) (offset : ℕ) (c : Current) (a : ℕ) (b : Bool) → eqb a c.end ≡ b
+    → a ≤ c.end → c.end ≤ a + 1
+    → IsFirstKind bytes (run_points samples (offset + c.start) (offset + c.end)) c.whole
+    → IsFirstKind bytes (run_points samples (offset + c.start) (offset + c.end - 1)) c.short
     → IsFirstKind bytes (run_points samples (offset + c.start) (offset + a)) (cond b c.whole c.short)
-cut_kind bytes samples offset c a true e low high whole short = let same : a ≡ c.end = grind (arith, nat_tests) in rw same whole
+cut_kind bytes samples offset c a true e low high whole short = let same : a ≡ c.end = grind (arith, nat_tests) in
+    rw same whole
 cut_kind bytes samples offset c a false e low high whole short =
     let other : eqb a c.end ≡ false = e in
     let same : a + 1 ≡ c.end = grind (arith, nat_tests) in
     let end : offset + c.end - 1 ≡ offset + a = omega arith in
     subst (λ n. IsFirstKind bytes (run_points samples (offset + c.start) n) c.short) end short
 
-pub gives : (bytes : ℕ) → 256 ≤ bytes → (samples : List ℤ) (runs : List Run) (separators : List ℕ) (held : List ℤ) (offset : ℕ) (current : Option Current) (h a : ℕ) (kind : Kind) → IsWindow bytes samples runs separators held offset current → frontier_of current < length held
-    → IsStep (FitsAny bytes) held (frontier_of current) h a → IsRun (Fits kind bytes) held a h → Gives bytes samples runs separators offset current h a kind
+pub gives : (bytes : ℕ) → 256 ≤ bytes → (samples : List ℤ) (runs : List Run) (separators : List ℕ) (held : List ℤ)
+    (offset : ℕ) (current : Option Current) (h a : ℕ) (kind : Kind)
+    → IsWindow bytes samples runs separators held offset current → frontier_of current < length held
+    → IsStep (FitsAny bytes) held (frontier_of current) h a → IsRun (Fits kind bytes) held a h
+    → Gives bytes samples runs separators offset current h a kind
 gives bytes enough samples runs separators held offset None h a kind w more is reached =
     let none = w.at in
     let zero_offset : offset ≡ 0 = none.2 in
@@ -125,7 +144,8 @@ gives bytes enough samples runs separators held offset (Some c) h a kind w more 
     let from = w.at in
     let s = from.so_far in
     let within = w.within in
-    let on = forth bytes samples (short_any bytes enough) (offset + c.frontier) (offset + c.end) (offset + c.start) s.within s.step in
+    let on = forth bytes samples (short_any bytes enough) (offset + c.frontier) (offset + c.end)
+    (offset + c.start) s.within s.step in
     let low = s.step.before in
     let long : length held ≡ length samples - offset = ap length w.window ∙ length-drop offset samples in
     let decided : offset + c.end < length samples = omega arith in
@@ -133,25 +153,35 @@ gives bytes enough samples runs separators held offset (Some c) h a kind w more 
       | inl e ↦ inl e
       | inr b ↦ inr (omega arith)
     ] in
-    let next_is = step_of_window bytes enough samples offset c.end h a within decided far (subst (λ xs. IsStep (FitsAny bytes) xs c.end h a) w.window is) in
-    let past = forth bytes samples (short_any bytes enough) (offset + c.end) (offset + h) (offset + a) decided next_is in
-    let near = near_by_one (FitsAny bytes) (back_step_any bytes) samples (offset + c.end) (offset + h) (offset + a) (omega arith) next_is in
+    let next_is = step_of_window bytes enough samples offset c.end h a within decided far
+    (subst (λ xs. IsStep (FitsAny bytes) xs c.end h a) w.window is) in
+    let past = forth bytes samples (short_any bytes enough) (offset + c.end) (offset + h)
+    (offset + a) decided next_is in
+    let near = near_by_one (FitsAny bytes) (back_step_any bytes) samples (offset + c.end) (offset + h) (offset + a)
+    (omega arith) next_is in
     let before = next_is.before in
-    let reached_is = run_of_window (Fits kind bytes) samples offset within a h (inr (omega arith)) (subst (λ xs. IsRun (Fits kind bytes) xs a h) w.window reached) in
+    let reached_is = run_of_window (Fits kind bytes) samples offset within a h (inr (omega arith))
+    (subst (λ xs. IsRun (Fits kind bytes) xs a h) w.window reached) in
     let run : Run = record { start = offset + c.start; end = offset + a; kind = cond (eqb a c.end) c.whole c.short } in
-    let first = cut_kind bytes samples offset c a (eqb a c.end) refl (omega arith) (omega arith) from.whole from.short in
+    let first = cut_kind bytes samples offset c a (eqb a c.end) refl (omega arith)
+    (omega arith) from.whole from.short in
     record {
-      so_far = one_more bytes samples runs separators (offset + c.frontier) (offset + c.end) (offset + c.start) c.whole s run refl (offset + h) (offset + a) kind decided next_is reached_is refl first;
+      so_far = one_more bytes samples runs separators (offset + c.frontier) (offset + c.end)
+          (offset + c.start) c.whole s run refl (offset + h) (offset + a) kind decided next_is reached_is refl first;
       one_before = inr (omega arith);
     }
 
 -- the window with the next step
-pub window_next : (bytes : ℕ) → 256 ≤ bytes → (samples : List ℤ) (runs : List Run) (separators : List ℕ) (held : List ℤ) (offset : ℕ) (current : Option Current) (next : Current) → IsWindow bytes samples runs separators held offset current → IsNext bytes held current next
-    → IsWindow bytes samples (runs ++ runs_of (pieces_of (piece_of offset current next.start))) (separators ++ separators_of (pieces_of (piece_of offset current next.start))) held offset (Some next)
+pub window_next : (bytes : ℕ) → 256 ≤ bytes → (samples : List ℤ) (runs : List Run) (separators : List ℕ)
+    (held : List ℤ) (offset : ℕ) (current : Option Current) (next : Current)
+    → IsWindow bytes samples runs separators held offset current → IsNext bytes held current next
+    → IsWindow bytes samples (runs ++ runs_of (pieces_of (piece_of offset current next.start)))
+    (separators ++ separators_of (pieces_of (piece_of offset current next.start))) held offset (Some next)
 window_next bytes enough samples runs separators held offset current d w next =
     let is = rw next.frontier at next.step in
     let inside = rw next.frontier at next.inside in
-    let g = gives bytes enough samples runs separators held offset current d.end d.start d.whole w inside is (is.reached.0, is.reached.1, next.whole.0) in
+    let g = gives bytes enough samples runs separators held offset current d.end d.start d.whole w inside is
+    (is.reached.0, is.reached.1, next.whole.0) in
     let long : length held ≡ length samples - offset = ap length w.window ∙ length-drop offset samples in
     let on = goes_on bytes held enough (frontier_of current) d.end d.start inside is in
     let within = w.within in
@@ -159,7 +189,9 @@ window_next bytes enough samples runs separators held offset current d w next =
     let points : run_points held d.start d.end ≡ run_points samples (offset + d.start) (offset + d.end) =
     ap (λ xs. run_points xs d.start d.end) w.window ∙ run_points_window samples offset d.start d.end g.one_before in
     let fewer : run_points held d.start (d.end - 1) ≡ run_points samples (offset + d.start) (offset + d.end - 1) =
-    ap (λ xs. run_points xs d.start (d.end - 1)) w.window ∙ run_points_window samples offset d.start (d.end - 1) g.one_before ∙ ap (run_points samples (offset + d.start)) end in
+    ap (λ xs. run_points xs d.start (d.end - 1)) w.window
+    ∙ run_points_window samples offset d.start (d.end - 1) g.one_before
+    ∙ ap (run_points samples (offset + d.start)) end in
     record {
       window = w.window;
       within = w.within;
@@ -174,7 +206,10 @@ window_next bytes enough samples runs separators held offset current d w next =
 -- ---- what was not given
 
 -- whatever samples follow, the runs so far begin their packing
-pub begins_all : (bytes : ℕ) → 256 ≤ bytes → (samples : List ℤ) (runs : List Run) (separators : List ℕ) (held : List ℤ) (offset : ℕ) (current : Option Current) → IsWindow bytes samples runs separators held offset current → Stays current (length held) → BeginsAll bytes samples runs separators
+pub begins_all : (bytes : ℕ) → 256 ≤ bytes → (samples : List ℤ) (runs : List Run) (separators : List ℕ)
+    (held : List ℤ) (offset : ℕ) (current : Option Current)
+    → IsWindow bytes samples runs separators held offset current → Stays current (length held)
+    → BeginsAll bytes samples runs separators
 begins_all bytes enough samples runs separators held offset None w stays more =
     let none = w.at in
     let p = has_packing bytes (samples ++ more) enough in
@@ -182,15 +217,19 @@ begins_all bytes enough samples runs separators held offset None w stays more =
 begins_all bytes enough samples runs separators held offset (Some c) w stays more =
     let at = w.at in
     let long : length held ≡ length samples - offset = ap length w.window ∙ length-drop offset samples in
-    let r = front_of_all bytes enough samples runs separators (offset + c.frontier) (offset + c.end) (offset + c.start) c.whole (omega arith) at.so_far more in
+    let r = front_of_all bytes enough samples runs separators (offset + c.frontier) (offset + c.end)
+    (offset + c.start) c.whole (omega arith) at.so_far more in
     (r.others, r.places, r.canonical)
 
 -- where the samples begin that were not given
-pub record Leaves (samples : List ℤ) (runs : List Run) (held : List ℤ) (offset : ℕ) (current : Option Current) : Type 0 where
+pub record Leaves (samples : List ℤ) (runs : List Run) (held : List ℤ) (offset : ℕ)
+    (current : Option Current) : Type 0 where
   pub joined : Joins 0 runs (offset + start_of current)
   pub from_there : drop (start_of current) held ≡ drop (offset + start_of current) samples
 
-pub leaves : (bytes : ℕ) (samples : List ℤ) (runs : List Run) (separators : List ℕ) (held : List ℤ) (offset : ℕ) (current : Option Current) → IsWindow bytes samples runs separators held offset current → Leaves samples runs held offset current
+pub leaves : (bytes : ℕ) (samples : List ℤ) (runs : List Run) (separators : List ℕ) (held : List ℤ) (offset : ℕ)
+    (current : Option Current) → IsWindow bytes samples runs separators held offset current
+    → Leaves samples runs held offset current
 leaves bytes samples runs separators held offset None w =
     let none = w.at in
     let zero_offset : offset ≡ 0 = none.2 in
@@ -205,16 +244,21 @@ leaves bytes samples runs separators held offset (Some c) w = record {
 }
 
 -- and that of all samples, where none follows
-pub begins_rest : (bytes : ℕ) → 256 ≤ bytes → (samples : List ℤ) (runs : List Run) (separators : List ℕ) (held : List ℤ) (offset : ℕ) (current : Option Current) → IsWindow bytes samples runs separators held offset current → HasRest bytes samples runs separators
+pub begins_rest : (bytes : ℕ) → 256 ≤ bytes → (samples : List ℤ) (runs : List Run) (separators : List ℕ)
+    (held : List ℤ) (offset : ℕ) (current : Option Current)
+    → IsWindow bytes samples runs separators held offset current → HasRest bytes samples runs separators
 begins_rest bytes enough samples runs separators held offset None w =
     let none = w.at in
     let p = has_packing bytes samples enough in
     record { others = p.others; places = p.places; canonical = rw (none.0, none.1) p.canonical }
 begins_rest bytes enough samples runs separators held offset (Some c) w =
-    rest_of bytes samples enough (length samples) runs separators (offset + c.frontier) (offset + c.end) (offset + c.start) c.whole w.at.so_far (omega arith)
+    rest_of bytes samples enough (length samples) runs separators (offset + c.frontier) (offset + c.end)
+    (offset + c.start) c.whole w.at.so_far (omega arith)
 
 -- where a longest run at most is held after the frontier
-pub leaves_few : (bytes : ℕ) (samples : List ℤ) (runs : List Run) (separators : List ℕ) (held : List ℤ) (offset : ℕ) (current : Option Current) → IsWindow bytes samples runs separators held offset current → length held ≤ frontier_of current + most_any bytes → LeavesFew bytes samples runs
+pub leaves_few : (bytes : ℕ) (samples : List ℤ) (runs : List Run) (separators : List ℕ) (held : List ℤ)
+    (offset : ℕ) (current : Option Current) → IsWindow bytes samples runs separators held offset current
+    → length held ≤ frontier_of current + most_any bytes → LeavesFew bytes samples runs
 leaves_few bytes samples runs separators held offset None w few =
     let none = w.at in
     let zero_offset : offset ≡ 0 = none.2 in
@@ -227,7 +271,9 @@ leaves_few bytes samples runs separators held offset (Some c) w few =
     record { given = offset + c.start; joined = s.joined; few = omega arith }
 
 -- nothing was held
-pub ends_empty : (bytes : ℕ) (samples : List ℤ) (runs : List Run) (separators : List ℕ) (held : List ℤ) (offset : ℕ) (current : Option Current) → IsWindow bytes samples runs separators held offset current → length held ≡ 0 → IsCanonical bytes samples (runs ++ []) (separators ++ [])
+pub ends_empty : (bytes : ℕ) (samples : List ℤ) (runs : List Run) (separators : List ℕ) (held : List ℤ)
+    (offset : ℕ) (current : Option Current) → IsWindow bytes samples runs separators held offset current
+    → length held ≡ 0 → IsCanonical bytes samples (runs ++ []) (separators ++ [])
 ends_empty bytes samples runs separators held offset None w empty =
     let none = w.at in
     let same : held ≡ samples = w.window ∙ ap (λ n. drop n samples) none.2 in
@@ -240,9 +286,13 @@ ends_empty bytes samples runs separators held offset (Some c) w empty =
     absurd (omega arith)
 
 -- the piece of the last step is the last of the packing, where no sample stands after it
-pub ends_with : (bytes : ℕ) (samples : List ℤ) (runs : List Run) (separators : List ℕ) (held : List ℤ) (offset : ℕ) (current : Option Current) → IsWindow bytes samples runs separators held offset current → length held ≤ frontier_of current
-    → IsCanonical bytes samples (runs ++ runs_of (pieces_of (piece_of offset current (length held)))) (separators ++ separators_of (pieces_of (piece_of offset current (length held))))
-ends_with bytes samples runs separators held offset None w done = ends_empty bytes samples runs separators held offset None w (omega arith)
+pub ends_with : (bytes : ℕ) (samples : List ℤ) (runs : List Run) (separators : List ℕ) (held : List ℤ) (offset : ℕ)
+    (current : Option Current) → IsWindow bytes samples runs separators held offset current
+    → length held ≤ frontier_of current
+    → IsCanonical bytes samples (runs ++ runs_of (pieces_of (piece_of offset current (length held))))
+    (separators ++ separators_of (pieces_of (piece_of offset current (length held))))
+ends_with bytes samples runs separators held offset None w done =
+    ends_empty bytes samples runs separators held offset None w (omega arith)
 ends_with bytes samples runs separators held offset (Some c) w done =
     let at = w.at in
     let s = at.so_far in
@@ -250,14 +300,21 @@ ends_with bytes samples runs separators held offset (Some c) w done =
     let long : length held ≡ length samples - offset = ap length w.window ∙ length-drop offset samples in
     let end : offset + length held ≡ length samples = omega arith in
     let most = s.reached.1 in
-    let run : Run = record { start = offset + c.start; end = offset + length held; kind = cond (eqb (length held) c.end) c.whole c.short } in
-    let first = cut_kind bytes samples offset c (length held) (eqb (length held) c.end) refl (omega arith) (omega arith) at.whole at.short in
-    last_one bytes samples runs separators (offset + c.frontier) (offset + c.end) (offset + c.start) c.whole s run refl (omega arith) end
+    let run : Run = record {
+      start = offset + c.start;
+      end = offset + length held;
+      kind = cond (eqb (length held) c.end) c.whole c.short;
+    } in
+    let first = cut_kind bytes samples offset c (length held) (eqb (length held) c.end) refl (omega arith)
+    (omega arith) at.whole at.short in
+    last_one bytes samples runs separators (offset + c.frontier) (offset + c.end)
+    (offset + c.start) c.whole s run refl (omega arith) end
     (subst (λ n. IsFirstKind bytes (run_points samples (offset + c.start) n) run.kind) end first)
 
 -- ---- what is shown
 
-slice_in_window : (samples : List ℤ) (o a b : ℕ) → slice_range samples (o + a) (o + b) ≡ slice_range (drop o samples) a b
+slice_in_window : (samples : List ℤ) (o a b : ℕ)
+    → slice_range samples (o + a) (o + b) ≡ slice_range (drop o samples) a b
 slice_in_window samples o a b =
     let width : (o + b) - (o + a) ≡ b - a = omega arith in
     ap (λ n. take n (drop (o + a) samples)) width ∙ ap (take (b - a)) (sym (drop-drop a o samples))
@@ -265,9 +322,11 @@ slice_in_window samples o a b =
 slice_get-drop : (xs : List ℤ) (o i : ℕ) → slice_get (drop o xs) i ≡ slice_get xs (o + i)
 slice_get-drop xs zero i = let same : i ≡ zero + i = omega arith in ap (slice_get xs) same
 slice_get-drop [] (suc o) i = refl
-slice_get-drop (x ∷ xs) (suc o) i = let same : suc (o + i) ≡ suc o + i = omega arith in slice_get-drop xs o i ∙ ap (slice_get (x ∷ xs)) same
+slice_get-drop (x ∷ xs) (suc o) i = let same : suc (o + i) ≡ suc o + i = omega arith in slice_get-drop xs o i
+    ∙ ap (slice_get (x ∷ xs)) same
 
-before_in_window : (samples : List ℤ) (o a : ℕ) → (o ≡ 0) ⊎ (1 ≤ a) → before_place (drop o samples) a ≡ before_place samples (o + a)
+before_in_window : (samples : List ℤ) (o a : ℕ) → (o ≡ 0) ⊎ (1 ≤ a)
+    → before_place (drop o samples) a ≡ before_place samples (o + a)
 before_in_window samples o a (inl e) =
     let same : o + a ≡ a = omega arith in
     rw same (subst (λ k. before_place (drop k samples) a ≡ before_place samples a) (sym e) refl)
@@ -277,8 +336,10 @@ before_in_window samples o (suc a) (inr h) =
     slice_get-drop samples o a ∙ ap (before_place samples) same
 
 -- the samples of the next piece, with the one before them
-pub shows_next : (bytes : ℕ) (samples : List ℤ) (runs : List Run) (separators : List ℕ) (held : List ℤ) (offset : ℕ) (current : Option Current) (a : ℕ) → IsWindow bytes samples runs separators held offset current
-    → IfSome (piece_of offset current a) (Shows samples (slice_range held (start_of current) a) (before_place held (start_of current)))
+pub shows_next : (bytes : ℕ) (samples : List ℤ) (runs : List Run) (separators : List ℕ) (held : List ℤ)
+    (offset : ℕ) (current : Option Current) (a : ℕ) → IsWindow bytes samples runs separators held offset current
+    → IfSome (piece_of offset current a) (Shows samples (slice_range held (start_of current) a)
+    (before_place held (start_of current)))
 shows_next bytes samples runs separators held offset None a w = tt
 shows_next bytes samples runs separators held offset (Some c) a w = record {
   run = ap (λ xs. slice_range xs c.start a) w.window ∙ sym (slice_in_window samples offset c.start a);
@@ -286,24 +347,29 @@ shows_next bytes samples runs separators held offset (Some c) a w = record {
 }
 
 -- the samples of a piece, or none
-pub shown_if_any : (samples shown : List ℤ) (before : Option ℤ) (piece : Option Piece) → IfSome piece (Shows samples shown before) → (IsNone piece → shown ≡ []) → shown ≡ samples_of samples piece
+pub shown_if_any : (samples shown : List ℤ) (before : Option ℤ) (piece : Option Piece)
+    → IfSome piece (Shows samples shown before) → (IsNone piece → shown ≡ []) → shown ≡ samples_of samples piece
 shown_if_any samples shown before None shows none = none refl
 shown_if_any samples shown before (Some piece) shows none = shows.run
 
 -- where no piece was given, the same runs and separators were
-pub holds_still : (old mid : Held) (samples : List ℤ) (runs : List Run) (separators : List ℕ) → GivesPiece old mid None → Holds samples runs separators old → Holds samples runs separators mid
+pub holds_still : (old mid : Held) (samples : List ℤ) (runs : List Run) (separators : List ℕ)
+    → GivesPiece old mid None → Holds samples runs separators old → Holds samples runs separators mid
 holds_still old mid samples runs separators first h =
     subst (λ xs. Holds samples xs separators mid) (append-nil runs)
     (subst (λ xs. Holds samples (runs ++ []) xs mid) (append-nil separators) (first.holds samples runs separators h))
 
-pub gives_again : (old mid new : Held) (piece : Option Piece) → GivesPiece old mid None → GivesPiece mid new piece → GivesPiece old new piece
+pub gives_again : (old mid new : Held) (piece : Option Piece) → GivesPiece old mid None → GivesPiece mid new piece
+    → GivesPiece old new piece
 gives_again old mid new piece first second = record {
   sound = second.sound;
   size = second.size ∙ first.size;
   held = second.held ∙ first.held;
   offset = second.offset ∙ first.offset;
-  holds = λ samples runs separators h. second.holds samples runs separators (holds_still old mid samples runs separators first h);
-  shows = λ samples runs separators h. second.shows samples runs separators (holds_still old mid samples runs separators first h);
+  holds = λ samples runs separators h. second.holds samples runs separators
+      (holds_still old mid samples runs separators first h);
+  shows = λ samples runs separators h. second.shows samples runs separators
+      (holds_still old mid samples runs separators first h);
 }
 
 -- ---- places
@@ -318,7 +384,8 @@ pub record Stepped (bytes g h a : ℕ) : Type 0 where
   pub near : g ≤ a + 1
   pub few : h ≤ a + most_any bytes
 
-stepped : (bytes : ℕ) → 256 ≤ bytes → (held : List ℤ) (g h a : ℕ) (kind : Kind) → g < length held → IsStep (FitsAny bytes) held g h a → IsRun (Fits kind bytes) held a h → Stepped bytes g h a
+stepped : (bytes : ℕ) → 256 ≤ bytes → (held : List ℤ) (g h a : ℕ) (kind : Kind) → g < length held
+    → IsStep (FitsAny bytes) held g h a → IsRun (Fits kind bytes) held a h → Stepped bytes g h a
 stepped bytes enough held g h a kind inside step reached =
     let on = goes_on bytes held enough g h a inside step in
     record {
@@ -327,11 +394,14 @@ stepped bytes enough held g h a kind inside step reached =
       few = run_size bytes held a h kind reached;
     }
 
-pub next_stepped : (bytes : ℕ) → 256 ≤ bytes → (held : List ℤ) (current : Option Current) (next : Current) → IsNext bytes held current next → Stepped bytes (frontier_of current) next.end next.start
+pub next_stepped : (bytes : ℕ) → 256 ≤ bytes → (held : List ℤ) (current : Option Current) (next : Current)
+    → IsNext bytes held current next → Stepped bytes (frontier_of current) next.end next.start
 next_stepped bytes enough held current next is =
-    rw is.frontier at (stepped bytes enough held next.frontier next.end next.start next.whole is.inside is.step (is.step.reached.0, is.step.reached.1, is.whole.0))
+    rw is.frontier at (stepped bytes enough held next.frontier next.end next.start next.whole is.inside is.step
+    (is.step.reached.0, is.step.reached.1, is.whole.0))
 
-pub start_before : (bytes number : ℕ) (current : Option Current) (a : ℕ) → InsideIfAny bytes number current → frontier_of current ≤ a + 1 → start_of current ≤ a
+pub start_before : (bytes number : ℕ) (current : Option Current) (a : ℕ) → InsideIfAny bytes number current
+    → frontier_of current ≤ a + 1 → start_of current ≤ a
 start_before bytes number None a inside near = omega arith
 start_before bytes number (Some c) a inside near = let before = inside.before in let on = inside.on in omega arith
 
@@ -339,11 +409,14 @@ pub stays_at : (current : Option Current) (number h : ℕ) → frontier_of curre
 stays_at None number h is less = tt
 stays_at (Some c) number h is less = omega arith
 
-pub stays_more : (held more : List ℤ) (current : Option Current) → Stays current (length held) → Stays current (length (held ++ more))
+pub stays_more : (held more : List ℤ) (current : Option Current) → Stays current (length held)
+    → Stays current (length (held ++ more))
 stays_more held more None stays = tt
 stays_more held more (Some c) stays = omega (arith, length-append held more)
 
-pub sound_more : (old new : Held) (more : List ℤ) → IsSound old → new.record_length ≡ old.record_length → new.current ≡ old.current → new.from ≡ old.from → new.to ≡ old.to → new.samples.items ≡ old.samples.items ++ more → new.offset + length new.samples.items < 2 ^ 64 → IsSound new
+pub sound_more : (old new : Held) (more : List ℤ) → IsSound old → new.record_length ≡ old.record_length
+    → new.current ≡ old.current → new.from ≡ old.from → new.to ≡ old.to
+    → new.samples.items ≡ old.samples.items ++ more → new.offset + length new.samples.items < 2 ^ 64 → IsSound new
 sound_more old new more s same current from to items number =
     let order = s.order in
     let within = s.within in
@@ -355,7 +428,8 @@ sound_more old new more s same current from to items number =
       within = omega arith;
     }
   where
-    inside_more : (current : Option Current) → InsideIfAny (bytes_of old.record_length) (length old.samples.items) current → InsideIfAny (bytes_of old.record_length) (length new.samples.items) current
+    inside_more : (current : Option Current) → InsideIfAny (bytes_of old.record_length)
+        (length old.samples.items) current → InsideIfAny (bytes_of old.record_length) (length new.samples.items) current
     inside_more None inside = tt
     inside_more (Some c) inside =
         let long = ap length items ∙ length-append old.samples.items more in

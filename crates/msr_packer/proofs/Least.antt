@@ -15,7 +15,8 @@ use Rattle.msr_packer.specs.SoFar.{IsSoFar}
 use Rattle.msr_words.proofs.Certificate.{joins_more, least_by_separators}
 
 module _ (bytes : ℕ) (samples : List ℤ) where
-  same_size : (runs : List Run) (separators : List ℕ) (g end : ℕ) → CanonicalTo bytes samples g runs separators end → length runs ≡ length separators
+  same_size : (runs : List Run) (separators : List ℕ) (g end : ℕ) → CanonicalTo bytes samples g runs separators end
+      → length runs ≡ length separators
   same_size [] [] g end chosen = refl
   same_size [] (s ∷ separators) g end chosen = absurd chosen
   same_size (run ∷ runs) [] g end chosen = absurd chosen
@@ -23,16 +24,19 @@ module _ (bytes : ℕ) (samples : List ℤ) where
 
   -- whatever fits from g on, the frontier passes
   module _ (short : FitsShort (FitsAny bytes)) where
-    pub forth : (g h a : ℕ) → g < length samples → IsStep (FitsAny bytes) samples g h a → min (g + 4) (length samples) ≤ h
+    pub forth : (g h a : ℕ) → g < length samples → IsStep (FitsAny bytes) samples g h a
+        → min (g + 4) (length samples) ≤ h
     forth g h a in' step =
         step.furthest g (min (g + 4) (length samples)) (omega arith) (
           omega arith,
           omega arith,
           short (run_points samples g (min (g + 4) (length samples)))
-              (let e = length_run_points samples g (min (g + 4) (length samples)) (omega arith) (omega arith) in omega arith),
+              (let e = length_run_points samples g (min (g + 4) (length samples)) (omega arith) (omega arith) in
+              omega arith),
         )
 
-    near : BackStepLaw 1 (FitsAny bytes) → (g h a : ℕ) → g < length samples → IsStep (FitsAny bytes) samples g h a → g ≤ a + 1
+    near : BackStepLaw 1 (FitsAny bytes) → (g h a : ℕ) → g < length samples → IsStep (FitsAny bytes) samples g h a
+        → g ≤ a + 1
     near law g h a in' step =
         let f = forth g h a in' step in
         let back = back_step_run (FitsAny bytes) 1 law samples a g h step.before (omega arith) step.reached in
@@ -53,7 +57,8 @@ module _ (bytes : ℕ) (samples : List ℤ) where
 
     apart_from : (runs : List Run) (separators : List ℕ) (g end : ℕ) → CanonicalTo bytes samples g runs separators end →
         (i j : ℕ) → i < j → j < length separators →
-        (slice_index separators i < slice_index separators j) × NoneHolds bytes samples (slice_index separators i) (slice_index separators j)
+        (slice_index separators i < slice_index separators j)
+        × NoneHolds bytes samples (slice_index separators i) (slice_index separators j)
     apart_from [] [] g end chosen i j h k = absurd (omega arith)
     apart_from [] (s ∷ separators) g end chosen i j h k = absurd chosen
     apart_from (run ∷ runs) [] g end chosen i j h k = absurd chosen
@@ -62,19 +67,27 @@ module _ (bytes : ℕ) (samples : List ℤ) where
         let e : s ≡ g = chosen.1 in
         let in' : g < length samples = chosen.2 in
         let f = forth g chosen.0 run.start chosen.2 chosen.3 in
-        let later = from_here runs separators chosen.0 end chosen.5 j (omega arith) in
-        (omega arith, record { none = λ a b fits p q r t. let most = chosen.3.furthest a b (omega arith) fits in omega arith })
+        let later = from_here runs separators chosen.0 end chosen.5 j (omega arith) in (
+          omega arith,
+          record {
+            none = λ a b fits p q r t. let most = chosen.3.furthest a b (omega arith) fits in
+                omega arith;
+          },
+        )
     apart_from (run ∷ runs) (s ∷ separators) g end chosen (suc i) (suc j) h k =
         apart_from runs separators chosen.0 end chosen.5 i j (omega arith) (omega arith)
 
-    within_from : (runs : List Run) (separators : List ℕ) (g end : ℕ) → CanonicalTo bytes samples g runs separators end → All (λ s. s < length samples) separators
+    within_from : (runs : List Run) (separators : List ℕ) (g end : ℕ)
+        → CanonicalTo bytes samples g runs separators end → All (λ s. s < length samples) separators
     within_from [] [] g end chosen = All-nil (λ s. s < length samples)
     within_from [] (s ∷ separators) g end chosen = absurd chosen
     within_from (run ∷ runs) [] g end chosen = absurd chosen
     within_from (run ∷ runs) (s ∷ separators) g end chosen =
-        All-cons (λ s. s < length samples) s separators (let e = chosen.1 in let in' = chosen.2 in omega arith) (within_from runs separators chosen.0 end chosen.5)
+        All-cons (λ s. s < length samples) s separators (let e = chosen.1 in let in' = chosen.2 in omega arith)
+        (within_from runs separators chosen.0 end chosen.5)
 
-    pub separating : (runs : List Run) (separators : List ℕ) → IsCanonical bytes samples runs separators → IsSeparating bytes samples separators
+    pub separating : (runs : List Run) (separators : List ℕ) → IsCanonical bytes samples runs separators
+        → IsSeparating bytes samples separators
     separating runs separators chosen = record {
       rising = λ i j h k. (apart_from runs separators 0 (length samples) chosen.0 i j h k).0;
       within = within_from runs separators 0 (length samples) chosen.0;
@@ -104,41 +117,64 @@ module _ (bytes : ℕ) (samples : List ℤ) where
         let in'' : chosen.0 < length samples = chosen.5.2 in
         let n = near law chosen.0 chosen.5.0 next.start chosen.5.2 chosen.5.3 in
         let b' = chosen.5.3.before in
-        All-cons Sound run (next ∷ runs) (omega arith, (omega arith, omega arith, chosen.4.0)) (sound_from law (next ∷ runs) (t ∷ separators) chosen.0 run.end chosen.5 joined.1)
+        All-cons Sound run (next ∷ runs) (omega arith, (omega arith, omega arith, chosen.4.0))
+        (sound_from law (next ∷ runs) (t ∷ separators) chosen.0 run.end chosen.5 joined.1)
 
-    pub packing : BackStepLaw 1 (FitsAny bytes) → (runs : List Run) (separators : List ℕ) → IsCanonical bytes samples runs separators → IsPacking bytes samples runs
+    pub packing : BackStepLaw 1 (FitsAny bytes) → (runs : List Run) (separators : List ℕ)
+        → IsCanonical bytes samples runs separators → IsPacking bytes samples runs
     unfolding Sound
     packing law runs separators chosen =
         let sound = sound_from law runs separators 0 0 chosen.0 chosen.1 in
         record {
           none_empty = All-weaker Sound (λ run. run.start < run.end) (λ run s. s.0) runs sound;
-          each_fits = All-weaker Sound (λ run. IsRun (Fits run.kind bytes) samples run.start run.end) (λ run s. s.1) runs sound;
+          each_fits = All-weaker Sound (λ run. IsRun (Fits run.kind bytes) samples run.start run.end)
+              (λ run s. s.1) runs sound;
           joined = chosen.1;
         }
 
-  pub as_many : (runs : List Run) (separators : List ℕ) → IsCanonical bytes samples runs separators → length runs ≡ length separators
+  pub as_many : (runs : List Run) (separators : List ℕ) → IsCanonical bytes samples runs separators
+      → length runs ≡ length separators
   as_many runs separators chosen = same_size runs separators 0 (length samples) chosen.0
 
-  pub least : FitsShort (FitsAny bytes) → (runs : List Run) (separators : List ℕ) → IsCanonical bytes samples runs separators → IsLeast bytes samples runs
-  least short runs separators chosen = least_by_separators bytes samples runs separators (separating short runs separators chosen) (as_many runs separators chosen)
+  pub least : FitsShort (FitsAny bytes) → (runs : List Run) (separators : List ℕ)
+      → IsCanonical bytes samples runs separators → IsLeast bytes samples runs
+  least short runs separators chosen = least_by_separators bytes samples runs separators
+      (separating short runs separators chosen) (as_many runs separators chosen)
 
 chosen_more : (bytes : ℕ) (samples : List ℤ) (runs : List Run) (separators : List ℕ) (from g h : ℕ) (run : Run) →
-    CanonicalTo bytes samples from runs separators g → g < length samples → IsStep (FitsAny bytes) samples g h run.start →
+    CanonicalTo bytes samples from runs separators g → g < length samples
+    → IsStep (FitsAny bytes) samples g h run.start →
     IsFirstKind bytes (run_points samples run.start run.end) run.kind →
     CanonicalTo bytes samples from (runs ++ run ∷ []) (separators ++ g ∷ []) h
-chosen_more bytes samples [] [] from g h run chosen in' step kind =
-    (h, sym chosen, (let e : from ≡ g = chosen in omega arith), subst (λ x. IsStep (FitsAny bytes) samples x h run.start) (sym chosen) step, kind, refl)
+chosen_more bytes samples [] [] from g h run chosen in' step kind = (
+  h,
+  sym chosen,
+  (let e : from ≡ g = chosen in omega arith),
+  subst
+      (λ x. IsStep (FitsAny bytes) samples x h run.start) (sym chosen) step,
+  kind,
+  refl,
+)
 chosen_more bytes samples [] (s ∷ separators) from g h run chosen in' step kind = absurd chosen
 chosen_more bytes samples (first ∷ runs) [] from g h run chosen in' step kind = absurd chosen
-chosen_more bytes samples (first ∷ runs) (s ∷ separators) from g h run chosen in' step kind =
-    (chosen.0, chosen.1, chosen.2, chosen.3, chosen.4, chosen_more bytes samples runs separators chosen.0 g h run chosen.5 in' step kind)
+chosen_more bytes samples (first ∷ runs) (s ∷ separators) from g h run chosen in' step kind = (
+  chosen.0,
+  chosen.1,
+  chosen.2,
+  chosen.3,
+  chosen.4,
+  chosen_more bytes samples runs separators chosen.0 g h run
+      chosen.5 in' step kind,
+)
 
-module _ (bytes : ℕ) (samples : List ℤ) (enough : 256 ≤ bytes) (g h a : ℕ) (within : g < length samples) (step : IsStep (FitsAny bytes) samples g h a) where
+module _ (bytes : ℕ) (samples : List ℤ) (enough : 256 ≤ bytes) (g h a : ℕ) (within : g < length samples)
+    (step : IsStep (FitsAny bytes) samples g h a) where
   pub goes_on : g < h
   goes_on = let f = forth bytes samples (short_any bytes enough) g h a within step in omega arith
 
   -- the run up to the start of the next one fits
-  pub cut_fits : (kind : Kind) → IsRun (Fits kind bytes) samples a h → (h' a' : ℕ) → h < length samples → IsStep (FitsAny bytes) samples h h' a' → IsRun (Fits kind bytes) samples a a'
+  pub cut_fits : (kind : Kind) → IsRun (Fits kind bytes) samples a h → (h' a' : ℕ) → h < length samples
+      → IsStep (FitsAny bytes) samples h h' a' → IsRun (Fits kind bytes) samples a a'
   cut_fits kind reached h' a' more next =
       let f = forth bytes samples (short_any bytes enough) g h a within step in
       let n = near bytes samples (short_any bytes enough) (back_step_any bytes) h h' a' more next in
@@ -146,19 +182,24 @@ module _ (bytes : ℕ) (samples : List ℤ) (enough : 256 ≤ bytes) (g h a : �
       prefix_run (Fits kind bytes) (prefix_kind kind bytes) samples a a' h (omega arith) next.before reached
 
   -- so does the last run, to the end of the segment
-  pub all_fits : (kind : Kind) → IsRun (Fits kind bytes) samples a h → length samples ≤ h → IsRun (Fits kind bytes) samples a (length samples)
+  pub all_fits : (kind : Kind) → IsRun (Fits kind bytes) samples a h → length samples ≤ h
+      → IsRun (Fits kind bytes) samples a (length samples)
   all_fits kind reached done =
       let in' = reached.1 in
       let e : h ≡ length samples = omega arith in
       subst (λ b. IsRun (Fits kind bytes) samples a b) e reached
 
 first_at : (bytes : ℕ) (samples : List ℤ) (a b : ℕ) (run : Run) → run.start ≡ a → run.end ≡ b →
-    IsFirstKind bytes (run_points samples a b) run.kind → IsFirstKind bytes (run_points samples run.start run.end) run.kind
+    IsFirstKind bytes (run_points samples a b) run.kind
+    → IsFirstKind bytes (run_points samples run.start run.end) run.kind
 first_at bytes samples a b run e f kind = rw (e, f) kind
 
-module _ (bytes : ℕ) (samples : List ℤ) (runs : List Run) (separators : List ℕ) (g h a : ℕ) (kind : Kind) (so_far : IsSoFar bytes samples runs separators g h a kind) (run : Run) (e : run.start ≡ a) where
-  pub one_more : (h' a' : ℕ) (kind' : Kind) → h < length samples → IsStep (FitsAny bytes) samples h h' a' → IsRun (Fits kind' bytes) samples a' h' → run.end ≡ a' →
-      IsFirstKind bytes (run_points samples a a') run.kind → IsSoFar bytes samples (runs ++ run ∷ []) (separators ++ g ∷ []) h h' a' kind'
+module _ (bytes : ℕ) (samples : List ℤ) (runs : List Run) (separators : List ℕ) (g h a : ℕ) (kind : Kind)
+    (so_far : IsSoFar bytes samples runs separators g h a kind) (run : Run) (e : run.start ≡ a) where
+  pub one_more : (h' a' : ℕ) (kind' : Kind) → h < length samples → IsStep (FitsAny bytes) samples h h' a'
+      → IsRun (Fits kind' bytes) samples a' h' → run.end ≡ a' →
+      IsFirstKind bytes (run_points samples a a') run.kind
+      → IsSoFar bytes samples (runs ++ run ∷ []) (separators ++ g ∷ []) h h' a' kind'
   one_more h' a' kind' more next reached f first = record {
     chosen = chosen_more bytes samples runs separators 0 g h run so_far.chosen so_far.within
         (subst (IsStep (FitsAny bytes) samples g h) (sym e) so_far.step) (first_at bytes samples a a' run e f first);
@@ -169,12 +210,14 @@ module _ (bytes : ℕ) (samples : List ℤ) (runs : List Run) (separators : List
   }
 
   pub last_one : length samples ≤ h → run.end ≡ length samples →
-      IsFirstKind bytes (run_points samples a (length samples)) run.kind → IsCanonical bytes samples (runs ++ run ∷ []) (separators ++ g ∷ [])
+      IsFirstKind bytes (run_points samples a (length samples)) run.kind
+      → IsCanonical bytes samples (runs ++ run ∷ []) (separators ++ g ∷ [])
   last_one done f first =
       let all : h ≡ length samples = let w = so_far.step.reached.1 in omega arith in (
         subst (CanonicalTo bytes samples 0 (runs ++ run ∷ []) (separators ++ g ∷ [])) all
             (chosen_more bytes samples runs separators 0 g h run so_far.chosen so_far.within
-            (subst (IsStep (FitsAny bytes) samples g h) (sym e) so_far.step) (first_at bytes samples a (length samples) run e f first)),
+            (subst (IsStep (FitsAny bytes) samples g h) (sym e) so_far.step)
+            (first_at bytes samples a (length samples) run e f first)),
         subst (Joins 0 (runs ++ run ∷ [])) f (joins_more runs 0 a run so_far.joined e),
       )
 
@@ -186,7 +229,8 @@ pub record IsFound (bytes : ℕ) (samples : List ℤ) (runs : List Run) (separat
   pub as_many : length runs ≡ length separators
   pub canonical : IsCanonical bytes samples runs separators
 
-pub found : (bytes : ℕ) (samples : List ℤ) → 256 ≤ bytes → (runs : List Run) (separators : List ℕ) → IsCanonical bytes samples runs separators → IsFound bytes samples runs separators
+pub found : (bytes : ℕ) (samples : List ℤ) → 256 ≤ bytes → (runs : List Run) (separators : List ℕ)
+    → IsCanonical bytes samples runs separators → IsFound bytes samples runs separators
 found bytes samples enough runs separators chosen =
     let short = short_any bytes enough in
     record {

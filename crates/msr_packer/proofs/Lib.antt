@@ -1,7 +1,7 @@
-pub mod Better
+pub mod StepsByKinds
 pub mod Canonical
-pub mod Ends
-pub mod Exist
+pub mod EndsByKind
+pub mod PackingsExist
 pub mod Holding
 pub mod InBlocks
 pub mod Least

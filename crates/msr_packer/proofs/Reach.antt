@@ -23,14 +23,17 @@ pub record IsWalked (words left : ℕ) (samples : List ℤ) (start at : ℕ) : T
   pub reach : (rest : ℕ) → IsGreedyReach left (drop at (differences None samples)) rest
       → IsGreedyReach words (drop start (differences None samples)) (at - start + rest)
 
-pub walk_begins : (words : ℕ) (samples : List ℤ) (start : ℕ) → start ≤ length samples → IsWalked words words samples start start
+pub walk_begins : (words : ℕ) (samples : List ℤ) (start : ℕ) → start ≤ length samples
+    → IsWalked words words samples start start
 walk_begins words samples start le = record {
   from = omega arith;
   within = le;
-  reach = λ rest is. let none : rest ≡ start - start + rest = omega arith in subst (IsGreedyReach words (drop start (differences None samples))) none is;
+  reach = λ rest is. let none : rest ≡ start - start + rest = omega arith in
+      subst (IsGreedyReach words (drop start (differences None samples))) none is;
 }
 
-pub walk_more : (words left : ℕ) (samples : List ℤ) (start at size : ℕ) → IsLongestGroup (drop at (differences None samples)) size
+pub walk_more : (words left : ℕ) (samples : List ℤ) (start at size : ℕ)
+    → IsLongestGroup (drop at (differences None samples)) size
     → IsWalked words (suc left) samples start at → IsWalked words left samples start (at + size)
 walk_more words left samples start at size longest is =
     let l = length-drop at (differences None samples) in
@@ -44,39 +47,49 @@ walk_more words left samples start at size longest is =
       reach = λ rest there.
           let behind : IsGreedyReach left (drop size (drop at (differences None samples))) rest =
           subst (λ xs. IsGreedyReach left xs rest) (sym (drop-drop size at (differences None samples))) there in
-          let here : IsGreedyReach (suc left) (drop at (differences None samples)) (size + rest) = (size, rest, longest, behind, refl) in
+          let here : IsGreedyReach (suc left) (drop at (differences None samples)) (size + rest) =
+          (size, rest, longest, behind, refl) in
           let sum : at - start + (size + rest) ≡ at + size - start + rest = omega arith in
           subst (IsGreedyReach words (drop start (differences None samples))) sum (is.reach (size + rest) here);
     }
 
 -- the differences from g up to an end
-differences_up_to : (samples : List ℤ) (g end : ℕ) → g ≤ end → map (λ p. p.1) (run_points samples g end) ≡ drop g (differences None (take end samples))
-differences_up_to samples g end order = ap (map (λ (p : ℤ × ℤ). p.1)) (by_front samples g end order) ∙ sym (drop-map (λ (p : ℤ × ℤ). p.1) g (points None (take end samples)))
+differences_up_to : (samples : List ℤ) (g end : ℕ) → g ≤ end
+    → map (λ p. p.1) (run_points samples g end) ≡ drop g (differences None (take end samples))
+differences_up_to samples g end order = ap (map (λ (p : ℤ × ℤ). p.1)) (by_front samples g end order)
+    ∙ sym (drop-map (λ (p : ℤ × ℤ). p.1) g (points None (take end samples)))
 
 -- ---- narrow differences
 
 narrow_more : (samples : List ℤ) (start at n : ℕ) → start ≤ at → at + n ≤ length samples
-    → ((k : ℕ) → k < n → IsNarrow (difference_at samples (at + k))) → AreNarrow samples start at → AreNarrow samples start (at + n)
-narrow_more samples start at zero le within each all = let none : at ≡ at + 0 = omega arith in subst (AreNarrow samples start) none all
+    → ((k : ℕ) → k < n → IsNarrow (difference_at samples (at + k))) → AreNarrow samples start at
+    → AreNarrow samples start (at + n)
+narrow_more samples start at zero le within each all = let none : at ≡ at + 0 = omega arith in
+    subst (AreNarrow samples start) none all
 narrow_more samples start at (suc n) le within each all =
     let one : at + n + 1 ≡ at + suc n = omega arith in
     subst (AreNarrow samples start) one
-    (one_narrow samples start (at + n) (omega arith) (omega arith) (each n (omega arith)) (narrow_more samples start at n le (omega arith) (λ k less. each k (omega arith)) all))
+    (one_narrow samples start (at + n) (omega arith) (omega arith) (each n (omega arith))
+    (narrow_more samples start at n le (omega arith) (λ k less. each k (omega arith)) all))
 
-pub group_narrow : (samples : List ℤ) (start at size : ℕ) → start ≤ at → at ≤ length samples → IsLongestGroup (drop at (differences None samples)) size
+pub group_narrow : (samples : List ℤ) (start at size : ℕ) → start ≤ at → at ≤ length samples
+    → IsLongestGroup (drop at (differences None samples)) size
     → 1 < size → AreNarrow samples start at → AreNarrow samples start (at + size)
 group_narrow samples start at size le within longest some all =
     let l = length-drop at (differences None samples) in
     let n = length_differences None samples in
     let w = longest.within in
-    narrow_more samples start at size le (omega arith) (λ k less. narrow_in_group samples at size k longest some less) all
+    narrow_more samples start at size le (omega arith)
+    (λ k less. narrow_in_group samples at size k longest some less) all
 
 -- those of the first samples are those of all
-narrow_seen : (samples : List ℤ) (start at latest : ℕ) → start ≤ at → at ≤ latest → latest ≤ length samples → AreNarrow (take latest samples) start at → AreNarrow samples start at
+narrow_seen : (samples : List ℤ) (start at latest : ℕ) → start ≤ at → at ≤ latest → latest ≤ length samples
+    → AreNarrow (take latest samples) start at → AreNarrow samples start at
 narrow_seen samples start at latest order within inside all =
     let long = length-take-le latest samples inside in
     let same : run_points samples start at ≡ run_points (take latest samples) start at =
-    ap (λ xs. run_points xs start at) (sym (take-append-drop latest samples)) ∙ run_points_stay (take latest samples) (drop latest samples) start at order (omega arith) in
+    ap (λ xs. run_points xs start at) (sym (take-append-drop latest samples))
+    ∙ run_points_stay (take latest samples) (drop latest samples) start at order (omega arith) in
     subst (λ run. All (λ (p : ℤ × ℤ). IsNarrow p.1) run) (sym same) all
 
 narrow_through : (samples : List ℤ) (start at : ℕ) → start ≤ at → at ≤ length samples → AreNarrow samples start at
@@ -99,8 +112,11 @@ pub record IsWalkedOut (bytes : ℕ) (samples : List ℤ) (start end : ℕ) (tol
   pub narrow : IsTrue told → AreNarrowThrough samples start end
 
 -- Where no more is reached of the samples up to the latest end of a record.
-module _ (bytes words left : ℕ) (samples : List ℤ) (start latest at : ℕ) (le : start ≤ length samples) (law : GreedyLaw) (words_is : words ≡ words_of bytes)
-    (latest_is : latest ≡ latest_end Steim2 bytes samples start) (is : IsWalked words left (take latest samples) start at) (none : IsGreedyReach left (drop at (differences None (take latest samples))) 0) where
+module _ (bytes words left : ℕ) (samples : List ℤ) (start latest at : ℕ) (le : start ≤ length samples)
+    (law : GreedyLaw) (words_is : words ≡ words_of bytes)
+    (latest_is : latest ≡ latest_end Steim2 bytes samples start)
+    (is : IsWalked words left (take latest samples) start at)
+    (none : IsGreedyReach left (drop at (differences None (take latest samples))) 0) where
   seen : (latest ≤ length samples) × (start ≤ at) × (at ≤ latest)
   seen =
       let from' = is.from in
@@ -109,23 +125,27 @@ module _ (bytes words left : ℕ) (samples : List ℤ) (start latest at : ℕ) (
       let long = length-take-le latest samples short in
       (short, from', omega arith)
 
-  reached : IsRun (Fits Steim2 bytes) samples start (start + (at - start)) × ((s b : ℕ) → s ≤ start → IsRun (Fits Steim2 bytes) samples s b → b ≤ start + (at - start))
+  reached : IsRun (Fits Steim2 bytes) samples start (start + (at - start))
+      × ((s b : ℕ) → s ≤ start → IsRun (Fits Steim2 bytes) samples s b → b ≤ start + (at - start))
   reached =
       let from' = is.from in
       let sum : at - start + 0 ≡ at - start = omega arith in
       law bytes samples start (at - start) le
       (subst (λ n. IsGreedyReach (words_of bytes) (map (λ p. p.1) (run_points samples start n)) (at - start)) latest_is
-      (subst (λ xs. IsGreedyReach (words_of bytes) xs (at - start)) (sym (differences_up_to samples start latest (omega arith)))
+      (subst (λ xs. IsGreedyReach (words_of bytes) xs (at - start))
+      (sym (differences_up_to samples start latest (omega arith)))
       (subst (λ w. IsGreedyReach w (drop start (differences None (take latest samples))) (at - start)) words_is
       (subst (IsGreedyReach words (drop start (differences None (take latest samples)))) sum (is.reach 0 none)))))
 
   pub walked_out : (end : ℕ) (told : Bool) → end ≡ at → (IsTrue told → AreNarrow (take latest samples) start at)
-      → (IsTrue told → at < length samples → IsNarrow (difference_at samples at)) → IsWalkedOut bytes samples start end told
+      → (IsTrue told → at < length samples → IsNarrow (difference_at samples at))
+      → IsWalkedOut bytes samples start end told
   walked_out end told same small behind =
       let s = seen in
       let whole : start + (at - start) ≡ at = omega arith in
       subst (λ e. IsWalkedOut bytes samples start e told) (sym same) (record {
         fits = subst (IsRun (Fits Steim2 bytes) samples start) whole reached.0;
         furthest = λ b run. let most = reached.1 start b (omega arith) run in omega arith;
-        narrow = λ t. narrow_through samples start at s.1 (omega arith) (narrow_seen samples start at latest s.1 s.2 s.0 (small t)) (behind t);
+        narrow = λ t. narrow_through samples start at s.1 (omega arith)
+            (narrow_seen samples start at latest s.1 s.2 s.0 (small t)) (behind t);
       })

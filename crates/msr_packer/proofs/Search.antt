@@ -16,7 +16,8 @@ module _ (fits : List (ℤ × ℤ) → Type 0) (samples : List ℤ) (frontier : 
     pub furthest : (s b : ℕ) → s ≤ frontier → frontier < s + back → IsRun fits samples s b → b ≤ h
     pub last : (s : ℕ) → s ≤ frontier → frontier < s + back → IsRun fits samples s h → s ≤ a
 
-  pub best_first : (h : ℕ) → IsRun fits samples frontier h → ((b : ℕ) → IsRun fits samples frontier b → b ≤ h) → IsBest 1 h frontier
+  pub best_first : (h : ℕ) → IsRun fits samples frontier h → ((b : ℕ) → IsRun fits samples frontier b → b ≤ h)
+      → IsBest 1 h frontier
   best_first h run most = record {
     before = omega arith;
     among = omega arith;
@@ -61,7 +62,8 @@ module _ (fits : List (ℤ × ℤ) → Type 0) (samples : List ℤ) (frontier : 
     }
 
   -- no run from further back reaches further, by the back-step law
-  pub step_found : (places : ℕ) → BackStepLaw places fits → (back h a : ℕ) → min frontier places < back → IsBest back h a → IsStep fits samples frontier h a
+  pub step_found : (places : ℕ) → BackStepLaw places fits → (back h a : ℕ) → min frontier places < back
+      → IsBest back h a → IsStep fits samples frontier h a
   step_found places law back h a all best = record {
     before = best.before;
     reached = best.reached;

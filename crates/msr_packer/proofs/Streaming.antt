@@ -20,15 +20,20 @@ use Rattle.msr_packer.proofs.Windows.{near_by_one, run_points_stay, run_points_w
 
 -- ---- the run that takes the samples after the frontier
 
-pub live_run : (bytes : ℕ) (samples : List ℤ) (g n : ℕ) (live : Live) → n ≤ length samples → IsLive bytes samples g n live → IsRun (FitsAny bytes) samples live.start n
-live_run bytes samples g n live within is = let b = is.before in let p = is.past in (omega arith, within, (kind_of_tracker live.tracker, is.tracked.fits))
+pub live_run : (bytes : ℕ) (samples : List ℤ) (g n : ℕ) (live : Live) → n ≤ length samples
+    → IsLive bytes samples g n live → IsRun (FitsAny bytes) samples live.start n
+live_run bytes samples g n live within is = let b = is.before in let p = is.past in
+    (omega arith, within, (kind_of_tracker live.tracker, is.tracked.fits))
 
 -- so the step from there reaches the last sample
-pub live_reaches : (bytes : ℕ) (samples : List ℤ) (g n h a : ℕ) (live : Live) → n ≤ length samples → IsLive bytes samples g n live → IsStep (FitsAny bytes) samples g h a → n ≤ h
-live_reaches bytes samples g n h a live within is step = step.furthest live.start n is.before (live_run bytes samples g n live within is)
+pub live_reaches : (bytes : ℕ) (samples : List ℤ) (g n h a : ℕ) (live : Live) → n ≤ length samples
+    → IsLive bytes samples g n live → IsStep (FitsAny bytes) samples g h a → n ≤ h
+live_reaches bytes samples g n h a live within is step =
+    step.furthest live.start n is.before (live_run bytes samples g n live within is)
 
 -- samples that follow change nothing of those before
-pub live_more : (bytes : ℕ) (samples more : List ℤ) (g n : ℕ) (live : Live) → n ≤ length samples → IsLive bytes samples g n live → IsLive bytes (samples ++ more) g n live
+pub live_more : (bytes : ℕ) (samples more : List ℤ) (g n : ℕ) (live : Live) → n ≤ length samples
+    → IsLive bytes samples g n live → IsLive bytes (samples ++ more) g n live
 live_more bytes samples more g n live within is =
     let b = is.before in
     let p = is.past in
@@ -44,7 +49,9 @@ live_more bytes samples more g n live within is =
     }
 
 -- nor do samples that are taken away before its start
-pub live_less : (bytes : ℕ) (held : List ℤ) (g g' k : ℕ) (live live' : Live) → IsLive bytes held g (length held) live → k < live.start → g' + k ≡ g → live'.start + k ≡ live.start → live'.tracker ≡ live.tracker
+pub live_less : (bytes : ℕ) (held : List ℤ) (g g' k : ℕ) (live live' : Live)
+    → IsLive bytes held g (length held) live → k < live.start → g' + k ≡ g → live'.start + k ≡ live.start
+    → live'.tracker ≡ live.tracker
     → IsLive bytes (drop k held) g' (length (drop k held)) live'
 live_less bytes held g g' k live live' is small frontier start tracker =
     let b = is.before in
@@ -54,7 +61,8 @@ live_less bytes held g g' k live live' is small frontier start tracker =
     let s : k + live'.start ≡ live.start = omega arith in
     let e : k + length (drop k held) ≡ length held = omega arith in
     let same : run_points (drop k held) live'.start (length (drop k held)) ≡ run_points held live.start (length held) =
-    run_points_window held k live'.start (length (drop k held)) (inr (omega arith)) ∙ ap (λ x. run_points held x (k + length (drop k held))) s ∙ ap (run_points held live.start) e in
+    run_points_window held k live'.start (length (drop k held)) (inr (omega arith))
+    ∙ ap (λ x. run_points held x (k + length (drop k held))) s ∙ ap (run_points held live.start) e in
     record {
       before = omega arith;
       near = omega arith;
@@ -66,14 +74,17 @@ live_less bytes held g g' k live live' is small frontier start tracker =
     }
 
 -- before the first sample
-pub begun : (bytes : ℕ) → 256 ≤ bytes → (samples : List ℤ) (start : ℕ) (tracker : KindTracker) → Follows bytes [] tracker → IsTracked bytes samples start start tracker
+pub begun : (bytes : ℕ) → 256 ≤ bytes → (samples : List ℤ) (start : ℕ) (tracker : KindTracker)
+    → Follows bytes [] tracker → IsTracked bytes samples start start tracker
 begun bytes enough samples start tracker follows = record {
   follows = rw run_points_none follows;
   fits = rw run_points_none (empty_kind (kind_of_tracker tracker) bytes (omega arith));
 }
 
 -- where the step is found that ends with the samples
-pub live_of : (bytes : ℕ) → 256 ≤ bytes → (samples : List ℤ) (g h a : ℕ) (live : Live) → g ≤ h → h ≡ length samples → IsStep (FitsAny bytes) samples g h a → live.start ≡ a → IsTracked bytes samples a (length samples) live.tracker → IsLive bytes samples g (length samples) live
+pub live_of : (bytes : ℕ) → 256 ≤ bytes → (samples : List ℤ) (g h a : ℕ) (live : Live) → g ≤ h → h ≡ length samples
+    → IsStep (FitsAny bytes) samples g h a → live.start ≡ a
+    → IsTracked bytes samples a (length samples) live.tracker → IsLive bytes samples g (length samples) live
 live_of bytes enough samples g h a live order all step start tracked =
     let near = near_by_one (FitsAny bytes) (back_step_any bytes) samples g h a order step in
     let before = step.before in
@@ -85,17 +96,22 @@ live_of bytes enough samples g h a live order all step start tracked =
     }
 
 -- so a longest run at most is held after the frontier
-pub live_few : (bytes : ℕ) (held : List ℤ) (g : ℕ) (live : Live) → IsLive bytes held g (length held) live → length held ≤ g + most_any bytes
+pub live_few : (bytes : ℕ) (held : List ℤ) (g : ℕ) (live : Live) → IsLive bytes held g (length held) live
+    → length held ≤ g + most_any bytes
 live_few bytes held g live is =
     let b = is.before in
     let any = live_run bytes held g (length held) live (omega arith) is in
-    let size = run_size bytes held live.start (length held) (kind_of_tracker live.tracker) (any.0, any.1, is.tracked.fits) in
+    let size = run_size bytes held live.start (length held) (kind_of_tracker live.tracker)
+    (any.0, any.1, is.tracked.fits) in
     omega arith
 
 -- samples that are taken away, if any
-pub live_forgets : (bytes : ℕ) (held : List ℤ) (g g' k : ℕ) (live live' : Live) → IsLive bytes held g (length held) live → (k ≡ 0) ⊎ (k < live.start) → g' + k ≡ g → live'.start + k ≡ live.start → live'.tracker ≡ live.tracker
+pub live_forgets : (bytes : ℕ) (held : List ℤ) (g g' k : ℕ) (live live' : Live)
+    → IsLive bytes held g (length held) live → (k ≡ 0) ⊎ (k < live.start) → g' + k ≡ g
+    → live'.start + k ≡ live.start → live'.tracker ≡ live.tracker
     → IsLive bytes (drop k held) g' (length (drop k held)) live'
-live_forgets bytes held g g' k live live' is (inr small) frontier start tracker = live_less bytes held g g' k live live' is small frontier start tracker
+live_forgets bytes held g g' k live live' is (inr small) frontier start tracker =
+    live_less bytes held g g' k live live' is small frontier start tracker
 live_forgets bytes held g g' k live live' is (inl none) frontier start tracker =
     let here : g' ≡ g = omega arith in
     let from : live'.start ≡ live.start = omega arith in
@@ -106,7 +122,8 @@ live_forgets bytes held g g' k live live' is (inl none) frontier start tracker =
       tracked = rw (from, tracker) is.tracked;
     })
 
-pub may_forget : (bytes number : ℕ) (current : Option Current) (from : ℕ) → InsideIfAny bytes number current → frontier_of current ≤ from + 1 → (start_of current - 1 ≡ 0) ⊎ (start_of current - 1 < from)
+pub may_forget : (bytes number : ℕ) (current : Option Current) (from : ℕ) → InsideIfAny bytes number current
+    → frontier_of current ≤ from + 1 → (start_of current - 1 ≡ 0) ⊎ (start_of current - 1 < from)
 may_forget bytes number None from inside near = inl (omega arith)
 may_forget bytes number (Some c) from inside near = elim (cases_lt 1 c.start) [
   | inl some ↦ let before = inside.before in let on = inside.on in inr (omega arith)
@@ -116,7 +133,8 @@ may_forget bytes number (Some c) from inside near = elim (cases_lt 1 c.start) [
 -- ---- the step that some samples decide
 
 -- the samples after the one that decides it change nothing
-pub decided_sooner : (bytes : ℕ) (front more : List ℤ) (g n : ℕ) (found : Found) → found.step.end < length front → IsDecided bytes (front ++ more) g n found → IsDecided bytes front g n found
+pub decided_sooner : (bytes : ℕ) (front more : List ℤ) (g n : ℕ) (found : Found) → found.step.end < length front
+    → IsDecided bytes (front ++ more) g n found → IsDecided bytes front g n found
 decided_sooner bytes front more g n found inside is = record {
   step = record {
     before = is.step.before;
@@ -137,12 +155,14 @@ decided_sooner bytes front more g n found inside is = record {
 }
 
 -- and need not be held
-pub decided_there : (bytes : ℕ) (held : List ℤ) (g n : ℕ) (found : Found) → IsDecided bytes held g n found → IsDecided bytes (take (found.step.end + 1) held) g n found
+pub decided_there : (bytes : ℕ) (held : List ℤ) (g n : ℕ) (found : Found) → IsDecided bytes held g n found
+    → IsDecided bytes (take (found.step.end + 1) held) g n found
 decided_there bytes held g n found is =
     let end = found.step.end + 1 in
     let last = is.before_last in
     let long = length-take end held in
-    decided_sooner bytes (take end held) (drop end held) g n found (omega arith) (subst (λ xs. IsDecided bytes xs g n found) (sym (take-append-drop end held)) is)
+    decided_sooner bytes (take end held) (drop end held) g n found (omega arith)
+    (subst (λ xs. IsDecided bytes xs g n found) (sym (take-append-drop end held)) is)
 
 take_behind : (xs ys : List ℤ) (m n : ℕ) → m ≡ length xs + n → take m (xs ++ ys) ≡ xs ++ take n ys
 take_behind [] ys m n e = let same : m ≡ n = omega arith in ap (λ k. take k ys) same
@@ -150,8 +170,11 @@ take_behind (x ∷ xs) ys zero n e = absurd (omega arith)
 take_behind (x ∷ xs) ys (suc m) n e = ap (λ l. x ∷ l) (take_behind xs ys m n (omega arith))
 
 -- so many of the samples are held then
-pub held_there : (held samples : List ℤ) (count from end : ℕ) → from ≡ length held → from ≤ end → end ≤ length (held ++ take count samples) → take end (held ++ take count samples) ≡ held ++ take (end - from) samples
+pub held_there : (held samples : List ℤ) (count from end : ℕ) → from ≡ length held → from ≤ end
+    → end ≤ length (held ++ take count samples) → take end (held ++ take count samples) ≡ held
+    ++ take (end - from) samples
 held_there held samples count from end is past within =
     let whole = length-append held (take count samples) in
     let some = length-take count samples in
-    take_behind held (take count samples) end (end - from) (omega arith) ∙ ap (λ l. held ++ l) (take-take (end - from) count samples (omega arith))
+    take_behind held (take count samples) end (end - from) (omega arith)
+    ∙ ap (λ l. held ++ l) (take-take (end - from) count samples (omega arith))

@@ -11,7 +11,7 @@ use Rattle.msr_words.specs.Laws.{PrefixLaw, BackStepLaw}
 use Rattle.msr_words.specs.Lemmas.KindLaws.{prefix_any, back_step_any}
 use Rattle.msr_words.specs.Packing.{Joins, IsStep, CanonicalTo}
 use Rattle.msr_words.proofs.Runs.{back_step_run, points_drop, points_take, prefix_run}
-use Rattle.msr_packer.proofs.Exist.{HasRest, rest_of}
+use Rattle.msr_packer.proofs.PackingsExist.{HasRest, rest_of}
 use Rattle.msr_packer.specs.SoFar.{IsSoFar}
 use Rattle.msr_packer.proofs.Least.{goes_on}
 
@@ -20,33 +20,45 @@ use Rattle.msr_packer.proofs.Least.{goes_on}
 pub by_front : (samples : List ℤ) (a b : ℕ) → a ≤ b → run_points samples a b ≡ drop a (points None (take b samples))
 by_front samples a b order =
     let e : a + (b - a) ≡ b = omega arith in
-    sym (drop-take a (b - a) (points None samples)) ∙ ap (λ n. drop a (take n (points None samples))) e ∙ ap (drop a) (points_take samples b)
+    sym (drop-take a (b - a) (points None samples)) ∙ ap (λ n. drop a (take n (points None samples))) e
+    ∙ ap (drop a) (points_take samples b)
 
-pub run_points_stay : (samples more : List ℤ) (a b : ℕ) → a ≤ b → b ≤ length samples → run_points (samples ++ more) a b ≡ run_points samples a b
+pub run_points_stay : (samples more : List ℤ) (a b : ℕ) → a ≤ b → b ≤ length samples
+    → run_points (samples ++ more) a b ≡ run_points samples a b
 run_points_stay samples more a b order within =
-    by_front (samples ++ more) a b order ∙ ap (λ xs. drop a (points None xs)) (take-append-le b samples more within) ∙ sym (by_front samples a b order)
+    by_front (samples ++ more) a b order ∙ ap (λ xs. drop a (points None xs))
+    (take-append-le b samples more within) ∙ sym (by_front samples a b order)
 
 module _ (fits : List (ℤ × ℤ) → Type 0) (samples more : List ℤ) where
   pub run_stays : (a b : ℕ) → IsRun fits samples a b → IsRun fits (samples ++ more) a b
-  run_stays a b run = (run.0, omega (arith, run.1, length-append samples more), subst fits (sym (run_points_stay samples more a b run.0 run.1)) run.2)
+  run_stays a b run = (
+    run.0,
+    omega (arith, run.1, length-append samples more),
+    subst fits
+        (sym (run_points_stay samples more a b run.0 run.1)) run.2,
+  )
 
   pub run_was : (a b : ℕ) → b ≤ length samples → IsRun fits (samples ++ more) a b → IsRun fits samples a b
   run_was a b within run = (run.0, within, subst fits (run_points_stay samples more a b run.0 within) run.2)
 
   -- a step that ends before the last sample stays, whatever follows
-  pub step_stays : PrefixLaw fits → (g h a : ℕ) → g ≤ h → h < length samples → IsStep fits samples g h a → IsStep fits (samples ++ more) g h a
+  pub step_stays : PrefixLaw fits → (g h a : ℕ) → g ≤ h → h < length samples → IsStep fits samples g h a
+      → IsStep fits (samples ++ more) g h a
   step_stays law g h a order decided step = record {
     before = step.before;
     reached = run_stays a h step.reached;
     furthest = λ s b le r. elim (cases_lt h b) [
-      | inl past ↦ let short = run_was s (suc h) decided (prefix_run fits law (samples ++ more) s (suc h) b (omega arith) past r) in let far = step.furthest s (suc h) le short in absurd (omega arith)
+      | inl past ↦ let short = run_was s (suc h) decided
+          (prefix_run fits law (samples ++ more) s (suc h) b (omega arith) past r) in
+          let far = step.furthest s (suc h) le short in absurd (omega arith)
       | inr not ↦ not
     ];
     last = λ s le r. step.last s le (run_was s h (omega arith) r);
   }
 
 -- the runs and separators up to a frontier before the last sample stay
-ordered : (bytes : ℕ) → 256 ≤ bytes → (samples : List ℤ) (runs : List Run) (separators : List ℕ) (from g : ℕ) → CanonicalTo bytes samples from runs separators g → from ≤ g
+ordered : (bytes : ℕ) → 256 ≤ bytes → (samples : List ℤ) (runs : List Run) (separators : List ℕ) (from g : ℕ)
+    → CanonicalTo bytes samples from runs separators g → from ≤ g
 ordered bytes enough samples [] [] from g chosen = let e : from ≡ g = chosen in omega arith
 ordered bytes enough samples [] (s ∷ separators) from g chosen = absurd chosen
 ordered bytes enough samples (run ∷ runs) [] from g chosen = absurd chosen
@@ -56,7 +68,8 @@ ordered bytes enough samples (run ∷ runs) (s ∷ separators) from g chosen =
     omega arith
 
 -- a run ends at or before the frontier after it
-end_of : (bytes : ℕ) → 256 ≤ bytes → (samples : List ℤ) (runs : List Run) (separators : List ℕ) (from g e b : ℕ) → CanonicalTo bytes samples from runs separators g → Joins e runs b → b ≤ g → e ≤ g
+end_of : (bytes : ℕ) → 256 ≤ bytes → (samples : List ℤ) (runs : List Run) (separators : List ℕ) (from g e b : ℕ)
+    → CanonicalTo bytes samples from runs separators g → Joins e runs b → b ≤ g → e ≤ g
 end_of bytes enough samples [] separators from g e b chosen joined within = let same : e ≡ b = joined in omega arith
 end_of bytes enough samples (run ∷ runs) [] from g e b chosen joined within = absurd chosen
 end_of bytes enough samples (run ∷ runs) (s ∷ separators) from g e b chosen joined within =
@@ -66,7 +79,8 @@ end_of bytes enough samples (run ∷ runs) (s ∷ separators) from g e b chosen 
     omega arith
 
 -- where a step of samples starts at most one before its frontier
-pub near_by_one : (fits : List (ℤ × ℤ) → Type 0) → BackStepLaw 1 fits → (samples : List ℤ) (g h a : ℕ) → g ≤ h → IsStep fits samples g h a → g ≤ a + 1
+pub near_by_one : (fits : List (ℤ × ℤ) → Type 0) → BackStepLaw 1 fits → (samples : List ℤ) (g h a : ℕ) → g ≤ h
+    → IsStep fits samples g h a → g ≤ a + 1
 near_by_one fits law samples g h a order step =
     let back = back_step_run fits 1 law samples a g h step.before order step.reached in
     let last = step.last back.0 back.2 back.4 in
@@ -74,17 +88,22 @@ near_by_one fits law samples g h a order step =
     omega arith
 
 -- and at most one sample before it
-start_of : (bytes : ℕ) → 256 ≤ bytes → (samples : List ℤ) (runs : List Run) (separators : List ℕ) (from g e b : ℕ) → CanonicalTo bytes samples from runs separators g → Joins e runs b → g ≤ b + 1 → from ≤ e + 1
-start_of bytes enough samples [] [] from g e b chosen joined near = let same : e ≡ b = joined in let here : from ≡ g = chosen in omega arith
+start_of : (bytes : ℕ) → 256 ≤ bytes → (samples : List ℤ) (runs : List Run) (separators : List ℕ) (from g e b : ℕ)
+    → CanonicalTo bytes samples from runs separators g → Joins e runs b → g ≤ b + 1 → from ≤ e + 1
+start_of bytes enough samples [] [] from g e b chosen joined near = let same : e ≡ b = joined in
+    let here : from ≡ g = chosen in omega arith
 start_of bytes enough samples [] (s ∷ separators) from g e b chosen joined near = absurd chosen
 start_of bytes enough samples (run ∷ runs) [] from g e b chosen joined near = absurd chosen
 start_of bytes enough samples (run ∷ runs) (s ∷ separators) from g e b chosen joined near =
     let on = goes_on bytes samples enough from chosen.0 run.start chosen.2 chosen.3 in
-    let one = near_by_one (FitsAny bytes) (back_step_any bytes) samples from chosen.0 run.start (omega arith) chosen.3 in
+    let one = near_by_one (FitsAny bytes) (back_step_any bytes) samples from chosen.0 run.start
+    (omega arith) chosen.3 in
     let start : run.start ≡ e = joined.0 in
     omega arith
 
-chosen_stays : (bytes : ℕ) → 256 ≤ bytes → (samples more : List ℤ) (runs : List Run) (separators : List ℕ) (from g a b : ℕ) → CanonicalTo bytes samples from runs separators g → Joins a runs b → b ≤ g → g ≤ b + 1 → g < length samples → CanonicalTo bytes (samples ++ more) from runs separators g
+chosen_stays : (bytes : ℕ) → 256 ≤ bytes → (samples more : List ℤ) (runs : List Run) (separators : List ℕ)
+    (from g a b : ℕ) → CanonicalTo bytes samples from runs separators g → Joins a runs b → b ≤ g → g ≤ b + 1
+    → g < length samples → CanonicalTo bytes (samples ++ more) from runs separators g
 chosen_stays bytes enough samples more [] [] from g a b chosen joined within near decided = chosen
 chosen_stays bytes enough samples more [] (s ∷ separators) from g a b chosen joined within near decided = absurd chosen
 chosen_stays bytes enough samples more (run ∷ runs) [] from g a b chosen joined within near decided = absurd chosen
@@ -97,18 +116,24 @@ chosen_stays bytes enough samples more (run ∷ runs) (s ∷ separators) from g 
       chosen.0,
       chosen.1,
       omega (arith, chosen.2, length-append samples more),
-      step_stays (FitsAny bytes) samples more (prefix_any bytes) from chosen.0 run.start (omega arith) (omega arith) chosen.3,
-      subst (λ p. IsFirstKind bytes p run.kind) (sym (run_points_stay samples more run.start run.end (omega arith) (omega arith))) chosen.4,
+      step_stays (FitsAny bytes) samples more (prefix_any bytes) from chosen.0 run.start (omega arith)
+          (omega arith) chosen.3,
+      subst (λ p. IsFirstKind bytes p run.kind) (sym
+          (run_points_stay samples more run.start run.end (omega arith) (omega arith))) chosen.4,
       chosen_stays bytes enough samples more runs separators chosen.0 g run.end b chosen.5 joined.1 within near decided,
     )
 
 -- what was found up to a step that ends before the last sample stays
-pub so_far_stays : (bytes : ℕ) → 256 ≤ bytes → (samples more : List ℤ) (runs : List Run) (separators : List ℕ) (g h a : ℕ) (kind : Kind) → h < length samples → IsSoFar bytes samples runs separators g h a kind → IsSoFar bytes (samples ++ more) runs separators g h a kind
+pub so_far_stays : (bytes : ℕ) → 256 ≤ bytes
+    → (samples more : List ℤ) (runs : List Run) (separators : List ℕ) (g h a : ℕ) (kind : Kind)
+    → h < length samples → IsSoFar bytes samples runs separators g h a kind
+    → IsSoFar bytes (samples ++ more) runs separators g h a kind
 so_far_stays bytes enough samples more runs separators g h a kind decided so_far =
     let on = goes_on bytes samples enough g h a so_far.within so_far.step in
     let near = near_by_one (FitsAny bytes) (back_step_any bytes) samples g h a (omega arith) so_far.step in
     record {
-      chosen = chosen_stays bytes enough samples more runs separators 0 g 0 a so_far.chosen so_far.joined so_far.step.before near so_far.within;
+      chosen = chosen_stays bytes enough samples more runs separators 0 g 0 a so_far.chosen so_far.joined
+          so_far.step.before near so_far.within;
       joined = so_far.joined;
       within = omega (arith, so_far.within, length-append samples more);
       step = step_stays (FitsAny bytes) samples more (prefix_any bytes) g h a (omega arith) decided so_far.step;
@@ -116,13 +141,18 @@ so_far_stays bytes enough samples more runs separators g h a kind decided so_far
     }
 
 -- so the runs so far begin the packing of whatever samples follow
-pub front_of_all : (bytes : ℕ) → 256 ≤ bytes → (samples : List ℤ) (runs : List Run) (separators : List ℕ) (g h a : ℕ) (kind : Kind) → h < length samples → IsSoFar bytes samples runs separators g h a kind → (more : List ℤ) → HasRest bytes (samples ++ more) runs separators
+pub front_of_all : (bytes : ℕ) → 256 ≤ bytes
+    → (samples : List ℤ) (runs : List Run) (separators : List ℕ) (g h a : ℕ) (kind : Kind) → h < length samples
+    → IsSoFar bytes samples runs separators g h a kind → (more : List ℤ)
+    → HasRest bytes (samples ++ more) runs separators
 front_of_all bytes enough samples runs separators g h a kind decided so_far more =
-    rest_of bytes (samples ++ more) enough (length (samples ++ more)) runs separators g h a kind (so_far_stays bytes enough samples more runs separators g h a kind decided so_far) (omega arith)
+    rest_of bytes (samples ++ more) enough (length (samples ++ more)) runs separators g h a kind
+    (so_far_stays bytes enough samples more runs separators g h a kind decided so_far) (omega arith)
 
 -- ---- the last samples of a segment
 
-pub run_points_window : (samples : List ℤ) (o a b : ℕ) → (o ≡ 0) ⊎ (1 ≤ a) → run_points (drop o samples) a b ≡ run_points samples (o + a) (o + b)
+pub run_points_window : (samples : List ℤ) (o a b : ℕ) → (o ≡ 0) ⊎ (1 ≤ a)
+    → run_points (drop o samples) a b ≡ run_points samples (o + a) (o + b)
 run_points_window samples o a b (inl e) =
     let x : o + a ≡ a = omega arith in
     let y : o + b ≡ b = omega arith in
@@ -133,20 +163,37 @@ run_points_window samples o (suc a) b (inr h) =
     let place : o + suc a ≡ suc (o + a) = omega arith in
     let back : a + o ≡ o + a = omega arith in
     let first : get_or (drop o samples) a (pos 0) ≡ get_or samples (o + a) (pos 0) = get_or-drop o samples a (pos 0) in
-    let rest : drop (suc a) (drop o samples) ≡ drop (suc (o + a)) samples = drop-drop (suc a) o samples ∙ ap (λ n. drop n samples) place in
+    let rest : drop (suc a) (drop o samples) ≡ drop (suc (o + a)) samples = drop-drop (suc a) o samples
+    ∙ ap (λ n. drop n samples) place in
     let same : drop (suc a) (points None (drop o samples)) ≡ drop (o + suc a) (points None samples) =
-    points_drop (drop o samples) a ∙ ap (λ x. points_after x (drop (suc a) (drop o samples))) first ∙ ap (points_after (get_or samples (o + a) (pos 0))) rest ∙ sym (points_drop samples (o + a)) ∙ ap (λ n. drop n (points None samples)) (sym place) in
+    points_drop (drop o samples) a ∙ ap (λ x. points_after x (drop (suc a) (drop o samples))) first
+    ∙ ap (points_after (get_or samples (o + a) (pos 0))) rest ∙ sym (points_drop samples (o + a))
+    ∙ ap (λ n. drop n (points None samples)) (sym place) in
     ap (take (b - suc a)) same ∙ ap (λ n. take n (drop (o + suc a) (points None samples))) (sym width)
 
 module _ (fits : List (ℤ × ℤ) → Type 0) (samples : List ℤ) (o : ℕ) (within : o ≤ length samples) where
-  pub run_of_window : (a b : ℕ) → (o ≡ 0) ⊎ (1 ≤ a) → IsRun fits (drop o samples) a b → IsRun fits samples (o + a) (o + b)
-  run_of_window a b at run = (omega (arith, run.0), omega (arith, run.1, length-drop o samples), subst fits (run_points_window samples o a b at) run.2)
+  pub run_of_window : (a b : ℕ) → (o ≡ 0) ⊎ (1 ≤ a) → IsRun fits (drop o samples) a b
+      → IsRun fits samples (o + a) (o + b)
+  run_of_window a b at run = (
+    omega (arith, run.0),
+    omega (arith, run.1, length-drop o samples),
+    subst fits
+        (run_points_window samples o a b at) run.2,
+  )
 
-  pub run_in_window : (a b : ℕ) → (o ≡ 0) ⊎ (1 ≤ a) → IsRun fits samples (o + a) (o + b) → IsRun fits (drop o samples) a b
-  run_in_window a b at run = (omega (arith, run.0), omega (arith, run.1, length-drop o samples), subst fits (sym (run_points_window samples o a b at)) run.2)
+  pub run_in_window : (a b : ℕ) → (o ≡ 0) ⊎ (1 ≤ a) → IsRun fits samples (o + a) (o + b)
+      → IsRun fits (drop o samples) a b
+  run_in_window a b at run = (
+    omega (arith, run.0),
+    omega (arith, run.1, length-drop o samples),
+    subst fits
+        (sym (run_points_window samples o a b at)) run.2,
+  )
 
 -- the step from a frontier in the last samples is the step of the segment, where two samples stand before the frontier, or all do
-pub step_of_window : (bytes : ℕ) → 256 ≤ bytes → (samples : List ℤ) (o g h a : ℕ) → o ≤ length samples → o + g < length samples → (o ≡ 0) ⊎ (2 ≤ g) → IsStep (FitsAny bytes) (drop o samples) g h a → IsStep (FitsAny bytes) samples (o + g) (o + h) (o + a)
+pub step_of_window : (bytes : ℕ) → 256 ≤ bytes → (samples : List ℤ) (o g h a : ℕ) → o ≤ length samples
+    → o + g < length samples → (o ≡ 0) ⊎ (2 ≤ g) → IsStep (FitsAny bytes) (drop o samples) g h a
+    → IsStep (FitsAny bytes) samples (o + g) (o + h) (o + a)
 step_of_window bytes enough samples o g h a within inside (inl e) step =
     let x : o + g ≡ g = omega arith in
     let y : o + h ≡ h = omega arith in
@@ -168,16 +215,20 @@ step_of_window bytes enough samples o g h a within inside (inr far) step =
             let high = back.2 in
             let same : o + k ≡ back.0 = omega arith in
             let end : o + (b - o) ≡ b = omega arith in
-            let most = step.furthest k (b - o) (omega arith) (run_in_window (FitsAny bytes) samples o within k (b - o) (inr (omega arith)) (rw (same, end) back.4)) in
+            let most = step.furthest k (b - o) (omega arith)
+            (run_in_window (FitsAny bytes) samples o within k (b - o) (inr (omega arith))
+            (rw (same, end) back.4)) in
             omega arith
       ];
       last = λ s le r.
-          let back = back_step_run (FitsAny bytes) 1 (back_step_any bytes) samples s (o + g) (o + h) le (omega arith) r in
+          let back = back_step_run (FitsAny bytes) 1 (back_step_any bytes) samples s (o + g) (o + h) le
+          (omega arith) r in
           let k = back.0 - o in
           let low = back.3 in
           let high = back.2 in
           let later = back.1 in
           let same : o + k ≡ back.0 = omega arith in
-          let most = step.last k (omega arith) (run_in_window (FitsAny bytes) samples o within k h (inr (omega arith)) (rw same back.4)) in
+          let most = step.last k (omega arith) (run_in_window (FitsAny bytes) samples o within k h
+          (inr (omega arith)) (rw same back.4)) in
           omega arith;
     }

@@ -36,7 +36,8 @@ abbrev pub pushed : Holding → ℕ
 pushed packer = packer.offset + length packer.held
 
 -- After these samples were pushed to a packer of records of so many bytes, these runs and separators were given.
-pub record Packs (bytes : ℕ) (samples : List ℤ) (runs : List Run) (separators : List ℕ) (packer : Holding) : Type 0 where
+pub record Packs (bytes : ℕ) (samples : List ℤ) (runs : List Run) (separators : List ℕ)
+    (packer : Holding) : Type 0 where
   pub size : packer.size ≡ bytes
   pub holds : IsWindow bytes samples runs separators packer.held packer.offset packer.current
   pub stays : Stays packer.current (length packer.held)
@@ -44,11 +45,13 @@ pub record Packs (bytes : ℕ) (samples : List ℤ) (runs : List Run) (separator
 
 -- what is left, where no sample follows
 abbrev pub LeftAt : Bool → ℕ → List ℤ → List Run → List ℕ → Holding → Type 0
-LeftAt false bytes samples runs separators packer = IsWindow bytes samples runs separators packer.held packer.offset packer.current
+LeftAt false bytes samples runs separators packer =
+    IsWindow bytes samples runs separators packer.held packer.offset packer.current
 LeftAt true bytes samples runs separators packer = IsCanonical bytes samples runs separators
 
 -- After these samples, which no sample follows, these runs and separators were given.
-pub record PacksLast (bytes : ℕ) (samples : List ℤ) (runs : List Run) (separators : List ℕ) (packer : Holding) : Type 0 where
+pub record PacksLast (bytes : ℕ) (samples : List ℤ) (runs : List Run) (separators : List ℕ)
+    (packer : Holding) : Type 0 where
   pub size : packer.size ≡ bytes
   pub left : LeftAt packer.ended bytes samples runs separators packer
 
@@ -62,17 +65,21 @@ HoldsFew packer = length packer.held ≤ frontier_of packer.current + most_any p
 
 -- whatever samples follow, the pieces that were given begin their canonical packing
 abbrev pub BlocksBeginAll : Type 0
-BlocksBeginAll = (bytes : ℕ) (samples : List ℤ) (runs : List Run) (separators : List ℕ) (packer : Holding) → 256 ≤ bytes → Packs bytes samples runs separators packer → BeginsAll bytes samples runs separators
+BlocksBeginAll = (bytes : ℕ) (samples : List ℤ) (runs : List Run) (separators : List ℕ) (packer : Holding)
+    → 256 ≤ bytes → Packs bytes samples runs separators packer → BeginsAll bytes samples runs separators
 
 -- where no sample follows, the pieces that were given begin the canonical packing of all
 abbrev pub LastBlocksBegin : Type 0
-LastBlocksBegin = (bytes : ℕ) (samples : List ℤ) (runs : List Run) (separators : List ℕ) (packer : Holding) → 256 ≤ bytes → PacksLast bytes samples runs separators packer
+LastBlocksBegin = (bytes : ℕ) (samples : List ℤ) (runs : List Run) (separators : List ℕ) (packer : Holding)
+    → 256 ≤ bytes → PacksLast bytes samples runs separators packer
     → (others : List Run) × (places : List ℕ) × IsCanonical bytes samples (runs ++ others) (separators ++ places)
 
 -- where no piece is decided, at most two longest runs of samples were pushed and not given
 abbrev pub BlocksLeaveFew : Type 0
-BlocksLeaveFew = (bytes : ℕ) (samples : List ℤ) (runs : List Run) (separators : List ℕ) (packer : Holding) → Packs bytes samples runs separators packer → HoldsFew packer → LeavesFew bytes samples runs
+BlocksLeaveFew = (bytes : ℕ) (samples : List ℤ) (runs : List Run) (separators : List ℕ) (packer : Holding)
+    → Packs bytes samples runs separators packer → HoldsFew packer → LeavesFew bytes samples runs
 
 -- where no sample follows
 abbrev pub BlocksEnd : Type 0
-BlocksEnd = (bytes : ℕ) (samples : List ℤ) (runs : List Run) (separators : List ℕ) (packer : Holding) → Packs bytes samples runs separators packer → PacksLast bytes samples runs separators packer
+BlocksEnd = (bytes : ℕ) (samples : List ℤ) (runs : List Run) (separators : List ℕ) (packer : Holding)
+    → Packs bytes samples runs separators packer → PacksLast bytes samples runs separators packer

@@ -13,8 +13,10 @@ use Rattle.msr_packer.specs.declared.held.Piece.{Piece}
 
 -- The step from the frontier after these runs, with the kinds of its run. Places are counted from the first sample
 -- that is held, which is the segment's first or stands before the run.
-pub record IsCurrent (bytes : ℕ) (samples : List ℤ) (runs : List Run) (separators : List ℕ) (offset : ℕ) (current : Current) : Type 0 where
-  pub so_far : IsSoFar bytes samples runs separators (offset + current.frontier) (offset + current.end) (offset + current.start) current.whole
+pub record IsCurrent (bytes : ℕ) (samples : List ℤ) (runs : List Run) (separators : List ℕ) (offset : ℕ)
+    (current : Current) : Type 0 where
+  pub so_far : IsSoFar bytes samples runs separators (offset + current.frontier) (offset + current.end)
+      (offset + current.start) current.whole
   pub one_before : (offset ≡ 0) ⊎ (1 ≤ current.start)
   pub whole : IsFirstKind bytes (run_points samples (offset + current.start) (offset + current.end)) current.whole
   pub short : IsFirstKind bytes (run_points samples (offset + current.start) (offset + current.end - 1)) current.short
@@ -40,14 +42,16 @@ Stays None number = ⊤
 Stays (Some current) number = current.end < number
 
 -- The last samples are held, with the step after these runs and separators.
-pub record IsWindow (bytes : ℕ) (samples : List ℤ) (runs : List Run) (separators : List ℕ) (held : List ℤ) (offset : ℕ) (current : Option Current) : Type 0 where
+pub record IsWindow (bytes : ℕ) (samples : List ℤ) (runs : List Run) (separators : List ℕ) (held : List ℤ)
+    (offset : ℕ) (current : Option Current) : Type 0 where
   pub window : held ≡ drop offset samples
   pub within : offset ≤ length samples
   pub at : StandsAt bytes samples runs separators offset current
 
 -- the last samples of a segment are held so
 abbrev pub Holds : List ℤ → List Run → List ℕ → Held → Type 0
-Holds samples runs separators held = IsWindow (bytes_of held.record_length) samples runs separators held.samples.items held.offset held.current
+Holds samples runs separators held = IsWindow
+    (bytes_of held.record_length) samples runs separators held.samples.items held.offset held.current
 
 -- the step starts at its frontier or before, ends after it, within so many samples, and is no longer than a record
 pub record IsInside (bytes number : ℕ) (current : Current) : Type 0 where
@@ -87,7 +91,11 @@ pub record IsNext (bytes : ℕ) (held : List ℤ) (current : Option Current) (ne
 abbrev pub piece_of : ℕ → Option Current → ℕ → Option Piece
 piece_of offset None next = None
 piece_of offset (Some current) next = Some (record {
-  run = record { start = offset + current.start; end = offset + next; kind = if next == current.end then current.whole else current.short };
+  run = record {
+    start = offset + current.start;
+    end = offset + next;
+    kind = if next == current.end then current.whole else current.short;
+  };
   separator = offset + current.frontier;
 })
 
@@ -137,7 +145,8 @@ pub record GivesPiece (old new : Held) (piece : Option Piece) : Type 0 where
 -- These runs and separators are the first of the canonical packing of the samples with whatever follows.
 abbrev pub BeginsAll : ℕ → List ℤ → List Run → List ℕ → Type 0
 BeginsAll bytes samples runs separators =
-    (more : List ℤ) → (others : List Run) × (places : List ℕ) × IsCanonical bytes (samples ++ more) (runs ++ others) (separators ++ places)
+    (more : List ℤ) → (others : List Run) × (places : List ℕ)
+    × IsCanonical bytes (samples ++ more) (runs ++ others) (separators ++ places)
 
 -- The runs that were given join up to a sample; after it stand at most two longest runs.
 pub record LeavesFew (bytes : ℕ) (samples : List ℤ) (runs : List Run) : Type 0 where

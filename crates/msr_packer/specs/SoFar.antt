@@ -6,7 +6,8 @@ use Rattle.msr_words.specs.Fit.{Fits, FitsAny, IsRun}
 use Rattle.msr_words.specs.Packing.{CanonicalTo, IsStep, Joins}
 
 -- runs and separators up to the frontier g, from which the step to h starts at a
-pub record IsSoFar (bytes : ℕ) (samples : List ℤ) (runs : List Run) (separators : List ℕ) (g h a : ℕ) (kind : Kind) : Type 0 where
+pub record IsSoFar (bytes : ℕ) (samples : List ℤ) (runs : List Run) (separators : List ℕ) (g h a : ℕ)
+    (kind : Kind) : Type 0 where
   pub chosen : CanonicalTo bytes samples 0 runs separators g
   pub joined : Joins 0 runs a
   pub within : g < length samples

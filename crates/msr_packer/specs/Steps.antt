@@ -19,8 +19,10 @@ pub record IsStepAmong (kinds : List Kind) (bytes : ℕ) (samples : List ℤ) (g
   pub before : step.start ≤ g
   pub past : g ≤ step.end
   pub reached : IsRun (Fits step.kind bytes) samples step.start step.end
-  pub furthest : (kind : Kind) → Among kinds kind → (s b : ℕ) → s ≤ g → IsRun (Fits kind bytes) samples s b → b ≤ step.end
-  pub last : (kind : Kind) → Among kinds kind → (s : ℕ) → s ≤ g → IsRun (Fits kind bytes) samples s step.end → s ≤ step.start
+  pub furthest : (kind : Kind) → Among kinds kind → (s b : ℕ) → s ≤ g → IsRun (Fits kind bytes) samples s b
+      → b ≤ step.end
+  pub last : (kind : Kind) → Among kinds kind → (s : ℕ) → s ≤ g → IsRun (Fits kind bytes) samples s step.end
+      → s ≤ step.start
 
 -- a step reaches at least as far as another, and starts no earlier where it reaches as far
 pub record NotLess (step other : Step) : Type 0 where
@@ -36,7 +38,8 @@ AreNarrowThrough samples a b = AreNarrow samples a (min (b + 1) (length samples)
 
 -- of the runs of that kind that start at or before the frontier g, each ends at or before one of these ends
 abbrev pub NonePast : Kind → ℕ → List ℤ → ℕ → ℕ → ℕ → Type 0
-NonePast kind bytes samples g end other = (s b : ℕ) → s ≤ g → IsRun (Fits kind bytes) samples s b → (b ≤ end) ⊎ (b ≤ other)
+NonePast kind bytes samples g end other = (s b : ℕ) → s ≤ g → IsRun (Fits kind bytes) samples s b
+    → (b ≤ end) ⊎ (b ≤ other)
 
 -- the end of a run of each kind
 abbrev pub end_of : Ends → Kind → ℕ

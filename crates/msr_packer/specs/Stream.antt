@@ -16,12 +16,14 @@ use Rattle.msr_packer.specs.declared.live.Live.{Live}
 pub record IsStreaming (held : Held) (live : Live) : Type 0 where
   pub sound : IsSound held
   pub stays : Stays held.current (length held.samples.items)
-  pub is_live : IsLive (bytes_of held.record_length) held.samples.items (frontier_of held.current) (length held.samples.items) live
+  pub is_live : IsLive (bytes_of held.record_length) held.samples.items (frontier_of held.current)
+      (length held.samples.items) live
   pub few : length held.samples.items ≤ 2 * most_any (bytes_of held.record_length) + 2
 
 -- After these samples were pushed to a packer of records of so many bytes, these runs and separators were given. It
 -- holds at most two longest runs, a sample before them and one after.
-pub record Streams (bytes : ℕ) (samples : List ℤ) (runs : List Run) (separators : List ℕ) (packer : Holding) : Type 0 where
+pub record Streams (bytes : ℕ) (samples : List ℤ) (runs : List Run) (separators : List ℕ)
+    (packer : Holding) : Type 0 where
   pub packs : Packs bytes samples runs separators packer
   pub behind : HoldsFew packer
   pub few : length packer.held ≤ 2 * most_any packer.size + 2
@@ -37,7 +39,8 @@ StreamLeavesFew = (bytes : ℕ) (samples : List ℤ) (runs : List Run) (separato
     → Streams bytes samples runs separators packer → LeavesFew bytes samples runs
 
 -- The last pieces, of which there may be none, and the samples from the first of them on.
-pub record IsEnd (bytes : ℕ) (samples : List ℤ) (runs : List Run) (separators : List ℕ) (pieces : List Piece) (rest : List ℤ) : Type 0 where
+pub record IsEnd (bytes : ℕ) (samples : List ℤ) (runs : List Run) (separators : List ℕ) (pieces : List Piece)
+    (rest : List ℤ) : Type 0 where
   pub canonical : IsCanonical bytes samples (runs ++ runs_of pieces) (separators ++ separators_of pieces)
   pub given : ℕ
   pub joined : Joins 0 runs given

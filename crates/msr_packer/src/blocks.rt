@@ -52,12 +52,14 @@ impl BlockPacker {
     /// taken.
     pub fn push_all(&mut self, samples: &[i32]) -> Result<(), AllocError>
         requires { pushed self.old + length samples.now < 2 ^ 64 }
-        ensures taken { (bytes : ℕ) (before : List ℤ) (runs : List Run) (separators : List ℕ) → Packs bytes before runs separators self.old
+        ensures taken { (bytes : ℕ) (before : List ℤ) (runs : List Run) (separators : List ℕ)
+            → Packs bytes before runs separators self.old
             → MatchResult result
             (λ _. Packs bytes (before ++ samples.now) runs separators self.new)
             (λ _. Packs bytes before runs separators self.new) }
         ensures few { HoldsFew self.old → length self.new.held ≤ 4 * most_any self.old.size + 2 + length samples.now }
-        ensures count { MatchResult result (λ _. pushed self.new ≡ pushed self.old + length samples.now) (λ _. pushed self.new ≡ pushed self.old) }
+        ensures count { MatchResult result (λ _. pushed self.new ≡ pushed self.old + length samples.now)
+            (λ _. pushed self.new ≡ pushed self.old) }
     {
         self.held.make_room();
         self.held.samples.extend_from_slice(samples)?;
@@ -66,9 +68,12 @@ impl BlockPacker {
 
     /// The next piece, where it is decided whatever samples follow.
     pub fn next_piece(&mut self) -> Option<Piece>
-        ensures given { (bytes : ℕ) (samples : List ℤ) (runs : List Run) (separators : List ℕ) → Packs bytes samples runs separators self.old
-            → Packs bytes samples (runs ++ runs_of (pieces_of result)) (separators ++ separators_of (pieces_of result)) self.new }
-        ensures shows { (bytes : ℕ) (samples : List ℤ) (runs : List Run) (separators : List ℕ) → Packs bytes samples runs separators self.old
+        ensures given { (bytes : ℕ) (samples : List ℤ) (runs : List Run) (separators : List ℕ)
+            → Packs bytes samples runs separators self.old
+            → Packs bytes samples (runs ++ runs_of (pieces_of result))
+            (separators ++ separators_of (pieces_of result)) self.new }
+        ensures shows { (bytes : ℕ) (samples : List ℤ) (runs : List Run) (separators : List ℕ)
+            → Packs bytes samples runs separators self.old
             → IfSome result (Shows samples self.new.shown self.new.before) }
         ensures few { IsNone result → HoldsFew self.new }
         ensures fewer { IfSome result (λ _. left_of self.new < left_of self.old) }
@@ -80,11 +85,15 @@ impl BlockPacker {
 
     /// The next piece, where no sample follows. Where there is none, all pieces were given.
     pub fn last_piece(&mut self) -> Option<Piece>
-        ensures given { (bytes : ℕ) (samples : List ℤ) (runs : List Run) (separators : List ℕ) → PacksLast bytes samples runs separators self.old
-            → PacksLast bytes samples (runs ++ runs_of (pieces_of result)) (separators ++ separators_of (pieces_of result)) self.new }
-        ensures all { (bytes : ℕ) (samples : List ℤ) (runs : List Run) (separators : List ℕ) → PacksLast bytes samples runs separators self.old
+        ensures given { (bytes : ℕ) (samples : List ℤ) (runs : List Run) (separators : List ℕ)
+            → PacksLast bytes samples runs separators self.old
+            → PacksLast bytes samples (runs ++ runs_of (pieces_of result))
+            (separators ++ separators_of (pieces_of result)) self.new }
+        ensures all { (bytes : ℕ) (samples : List ℤ) (runs : List Run) (separators : List ℕ)
+            → PacksLast bytes samples runs separators self.old
             → IsNone result → IsCanonical bytes samples runs separators }
-        ensures shows { (bytes : ℕ) (samples : List ℤ) (runs : List Run) (separators : List ℕ) → PacksLast bytes samples runs separators self.old
+        ensures shows { (bytes : ℕ) (samples : List ℤ) (runs : List Run) (separators : List ℕ)
+            → PacksLast bytes samples runs separators self.old
             → IfSome result (Shows samples self.new.shown self.new.before) }
         ensures fewer { IfSome result (λ _. left_of self.new < left_of self.old) }
         ensures count { pushed self.new ≡ pushed self.old }

@@ -104,8 +104,10 @@ impl Current {
         found: Found,
     ) -> Current
         requires inside { frontier_of current < length samples.now }
-        requires step { IsStep (FitsAny (bytes_of record_length)) samples.now (frontier_of current) found.step.end found.step.start }
-        requires kind { IsRun (Fits found.step.kind (bytes_of record_length)) samples.now found.step.start found.step.end }
+        requires step { IsStep (FitsAny (bytes_of record_length)) samples.now
+            (frontier_of current) found.step.end found.step.start }
+        requires kind { IsRun (Fits found.step.kind
+            (bytes_of record_length)) samples.now found.step.start found.step.end }
         requires ends { AreEnds (bytes_of record_length) samples.now (frontier_of current) found.step.end found.ends }
         ensures next { IsNext (bytes_of record_length) samples.now current result }
         ensures end { result.end ≡ found.step.end }
@@ -202,12 +204,18 @@ impl Held {
     pub fn step_past(&mut self, behind: usize) -> Option<Piece>
         requires { IsSound self.old }
         ensures given { GivesPiece self.old self.new result }
-        ensures stays { most_any (bytes_of self.old.record_length) ≤ behind → Stays self.old.current (length self.old.samples.items) → Stays self.new.current (length self.old.samples.items) }
-        ensures few { IsNone result → IsSome self.old.current → length self.old.samples.items ≤ frontier_of self.new.current + behind }
-        ensures first { IsNone result → (length self.old.samples.items ≤ frontier_of self.new.current + behind) ⊎ IsSome self.new.current }
+        ensures stays { most_any (bytes_of self.old.record_length) ≤ behind
+            → Stays self.old.current (length self.old.samples.items) → Stays self.new.current (length
+            self.old.samples.items) }
+        ensures few { IsNone result → IsSome self.old.current
+            → length self.old.samples.items ≤ frontier_of self.new.current + behind }
+        ensures first { IsNone result → (length self.old.samples.items ≤ frontier_of self.new.current + behind)
+            ⊎ IsSome self.new.current }
         ensures order { frontier_of self.old.current ≤ frontier_of self.new.current }
-        ensures furthest { (start end : ℕ) → start ≤ frontier_of self.old.current → frontier_of self.old.current + behind < length self.old.samples.items
-            → IsRun (FitsAny (bytes_of self.old.record_length)) self.old.samples.items start end → end ≤ frontier_of self.new.current }
+        ensures furthest { (start end : ℕ) → start ≤ frontier_of self.old.current
+            → frontier_of self.old.current + behind < length self.old.samples.items
+            → IsRun (FitsAny (bytes_of self.old.record_length)) self.old.samples.items start end
+            → end ≤ frontier_of self.new.current }
         ensures fewer { IfSome result (λ _. frontier_of self.old.current < frontier_of self.new.current) }
     {
         if self.samples.len() - frontier_of(self.current) <= behind {
@@ -221,7 +229,9 @@ impl Held {
     pub fn next_piece(&mut self, behind: usize) -> Option<Piece>
         requires { IsSound self.old }
         ensures given { GivesPiece self.old self.new result }
-        ensures stays { most_any (bytes_of self.old.record_length) ≤ behind → Stays self.old.current (length self.old.samples.items) → Stays self.new.current (length self.old.samples.items) }
+        ensures stays { most_any (bytes_of self.old.record_length) ≤ behind
+            → Stays self.old.current (length self.old.samples.items) → Stays self.new.current (length
+            self.old.samples.items) }
         ensures few { IsNone result → length self.old.samples.items ≤ frontier_of self.new.current + behind }
         ensures fewer { IfSome result (λ _. frontier_of self.old.current < frontier_of self.new.current) }
     {
@@ -241,9 +251,12 @@ impl Held {
         ensures held { self.new.samples.items ≡ self.old.samples.items }
         ensures offset { self.new.offset ≡ self.old.offset }
         ensures current { self.new.current ≡ self.old.current }
-        ensures canonical { (samples : List ℤ) (runs : List Run) (separators : List ℕ) → Holds samples runs separators self.old
-            → IsCanonical (bytes_of self.old.record_length) samples (runs ++ runs_of (pieces_of result)) (separators ++ separators_of (pieces_of result)) }
-        ensures shows { (samples : List ℤ) (runs : List Run) (separators : List ℕ) → Holds samples runs separators self.old
+        ensures canonical { (samples : List ℤ) (runs : List Run) (separators : List ℕ)
+            → Holds samples runs separators self.old
+            → IsCanonical (bytes_of self.old.record_length) samples (runs ++ runs_of (pieces_of result))
+            (separators ++ separators_of (pieces_of result)) }
+        ensures shows { (samples : List ℤ) (runs : List Run) (separators : List ℕ)
+            → Holds samples runs separators self.old
             → IfSome result (Shows samples (shown_by self.new) (before_shown self.new)) }
     {
         let end = self.samples.len();
@@ -263,13 +276,17 @@ impl Held {
     pub fn forget(&mut self)
         requires { IsSound self.old }
         ensures sound { IsSound self.new }
-        ensures holds { (samples : List ℤ) (runs : List Run) (separators : List ℕ) → Holds samples runs separators self.old
+        ensures holds { (samples : List ℤ) (runs : List Run) (separators : List ℕ)
+            → Holds samples runs separators self.old
             → Holds samples runs separators self.new }
-        ensures stays { Stays self.old.current (length self.old.samples.items) → Stays self.new.current (length self.new.samples.items) }
+        ensures stays { Stays self.old.current (length self.old.samples.items)
+            → Stays self.new.current (length self.new.samples.items) }
         ensures size { self.new.record_length ≡ self.old.record_length }
         ensures samples { self.new.samples.items ≡ drop (start_of self.old.current - 1) self.old.samples.items }
-        ensures number { self.new.offset + length self.new.samples.items ≡ self.old.offset + length self.old.samples.items }
-        ensures frontier { frontier_of self.new.current + (start_of self.old.current - 1) ≡ frontier_of self.old.current }
+        ensures number { self.new.offset + length self.new.samples.items
+            ≡ self.old.offset + length self.old.samples.items }
+        ensures frontier { frontier_of self.new.current + (start_of self.old.current - 1)
+            ≡ frontier_of self.old.current }
         ensures start { start_of self.new.current + (start_of self.old.current - 1) ≡ start_of self.old.current }
         ensures from { self.new.from ≡ 0 }
         ensures to { self.new.to ≡ 0 }
@@ -299,12 +316,17 @@ impl Held {
     pub fn make_room(&mut self)
         requires { IsSound self.old }
         ensures sound { IsSound self.new }
-        ensures holds { (samples : List ℤ) (runs : List Run) (separators : List ℕ) → Holds samples runs separators self.old
+        ensures holds { (samples : List ℤ) (runs : List Run) (separators : List ℕ)
+            → Holds samples runs separators self.old
             → Holds samples runs separators self.new }
-        ensures stays { Stays self.old.current (length self.old.samples.items) → Stays self.new.current (length self.new.samples.items) }
+        ensures stays { Stays self.old.current (length self.old.samples.items)
+            → Stays self.new.current (length self.new.samples.items) }
         ensures size { self.new.record_length ≡ self.old.record_length }
-        ensures number { self.new.offset + length self.new.samples.items ≡ self.old.offset + length self.old.samples.items }
-        ensures few { length self.old.samples.items ≤ frontier_of self.old.current + most_any (bytes_of self.old.record_length) → length self.new.samples.items ≤ 4 * most_any (bytes_of self.old.record_length) + 2 }
+        ensures number { self.new.offset + length self.new.samples.items
+            ≡ self.old.offset + length self.old.samples.items }
+        ensures few { length self.old.samples.items ≤ frontier_of self.old.current + most_any
+            (bytes_of self.old.record_length) → length self.new.samples.items ≤ 4 * most_any (bytes_of
+            self.old.record_length) + 2 }
     {
         let unneeded = self.unneeded();
         if unneeded >= self.samples.len() - unneeded {

@@ -76,7 +76,8 @@ impl Packing {
     /// Adds a piece, if there is one.
     fn add(&mut self, piece: Option<Piece>) -> Result<(), AllocError>
         ensures runs { OnOk result (self.new.runs.items ≡ self.old.runs.items ++ runs_of (pieces_of piece)) }
-        ensures separators { OnOk result (self.new.separators.items ≡ self.old.separators.items ++ separators_of (pieces_of piece)) }
+        ensures separators { OnOk result (self.new.separators.items ≡ self.old.separators.items
+            ++ separators_of (pieces_of piece)) }
     {
         if let Some(piece) = piece {
             self.runs.push(piece.run)?;
@@ -92,7 +93,8 @@ pub fn pack(alloc: Global, samples: &[i32], record_length: Length) -> Result<Pac
     ensures least { IfOk result (λ p. IsLeast (bytes_of record_length) samples.now p.runs.items) }
     ensures separating { IfOk result (λ p. IsSeparating (bytes_of record_length) samples.now p.separators.items) }
     ensures as_many { IfOk result (λ p. length p.runs.items ≡ length p.separators.items) }
-    ensures canonical { IfOk result (λ p. IsCanonical (bytes_of record_length) samples.now p.runs.items p.separators.items) }
+    ensures canonical { IfOk result (λ p. IsCanonical
+        (bytes_of record_length) samples.now p.runs.items p.separators.items) }
 {
     let mut packing = Packing {
         runs: Vec::new(alloc),
@@ -110,5 +112,7 @@ pub fn pack(alloc: Global, samples: &[i32], record_length: Length) -> Result<Pac
 
 /// For each segment and record length at most one packing with its separators is the canonical one.
 pub fn one_packing()
-    ensures { (bytes : ℕ) (samples : List ℤ) (runs others : List Run) (separators places : List ℕ) → IsCanonical bytes samples runs separators → IsCanonical bytes samples others places → (runs ≡ others) × (separators ≡ places) }
+    ensures { (bytes : ℕ) (samples : List ℤ) (runs others : List Run) (separators places : List ℕ)
+        → IsCanonical bytes samples runs separators → IsCanonical bytes samples others places → (runs
+        ≡ others) × (separators ≡ places) }
 {}

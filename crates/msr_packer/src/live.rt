@@ -41,9 +41,12 @@ fn difference_between(before: i32, sample: i32) -> i64
 /// The tracker after the samples from one on, where it takes them all.
 fn all_taken<C: Tracker + Drop>(mut tracker: C, samples: &[i32], from: usize) -> Option<C>
     requires { from ≤ length samples.now }
-    ensures all { (bytes start : ℕ) → start ≤ from → C.follows bytes (run_points samples.now start from) tracker → C.fits bytes (run_points samples.now start from)
-        → IfSome result (λ t. C.follows bytes (run_points samples.now start (length samples.now)) t × C.fits bytes (run_points samples.now start (length samples.now))) }
-    ensures none { (bytes start : ℕ) → start ≤ from → C.follows bytes (run_points samples.now start from) tracker → C.fits bytes (run_points samples.now start from)
+    ensures all { (bytes start : ℕ) → start ≤ from → C.follows bytes (run_points samples.now start from) tracker
+        → C.fits bytes (run_points samples.now start from)
+        → IfSome result (λ t. C.follows bytes (run_points samples.now start (length samples.now)) t
+        × C.fits bytes (run_points samples.now start (length samples.now))) }
+    ensures none { (bytes start : ℕ) → start ≤ from → C.follows bytes (run_points samples.now start from) tracker
+        → C.fits bytes (run_points samples.now start from)
         → IsNone result → C.fits bytes (run_points samples.now start (length samples.now)) → ⊥ }
 {
     let mut last = sample_before(samples, from);
@@ -78,7 +81,8 @@ impl KindTracker {
         ensures all { (bytes start : ℕ) → start ≤ from → IsTracked bytes samples.now start from self
             → IfSome result (IsTracked bytes samples.now start (length samples.now)) }
         ensures none { (bytes start : ℕ) → start ≤ from → IsTracked bytes samples.now start from self
-            → IsNone result → Fits (kind_of_tracker self) bytes (run_points samples.now start (length samples.now)) → ⊥ }
+            → IsNone result → Fits (kind_of_tracker self) bytes
+            (run_points samples.now start (length samples.now)) → ⊥ }
     {
         match self {
             KindTracker::Steim2(tracker) => {
@@ -161,7 +165,8 @@ impl Live {
     ) -> Option<Found>
         requires within { from ≤ length samples.now }
         requires live { IsLive (bytes_of record_length) samples.now frontier from self.old }
-        ensures open { IsNone result → IsLive (bytes_of record_length) samples.now frontier (length samples.now) self.new }
+        ensures open { IsNone result → IsLive (bytes_of record_length) samples.now frontier
+            (length samples.now) self.new }
         ensures decided { IfSome result (IsDecided (bytes_of record_length) samples.now frontier from) }
     {
         if let Some(tracker) = self.tracker.after(samples, from) {

@@ -21,7 +21,8 @@ struct NextWord {
 /// word.
 #[inline(always)]
 fn next_word(sizes: FourSizes, spare: bool) -> NextWord
-    ensures next { (ds : List ℤ) → IsSizeAt ds 0 sizes.first → IsSizeAt ds 1 sizes.second → IsSizeAt ds 2 sizes.third → IsSizeAt ds 3 sizes.fourth → IsSteim1Word ds spare result.size result.spare }
+    ensures next { (ds : List ℤ) → IsSizeAt ds 0 sizes.first → IsSizeAt ds 1 sizes.second
+        → IsSizeAt ds 2 sizes.third → IsSizeAt ds 3 sizes.fourth → IsSteim1Word ds spare result.size result.spare }
     ensures most { result.size ≤ 4 }
 {
     let pair = sizes.first | sizes.second;

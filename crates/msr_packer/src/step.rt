@@ -83,7 +83,8 @@ fn reach_to(samples: &[i32], end: usize, least: usize) -> Reach
 fn steim2_reach(samples: &[i32], record_length: Length, start: usize) -> Reach
     requires { start ≤ length samples.now }
     ensures fits { IsRun (Fits SecondSteim (bytes_of record_length)) samples.now start result.end }
-    ensures furthest { (end : ℕ) → IsRun (Fits SecondSteim (bytes_of record_length)) samples.now start end → end ≤ result.end }
+    ensures furthest { (end : ℕ) → IsRun (Fits SecondSteim (bytes_of record_length)) samples.now start end
+        → end ≤ result.end }
     ensures narrow { IsTrue result.narrow → AreNarrowThrough samples.now start result.end }
 {
     steim2_greedy_reach();
@@ -229,11 +230,13 @@ fn steim1_is_short(
     end: usize,
 ) -> bool
     requires fits { IsRun (Fits SecondSteim (bytes_of record_length)) samples.now frontier reach.end }
-    requires furthest { (end : ℕ) → IsRun (Fits SecondSteim (bytes_of record_length)) samples.now frontier end → end ≤ reach.end }
+    requires furthest { (end : ℕ) → IsRun (Fits SecondSteim (bytes_of record_length)) samples.now frontier end
+        → end ≤ reach.end }
     requires narrow { IsTrue reach.narrow → AreNarrowThrough samples.now frontier reach.end }
     requires order { reach.end ≤ end }
     requires within { end ≤ length samples.now }
-    ensures { IsTrue result → (s b : ℕ) → s ≤ frontier → IsRun (Fits FirstSteim (bytes_of record_length)) samples.now s b → (b ≤ reach.end) ⊎ (b + 1 < end) }
+    ensures { IsTrue result → (s b : ℕ) → s ≤ frontier
+        → IsRun (Fits FirstSteim (bytes_of record_length)) samples.now s b → (b ≤ reach.end) ⊎ (b + 1 < end) }
 {
     let words = record_length.data_words() as usize;
     if reach.narrow {
@@ -245,7 +248,8 @@ fn steim1_is_short(
 /// Whether the difference of a sample and those of the next three are of 8 bits.
 fn begins_with_four(samples: &[i32], start: usize) -> bool
     requires { start < length samples.now }
-    ensures { IsFalse result → (b : ℕ) → start ≤ b → b ≤ length samples.now → BeginsWithFour (map (λ p. p.1) (run_points samples.now start b)) → ⊥ }
+    ensures { IsFalse result → (b : ℕ) → start ≤ b → b ≤ length samples.now
+        → BeginsWithFour (map (λ p. p.1) (run_points samples.now start b)) → ⊥ }
 {
     if samples.len() - start < 4 {
         return false;
@@ -313,7 +317,8 @@ fn with_wide_integers(
     requires step { IsStepAmong longer_kinds (bytes_of record_length) samples.now frontier step }
     requires ends { AreEndsAmong longer_kinds (bytes_of record_length) samples.now frontier step.end ends }
     ensures step { IsStep (FitsAny (bytes_of record_length)) samples.now frontier result.step.end result.step.start }
-    ensures kind { IsRun (Fits result.step.kind (bytes_of record_length)) samples.now result.step.start result.step.end }
+    ensures kind { IsRun (Fits result.step.kind
+        (bytes_of record_length)) samples.now result.step.start result.step.end }
     ensures ends { AreEnds (bytes_of record_length) samples.now frontier result.step.end result.ends }
 {
     let reached = ends.steim2.max(ends.steim1).max(ends.int16);
@@ -345,9 +350,12 @@ fn with_wide_integers(
 /// differences up to there are of more than 10 bits for a record of differences.
 fn integers_alone(samples: &[i32], record_length: Length, frontier: usize) -> Option<Found>
     requires { frontier ≤ length samples.now }
-    ensures step { IfSome result (λ found. IsStep (FitsAny (bytes_of record_length)) samples.now frontier found.step.end found.step.start) }
-    ensures kind { IfSome result (λ found. IsRun (Fits found.step.kind (bytes_of record_length)) samples.now found.step.start found.step.end) }
-    ensures ends { IfSome result (λ found. AreEnds (bytes_of record_length) samples.now frontier found.step.end found.ends) }
+    ensures step { IfSome result (λ found. IsStep
+        (FitsAny (bytes_of record_length)) samples.now frontier found.step.end found.step.start) }
+    ensures kind { IfSome result (λ found. IsRun
+        (Fits found.step.kind (bytes_of record_length)) samples.now found.step.start found.step.end) }
+    ensures ends { IfSome result (λ found. AreEnds
+        (bytes_of record_length) samples.now frontier found.step.end found.ends) }
 {
     let int16 = furthest_integers(samples, record_length, frontier, Kind::Int16, 16);
     if int16 == frontier {
@@ -376,7 +384,8 @@ fn integers_alone(samples: &[i32], record_length: Length, frontier: usize) -> Op
 pub fn next_step(samples: &[i32], record_length: Length, frontier: usize, likely: Kind) -> Found
     requires { frontier ≤ length samples.now }
     ensures step { IsStep (FitsAny (bytes_of record_length)) samples.now frontier result.step.end result.step.start }
-    ensures kind { IsRun (Fits result.step.kind (bytes_of record_length)) samples.now result.step.start result.step.end }
+    ensures kind { IsRun (Fits result.step.kind
+        (bytes_of record_length)) samples.now result.step.start result.step.end }
     ensures ends { AreEnds (bytes_of record_length) samples.now frontier result.step.end result.ends }
 {
     if likely == Kind::Int16 {
@@ -392,7 +401,8 @@ pub fn next_step(samples: &[i32], record_length: Length, frontier: usize, likely
 pub fn step_from(samples: &[i32], record_length: Length, frontier: usize) -> Found
     requires { frontier ≤ length samples.now }
     ensures step { IsStep (FitsAny (bytes_of record_length)) samples.now frontier result.step.end result.step.start }
-    ensures kind { IsRun (Fits result.step.kind (bytes_of record_length)) samples.now result.step.start result.step.end }
+    ensures kind { IsRun (Fits result.step.kind
+        (bytes_of record_length)) samples.now result.step.start result.step.end }
     ensures ends { AreEnds (bytes_of record_length) samples.now frontier result.step.end result.ends }
 {
     let reach = steim2_reach(samples, record_length, frontier);

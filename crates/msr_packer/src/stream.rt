@@ -52,7 +52,8 @@ fn forget(held: &mut Held, live: &mut Live)
     ensures size { held.new.record_length ≡ held.old.record_length }
     ensures number { held.new.offset + length held.new.samples.items ≡ held.old.offset + length held.old.samples.items }
     ensures near { frontier_of held.new.current ≤ most_any (bytes_of held.new.record_length) + 1 }
-    ensures behind { length held.new.samples.items ≤ frontier_of held.new.current + most_any (bytes_of held.new.record_length) }
+    ensures behind { length held.new.samples.items ≤ frontier_of held.new.current + most_any
+        (bytes_of held.new.record_length) }
     ensures from { held.new.from ≡ 0 }
     ensures to { held.new.to ≡ 0 }
     ensures first { IsNone held.new.current → IsNone held.old.current }
@@ -99,15 +100,18 @@ impl StreamPacker {
     /// shows no samples.
     pub fn push(&mut self, sample: i32) -> Result<Option<Piece>, AllocError>
         requires { pushed self.old + 1 < 2 ^ 64 }
-        ensures given { (bytes : ℕ) (samples : List ℤ) (runs : List Run) (separators : List ℕ) → Streams bytes samples runs separators self.old
+        ensures given { (bytes : ℕ) (samples : List ℤ) (runs : List Run) (separators : List ℕ)
+            → Streams bytes samples runs separators self.old
             → MatchResult result
             (λ piece. Streams bytes (samples ++ sample ∷ []) (runs ++ runs_of (pieces_of piece)) (separators ++ separators_of (pieces_of piece)) self.new)
             (λ _. Streams bytes samples runs separators self.new) }
-        ensures shown { (bytes : ℕ) (samples : List ℤ) (runs : List Run) (separators : List ℕ) → Streams bytes samples runs separators self.old
+        ensures shown { (bytes : ℕ) (samples : List ℤ) (runs : List Run) (separators : List ℕ)
+            → Streams bytes samples runs separators self.old
             → MatchResult result
             (λ piece. self.new.shown ≡ samples_of (samples ++ sample ∷ []) piece)
             (λ _. self.new.shown ≡ []) }
-        ensures count { MatchResult result (λ _. pushed self.new ≡ pushed self.old + 1) (λ _. pushed self.new ≡ pushed self.old) }
+        ensures count { MatchResult result (λ _. pushed self.new ≡ pushed self.old + 1)
+            (λ _. pushed self.new ≡ pushed self.old) }
     {
         let taken = self.push_some(&[sample])?;
         Ok(taken.piece)
@@ -117,11 +121,13 @@ impl StreamPacker {
     /// would, of which only the last gives a piece. Where memory is refused none was taken, and no samples are shown.
     pub fn push_some(&mut self, samples: &[i32]) -> Result<Taken, AllocError>
         requires { pushed self.old + length samples.now < 2 ^ 64 }
-        ensures given { (bytes : ℕ) (before : List ℤ) (runs : List Run) (separators : List ℕ) → Streams bytes before runs separators self.old
+        ensures given { (bytes : ℕ) (before : List ℤ) (runs : List Run) (separators : List ℕ)
+            → Streams bytes before runs separators self.old
             → MatchResult result
             (λ taken. Streams bytes (before ++ take taken.count samples.now) (runs ++ runs_of (pieces_of taken.piece)) (separators ++ separators_of (pieces_of taken.piece)) self.new)
             (λ _. Streams bytes before runs separators self.new) }
-        ensures shown { (bytes : ℕ) (before : List ℤ) (runs : List Run) (separators : List ℕ) → Streams bytes before runs separators self.old
+        ensures shown { (bytes : ℕ) (before : List ℤ) (runs : List Run) (separators : List ℕ)
+            → Streams bytes before runs separators self.old
             → MatchResult result
             (λ taken. self.new.shown ≡ samples_of (before ++ take taken.count samples.now) taken.piece)
             (λ _. self.new.shown ≡ []) }
@@ -129,8 +135,10 @@ impl StreamPacker {
         ensures some { IfOk result (λ taken. 0 < length samples.now → 0 < taken.count) }
 
         // No piece stands before the first step.
-        ensures all { IfOk result (λ taken. IsNone taken.piece → (taken.count ≡ length samples.now) ⊎ IsNone self.old.current) }
-        ensures count { MatchResult result (λ taken. pushed self.new ≡ pushed self.old + taken.count) (λ _. pushed self.new ≡ pushed self.old) }
+        ensures all { IfOk result (λ taken. IsNone taken.piece
+            → (taken.count ≡ length samples.now) ⊎ IsNone self.old.current) }
+        ensures count { MatchResult result (λ taken. pushed self.new ≡ pushed self.old + taken.count)
+            (λ _. pushed self.new ≡ pushed self.old) }
     {
         forget(&mut self.held, &mut self.live);
         let record_length = self.held.record_length;
@@ -168,7 +176,8 @@ impl StreamPacker {
 
     /// The pieces that were not given, where no sample follows: at most two. It takes no memory.
     pub fn end(self) -> Last
-        ensures { (bytes : ℕ) (samples : List ℤ) (runs : List Run) (separators : List ℕ) → Streams bytes samples runs separators self
+        ensures { (bytes : ℕ) (samples : List ℤ) (runs : List Run) (separators : List ℕ)
+            → Streams bytes samples runs separators self
             → IsEnd bytes samples runs separators result.pieces.items result.samples.items }
     {
         let mut held = self.held;

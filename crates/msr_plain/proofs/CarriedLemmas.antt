@@ -32,24 +32,33 @@ three_back (pos n) f =
     rw (same, lt-ltb n (2 ^ 23) f) refl
 three_back (negsuc n) f =
     let same : low_bytes w64 3 (negsuc n) ≡ 2 ^ 24 - suc n = omega arith in
-    rw (same, le-ltb (2 ^ 24 - suc n) (2 ^ 23) (omega arith), lt-ltb (2 ^ 24 - suc n) (2 ^ 24) (omega arith)) (ap negsuc (omega arith))
+    rw (same, le-ltb (2 ^ 24 - suc n) (2 ^ 23) (omega arith), lt-ltb (2 ^ 24 - suc n) (2 ^ 24) (omega arith))
+    (ap negsuc (omega arith))
 
-number_back : (width : Width) (x : ℤ) (rest : List ℕ) → FitsWidth width x → number_in width Big (bytes_of width x ++ rest) ≡ x
-number_back Two x rest f = ap (cast_signed w16) (big_number-reads_back 2 (cast_unsigned w16 x) rest (below_16 x f)) ∙ to_z-of_z f
-number_back Three x rest f = ap (twos_complement 3) (big_number-reads_back 3 (low_bytes w64 3 x) rest (below_24 x)) ∙ three_back x f
-number_back Four x rest f = ap (cast_signed w32) (big_number-reads_back 4 (cast_unsigned w32 x) rest (below_32 x f)) ∙ to_z-of_z f
+number_back : (width : Width) (x : ℤ) (rest : List ℕ) → FitsWidth width x
+    → number_in width Big (bytes_of width x ++ rest) ≡ x
+number_back Two x rest f = ap (cast_signed w16) (big_number-reads_back 2 (cast_unsigned w16 x) rest (below_16 x f))
+    ∙ to_z-of_z f
+number_back Three x rest f = ap (twos_complement 3) (big_number-reads_back 3 (low_bytes w64 3 x) rest (below_24 x))
+    ∙ three_back x f
+number_back Four x rest f = ap (cast_signed w32)
+    (big_number-reads_back 4 (cast_unsigned w32 x) rest (below_32 x f)) ∙ to_z-of_z f
 
 length-bytes_of : (width : Width) (x : ℤ) → length (bytes_of width x) ≡ size_of width
 length-bytes_of Two x = length-bytes_high_first 2 (cast_unsigned w16 x)
 length-bytes_of Three x = length-bytes_high_first 3 (low_bytes w64 3 x)
 length-bytes_of Four x = length-bytes_high_first 4 (cast_unsigned w32 x)
 
-next_place : (width : Width) (x : ℤ) (rest : List ℕ) (place : ℕ) → drop (size_of width * suc place) (bytes_of width x ++ rest) ≡ drop (size_of width * place) rest
+next_place : (width : Width) (x : ℤ) (rest : List ℕ) (place : ℕ)
+    → drop (size_of width * suc place) (bytes_of width x ++ rest) ≡ drop (size_of width * place) rest
 next_place width x rest place =
-    let e : size_of width * suc place ≡ length (bytes_of width x) + size_of width * place = omega (arith, length-bytes_of width x) in
-    ap (λ (n : ℕ). drop n (bytes_of width x ++ rest)) e ∙ drop-append-add (bytes_of width x) rest (size_of width * place)
+    let e : size_of width * suc place ≡ length (bytes_of width x) + size_of width * place =
+    omega (arith, length-bytes_of width x) in
+    ap (λ (n : ℕ). drop n (bytes_of width x ++ rest)) e
+    ∙ drop-append-add (bytes_of width x) rest (size_of width * place)
 
-each_back : (width : Width) (xs : List ℤ) (rest : List ℕ) (place : ℕ) → All (FitsWidth width) xs → place < length xs → get_or xs place (pos 0) ≡ sample_at width Big (bytes_of_all width xs ++ rest) place
+each_back : (width : Width) (xs : List ℤ) (rest : List ℕ) (place : ℕ) → All (FitsWidth width) xs
+    → place < length xs → get_or xs place (pos 0) ≡ sample_at width Big (bytes_of_all width xs ++ rest) place
 each_back width [] rest place fit h = absurd (omega (arith, h))
 each_back width (x ∷ xs) rest zero fit h =
     let apart = append_assoc (bytes_of width x) (bytes_of_all width xs) rest in
@@ -65,36 +74,59 @@ each_back width (x ∷ xs) rest (suc place) fit h =
 
 pub length-bytes_of_all : (width : Width) (xs : List ℤ) → length (bytes_of_all width xs) ≡ size_of width * length xs
 length-bytes_of_all width [] = omega arith
-length-bytes_of_all width (x ∷ xs) = omega (arith, length-append (bytes_of width x) (bytes_of_all width xs), length-bytes_of width x, length-bytes_of_all width xs)
+length-bytes_of_all width (x ∷ xs) = omega (
+  arith,
+  length-append (bytes_of width x)
+      (bytes_of_all width xs),
+  length-bytes_of width x,
+  length-bytes_of_all width xs,
+)
 
 -- one sample more, written after those that stand there
-pub one_more : (width : Width) (samples : List ℤ) (old area : List ℕ) (place a : ℕ) (x : ℤ) → a ≡ size_of width * place → place < length samples → size_of width * length samples ≤ length old → x ≡ get_or samples place (pos 0)
+pub one_more : (width : Width) (samples : List ℤ) (old area : List ℕ) (place a : ℕ) (x : ℤ)
+    → a ≡ size_of width * place → place < length samples → size_of width * length samples ≤ length old
+    → x ≡ get_or samples place (pos 0)
     → area ≡ bytes_of_all width (take place samples) ++ drop (size_of width * place) old
-    → put_mid a (length area - a) area (bytes_of width x ++ drop (size_of width) (mid_of a (length area - a) area)) ≡ bytes_of_all width (take (place + 1) samples) ++ drop (size_of width * (place + 1)) old
+    → put_mid a (length area - a) area (bytes_of width x ++ drop (size_of width) (mid_of a (length area - a) area))
+    ≡ bytes_of_all width (take (place + 1) samples) ++ drop (size_of width * (place + 1)) old
 one_more width samples old area place a x at within room same is =
     let front = bytes_of_all width (take place samples) in
     let new = bytes_of width x in
-    let long : length front ≡ a = length-bytes_of_all width (take place samples) ∙ ap (λ n. size_of width * n) (length-take-le place samples (omega arith)) ∙ sym at in
+    let long : length front ≡ a = length-bytes_of_all width (take place samples)
+    ∙ ap (λ n. size_of width * n) (length-take-le place samples (omega arith)) ∙ sym at in
     let left : take a area ≡ front = ap (take a) is ∙ take_at front (drop (size_of width * place) old) a long in
-    let right : drop a area ≡ drop (size_of width * place) old = ap (drop a) is ∙ drop_at front (drop (size_of width * place) old) a long in
-    let mid : mid_of a (length area - a) area ≡ drop (size_of width * place) old = take_all (length area - a) (drop a area) (omega (arith, length-drop a area)) ∙ right in
-    let none : drop (length area - a) (drop a area) ≡ [] = drop_all (length area - a) (drop a area) (omega (arith, length-drop a area)) in
-    let next : drop (size_of width) (drop (size_of width * place) old) ≡ drop (size_of width * (place + 1)) old = drop-drop (size_of width) (size_of width * place) old ∙ ap (λ n. drop n old) (omega arith) in
+    let right : drop a area ≡ drop (size_of width * place) old = ap (drop a) is
+    ∙ drop_at front (drop (size_of width * place) old) a long in
+    let mid : mid_of a (length area - a) area ≡ drop (size_of width * place) old =
+    take_all (length area - a) (drop a area) (omega (arith, length-drop a area)) ∙ right in
+    let none : drop (length area - a) (drop a area) ≡ [] =
+    drop_all (length area - a) (drop a area) (omega (arith, length-drop a area)) in
+    let next : drop (size_of width) (drop (size_of width * place) old) ≡ drop (size_of width * (place + 1)) old =
+    drop-drop (size_of width) (size_of width * place) old ∙ ap (λ n. drop n old) (omega arith) in
     let all : bytes_of_all width (take (place + 1) samples) ≡ front ++ new =
-    ap (bytes_of_all width) (take_more samples place (pos 0) within ∙ ap (λ y. take place samples ++ y ∷ []) (sym same)) ∙ flat_map-append (bytes_of width) (take place samples) (x ∷ []) ∙ ap (λ l. front ++ l) (append-nil new) in
-    rw (left, mid, none, next, all) (ap (λ l. front ++ l) (append-nil (new ++ drop (size_of width * (place + 1)) old)) ∙ sym (append_assoc front new (drop (size_of width * (place + 1)) old)))
+    ap (bytes_of_all width) (take_more samples place (pos 0) within
+    ∙ ap (λ y. take place samples ++ y ∷ [])
+    (sym same)) ∙ flat_map-append (bytes_of width) (take place samples) (x ∷ []) ∙ ap (λ l. front
+    ++ l) (append-nil new) in
+    rw (left, mid, none, next, all) (ap (λ l. front ++ l)
+    (append-nil (new ++ drop (size_of width * (place + 1)) old))
+    ∙ sym (append_assoc front new (drop (size_of width * (place + 1)) old)))
 
-pub carried : (width : Width) (area : List ℕ) (xs : List ℤ) (rest : List ℕ) → All (FitsWidth width) xs → area ≡ bytes_of_all width xs ++ rest → CarriesPlain width Big area xs
+pub carried : (width : Width) (area : List ℕ) (xs : List ℤ) (rest : List ℕ) → All (FitsWidth width) xs
+    → area ≡ bytes_of_all width xs ++ rest → CarriesPlain width Big area xs
 carried width area xs rest fit e = rw e (record {
   room = omega (arith, length-append (bytes_of_all width xs) rest, length-bytes_of_all width xs);
   each = λ place h. each_back width xs rest place fit h;
 })
 
 -- an area carries one list of so many samples
-pub carries_one : (width : Width) (order : Order) (area : List ℕ) (xs ys : List ℤ) → CarriesPlain width order area xs → CarriesPlain width order area ys → length xs ≡ length ys → xs ≡ ys
+pub carries_one : (width : Width) (order : Order) (area : List ℕ) (xs ys : List ℤ)
+    → CarriesPlain width order area xs → CarriesPlain width order area ys → length xs ≡ length ys → xs ≡ ys
 carries_one width order area xs ys first second same =
-    ext_get_or (pos 0) xs ys same (λ place within. first.each place within ∙ sym (second.each place (omega (arith, within, same))))
+    ext_get_or (pos 0) xs ys same (λ place within. first.each place within
+    ∙ sym (second.each place (omega (arith, within, same))))
 
 -- an area that carries samples is long enough for them
-pub not_short : (width : Width) (order : Order) (area : List ℕ) (samples : List ℤ) → CarriesPlain width order area samples → length area < size_of width * length samples → ⊥
+pub not_short : (width : Width) (order : Order) (area : List ℕ) (samples : List ℤ)
+    → CarriesPlain width order area samples → length area < size_of width * length samples → ⊥
 not_short width order area samples carries short = omega (arith, carries.room, short)

@@ -1,4 +1,4 @@
-// Areas from outside, and what no clause says: that a call succeeds, and the text of a fault.
+//! Areas from outside, and what no clause says: that a call succeeds, and the text of a fault.
 use crate::{PlainFault, Width, decode_plain, decode_plain_into, fill_plain, plain_samples};
 use msr_base::Order;
 use std::test::Fail;

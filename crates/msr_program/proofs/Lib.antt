@@ -1,2 +1,3 @@
 pub mod Endings
 pub mod Apart
+pub mod Named

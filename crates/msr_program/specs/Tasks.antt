@@ -1,10 +1,8 @@
 -- What the words of a command line ask for.
-use Rattle.std.specs.Prelude.{◌≡◌, ◌≢◌, ◌⊎◌, ◌≤◌, ℕ, ⊤, Bool, false, List, ◌++◌, AllPairs, Option, None, Some, IfSome, codes, string_bytes}
-use Rattle.std.specs.Option.{option_map}
-use Rattle.msr_words.specs.Lengths.{bytes_of}
+use Rattle.std.specs.Prelude.{◌≡◌, ◌≢◌, ◌⊎◌, ◌≤◌, ℕ, ⊤, Bool, false, List, ◌++◌, AllPairs, None, IfSome, codes, string_bytes}
+use Rattle.msr_tool.specs.Choice.{Choice, size_of}
 use Rattle.msr_program.specs.declared.words.Folders.{Folders}
 use Rattle.msr_program.specs.declared.words.Task.{Task}
-use Rattle.msr_program.specs.declared.words.Walking.{Walking}
 use Rattle.msr_program.specs.declared.words.Task.TheVariants.{Repack, List as Listing, Check, Archive, Feed}
 use Rattle.msr_program.specs.declared.words.NoTask.{NoTask}
 use Rattle.msr_program.specs.declared.words.NoTask.TheVariants.{Ending, Memory}
@@ -16,11 +14,11 @@ pub record IsTolerance (tolerance : ℕ) : Type 0 where
 
 -- the tolerance that is asked for is in its range; a check takes that of the report
 abbrev pub HasTolerance : Task → Type 0
-HasTolerance (Repack asked) = IsTolerance asked.tolerance
-HasTolerance (Listing asked) = IsTolerance asked.tolerance
+HasTolerance (Repack asked) = IsTolerance asked.options.tolerance
+HasTolerance (Listing asked) = IsTolerance asked.options.tolerance
 HasTolerance (Check asked) = ⊤
-HasTolerance (Archive asked) = IsTolerance asked.tolerance
-HasTolerance (Feed asked) = IsTolerance asked.tolerance
+HasTolerance (Archive asked) = IsTolerance asked.options.tolerance
+HasTolerance (Feed asked) = IsTolerance asked.options.tolerance
 
 -- the path begins with the folder's name and a slash
 abbrev pub IsBelow : (folder path : List ℕ) → Type 0
@@ -48,42 +46,17 @@ KeepsInput (Check asked) = ⊤
 KeepsInput (Archive asked) = StandApart asked.folders
 KeepsInput (Feed asked) = ⊤
 
--- a file is to be repacked with these choices
-abbrev pub IsRepacking : (bytes tolerance : ℕ) → (strict : Bool) → (input : List ℕ) → (output : Option (List ℕ)) → Task → Type 0
-IsRepacking bytes tolerance strict input output (Repack asked) = (bytes_of asked.length ≡ bytes) × (asked.tolerance ≡ tolerance) × (asked.strict ≡ strict) × (asked.input.now ≡ input) × (option_map (λ name. name.now) asked.output ≡ output)
-IsRepacking bytes tolerance strict input output (Listing asked) = ⊥
-IsRepacking bytes tolerance strict input output (Check asked) = ⊥
-IsRepacking bytes tolerance strict input output (Archive asked) = ⊥
-IsRepacking bytes tolerance strict input output (Feed asked) = ⊥
-
--- standard input is to be repacked with these choices while it comes, its report going to this file
-abbrev pub IsFeeding : (bytes tolerance : ℕ) → (strict : Bool) → (report : List ℕ) → Task → Type 0
-IsFeeding bytes tolerance strict report (Repack asked) = ⊥
-IsFeeding bytes tolerance strict report (Listing asked) = ⊥
-IsFeeding bytes tolerance strict report (Check asked) = ⊥
-IsFeeding bytes tolerance strict report (Archive asked) = ⊥
-IsFeeding bytes tolerance strict report (Feed asked) = (bytes_of asked.length ≡ bytes) × (asked.tolerance ≡ tolerance) × (asked.strict ≡ strict) × (asked.report.now ≡ report)
-
--- the records of the first file are to be checked against the report in the second
-abbrev pub IsChecking : (packed report : Option (List ℕ)) → Task → Type 0
-IsChecking packed report (Repack asked) = ⊥
-IsChecking packed report (Listing asked) = ⊥
-IsChecking packed report (Archive asked) = ⊥
-IsChecking packed report (Feed asked) = ⊥
-IsChecking packed report (Check asked) = (packed ≡ Some asked.packed.now) × (report ≡ Some asked.report.now)
-
--- the archive in these folders is to be repacked with these choices, and walked in this way
-abbrev pub IsArchiving : (bytes tolerance : ℕ) → (strict : Bool) → (folders : Folders) → (walking : Walking) → Task → Type 0
-IsArchiving bytes tolerance strict folders walking (Repack asked) = ⊥
-IsArchiving bytes tolerance strict folders walking (Listing asked) = ⊥
-IsArchiving bytes tolerance strict folders walking (Check asked) = ⊥
-IsArchiving bytes tolerance strict folders walking (Feed asked) = ⊥
-IsArchiving bytes tolerance strict folders walking (Archive asked) = (bytes_of asked.length ≡ bytes) × (asked.tolerance ≡ tolerance) × (asked.strict ≡ strict) × (asked.folders ≡ folders) × (asked.walking ≡ walking)
+-- the options that have these numbers
+pub record AreOptions (bytes tolerance : ℕ) (strict : Bool) (options : Choice) : Type 0 where
+  pub size : size_of options ≡ bytes
+  pub tolerance_is : options.tolerance ≡ tolerance
+  pub strict_is : options.strict ≡ strict
 
 -- standard input is to be repacked to nowhere, with records of 512 bytes and a tolerance of 1000 microseconds, and not
 -- strictly
 abbrev pub IsDefault : Task → Type 0
-IsDefault (Repack asked) = (bytes_of asked.length ≡ 512) × (asked.tolerance ≡ 1000) × (asked.strict ≡ false) × (asked.input.now ≡ codes "-") × (asked.output ≡ None)
+IsDefault (Repack asked) =
+    AreOptions 512 1000 false asked.options × (asked.input.now ≡ codes "-") × (asked.output ≡ None)
 IsDefault (Listing asked) = ⊥
 IsDefault (Check asked) = ⊥
 IsDefault (Archive asked) = ⊥

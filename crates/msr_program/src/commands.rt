@@ -1,4 +1,4 @@
-// The commands and options that the program knows.
+//! The commands and options that the program knows.
 use crate::texts;
 use clap::{Arg, ArgAction, Command, value_parser};
 use std::alloc::{AllocError, Global};

@@ -1,5 +1,6 @@
 //! What the program does with its words: a task, or the text that they end with.
-ghost use Rattle.std.specs.Prelude.{◌≡◌, ◌⊎◌, length};
+ghost use Rattle.std.specs.Io.KnownBytes.{Appends};
+ghost use Rattle.std.specs.Prelude.{◌≡◌, ◌⊎◌, ◌++◌, OnOk, codes, length};
 ghost use Rattle.msr_devices.specs.Device.{CanCountCall};
 ghost use Rattle.msr_program.specs.Ends.{EndsTask, EndsText, EndsWithoutTask, status_of_stop};
 ghost use Rattle.msr_program.specs.declared.words.NoTask.{NoTask as ForNoTask};
@@ -10,6 +11,7 @@ use crate::tasks::do_task;
 use crate::words::{Ending, NoTask, read_words};
 use msr_devices::{Sink, Source, write_all};
 use std::alloc::Global;
+use std::io;
 use std::io::Write;
 use std::rt::Files;
 
@@ -17,11 +19,18 @@ use std::rt::Files;
 pub fn complain<E: Write>(errors: &mut E, status: u8, text: &str) -> u8
     ensures { result ≡ status }
 {
-    writeln!(errors, "msrepack: {text}").ok();
+    write_complaint(errors, text).ok();
     status
 }
 
-// The line of what stopped a task, and its status.
+fn write_complaint<E: Write>(errors: &mut E, text: &str) -> io::Result<()>
+    ensures { OnOk result (Appends (E.contents errors.old) (E.contents errors.new)
+        (codes "msrepack: " ++ (text.now ++ codes "\n"))) }
+{
+    writeln!(errors, "msrepack: {text}")
+}
+
+/// The line of what stopped a task, and its status.
 fn complain_of<E: Write>(errors: &mut E, stop: &Stop<'_>) -> u8
     ensures { result ≡ status_of_stop stop.now }
 {
@@ -29,7 +38,7 @@ fn complain_of<E: Write>(errors: &mut E, stop: &Stop<'_>) -> u8
     stop.status()
 }
 
-// Prints the text to end with: help and the version as output, a fault of the command line as an error.
+/// Prints the text to end with: help and the version as output, a fault of the command line as an error.
 fn end<O: Sink, E: Write>(output: &mut O, errors: &mut E, ending: &Ending) -> u8
     requires output { CanCountCall (O.device output.old) }
     requires status { (ending.now.status ≡ 0) ⊎ (ending.now.status ≡ 2) }

@@ -2,21 +2,19 @@
 //! output.
 ghost use Rattle.std.specs.Prelude.{◌≡◌};
 ghost use Rattle.msr_devices.specs.Device.{CanCountCall};
-ghost use Rattle.msr_program.specs.Tasks.{IsTolerance, HasTolerance};
-ghost use Rattle.msr_program.specs.Ends.{choice_of, days_asked, Checks, Does, Feeds, FeedsTo, ListsNamed, OpensOutput, Repacks, RepacksNamed, WalksArchive};
+ghost use Rattle.msr_program.specs.Ends.{days_asked, Checks, Does, Feeds, FeedsTo, ListsNamed, OpensOutput, Repacks, RepacksNamed, WalksArchive};
 
 use crate::done::Done;
 use crate::files::{
     FileId, create_output, id_of_standard_input, open_file, settle_standard_output,
 };
 use crate::stop::Stop;
-use crate::words::{Archiving, Checking, Feeding, Listing, Repacking, Task, default_length};
+use crate::words::{Archiving, Checking, Feeding, Listing, Repacking, Task};
 use msr_tool::{
     FromRead, FromWrite, Options, Sink, Source, ToolFault, check_and_tell, feed_and_report,
     list_segments, repack_and_report,
 };
 use msr_walk::{Archive, settle, walk};
-use msr_words::Length;
 use std::alloc::Global;
 use std::fs::OpenFile;
 use std::io;
@@ -31,7 +29,6 @@ pub fn do_task<'a, R: Files, I: Source, O: Sink>(
     input: &mut I,
     output: &mut O,
 ) -> Result<Done, Stop<'a>>
-    requires tolerance { HasTolerance task }
     requires input { CanCountCall (I.device input.old) }
     requires output { CanCountCall (O.device output.old) }
     ensures { Does task.entry (I.device input.old) (O.device output.old) (O.device output.new) result }
@@ -45,7 +42,7 @@ pub fn do_task<'a, R: Files, I: Source, O: Sink>(
     Ok(done)
 }
 
-// Does it where standard output is open.
+/// Does it where standard output is open.
 fn do_open<'a, R: Files, I: Source, O: Sink>(
     rt: &R,
     alloc: Global,
@@ -53,7 +50,6 @@ fn do_open<'a, R: Files, I: Source, O: Sink>(
     input: &mut I,
     output: &mut O,
 ) -> Result<Done, Stop<'a>>
-    requires tolerance { HasTolerance task }
     requires input { CanCountCall (I.device input.old) }
     requires output { CanCountCall (O.device output.old) }
     ensures { Does task.entry (I.device input.old) (O.device output.old) (O.device output.new) result }
@@ -67,8 +63,8 @@ fn do_open<'a, R: Files, I: Source, O: Sink>(
     }
 }
 
-// Nothing can be printed where standard output is closed, and a file that is made would stand in its place and get
-// the text.
+/// Nothing can be printed where standard output is closed, and a file that is made would stand in its place and get
+/// the text.
 fn require_open<'a, O: Sink>(output: &mut O) -> Result<(), Stop<'a>>
     requires { CanCountCall (O.device output.old) }
     ensures { OpensOutput (O.device output.old) (O.device output.new) result }
@@ -79,7 +75,7 @@ fn require_open<'a, O: Sink>(output: &mut O) -> Result<(), Stop<'a>>
     }
 }
 
-// Opens the input before the output is made, so that a wrong input leaves an old output as it is.
+/// Opens the input before the output is made, so that a wrong input leaves an old output as it is.
 fn repack_file<'a, R: Files, I: Source, O: Sink>(
     rt: &R,
     alloc: Global,
@@ -87,38 +83,40 @@ fn repack_file<'a, R: Files, I: Source, O: Sink>(
     input: &mut I,
     output: &mut O,
 ) -> Result<Done, Stop<'a>>
-    requires tolerance { IsTolerance asked.tolerance }
     requires input { CanCountCall (I.device input.old) }
     requires output { CanCountCall (O.device output.old) }
-    ensures { RepacksNamed (choice_of asked.entry.length asked.entry.tolerance asked.entry.strict) asked.entry.input.now
+    ensures { RepacksNamed asked.entry.options asked.entry.input.now
         (I.device input.old) (O.device output.old) (O.device output.new) result }
 {
-    if asked.input == "-" {
+    let Repacking {
+        options,
+        input: name,
+        output: to,
+    } = asked;
+    if name == "-" {
         let id = id_of_standard_input(rt);
-        return repack_from(rt, alloc, asked, input, id, output);
+        return repack_from(rt, alloc, options, to, input, id, output);
     }
-    let opened = open_file(rt, asked.input)?;
+    let opened = open_file(rt, name)?;
     let mut source = FromRead::new(opened.file);
-    repack_from(rt, alloc, asked, &mut source, opened.id, output)
+    repack_from(rt, alloc, options, to, &mut source, opened.id, output)
 }
 
-// Repacks the source, which is the file with that id if it is one.
+/// Repacks the source, which is the file with that id if it is one, to the file with that name, or to nowhere.
 fn repack_from<'a, R: Files, I: Source, O: Sink>(
     rt: &R,
     alloc: Global,
-    asked: Repacking<'a>,
+    options: Options,
+    to: Option<&'a str>,
     source: &mut I,
     id: Option<FileId>,
     output: &mut O,
 ) -> Result<Done, Stop<'a>>
-    requires tolerance { IsTolerance asked.tolerance }
     requires source { CanCountCall (I.device source.old) }
     requires output { CanCountCall (O.device output.old) }
-    ensures { Repacks (choice_of asked.entry.length asked.entry.tolerance asked.entry.strict) (I.device source.old)
-        (O.device output.old) (O.device output.new) result }
+    ensures { Repacks options (I.device source.old) (O.device output.old) (O.device output.new) result }
 {
-    let options = options_of(asked.length, asked.tolerance, asked.strict);
-    let Some(name) = asked.output else {
+    let Some(name) = to else {
         let mut nowhere = FromWrite::new(io::sink());
         repack_and_report(alloc, source, &mut nowhere, output, options)?;
         return Ok(Done::Written);
@@ -135,7 +133,7 @@ fn repack_from<'a, R: Files, I: Source, O: Sink>(
     Ok(Done::Written)
 }
 
-// Makes the report's file before anything is read. It stands empty after a fault.
+/// Makes the report's file before anything is read. It stands empty after a fault.
 fn feed_input<'a, R: Files, I: Source, O: Sink>(
     rt: &R,
     alloc: Global,
@@ -143,22 +141,14 @@ fn feed_input<'a, R: Files, I: Source, O: Sink>(
     input: &mut I,
     output: &mut O,
 ) -> Result<Done, Stop<'a>>
-    requires tolerance { IsTolerance asked.tolerance }
     requires input { CanCountCall (I.device input.old) }
     requires output { CanCountCall (O.device output.old) }
-    ensures { Feeds (choice_of asked.entry.length asked.entry.tolerance asked.entry.strict) (I.device input.old)
+    ensures { Feeds asked.entry.options (I.device input.old)
         (O.device output.old) (O.device output.new) result }
 {
     let id = id_of_standard_input(rt);
     let mut file = create_output(rt, asked.report, id)?;
-    let fed = feed_to(
-        rt,
-        alloc,
-        &mut file,
-        options_of(asked.length, asked.tolerance, asked.strict),
-        input,
-        output,
-    );
+    let fed = feed_to(rt, alloc, &mut file, asked.options, input, output);
     match fed {
         Ok(()) => Ok(Done::Written),
         Err(fault) => {
@@ -168,7 +158,7 @@ fn feed_input<'a, R: Files, I: Source, O: Sink>(
     }
 }
 
-// Feeds to the file of the report, and waits until the system has stored what was written.
+/// Feeds to the file of the report, and waits until the system has stored what was written.
 fn feed_to<R: Files, I: Source, O: Sink>(
     rt: &R,
     alloc: Global,
@@ -200,24 +190,25 @@ fn list_file<'a, R: Files, I: Source, O: Sink>(
     input: &mut I,
     output: &mut O,
 ) -> Result<Done, Stop<'a>>
-    requires tolerance { IsTolerance asked.tolerance }
     requires input { CanCountCall (I.device input.old) }
     requires output { CanCountCall (O.device output.old) }
-    ensures { ListsNamed asked.entry.tolerance asked.entry.strict asked.entry.input.now (I.device input.old)
+    ensures { ListsNamed asked.entry.options asked.entry.input.now (I.device input.old)
         (O.device output.old) (O.device output.new) result }
 {
-    // No record is written, so any length serves.
-    let options = options_of(default_length(), asked.tolerance, asked.strict);
-    if asked.input == "-" {
+    let Listing {
+        options,
+        input: name,
+    } = asked;
+    if name == "-" {
         list_segments(alloc, input, output, options)?;
         return Ok(Done::Written);
     }
-    let mut source = FromRead::new(open_file(rt, asked.input)?.file);
+    let mut source = FromRead::new(open_file(rt, name)?.file);
     list_segments(alloc, &mut source, output, options)?;
     Ok(Done::Written)
 }
 
-// Opens both inputs before either is read.
+/// Opens both inputs before either is read.
 fn check_files<'a, R: Files, O: Sink>(
     rt: &R,
     alloc: Global,
@@ -239,7 +230,6 @@ fn repack_archive<'a, R: Files, O: Sink>(
     asked: Archiving<'a>,
     output: &mut O,
 ) -> Result<Done, Stop<'a>>
-    requires tolerance { IsTolerance asked.tolerance }
     requires output { CanCountCall (O.device output.old) }
     ensures { WalksArchive (days_asked asked.entry) (O.device output.old) (O.device output.new) result }
 {
@@ -247,18 +237,11 @@ fn repack_archive<'a, R: Files, O: Sink>(
         root: asked.folders.root,
         out: asked.folders.out,
         reports: asked.folders.reports,
-        options: options_of(asked.length, asked.tolerance, asked.strict),
+        options: asked.options,
         below: asked.walking.below.as_slice(),
         resume: asked.walking.resume,
         check: asked.walking.check,
     };
     let refused = walk(rt, alloc, &archive, output)?;
     Ok(Done::Walked { refused })
-}
-
-fn options_of(length: Length, tolerance: u32, strict: bool) -> Options
-    requires { IsTolerance tolerance }
-    ensures { result ≡ choice_of length tolerance strict }
-{
-    Options::new(length, tolerance).unwrap().strict(strict)
 }

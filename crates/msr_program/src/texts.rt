@@ -1,4 +1,4 @@
-// The texts of help, and of faults that clap does not find.
+//! The texts of help, and of faults that clap does not find.
 
 pub const ABOUT: &str = "Repacks miniSEED into the fewest records of one length";
 

@@ -1,15 +1,15 @@
-// The command line: what the words ask for.
-ghost use Rattle.std.specs.Prelude.{◌≡◌, ◌≢◌, ◌<◌, ◌↔◌, length, codes, IfOk, IfErr, IfSome, IsSome, IsOk, IsOkAnd, IsTrue, Any, map};
-ghost use Rattle.std.specs.Option.{option_map};
+//! The command line: what the words ask for.
+ghost use Rattle.std.specs.Prelude.{◌≡◌, ◌≢◌, ◌<◌, ◌↔◌, length, codes, false, Some, IfOk, IfErr, IfSome, IsSome, IsOk, IsOkAnd, IsTrue, Any, map};
 ghost use Rattle.msr_words.specs.RecordLength.{IsRecordLength};
-ghost use Rattle.msr_words.specs.Lengths.{bytes_of};
-ghost use Rattle.clap.specs.Words.{first_value, found_of};
-ghost use Rattle.msr_program.specs.Tasks.{AreApart, HasStatus, HasTolerance, IsArchiving, IsBadLine, IsBelow, IsChecking, IsDefault, IsFeeding, IsRepacking, IsTolerance, IsWrong, KeepsInput, Overlap, StandApart};
+ghost use Rattle.clap.specs.Words.{first_value, found_of, kind_of, one_text, subcommand_name_of};
+ghost use Rattle.msr_program.specs.Found.{AsksCheck, AsksFolders, AsksOptions, AsksTask, AsksWalking, EndsFor, HoldsOptions, IsFlagOf, IsNumberOf, command_of};
+ghost use Rattle.msr_program.specs.Tasks.{AreApart, AreOptions, HasStatus, HasTolerance, IsBadLine, IsBelow, IsDefault, IsTolerance, IsWrong, KeepsInput, Overlap, StandApart};
 
 use crate::commands::command;
 use crate::texts;
 use clap::ArgMatches;
 use clap::error::ErrorKind;
+use msr_tool::Options;
 use msr_walk::levels_below;
 use msr_words::Length;
 use std::alloc::{AllocError, Global};
@@ -17,12 +17,7 @@ use std::alloc::{AllocError, Global};
 /// A file to be repacked.
 #[derive(Clone, Copy, Debug, PartialEq, Eq)]
 pub struct Repacking<'a> {
-    /// The length of the records that are written.
-    pub length: Length,
-    /// The tolerance in microseconds.
-    pub tolerance: u32,
-    /// Whether a record is refused whose last sample is not its reverse constant.
-    pub strict: bool,
+    pub options: Options,
     /// The name of a file, or `-` for standard input.
     pub input: &'a str,
     /// Where the records go, or nowhere.
@@ -32,12 +27,7 @@ pub struct Repacking<'a> {
 /// Standard input, which is to be repacked to standard output while it comes.
 #[derive(Clone, Copy, Debug, PartialEq, Eq)]
 pub struct Feeding<'a> {
-    /// The length of the records that are written.
-    pub length: Length,
-    /// The tolerance in microseconds.
-    pub tolerance: u32,
-    /// Whether a record is refused whose last sample is not its reverse constant.
-    pub strict: bool,
+    pub options: Options,
     /// The name of the file that gets the report.
     pub report: &'a str,
 }
@@ -45,10 +35,8 @@ pub struct Feeding<'a> {
 /// A file whose segments are to be listed.
 #[derive(Clone, Copy, Debug, PartialEq, Eq)]
 pub struct Listing<'a> {
-    /// The tolerance in microseconds.
-    pub tolerance: u32,
-    /// Whether a record is refused whose last sample is not its reverse constant.
-    pub strict: bool,
+    /// Of these no length, since no record is written.
+    pub options: Options,
     /// The name of a file, or `-` for standard input.
     pub input: &'a str,
 }
@@ -84,12 +72,7 @@ pub struct Walking<'a> {
 /// An archive whose day files are to be repacked.
 #[derive(Debug, Drop, PartialEq, Eq)]
 pub struct Archiving<'a> {
-    /// The length of the records that are written.
-    pub length: Length,
-    /// The tolerance in microseconds.
-    pub tolerance: u32,
-    /// Whether a record is refused whose last sample is not its reverse constant.
-    pub strict: bool,
+    pub options: Options,
     pub folders: Folders<'a>,
     pub walking: Walking<'a>,
 }
@@ -129,28 +112,33 @@ impl From<AllocError> for NoTask {
 }
 
 /// The length of written records where none is asked for.
-pub fn default_length() -> Length
-    ensures { bytes_of result ≡ 512 }
+const LENGTH: u32 = 512;
+
+/// The tolerance in microseconds where none is asked for.
+const TOLERANCE: u32 = 1000;
+
+/// How an input is repacked where nothing else is asked for.
+fn default_options() -> Options
+    ensures { AreOptions 512 1000 false result }
 {
-    Length::new(512).unwrap()
+    let length = Length::new(LENGTH).unwrap();
+    Options::new(length, TOLERANCE).unwrap()
 }
 
-// What is done where there are no words.
+/// What is done where there are no words.
 fn default_task<'a>() -> Task<'a>
     ensures default { IsDefault result }
     ensures tolerance { HasTolerance result }
     ensures keeps_input { KeepsInput result }
 {
     Task::Repack(Repacking {
-        length: default_length(),
-        tolerance: 1000,
-        strict: false,
+        options: default_options(),
         input: "-",
         output: None,
     })
 }
 
-// The answer to a wrong command line.
+/// The answer to a wrong command line.
 fn wrong(alloc: Global, text: &str) -> NoTask
     ensures { IsWrong text.now result }
 {
@@ -160,9 +148,10 @@ fn wrong(alloc: Global, text: &str) -> NoTask
     }
 }
 
-// The answer to what clap found: a fault, or that help or the version is asked for.
+/// The answer to what clap found: a fault, or that help or the version is asked for.
 fn ending_of(alloc: Global, error: &clap::Error) -> NoTask
-    ensures { HasStatus result }
+    ensures ends { EndsFor (kind_of error.now) result }
+    ensures status { HasStatus result }
 {
     if error.kind() == ErrorKind::OutOfMemory {
         return NoTask::Memory;
@@ -176,95 +165,90 @@ fn ending_of(alloc: Global, error: &clap::Error) -> NoTask
     }
 }
 
-fn tolerance_in(found: &ArgMatches<'_>) -> Option<u32>
-    ensures { IfSome result IsTolerance }
-{
-    let tolerance = found.get_one::<u32>("tolerance")?;
-    if tolerance < 1 || 1_000_000 < tolerance {
-        return None;
-    }
-    Some(tolerance)
-}
-
-// A file to be repacked, exactly where the length is one of a record and the output is not the input.
-fn repacking_of<'a>(
-    alloc: Global,
-    bytes: u32,
-    tolerance: u32,
-    strict: bool,
-    input: &'a str,
-    output: Option<&'a str>,
-) -> Result<Task<'a>, NoTask>
-    requires { IsTolerance tolerance }
-    ensures ok { IsOk result ↔ (IsRecordLength bytes × IfSome output.entry (λ name. name.now ≢ input.now)) }
-    ensures asked { IfOk result (IsRepacking bytes tolerance strict input.now (option_map (λ name. name.now) output.entry)) }
-    ensures tolerance { IfOk result HasTolerance }
-    ensures keeps_input { IfOk result KeepsInput }
+/// These options, exactly where the length is one of a record and the tolerance is in its range.
+fn options_of(alloc: Global, bytes: u32, tolerance: u32, strict: bool) -> Result<Options, NoTask>
+    ensures ok { IsOk result ↔ (IsRecordLength bytes × IsTolerance tolerance) }
+    ensures asked { IfOk result (AreOptions bytes tolerance strict) }
     ensures status { IfErr result IsBadLine }
 {
     let Some(length) = Length::new(bytes) else {
         return Err(wrong(alloc, texts::NOT_A_LENGTH));
     };
+    match Options::new(length, tolerance) {
+        Some(options) => Ok(options.strict(strict)),
+        None => Err(wrong(alloc, texts::NO_COMMAND)),
+    }
+}
+
+fn number_in(found: &ArgMatches<'_>, name: &str) -> Option<u32>
+    ensures { IsNumberOf (one_text (found_of found.now) name.now) result }
+{
+    found.get_one::<u32>(name)
+}
+
+fn flag_in(found: &ArgMatches<'_>, name: &str) -> bool
+    ensures { IsFlagOf (one_text (found_of found.now) name.now) result }
+{
+    found.get_flag(name)
+}
+
+/// What clap found of them. A list has no length, and any serves.
+fn options_in(alloc: Global, found: &ArgMatches<'_>) -> Result<Options, NoTask>
+    ensures asked { IfOk result (AsksOptions (found_of found.now)) }
+    ensures given { HoldsOptions (found_of found.now) → IsOk result }
+    ensures tolerance { IfOk result (λ options. IsTolerance options.tolerance) }
+    ensures status { IfErr result IsBadLine }
+{
+    let Some(tolerance) = number_in(found, "tolerance") else {
+        return Err(wrong(alloc, texts::NO_COMMAND));
+    };
+    let bytes = number_in(found, "length").unwrap_or(LENGTH);
+    options_of(alloc, bytes, tolerance, flag_in(found, "strict"))
+}
+
+/// A file to be repacked, exactly where the output is not the input.
+fn repacking_of<'a>(
+    alloc: Global,
+    options: Options,
+    input: &'a str,
+    output: Option<&'a str>,
+) -> Result<Repacking<'a>, NoTask>
+    ensures ok { IsOk result ↔ IfSome output.entry (λ name. name.now ≢ input.now) }
+    ensures asked { IfOk result (λ asked. (asked.options ≡ options) × (asked.input.now ≡ input.now)
+        × (asked.output ≡ output.entry)) }
+    ensures status { IfErr result IsBadLine }
+{
     if let Some(name) = output {
         if name == input {
             return Err(wrong(alloc, texts::SAME_FILE));
         }
     }
-    Ok(Task::Repack(Repacking {
-        length,
-        tolerance,
-        strict,
+    Ok(Repacking {
+        options,
         input,
         output,
-    }))
+    })
 }
 
-// Standard input to be repacked while it comes, exactly where the length is one of a record.
-fn feeding_of<'a>(
-    alloc: Global,
-    bytes: u32,
-    tolerance: u32,
-    strict: bool,
-    report: &'a str,
-) -> Result<Task<'a>, NoTask>
-    requires { IsTolerance tolerance }
-    ensures ok { IsOk result ↔ IsRecordLength bytes }
-    ensures asked { IfOk result (IsFeeding bytes tolerance strict report.now) }
-    ensures tolerance { IfOk result HasTolerance }
-    ensures keeps_input { IfOk result KeepsInput }
-    ensures status { IfErr result IsBadLine }
-{
-    let Some(length) = Length::new(bytes) else {
-        return Err(wrong(alloc, texts::NOT_A_LENGTH));
-    };
-    Ok(Task::Feed(Feeding {
-        length,
-        tolerance,
-        strict,
-        report,
-    }))
-}
-
-// Packed records to be checked: first the file with the records, then that with the report.
-fn checking_of<'a>(found: &ArgMatches<'a>) -> Option<Task<'a>>
-    ensures asked { IfSome result (IsChecking (first_value (found_of found.now) (codes "PACKED")) (first_value (found_of found.now) (codes "REPORT"))) }
-    ensures given { IsSome (first_value (found_of found.now) (codes "PACKED")) → IsSome (first_value (found_of found.now) (codes "REPORT")) → IsSome result }
-    ensures tolerance { IfSome result HasTolerance }
-    ensures keeps_input { IfSome result KeepsInput }
+/// Packed records to be checked: first the file with the records, then that with the report.
+fn checking_in<'a>(found: &ArgMatches<'a>) -> Option<Checking<'a>>
+    ensures asked { IfSome result (AsksCheck (found_of found.now)) }
+    ensures given { IsSome (first_value (found_of found.now) (codes "PACKED"))
+        → IsSome (first_value (found_of found.now) (codes "REPORT")) → IsSome result }
 {
     let packed = found.get_str("PACKED")?;
     let report = found.get_str("REPORT")?;
-    Some(Task::Check(Checking { packed, report }))
+    Some(Checking { packed, report })
 }
 
-// Whether one folder is the other, or stands below it, by their names.
+/// Whether one folder is the other, or stands below it, by their names.
 fn overlap(a: &str, b: &str) -> bool
     ensures { IsTrue result ↔ Overlap a.now b.now }
 {
     a == b || is_below(a, b) || is_below(b, a)
 }
 
-// Whether the second stands below the first, by their names.
+/// Whether the second stands below the first, by their names.
 fn is_below(folder: &str, path: &str) -> bool
     ensures { IsTrue result ↔ IsBelow folder.now path.now }
 {
@@ -274,23 +258,29 @@ fn is_below(folder: &str, path: &str) -> bool
     }
 }
 
-fn folders_in<'a>(found: &ArgMatches<'a>) -> Option<Folders<'a>> {
+fn folders_in<'a>(found: &ArgMatches<'a>) -> Option<Folders<'a>>
+    ensures asked { IfSome result (AsksFolders (found_of found.now)) }
+    ensures given { IsSome (first_value (found_of found.now) (codes "ROOT"))
+        → IsSome (first_value (found_of found.now) (codes "OUT"))
+        → IsSome (first_value (found_of found.now) (codes "REPORTS")) → IsSome result }
+{
     let root = found.get_str("ROOT")?;
     let out = found.get_str("OUT")?;
     let reports = found.get_str("REPORTS")?;
     Some(Folders { root, out, reports })
 }
 
-// Whether one of the folders is that one, or either stands below the other, by their names.
+/// Whether one of the folders is that one, or either stands below the other, by their names.
 fn overlaps_one(folders: &[&str], folder: &str) -> bool
     ensures { IsTrue result ↔ Any (λ other. Overlap other.now folder.now) folders.now }
 {
     folders.iter().any(|other| overlap(other, folder))
 }
 
-// The folders of an archive that are to be walked: paths of names, of which no two overlap.
+/// The folders of an archive that are to be walked: paths of names, of which no two overlap.
 fn below_of<'a>(alloc: Global, given: &[&'a str]) -> Result<Vec<&'a str>, NoTask>
-    ensures asked { IfOk result (λ below. map (λ folder. folder.now) below.items ≡ map (λ folder. folder.now) given.now) }
+    ensures asked { IfOk result (λ below. map (λ folder. folder.now) below.items
+        ≡ map (λ folder. folder.now) given.now) }
     ensures apart { IfOk result (λ below. AreApart (map (λ folder. folder.now) below.items)) }
     ensures status { IfErr result IsBadLine }
 {
@@ -309,6 +299,7 @@ fn below_of<'a>(alloc: Global, given: &[&'a str]) -> Result<Vec<&'a str>, NoTask
 }
 
 fn walking_in<'a>(alloc: Global, found: &ArgMatches<'a>) -> Result<Walking<'a>, NoTask>
+    ensures asked { IfOk result (AsksWalking (found_of found.now)) }
     ensures apart { IfOk result (λ walking. AreApart (map (λ folder. folder.now) walking.below.items)) }
     ensures status { IfErr result IsBadLine }
 {
@@ -318,45 +309,37 @@ fn walking_in<'a>(alloc: Global, found: &ArgMatches<'a>) -> Result<Walking<'a>, 
     };
     Ok(Walking {
         below,
-        resume: found.get_flag("resume"),
-        check: found.get_flag("check"),
+        resume: flag_in(found, "resume"),
+        check: flag_in(found, "check"),
     })
 }
 
-// An archive to be repacked, exactly where the length is one of a record and no two folders overlap.
+/// An archive to be repacked, exactly where no two folders overlap.
 fn archiving_of<'a>(
     alloc: Global,
-    bytes: u32,
-    tolerance: u32,
-    strict: bool,
+    options: Options,
     folders: Folders<'a>,
     walking: Walking<'a>,
-) -> Result<Task<'a>, NoTask>
-    requires { IsTolerance tolerance }
-    ensures ok { IsOk result ↔ (IsRecordLength bytes × StandApart folders.entry) }
-    ensures asked { IfOk result (IsArchiving bytes tolerance strict folders.entry walking.entry) }
-    ensures tolerance { IfOk result HasTolerance }
-    ensures keeps_input { IfOk result KeepsInput }
+) -> Result<Archiving<'a>, NoTask>
+    ensures ok { IsOk result ↔ StandApart folders.entry }
+    ensures asked { IfOk result (λ asked. (asked.options ≡ options) × (asked.folders ≡ folders.entry)
+        × (asked.walking ≡ walking.entry)) }
     ensures status { IfErr result IsBadLine }
 {
-    let Some(length) = Length::new(bytes) else {
-        return Err(wrong(alloc, texts::NOT_A_LENGTH));
-    };
     let Folders { root, out, reports } = folders;
     if overlap(root, out) || overlap(root, reports) || overlap(out, reports) {
         return Err(wrong(alloc, texts::OVERLAP));
     }
-    Ok(Task::Archive(Archiving {
-        length,
-        tolerance,
-        strict,
+    Ok(Archiving {
+        options,
         folders,
         walking,
-    }))
+    })
 }
 
-// What clap found. It lets no line through without a command, its inputs and numbers in their ranges.
+/// What clap found. It lets no line through without a command, its inputs and numbers in their ranges.
 fn task_of<'a>(alloc: Global, matches: &ArgMatches<'a>) -> Result<Task<'a>, NoTask>
+    ensures command { IfOk result (λ task. subcommand_name_of matches.now ≡ Some (command_of task)) }
     ensures tolerance { IfOk result HasTolerance }
     ensures keeps_input { IfOk result KeepsInput }
     ensures status { IfErr result IsBadLine }
@@ -364,46 +347,48 @@ fn task_of<'a>(alloc: Global, matches: &ArgMatches<'a>) -> Result<Task<'a>, NoTa
     let Some((name, found)) = matches.subcommand() else {
         return Err(wrong(alloc, texts::NO_COMMAND));
     };
+    task_in(alloc, name, found)
+}
+
+/// What clap found under the command of this name.
+fn task_in<'a>(alloc: Global, name: &str, found: &ArgMatches<'a>) -> Result<Task<'a>, NoTask>
+    ensures command { IfOk result (λ task. name.now ≡ command_of task) }
+    ensures asked { IfOk result (AsksTask (found_of found.now)) }
+    ensures tolerance { IfOk result HasTolerance }
+    ensures keeps_input { IfOk result KeepsInput }
+    ensures status { IfErr result IsBadLine }
+{
     if name == "check" {
-        return match checking_of(found) {
-            Some(task) => Ok(task),
+        return match checking_in(found) {
+            Some(asked) => Ok(Task::Check(asked)),
             None => Err(wrong(alloc, texts::NO_COMMAND)),
         };
     }
-    let Some(tolerance) = tolerance_in(found) else {
-        return Err(wrong(alloc, texts::NO_COMMAND));
-    };
-    let strict = found.get_flag("strict");
-    if name == "list" {
-        return match found.get_str("IN") {
-            Some(input) => Ok(Task::List(Listing {
-                tolerance,
-                strict,
-                input,
-            })),
-            None => Err(wrong(alloc, texts::NO_COMMAND)),
-        };
-    }
-    let Some(bytes) = found.get_one::<u32>("length") else {
-        return Err(wrong(alloc, texts::NO_COMMAND));
-    };
+    let options = options_in(alloc, found)?;
     if name == "archive" {
         let walking = walking_in(alloc, found)?;
         return match folders_in(found) {
-            Some(folders) => archiving_of(alloc, bytes, tolerance, strict, folders, walking),
+            Some(folders) => Ok(Task::Archive(archiving_of(alloc, options, folders, walking)?)),
             None => Err(wrong(alloc, texts::NO_COMMAND)),
         };
     }
     if name == "feed" {
         return match found.get_str("REPORT") {
-            Some(report) => feeding_of(alloc, bytes, tolerance, strict, report),
+            Some(report) => Ok(Task::Feed(Feeding { options, report })),
             None => Err(wrong(alloc, texts::NO_COMMAND)),
         };
     }
-    match found.get_str("IN") {
-        Some(input) => repacking_of(alloc, bytes, tolerance, strict, input, found.get_str("OUT")),
-        None => Err(wrong(alloc, texts::NO_COMMAND)),
+    let Some(input) = found.get_str("IN") else {
+        return Err(wrong(alloc, texts::NO_COMMAND));
+    };
+    if name == "list" {
+        return Ok(Task::List(Listing { options, input }));
     }
+    if name == "repack" {
+        let output = found.get_str("OUT");
+        return Ok(Task::Repack(repacking_of(alloc, options, input, output)?));
+    }
+    Err(wrong(alloc, texts::NO_COMMAND))
 }
 
 /// The task that the words ask for, of which the first is the program's name.

@@ -29,7 +29,7 @@ use Rattle.msr_words.specs.RecordLength.{IsRecordLength, words_of}
 use Rattle.msr_words.specs.Segment.{differences, points}
 use Rattle.msr_words.specs.declared.kinds.Kind.{Kind}
 use Rattle.msr_words.specs.declared.kinds.Kind.TheVariants.{Int16, Int24, Int32, Steim1, Steim2}
-use Rattle.msr_words.proofs.Exist.{has_division}
+use Rattle.msr_words.proofs.DivisionsExist.{has_division}
 use Rattle.msr_record.specs.Area.{Carries, ReverseAgrees}
 use Rattle.msr_record.specs.Correction.{is_pending}
 use Rattle.msr_record.specs.Written.{AppendsRecord, AreFrames, AreNumbers, IsKey, IsWrittenArea, frame_count, header_for}
@@ -45,18 +45,27 @@ record HasNumbers (width : Width) (samples : List ℤ) (size : ℕ) : Type 0 whe
   long : length area ≡ size
   carries : CarriesPlain width Big area samples
 
-numbers_of : (width : Width) (samples : List ℤ) (size : ℕ) → All (FitsWidth width) samples → size_of width * length samples ≤ size → HasNumbers width samples size
+numbers_of : (width : Width) (samples : List ℤ) (size : ℕ) → All (FitsWidth width) samples
+    → size_of width * length samples ≤ size → HasNumbers width samples size
 numbers_of width samples size fit room =
     let rest = replicate (size - size_of width * length samples) 0 in
     record {
       area = bytes_of_all width samples ++ rest;
       are = record { bytes_are = refl; frames_are = refl };
-      long = omega (arith, length-append (bytes_of_all width samples) rest, length-bytes_of_all width samples, length-replicate {A = ℕ} (size - size_of width * length samples) 0);
+      long = omega (
+        arith,
+        length-append
+            (bytes_of_all width samples) rest,
+        length-bytes_of_all width samples,
+        length-replicate {A = ℕ}
+            (size - size_of width * length samples) 0,
+      );
       carries = carried width (bytes_of_all width samples ++ rest) samples rest fit refl;
     }
 
 -- the groups of the canonical division are no more than the words that can hold the differences
-chosen_few : (version : Version) (words : ℕ) (ds : List ℤ) (groups : List (List ℤ)) → IsCanonicalDivision version groups ds → CanDivide version words ds → length groups ≤ words
+chosen_few : (version : Version) (words : ℕ) (ds : List ℤ) (groups : List (List ℤ))
+    → IsCanonicalDivision version groups ds → CanDivide version words ds → length groups ≤ words
 chosen_few version words ds groups chosen can = omega (arith, chosen.fewest can.groups can.are_groups can.join, can.few)
 
 record HasFrames (version : Version) (before : Option ℤ) (samples : List ℤ) (size : ℕ) : Type 0 where
@@ -67,7 +76,9 @@ record HasFrames (version : Version) (before : Option ℤ) (samples : List ℤ) 
   carries : CarriesSteim version Big area samples
   agrees : FramesAgree Big area samples
 
-frames_of : (version : Version) (before : Option ℤ) (samples : List ℤ) (size : ℕ) → IsRecordLength size → 1 ≤ length samples → All (FitsSigned w32) samples → CanDivide version (words_of size) (differences before samples) → HasFrames version before samples (size - 64)
+frames_of : (version : Version) (before : Option ℤ) (samples : List ℤ) (size : ℕ) → IsRecordLength size
+    → 1 ≤ length samples → All (FitsSigned w32) samples
+    → CanDivide version (words_of size) (differences before samples) → HasFrames version before samples (size - 64)
 frames_of version before samples size power some fit can =
     let ds = differences before samples in
     let d = has_division version (words_of size) ds can in
@@ -75,18 +86,24 @@ frames_of version before samples size power some fit can =
     let few = chosen_few version (words_of size) ds d.groups d.canonical can in
     let room = room_for size power.exponent size (length d.groups) power.power refl power.least power.most few in
     let count = (size - 64) / 64 in
-    let first_fits : FitsSigned w32 (slice_index_or samples 0 (pos 0)) = All-get_or (FitsSigned w32) samples 0 (pos 0) (omega arith) fit in
-    let last_fits : FitsSigned w32 (slice_index_or samples (length samples - 1) (pos 0)) = All-get_or (FitsSigned w32) samples (length samples - 1) (pos 0) (omega arith) fit in
-    let area = frame_bytes version (slice_index_or samples 0 (pos 0)) (slice_index_or samples (length samples - 1) (pos 0)) d.groups count in
-    let long : length area ≡ 64 * count = length-frame_bytes version (slice_index_or samples 0 (pos 0)) (slice_index_or samples (length samples - 1) (pos 0)) d.groups count in
+    let first_fits : FitsSigned w32 (slice_index_or samples 0 (pos 0)) =
+    All-get_or (FitsSigned w32) samples 0 (pos 0) (omega arith) fit in
+    let last_fits : FitsSigned w32 (slice_index_or samples (length samples - 1) (pos 0)) =
+    All-get_or (FitsSigned w32) samples (length samples - 1) (pos 0) (omega arith) fit in
+    let area = frame_bytes version (slice_index_or samples 0 (pos 0))
+    (slice_index_or samples (length samples - 1) (pos 0)) d.groups count in
+    let long : length area ≡ 64 * count = length-frame_bytes version (slice_index_or samples 0 (pos 0))
+    (slice_index_or samples (length samples - 1) (pos 0)) d.groups count in
     let even : (size - 64) % 64 ≡ 0 = rw power.power whole.0 in
     record {
       frames = frame_count (length d.groups);
       area = area;
       are = record { groups = d.groups; canonical = d.canonical; bytes_are = refl; frames_are = refl };
       long = omega (arith, long, even);
-      carries = frames_carry version before samples d.groups count area d.canonical.are_groups d.canonical.join room fit last_fits refl;
-      agrees = frames_end version samples d.groups count area some d.canonical.are_groups (omega (arith, room)) first_fits last_fits refl;
+      carries = frames_carry version before samples d.groups count area d.canonical.are_groups d.canonical.join
+          room fit last_fits refl;
+      agrees = frames_end version samples d.groups count area some d.canonical.are_groups
+          (omega (arith, room)) first_fits last_fits refl;
     }
 
 record HasArea (kind : Kind) (before : Option ℤ) (samples : List ℤ) (size : ℕ) : Type 0 where
@@ -97,12 +114,16 @@ record HasArea (kind : Kind) (before : Option ℤ) (samples : List ℤ) (size : 
   carries : Carries kind Big area samples
   agrees : ReverseAgrees kind Big area samples
 
-area_of : (kind : Kind) (before : Option ℤ) (samples : List ℤ) (size : ℕ) → IsRecordLength size → 1 ≤ length samples → All (FitsSigned w32) samples → Fits kind size (points before samples) → HasArea kind before samples (size - 64)
+area_of : (kind : Kind) (before : Option ℤ) (samples : List ℤ) (size : ℕ) → IsRecordLength size
+    → 1 ≤ length samples → All (FitsSigned w32) samples → Fits kind size (points before samples)
+    → HasArea kind before samples (size - 64)
 area_of Int16 before samples size power some fit fits =
-    let n = numbers_of TwoBytes samples (size - 64) (all_16 before samples fits.1.0) (omega (arith, fits.1.1, length-points before samples)) in
+    let n = numbers_of TwoBytes samples (size - 64) (all_16 before samples fits.1.0)
+    (omega (arith, fits.1.1, length-points before samples)) in
     record { frames = 0; area = n.area; is_area = n.are; long = n.long; carries = n.carries; agrees = tt }
 area_of Int24 before samples size power some fit fits =
-    let n = numbers_of ThreeBytes samples (size - 64) (all_24 before samples fits.1.0) (omega (arith, fits.1.1, length-points before samples)) in
+    let n = numbers_of ThreeBytes samples (size - 64) (all_24 before samples fits.1.0)
+    (omega (arith, fits.1.1, length-points before samples)) in
     record { frames = 0; area = n.area; is_area = n.are; long = n.long; carries = n.carries; agrees = tt }
 area_of Int32 before samples size power some fit fits =
     let n = numbers_of FourBytes samples (size - 64) fit (omega (arith, fits.1, length-points before samples)) in
@@ -116,9 +137,16 @@ area_of Steim2 before samples size power some fit fits =
 
 -- ---- the header
 
-module _ (key : Key) (time : BTime) (micros sequence count : ℕ) (kind : Kind) (exponent frames : ℕ) (is_key : IsKey key) where
+module _ (key : Key) (time : BTime) (micros sequence count : ℕ) (kind : Kind) (exponent frames : ℕ)
+    (is_key : IsKey key) where
   lengths : HasLengths (header_for key time micros sequence count kind exponent frames)
-  lengths = record { sequence = refl; station = is_key.station; location = is_key.location; channel = is_key.channel; network = is_key.network }
+  lengths = record {
+    sequence = refl;
+    station = is_key.station;
+    location = is_key.location;
+    channel = is_key.channel;
+    network = is_key.network;
+  }
 
   ranges : count < 2 ^ 16 → micros < 100 → HasRanges (header_for key time micros sequence count kind exponent frames)
   ranges few below = record {
@@ -131,12 +159,15 @@ module _ (key : Key) (time : BTime) (micros sequence count : ℕ) (kind : Kind) 
 
 -- ---- the record
 
-pub record HasRecord (old : List ℕ) (key : Key) (start : ℤ) (sequence : ℕ) (before : Option ℤ) (samples : List ℤ) (kind : Kind) (size : ℕ) : Type 0 where
+pub record HasRecord (old : List ℕ) (key : Key) (start : ℤ) (sequence : ℕ) (before : Option ℤ) (samples : List ℤ)
+    (kind : Kind) (size : ℕ) : Type 0 where
   pub bytes : List ℕ
   pub appended : AppendsRecord old (old ++ bytes) key start sequence before samples kind size
 
-pub has_record : (old : List ℕ) (key : Key) (start : ℤ) (sequence : ℕ) (before : Option ℤ) (samples : List ℤ) (kind : Kind) (size : ℕ) → IsRecordLength size → IsKey key
-    → IsTrue (is_quality key.quality) → is_pending key.activity key.correction ≡ false → IsInstant start → 1 ≤ length samples → All (FitsSigned w32) samples
+pub has_record : (old : List ℕ) (key : Key) (start : ℤ) (sequence : ℕ) (before : Option ℤ) (samples : List ℤ)
+    (kind : Kind) (size : ℕ) → IsRecordLength size → IsKey key
+    → IsTrue (is_quality key.quality) → is_pending key.activity key.correction ≡ false → IsInstant start
+    → 1 ≤ length samples → All (FitsSigned w32) samples
     → Fits kind size (points before samples) → HasRecord old key start sequence before samples kind size
 has_record old key start sequence before samples kind size power is_key quality normal instant some fit fits =
     let s = has_split start instant in
@@ -145,8 +176,13 @@ has_record old key start sequence before samples kind size power is_key quality 
     let h : Header = header_for key s.time s.micros sequence (length samples) kind power.exponent a.frames in
     record {
       bytes = header_bytes h ++ a.area;
-      appended = appends_record old (old ++ (header_bytes h ++ a.area)) (header_bytes h) a.area key start sequence before samples kind size power.exponent a.frames s.time s.micros (length samples)
-          refl refl refl (header_length h (lengths key s.time s.micros sequence (length samples) kind power.exponent a.frames is_key)) a.is_area a.long
-          (λ rest w room. reads_back h rest (lengths key s.time s.micros sequence (length samples) kind power.exponent a.frames is_key) (ranges key s.time s.micros sequence (length samples) kind power.exponent a.frames is_key few s.split.below) w room)
+      appended = appends_record old (old ++ (header_bytes h ++ a.area))
+          (header_bytes h) a.area key start sequence before samples kind size power.exponent a.frames s.time
+          s.micros (length samples)
+          refl refl refl (header_length h (lengths key s.time s.micros sequence
+          (length samples) kind power.exponent a.frames is_key)) a.is_area a.long
+          (λ rest w room. reads_back h rest (lengths key s.time s.micros sequence
+          (length samples) kind power.exponent a.frames is_key) (ranges key s.time s.micros sequence
+          (length samples) kind power.exponent a.frames is_key few s.split.below) w room)
           a.carries a.agrees s.split power.power power.least power.most quality normal some is_key.rate;
     }

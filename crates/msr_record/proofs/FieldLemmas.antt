@@ -15,39 +15,44 @@ use Rattle.msr_record.specs.declared.fault.FaultKind.TheVariants.{NoRate, OtherE
 pub not_zero : (z : ℤ) → z ≢ pos 0 → not (int_eq z (pos 0)) ≡ true
 not_zero z h = grind (arith, Decides-int_eq z (pos 0))
 
-pub has_rate-true : (h : Header) → (h.factor ≢ pos 0) × (h.multiplier ≢ pos 0) → has_rate h ≡ true
-has_rate-true h p = and_from _ _ (not_zero _ p.0) (not_zero _ p.1)
+pub has_rate_true : (h : Header) → (h.factor ≢ pos 0) × (h.multiplier ≢ pos 0) → has_rate h ≡ true
+has_rate_true h p = and_from _ _ (not_zero _ p.0) (not_zero _ p.1)
 
 zero_of : (z : ℤ) → not (int_eq z (pos 0)) ≡ true → z ≢ pos 0
 zero_of z e = grind (arith, Decides-int_eq z (pos 0))
 
-pub has_rate-parts : (h : Header) → has_rate h ≡ true → (h.factor ≢ pos 0) × (h.multiplier ≢ pos 0)
-has_rate-parts h e = let p = and_parts _ _ e in (zero_of _ p.0, zero_of _ p.1)
+pub has_rate_parts : (h : Header) → has_rate h ≡ true → (h.factor ≢ pos 0) × (h.multiplier ≢ pos 0)
+has_rate_parts h e = let p = and_parts _ _ e in (zero_of _ p.0, zero_of _ p.1)
 
-pub has_rate-false : (h : Header) → ((h.factor ≢ pos 0) × (h.multiplier ≢ pos 0) → ⊥) → has_rate h ≡ false
-has_rate-false h refuted = elim (has_rate h) as (λ b. (b ≡ true → (h.factor ≢ pos 0) × (h.multiplier ≢ pos 0)) → b ≡ false) [
-  | true ↦ λ parts. absurd (refuted (parts refl))
-  | false ↦ λ parts. refl
-] (has_rate-parts h)
+pub has_rate_false : (h : Header) → ((h.factor ≢ pos 0) × (h.multiplier ≢ pos 0) → ⊥) → has_rate h ≡ false
+has_rate_false h refuted = elim (has_rate h) as
+    (λ b. (b ≡ true → (h.factor ≢ pos 0) × (h.multiplier ≢ pos 0)) → b ≡ false) [
+      | true ↦ λ parts. absurd (refuted (parts refl))
+      | false ↦ λ parts. refl
+    ] (has_rate_parts h)
 
 pub no_rate : (h : Header) → has_rate h ≡ false → first_fault (field_faults h) ≡ Some NoRate
 unfolding field_faults
 no_rate h e = rw e refl
 
-pub other_encoding : (h : Header) → has_rate h ≡ true → kind_of_code h.encoding ≡ None → first_fault (field_faults h) ≡ Some (OtherEncoding h.encoding)
+pub other_encoding : (h : Header) → has_rate h ≡ true → kind_of_code h.encoding ≡ None
+    → first_fault (field_faults h) ≡ Some (OtherEncoding h.encoding)
 unfolding field_faults
 other_encoding h r k = rw (r, k) refl
 
-pub bad_data_offset : (h : Header) (kind : Kind) → has_rate h ≡ true → kind_of_code h.encoding ≡ Some kind → has_area h ≡ false → first_fault (field_faults h) ≡ Some BadDataOffset
+pub bad_data_offset : (h : Header) (kind : Kind) → has_rate h ≡ true → kind_of_code h.encoding ≡ Some kind
+    → has_area h ≡ false → first_fault (field_faults h) ≡ Some BadDataOffset
 unfolding field_faults
 bad_data_offset h kind r k a = rw (r, k, a) refl
 
-pub fields_pass : (h : Header) (kind : Kind) → has_rate h ≡ true → kind_of_code h.encoding ≡ Some kind → has_area h ≡ true → first_fault (field_faults h) ≡ None
+pub fields_pass : (h : Header) (kind : Kind) → has_rate h ≡ true → kind_of_code h.encoding ≡ Some kind
+    → has_area h ≡ true → first_fault (field_faults h) ≡ None
 unfolding field_faults
 fields_pass h kind r k a = rw (r, k, a) refl
 
 -- the kind of an encoding is the one that has it
-pub kind_is_of_code : (code : ℕ) (found : Option Kind) → ((kind : Kind) → (found ≡ Some kind ↔ code_of kind ≡ code)) → found ≡ kind_of_code code
+pub kind_is_of_code : (code : ℕ) (found : Option Kind)
+    → ((kind : Kind) → (found ≡ Some kind ↔ code_of kind ≡ code)) → found ≡ kind_of_code code
 kind_is_of_code code (Some Int16) h = let e = (h Int16).0 refl in rw (← e) refl
 kind_is_of_code code (Some Int24) h = let e = (h Int24).0 refl in rw (← e) refl
 kind_is_of_code code (Some Int32) h = let e = (h Int32).0 refl in rw (← e) refl

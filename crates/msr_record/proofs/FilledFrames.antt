@@ -12,7 +12,7 @@ use Rattle.msr_words.specs.Filled.{IsFilledArea}
 use Rattle.msr_words.specs.Lengths.{bytes_of}
 use Rattle.msr_words.specs.RecordLength.{words_of}
 use Rattle.msr_words.specs.Segment.{differences}
-use Rattle.msr_words.proofs.Exist.{can_more}
+use Rattle.msr_words.proofs.DivisionsExist.{can_more}
 use Rattle.msr_record.specs.Written.{AreFrames, frame_count}
 use Rattle.msr_record.proofs.AreaLemmas.{frames_carry, frames_end, room_for, whole_frames}
 
@@ -25,11 +25,14 @@ module _ (record_length : Length) (size : ℕ) (size_is : size ≡ bytes_of reco
 
   -- for as many words as the record's length allows
   room : words_of (bytes_of record_length) + 2 ≤ 15 * (size / 64)
-  room = rw size_is (room_for (bytes_of record_length) record_length.exponent (bytes_of record_length) (words_of (bytes_of record_length)) record_length.power refl record_length.from record_length.to (omega arith))
+  room = rw size_is (room_for (bytes_of record_length) record_length.exponent (bytes_of record_length)
+      (words_of (bytes_of record_length)) record_length.power refl record_length.from record_length.to (omega arith))
 
-  module _ (version : Version) (before : Option ℤ) (run : List ℤ) (fits : CanDivide version (words_of (bytes_of record_length)) (differences before run)) where
+  module _ (version : Version) (before : Option ℤ) (run : List ℤ)
+      (fits : CanDivide version (words_of (bytes_of record_length)) (differences before run)) where
     pub can_fill : CanDivide version (15 * (size / 64) - 2) (differences before run)
-    can_fill = let r = room in can_more version (words_of (bytes_of record_length)) (15 * (size / 64) - 2) (differences before run) (omega arith) fits
+    can_fill = let r = room in can_more version (words_of (bytes_of record_length)) (15 * (size / 64) - 2)
+        (differences before run) (omega arith) fits
 
     module _ (area : List ℕ) (groups : ℕ) (filled : IsFilledArea version before run (size / 64) area groups) where
       few : groups ≤ words_of (bytes_of record_length)
@@ -45,7 +48,8 @@ module _ (record_length : Length) (size : ℕ) (size_is : size ≡ bytes_of reco
       frames_written = record {
         groups = filled.groups;
         canonical = filled.canonical;
-        bytes_are = subst (λ n. area ≡ frame_bytes version (get_or run 0 (pos 0)) (get_or run (length run - 1) (pos 0)) filled.groups (n / 64)) size_is filled.bytes_are;
+        bytes_are = subst (λ n. area ≡ frame_bytes version (get_or run 0 (pos 0))
+            (get_or run (length run - 1) (pos 0)) filled.groups (n / 64)) size_is filled.bytes_are;
         frames_are = rw filled.number_is refl;
       }
 
@@ -57,9 +61,12 @@ module _ (record_length : Length) (size : ℕ) (size_is : size ≡ bytes_of reco
         frames_carried =
             let f = few in
             let r = room in
-            frames_carry version before run filled.groups (size / 64) area filled.canonical.are_groups filled.canonical.join (omega (arith, filled.number_is)) range last_fits filled.bytes_are
+            frames_carry version before run filled.groups
+            (size / 64) area filled.canonical.are_groups filled.canonical.join
+            (omega (arith, filled.number_is)) range last_fits filled.bytes_are
 
         pub frames_agree : FramesAgree Big area run
         frames_agree =
             let r = room in
-            frames_end version run filled.groups (size / 64) area some filled.canonical.are_groups (omega arith) (All-get_or (FitsSigned w32) run 0 (pos 0) (omega (arith, some)) range) last_fits filled.bytes_are
+            frames_end version run filled.groups (size / 64) area some filled.canonical.are_groups (omega arith)
+            (All-get_or (FitsSigned w32) run 0 (pos 0) (omega (arith, some)) range) last_fits filled.bytes_are

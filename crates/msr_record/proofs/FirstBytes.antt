@@ -23,7 +23,8 @@ part_of_first xs n a b h = elim (cases_lt b a) as (λ s. slice_range (take n xs)
   | inl lt ↦ (let none : b - a ≡ 0 = omega (arith, lt) in rw none refl)
   | inr le ↦ (
       let whole : n ≡ a + (n - a) = omega (arith, le, h) in
-      let behind : drop a (take n xs) ≡ take (n - a) (drop a xs) = ap (λ (m : ℕ). drop a (take m xs)) whole ∙ drop-take a (n - a) xs in
+      let behind : drop a (take n xs) ≡ take (n - a) (drop a xs) = ap (λ (m : ℕ). drop a (take m xs)) whole
+      ∙ drop-take a (n - a) xs in
       ap (λ (l : List ℕ). take (b - a) l) behind ∙ take-take (b - a) (n - a) (drop a xs) (omega (arith, h)))
 ]
 
@@ -32,7 +33,8 @@ pub record SameRecord (xs ys : List ℕ) : Type 0 where
   pub header : header_of ys ≡ header_of xs
   pub area : (h : Header) → header_of xs ≡ Ok h → data_area h ys ≡ data_area h xs
 
-pub first_same : (bytes : List ℕ) → header_of (take 1_048_576 bytes) ≡ header_of bytes → SameRecord bytes (first_bytes bytes)
+pub first_same : (bytes : List ℕ) → header_of (take 1_048_576 bytes) ≡ header_of bytes
+    → SameRecord bytes (first_bytes bytes)
 unfolding first_bytes
 first_same bytes e = record {
   header = e;
@@ -40,20 +42,26 @@ first_same bytes e = record {
 }
 
 -- a record's own bytes decide what it is read as, whatever stands after them
-pub own_same : (xs ys : List ℕ) (h : Header) → header_of xs ≡ Ok h → take (2 ^ h.exponent) ys ≡ take (2 ^ h.exponent) xs → SameRecord xs ys
+pub own_same : (xs ys : List ℕ) (h : Header) → header_of xs ≡ Ok h
+    → take (2 ^ h.exponent) ys ≡ take (2 ^ h.exponent) xs → SameRecord xs ys
 own_same xs ys h read e =
     let n = 2 ^ h.exponent in record {
       header = header_decided n xs ys h read (omega arith) (sym e) ∙ sym read;
       area = λ g other.
           let same = one_header xs h g read other in
-          rw (← same) (sym (part_of_first ys n h.data_at n (omega arith)) ∙ ap (λ (l : List ℕ). slice_range l h.data_at n) e ∙ part_of_first xs n h.data_at n (omega arith));
+          rw (← same) (sym (part_of_first ys n h.data_at n (omega arith))
+          ∙ ap (λ (l : List ℕ). slice_range l h.data_at n) e ∙ part_of_first xs n h.data_at n (omega arith));
     }
 
 samples_same : (xs ys : List ℕ) (h : Header) → SameRecord xs ys → HasSamples xs h → HasSamples ys h
 samples_same xs ys h s p = record { read = s.header ∙ p.read; some = p.some }
 
 area_same : (xs ys : List ℕ) (h : Header) (kind : Kind) → SameRecord xs ys → HasArea xs h kind → HasArea ys h kind
-area_same xs ys h kind s p = record { has_samples = samples_same xs ys h s p.has_samples; fields = p.fields; kind_is = p.kind_is }
+area_same xs ys h kind s p = record {
+  has_samples = samples_same xs ys h s p.has_samples;
+  fields = p.fields;
+  kind_is = p.kind_is;
+}
 
 pub row_same : (xs ys : List ℕ) (row : Row) → SameRecord xs ys → IsRowOf xs row → IsRowOf ys row
 row_same xs ys row s p = record {
@@ -65,8 +73,13 @@ row_same xs ys row s p = record {
   carried = rw (s.area p.header p.has_area.has_samples.read) p.carried;
 }
 
-fields_same : (xs ys : List ℕ) (fault : FaultKind) → SameRecord xs ys → FieldsAreRefused xs fault → FieldsAreRefused ys fault
-fields_same xs ys fault s p = record { header = p.header; has_samples = samples_same xs ys p.header s p.has_samples; first = p.first }
+fields_same : (xs ys : List ℕ) (fault : FaultKind) → SameRecord xs ys → FieldsAreRefused xs fault
+    → FieldsAreRefused ys fault
+fields_same xs ys fault s p = record {
+  header = p.header;
+  has_samples = samples_same xs ys p.header s p.has_samples;
+  first = p.first;
+}
 
 fault_same : (xs ys : List ℕ) (fault : FaultKind) → SameRecord xs ys → AreaIsRefused xs fault → AreaIsRefused ys fault
 fault_same xs ys fault s p = record {
@@ -83,7 +96,11 @@ refused_same xs ys (OtherEncoding code) s p = fields_same xs ys (OtherEncoding c
 refused_same xs ys BadDataOffset s p = fields_same xs ys BadDataOffset s p
 refused_same xs ys DataShort s p = fault_same xs ys DataShort s p
 refused_same xs ys (BadCode word) s p = fault_same xs ys (BadCode word) s p
-refused_same xs ys TimeRange s p = record { the_row = p.the_row; is_row = row_same xs ys p.the_row s p.is_row; out = p.out }
+refused_same xs ys TimeRange s p = record {
+  the_row = p.the_row;
+  is_row = row_same xs ys p.the_row s p.is_row;
+  out = p.out;
+}
 refused_same xs ys ReverseMismatch s p = p
 refused_same xs ys Memory s p = p
 
@@ -92,10 +109,25 @@ pub turned : (xs ys : List ℕ) → SameRecord xs ys → SameRecord ys xs
 turned xs ys s = record { header = sym s.header; area = λ h read. sym (s.area h (sym s.header ∙ read)) }
 
 agrees_same : (xs ys : List ℕ) (row : Row) → SameRecord xs ys → AgreesAtEnd xs row → AgreesAtEnd ys row
-agrees_same xs ys row s p = record { header = p.header; read = s.header ∙ p.read; reverse = rw (s.area p.header p.read) p.reverse }
+agrees_same xs ys row s p = record {
+  header = p.header;
+  read = s.header ∙ p.read;
+  reverse = rw (s.area p.header p.read) p.reverse;
+}
 
-same_parts : (xs ys : List ℕ) (length : ℕ) (row : Option Row) (agrees : Bool) → SameRecord xs ys → IsRecordOf xs (record { length = length; row = row; reverse_agrees = agrees }) → IsRecordOf ys (record { length = length; row = row; reverse_agrees = agrees })
-same_parts xs ys length None agrees s p = record { header = p.header; read = s.header ∙ p.read; length_is = p.length_is; empty = p.empty; row = tt; in_time = tt; agrees = tt; no_reverse = p.no_reverse }
+same_parts : (xs ys : List ℕ) (length : ℕ) (row : Option Row) (agrees : Bool) → SameRecord xs ys
+    → IsRecordOf xs (record { length = length; row = row; reverse_agrees = agrees })
+    → IsRecordOf ys (record { length = length; row = row; reverse_agrees = agrees })
+same_parts xs ys length None agrees s p = record {
+  header = p.header;
+  read = s.header ∙ p.read;
+  length_is = p.length_is;
+  empty = p.empty;
+  row = tt;
+  in_time = tt;
+  agrees = tt;
+  no_reverse = p.no_reverse;
+}
 same_parts xs ys length (Some row) agrees s p = record {
   header = p.header;
   read = s.header ∙ p.read;
@@ -111,10 +143,13 @@ pub record_same : (xs ys : List ℕ) (found : Record) → SameRecord xs ys → I
 record_same xs ys found s p = same_parts xs ys found.length found.row found.reverse_agrees s p
 
 -- and what they say of the reverse constant
-reverse_parts : (xs ys : List ℕ) (h : Header) (row : Option Row) (agrees : Bool) → SameRecord xs ys → header_of xs ≡ Ok h
-    → IfNone row ((h.samples ≡ 0) × IsTrue agrees) → IfSome row (IsRowOf xs) → IfSome row (λ row. IsTrue agrees ↔ AgreesAtEnd xs row)
+reverse_parts : (xs ys : List ℕ) (h : Header) (row : Option Row) (agrees : Bool) → SameRecord xs ys
+    → header_of xs ≡ Ok h
+    → IfNone row ((h.samples ≡ 0) × IsTrue agrees) → IfSome row (IsRowOf xs)
+    → IfSome row (λ row. IsTrue agrees ↔ AgreesAtEnd xs row)
     → HasReverse ys agrees
-reverse_parts xs ys h None agrees s read empty is_row at_end = record { header = h; read = s.header ∙ read; row = None; empty = empty; is_row = tt; agrees_at_end = tt }
+reverse_parts xs ys h None agrees s read empty is_row at_end =
+    record { header = h; read = s.header ∙ read; row = None; empty = empty; is_row = tt; agrees_at_end = tt }
 reverse_parts xs ys h (Some row) agrees s read empty is_row at_end = record {
   header = h;
   read = s.header ∙ read;
@@ -127,17 +162,22 @@ reverse_parts xs ys h (Some row) agrees s read empty is_row at_end = record {
 pub reverse_same : (xs ys : List ℕ) (agrees : Bool) → SameRecord xs ys → HasReverse xs agrees → HasReverse ys agrees
 reverse_same xs ys agrees s p = reverse_parts xs ys p.header p.row agrees s p.read p.empty p.is_row p.agrees_at_end
 
-pub refusal_same : {T : Type 0} → (r : Result T FaultKind) (xs ys : List ℕ) → SameRecord xs ys → IfErr r (λ fault. fault ≢ Memory → IsRefused xs fault) → IfErr r (λ fault. fault ≢ Memory → IsRefused ys fault)
+pub refusal_same : {T : Type 0} → (r : Result T FaultKind) (xs ys : List ℕ) → SameRecord xs ys
+    → IfErr r (λ fault. fault ≢ Memory → IsRefused xs fault) → IfErr r (λ fault. fault ≢ Memory → IsRefused ys fault)
 refusal_same (Ok x) xs ys s h = h
 refusal_same (Err fault) xs ys s h = λ other. refused_same xs ys fault s (h other)
 
 -- the same for a record, a row and a refusal after the header
-pub own_record : (bytes others : List ℕ) (found : Record) → IsRecordOf bytes found → take found.length others ≡ take found.length bytes → IsRecordOf others found
+pub own_record : (bytes others : List ℕ) (found : Record) → IsRecordOf bytes found
+    → take found.length others ≡ take found.length bytes → IsRecordOf others found
 own_record bytes others found p e =
     record_same bytes others found (own_same bytes others p.header p.read (rw p.length_is at e)) p
 
-pub own_row : (bytes others : List ℕ) (row : Row) → (p : IsRowOf bytes row) → take (2 ^ p.header.exponent) others ≡ take (2 ^ p.header.exponent) bytes → IsRowOf others row
-own_row bytes others row p e = row_same bytes others row (own_same bytes others p.header p.has_area.has_samples.read e) p
+pub own_row : (bytes others : List ℕ) (row : Row) → (p : IsRowOf bytes row)
+    → take (2 ^ p.header.exponent) others ≡ take (2 ^ p.header.exponent) bytes → IsRowOf others row
+own_row bytes others row p e = row_same bytes others row
+    (own_same bytes others p.header p.has_area.has_samples.read e) p
 
-pub own_refusal : (bytes others : List ℕ) (h : Header) (fault : FaultKind) → header_of bytes ≡ Ok h → take (2 ^ h.exponent) others ≡ take (2 ^ h.exponent) bytes → IsRefused bytes fault → IsRefused others fault
+pub own_refusal : (bytes others : List ℕ) (h : Header) (fault : FaultKind) → header_of bytes ≡ Ok h
+    → take (2 ^ h.exponent) others ≡ take (2 ^ h.exponent) bytes → IsRefused bytes fault → IsRefused others fault
 own_refusal bytes others h fault read e p = refused_same bytes others fault (own_same bytes others h read e) p

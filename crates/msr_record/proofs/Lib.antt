@@ -9,6 +9,6 @@ pub mod FilledFrames
 pub mod WritingLemmas
 pub mod OneWritten
 pub mod FirstBytes
-pub mod Shown
+pub mod UnseenBytes
 pub mod WritableRows
 pub mod Existing

@@ -8,7 +8,7 @@ use Rattle.msr_header.specs.Writing.{header_bytes}
 use Rattle.msr_plain.specs.declared.Width.{Width}
 use Rattle.msr_steim.specs.declared.word.Version.{Version}
 use Rattle.msr_steim.specs.declared.word.Version.TheVariants.{One, Two}
-use Rattle.msr_words.proofs.Choosing.{one_chosen}
+use Rattle.msr_words.proofs.WrittenDivision.{one_chosen}
 use Rattle.msr_words.specs.Segment.{differences}
 use Rattle.msr_words.specs.declared.kinds.Kind.{Kind}
 use Rattle.msr_words.specs.declared.kinds.Kind.TheVariants.{Int16, Int24, Int32, Steim1, Steim2}
@@ -27,29 +27,39 @@ exponent_one d e p = elim (cases_lt d e) [
   ]
 ]
 
-numbers_one : (width : Width) (samples : List ℤ) (size f g : ℕ) (a b : List ℕ) → AreNumbers width samples size f a → AreNumbers width samples size g b → (f ≡ g) × (a ≡ b)
+numbers_one : (width : Width) (samples : List ℤ) (size f g : ℕ) (a b : List ℕ) → AreNumbers width samples size f a
+    → AreNumbers width samples size g b → (f ≡ g) × (a ≡ b)
 numbers_one width samples size f g a b p q = (p.frames_are ∙ sym q.frames_are, p.bytes_are ∙ sym q.bytes_are)
 
-frames_one : (version : Version) (before : Option ℤ) (samples : List ℤ) (size f g : ℕ) (a b : List ℕ) → AreFrames version before samples size f a → AreFrames version before samples size g b → (f ≡ g) × (a ≡ b)
+frames_one : (version : Version) (before : Option ℤ) (samples : List ℤ) (size f g : ℕ) (a b : List ℕ)
+    → AreFrames version before samples size f a → AreFrames version before samples size g b → (f ≡ g) × (a ≡ b)
 frames_one version before samples size f g a b p q =
-    let same : p.groups ≡ q.groups = one_chosen version p.groups q.groups (differences before samples) p.canonical q.canonical in (
+    let same : p.groups ≡ q.groups = one_chosen version p.groups q.groups
+    (differences before samples) p.canonical q.canonical in (
       p.frames_are ∙ ap (λ (gs : List (List ℤ)). frame_count (length gs)) same ∙ sym q.frames_are,
       p.bytes_are ∙ rw same (sym q.bytes_are),
     )
 
-area_one : (kind : Kind) (before : Option ℤ) (samples : List ℤ) (size f g : ℕ) (a b : List ℕ) → IsWrittenArea kind before samples size f a → IsWrittenArea kind before samples size g b → (f ≡ g) × (a ≡ b)
+area_one : (kind : Kind) (before : Option ℤ) (samples : List ℤ) (size f g : ℕ) (a b : List ℕ)
+    → IsWrittenArea kind before samples size f a → IsWrittenArea kind before samples size g b → (f ≡ g) × (a ≡ b)
 area_one Int16 before samples size f g a b p q = numbers_one _ samples size f g a b p q
 area_one Int24 before samples size f g a b p q = numbers_one _ samples size f g a b p q
 area_one Int32 before samples size f g a b p q = numbers_one _ samples size f g a b p q
 area_one Steim1 before samples size f g a b p q = frames_one One before samples size f g a b p q
 area_one Steim2 before samples size f g a b p q = frames_one Two before samples size f g a b p q
 
-bytes_one : (key : Key) (t u : BTime) (m k sequence count d e f g : ℕ) (kind : Kind) (a b : List ℕ) → t ≡ u → m ≡ k → d ≡ e → f ≡ g → a ≡ b → header_bytes (header_for key t m sequence count kind d f) ++ a ≡ header_bytes (header_for key u k sequence count kind e g) ++ b
+bytes_one : (key : Key) (t u : BTime) (m k sequence count d e f g : ℕ) (kind : Kind) (a b : List ℕ) → t ≡ u → m ≡ k
+    → d ≡ e → f ≡ g → a ≡ b → header_bytes (header_for key t m sequence count kind d f)
+    ++ a ≡ header_bytes (header_for key u k sequence count kind e g) ++ b
 bytes_one key t u m k sequence count d e f g kind a b p q r s x = rw (p, q, r, s, x) refl
 
-pub written_once : (bytes others : List ℕ) (key : Key) (start : ℤ) (sequence : ℕ) (before : Option ℤ) (samples : List ℤ) (kind : Kind) (size : ℕ) → IsWritten bytes key start sequence before samples kind size → IsWritten others key start sequence before samples kind size → bytes ≡ others
+pub written_once : (bytes others : List ℕ) (key : Key) (start : ℤ) (sequence : ℕ) (before : Option ℤ)
+    (samples : List ℤ) (kind : Kind) (size : ℕ) → IsWritten bytes key start sequence before samples kind size
+    → IsWritten others key start sequence before samples kind size → bytes ≡ others
 written_once bytes others key start sequence before samples kind size p q =
     let time = split_one start p.time q.time p.micros q.micros p.split q.split in
     let exponent = exponent_one p.power.exponent q.power.exponent (sym p.power.power ∙ q.power.power) in
     let area = area_one kind before samples (size - 64) p.frames q.frames p.area q.area p.is_area q.is_area in
-    p.bytes_are ∙ bytes_one key p.time q.time p.micros q.micros sequence (length samples) p.power.exponent q.power.exponent p.frames q.frames kind p.area q.area time.0 time.1 exponent area.0 area.1 ∙ sym q.bytes_are
+    p.bytes_are ∙ bytes_one key p.time q.time p.micros q.micros sequence
+    (length samples) p.power.exponent q.power.exponent p.frames q.frames kind p.area q.area time.0 time.1
+    exponent area.0 area.1 ∙ sym q.bytes_are

@@ -17,21 +17,27 @@ use Rattle.msr_record.proofs.HeaderFacts.{one_header}
 use Rattle.msr_record.specs.declared.fault.FaultKind.{FaultKind}
 use Rattle.msr_record.specs.declared.fault.FaultKind.TheVariants.{NoRate, OtherEncoding, BadDataOffset, TimeRange}
 
-pub has_area_from : (bytes : List ℕ) (h : Header) (kind : Kind) → header_of bytes ≡ Ok h → (h.samples ≡ 0 → ⊥) → first_fault (field_faults h) ≡ None → kind_of_code h.encoding ≡ Some kind → HasArea bytes h kind
-has_area_from bytes h kind read some fields code = record { has_samples = record { read = read; some = omega (arith, some) }; fields = fields; kind_is = code }
+pub has_area_from : (bytes : List ℕ) (h : Header) (kind : Kind) → header_of bytes ≡ Ok h → (h.samples ≡ 0 → ⊥)
+    → first_fault (field_faults h) ≡ None → kind_of_code h.encoding ≡ Some kind → HasArea bytes h kind
+has_area_from bytes h kind read some fields code =
+    record { has_samples = record { read = read; some = omega (arith, some) }; fields = fields; kind_is = code }
 
 -- the test of the reverse constant, for the record that the bytes begin with
-pub agrees_from : (bytes : List ℕ) (h : Header) (row : Row) (b : Bool) → header_of bytes ≡ Ok h → (IsTrue b ↔ ReverseAgrees row.kind h.data_order (data_area h bytes) row.samples) → (IsTrue b ↔ AgreesAtEnd bytes row)
+pub agrees_from : (bytes : List ℕ) (h : Header) (row : Row) (b : Bool) → header_of bytes ≡ Ok h
+    → (IsTrue b ↔ ReverseAgrees row.kind h.data_order (data_area h bytes) row.samples)
+    → (IsTrue b ↔ AgreesAtEnd bytes row)
 agrees_from bytes h row b read test = (
   λ t. record { header = h; read = read; reverse = test.0 t },
   λ a. test.1 (let same = one_header bytes a.header h a.read read in rw same at a.reverse),
 )
 
-same_rate : (f f' m m' : ℤ) → f ≡ f' → m ≡ m' → ◌≡◌ {A = SampleRate} (record { factor = f; multiplier = m }) (record { factor = f'; multiplier = m' })
+same_rate : (f f' m m' : ℤ) → f ≡ f' → m ≡ m'
+    → ◌≡◌ {A = SampleRate} (record { factor = f; multiplier = m }) (record { factor = f'; multiplier = m' })
 same_rate f f' m m' e d = rw (e, d) refl
 
 -- the rate that was read is that of the key
-pub key_rate : (h : Header) (rate : SampleRate) (key : Key) → rate.factor ≡ h.factor → rate.multiplier ≡ h.multiplier → key ≡ key_of h → key.rate ≡ rate
+pub key_rate : (h : Header) (rate : SampleRate) (key : Key) → rate.factor ≡ h.factor
+    → rate.multiplier ≡ h.multiplier → key ≡ key_of h → key.rate ≡ rate
 key_rate h rate key f m k = ap (λ (k : Key). k.rate) k ∙ sym (same_rate _ _ _ _ f m)
 
 -- the faults that fields can have
@@ -41,7 +47,9 @@ IsFieldFault (OtherEncoding code) = Unit {0}
 IsFieldFault BadDataOffset = Unit {0}
 IsFieldFault _ = ⊥
 
-field_fault : (a b c : Bool) (code : ℕ) (fault : FaultKind) → first_fault (unless a NoRate ∷ unless b (OtherEncoding code) ∷ unless c BadDataOffset ∷ []) ≡ Some fault → IsFieldFault fault
+field_fault : (a b c : Bool) (code : ℕ) (fault : FaultKind)
+    → first_fault (unless a NoRate ∷ unless b (OtherEncoding code) ∷ unless c BadDataOffset ∷ []) ≡ Some fault
+    → IsFieldFault fault
 field_fault false b c code fault e = let same : NoRate ≡ fault = cc in rw (← same) tt
 field_fault true false c code fault e = let same : OtherEncoding code ≡ fault = cc in rw (← same) tt
 field_fault true true false code fault e = let same : BadDataOffset ≡ fault = cc in rw (← same) tt
@@ -54,17 +62,22 @@ is_field_fault h fault e = field_fault (has_rate h) (is_some (kind_of_code h.enc
 pub not_of_time : (h : Header) (fault : FaultKind) → first_fault (field_faults h) ≡ Some fault → fault ≢ TimeRange
 not_of_time h fault e same = rw same at (is_field_fault h fault e)
 
-pub fields_refused : (bytes : List ℕ) (h : Header) (fault : FaultKind) → HasSamples bytes h → first_fault (field_faults h) ≡ Some fault → IsRefused bytes fault
+pub fields_refused : (bytes : List ℕ) (h : Header) (fault : FaultKind) → HasSamples bytes h
+    → first_fault (field_faults h) ≡ Some fault → IsRefused bytes fault
 fields_refused bytes h NoRate s e = record { header = h; has_samples = s; first = e }
 fields_refused bytes h (OtherEncoding code) s e = record { header = h; has_samples = s; first = e }
 fields_refused bytes h BadDataOffset s e = record { header = h; has_samples = s; first = e }
 fields_refused bytes h _ s e = absurd (is_field_fault h _ e)
 
 -- the test of the time, for the row
-pub in_time_of : (h : Header) (rate : SampleRate) (key : Key) (start : ℤ) (count : ℕ) (b : Bool) → rate.factor ≡ h.factor → rate.multiplier ≡ h.multiplier → key ≡ key_of h → count ≡ h.samples → (IsTrue b ↔ IsInTime rate start h.samples) → b ≡ true → IsInTime key.rate start count
+pub in_time_of : (h : Header) (rate : SampleRate) (key : Key) (start : ℤ) (count : ℕ) (b : Bool)
+    → rate.factor ≡ h.factor → rate.multiplier ≡ h.multiplier → key ≡ key_of h → count ≡ h.samples
+    → (IsTrue b ↔ IsInTime rate start h.samples) → b ≡ true → IsInTime key.rate start count
 in_time_of h rate key start count b f m k e test true_is = rw (key_rate h rate key f m k, e) (test.0 true_is)
 
-pub out_of_time : (h : Header) (rate : SampleRate) (key : Key) (start : ℤ) (count : ℕ) (b : Bool) → rate.factor ≡ h.factor → rate.multiplier ≡ h.multiplier → key ≡ key_of h → count ≡ h.samples → (IsTrue b ↔ IsInTime rate start h.samples) → b ≡ false → IsInTime key.rate start count → ⊥
+pub out_of_time : (h : Header) (rate : SampleRate) (key : Key) (start : ℤ) (count : ℕ) (b : Bool)
+    → rate.factor ≡ h.factor → rate.multiplier ≡ h.multiplier → key ≡ key_of h → count ≡ h.samples
+    → (IsTrue b ↔ IsInTime rate start h.samples) → b ≡ false → IsInTime key.rate start count → ⊥
 out_of_time h rate key start count b f m k e test false_is = λ t.
     let back = rw (key_rate h rate key f m k, e) at t in
     both_ways b false_is (test.1 back)
@@ -79,10 +92,12 @@ second_true false b e = cc
 
 -- where the fields have no fault, the data area begins within the record
 pub begins_within : (h : Header) → has_area h ≡ true → h.data_at ≤ 2 ^ h.exponent
-begins_within h e = leb-true h.data_at (2 ^ h.exponent) (second_true (nat_le h.chain_end h.data_at) (nat_le h.data_at (2 ^ h.exponent)) e)
+begins_within h e = leb-true h.data_at (2 ^ h.exponent)
+    (second_true (nat_le h.chain_end h.data_at) (nat_le h.data_at (2 ^ h.exponent)) e)
 
 -- a record whose area carries its samples, and whose time is not in range
-pub out_of_range : (bytes : List ℕ) (h : Header) (kind : Kind) (samples : List ℤ) → HasArea bytes h kind → length samples ≡ h.samples → Carries kind h.data_order (data_area h bytes) samples
+pub out_of_range : (bytes : List ℕ) (h : Header) (kind : Kind) (samples : List ℤ) → HasArea bytes h kind
+    → length samples ≡ h.samples → Carries kind h.data_order (data_area h bytes) samples
     → (IsInTime (key_of h).rate (start_of h) h.samples → ⊥) → IsOutOfTime bytes
 out_of_range bytes h kind samples area count carried out = record {
   the_row = record { key = key_of h; start = start_of h; kind = kind; samples = samples };

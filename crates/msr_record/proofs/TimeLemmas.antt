@@ -19,6 +19,10 @@ moved_near activity z f = elim (is_pending activity z) as (λ b. IsMove (cond b 
 ]
 
 -- the time of a record, by the test for its last sample
-pub in_time_from : (rate : SampleRate) (start : ℤ) (count : ℕ) (found : Option ℤ) → IsInstant start → ((r : ℤ) × IsRoundedNominal rate start (count - 1) r × SomeIff found (IsInstant r) r) → ((r : ℤ) → IsRoundedNominal rate start (count - 1) r → SomeIff found (IsInstant r) r) → (is_some found ≡ true → IsInTime rate start count) × (IsInTime rate start count → is_some found ≡ true)
-in_time_from rate start count (Some x) first last only = (λ e. record { last = last.0; nominal = last.1; first_in = first; last_in = last.2.0 }, λ h. refl)
+pub in_time_from : (rate : SampleRate) (start : ℤ) (count : ℕ) (found : Option ℤ) → IsInstant start
+    → ((r : ℤ) × IsRoundedNominal rate start (count - 1) r × SomeIff found (IsInstant r) r)
+    → ((r : ℤ) → IsRoundedNominal rate start (count - 1) r → SomeIff found (IsInstant r) r)
+    → (is_some found ≡ true → IsInTime rate start count) × (IsInTime rate start count → is_some found ≡ true)
+in_time_from rate start count (Some x) first last only =
+    (λ e. record { last = last.0; nominal = last.1; first_in = first; last_in = last.2.0 }, λ h. refl)
 in_time_from rate start count None first last only = (λ e. cc, λ h. absurd (only h.last h.nominal h.last_in))

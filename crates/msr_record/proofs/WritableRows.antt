@@ -13,12 +13,15 @@ set_bit activity correction = rw (and_or_self 2 activity) refl
 
 -- a normal form has no pending correction
 normal : (activity : ℕ) (correction : ℤ) → is_pending (activity_of activity correction) correction ≡ false
-normal activity correction = elim (is_pending activity correction) as (λ b. (is_pending activity correction ≡ b) → is_pending (cond b (bit_or activity 2) activity) correction ≡ false) [
-  | true ↦ λ e. set_bit activity correction
-  | false ↦ λ e. e
-] refl
+normal activity correction = elim (is_pending activity correction) as
+    (λ b. (is_pending activity correction ≡ b) → is_pending (cond b (bit_or activity 2) activity) correction ≡ false) [
+      | true ↦ λ e. set_bit activity correction
+      | false ↦ λ e. e
+    ] refl
 
-pub row_is_writable : (bytes : List ℕ) (row : Row) → IsRowOf bytes row → IsTrue (is_quality row.key.quality) × (is_pending row.key.activity row.key.correction ≡ false) × (1 ≤ length row.samples)
+pub row_is_writable : (bytes : List ℕ) (row : Row) → IsRowOf bytes row
+    → IsTrue (is_quality row.key.quality) × (is_pending row.key.activity row.key.correction ≡ false)
+    × (1 ≤ length row.samples)
 row_is_writable bytes row p =
     let sound = header_sound bytes p.header p.has_area.has_samples.read in (
       rw p.key_is sound.quality,

@@ -65,10 +65,12 @@ pub record AreNumbers (width : Width) (samples : List ℤ) (size frames : ℕ) (
 
 -- It is frames of the canonical groups of the samples' differences, without a gap. The constants are the first
 -- and the last sample.
-pub record AreFrames (version : Version) (before : Option ℤ) (samples : List ℤ) (size frames : ℕ) (area : List ℕ) : Type 0 where
+pub record AreFrames (version : Version) (before : Option ℤ) (samples : List ℤ) (size frames : ℕ)
+    (area : List ℕ) : Type 0 where
   pub groups : List (List ℤ)
   pub canonical : IsCanonicalDivision version groups (differences before samples)
-  pub bytes_are : area ≡ frame_bytes version (slice_index_or samples 0 (pos 0)) (slice_index_or samples (length samples - 1) (pos 0)) groups (size / 64)
+  pub bytes_are : area ≡ frame_bytes version (slice_index_or samples 0 (pos 0))
+      (slice_index_or samples (length samples - 1) (pos 0)) groups (size / 64)
   pub frames_are : frames ≡ frame_count (length groups)
 
 -- the data area of so many bytes that is written for these samples, with the frame count for it
@@ -81,7 +83,8 @@ IsWrittenArea Steim2 before samples size frames area = AreFrames Two before samp
 
 -- The bytes are those of the written record of these samples, the first difference being taken from the
 -- sample before them, if there is one.
-pub record IsWritten (bytes : List ℕ) (key : Key) (start : ℤ) (sequence : ℕ) (before : Option ℤ) (samples : List ℤ) (kind : Kind) (size : ℕ) : Type 0 where
+pub record IsWritten (bytes : List ℕ) (key : Key) (start : ℤ) (sequence : ℕ) (before : Option ℤ) (samples : List ℤ)
+    (kind : Kind) (size : ℕ) : Type 0 where
   pub time : BTime
   pub micros : ℕ
   pub frames : ℕ
@@ -89,18 +92,25 @@ pub record IsWritten (bytes : List ℕ) (key : Key) (start : ℤ) (sequence : �
   pub power : IsRecordLength size
   pub split : IsSplit start time micros
   pub is_area : IsWrittenArea kind before samples (size - 64) frames area
-  pub bytes_are : bytes ≡ header_bytes (header_for key time micros sequence (length samples) kind power.exponent frames) ++ area
+  pub bytes_are : bytes ≡ header_bytes (header_for key time micros sequence
+      (length samples) kind power.exponent frames) ++ area
 
 -- After the old bytes the new ones have the written record of these samples. Whatever follows it, it is read
 -- as their row, and its reverse constant agrees.
-pub record AppendsRecord (old new : List ℕ) (key : Key) (start : ℤ) (sequence : ℕ) (before : Option ℤ) (samples : List ℤ) (kind : Kind) (size : ℕ) : Type 0 where
+pub record AppendsRecord (old new : List ℕ) (key : Key) (start : ℤ) (sequence : ℕ) (before : Option ℤ)
+    (samples : List ℤ) (kind : Kind) (size : ℕ) : Type 0 where
   pub bytes : List ℕ
   pub joined : new ≡ old ++ bytes
   pub size_is : length bytes ≡ size
   pub written : IsWritten bytes key start sequence before samples kind size
-  pub row : (rest : List ℕ) → IsRowOf (bytes ++ rest) (record { key = key; start = start; kind = kind; samples = samples })
+  pub row : (rest : List ℕ) → IsRowOf (bytes ++ rest)
+      (record { key = key; start = start; kind = kind; samples = samples })
   pub found : (rest : List ℕ) → IsInTime key.rate start (length samples)
-      → IsRecordOf (bytes ++ rest) (record { length = size; row = Some (record { key = key; start = start; kind = kind; samples = samples }); reverse_agrees = true })
+      → IsRecordOf (bytes ++ rest) (record {
+        length = size;
+        row = Some (record { key = key; start = start; kind = kind; samples = samples });
+        reverse_agrees = true;
+      })
 
 -- the fields of a key are as long and as wide as those of a header; neither part of the rate is 0
 pub record IsKey (key : Key) : Type 0 where
@@ -122,7 +132,8 @@ pub record IsWritableKey (key : Key) : Type 0 where
 -- each run that fits has a written record, after any bytes
 abbrev pub RunHasRecord : Type 0
 RunHasRecord =
-    (old : List ℕ) (key : Key) (start : ℤ) (sequence : ℕ) (before : Option ℤ) (samples : List ℤ) (kind : Kind) (size : ℕ)
+    (old : List ℕ) (key : Key) (start : ℤ) (sequence : ℕ) (before : Option ℤ) (samples : List ℤ) (kind : Kind)
+    (size : ℕ)
     → IsRecordLength size → IsWritableKey key → IsInstant start
     → 1 ≤ length samples → All (FitsSigned w32) samples → Fits kind size (points before samples)
     → (bytes : List ℕ) × AppendsRecord old (old ++ bytes) key start sequence before samples kind size

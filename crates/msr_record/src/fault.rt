@@ -1,3 +1,4 @@
+//! Why a record is refused.
 use msr_header::HeaderFault;
 use thiserror::Error;
 

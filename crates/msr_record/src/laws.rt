@@ -16,15 +16,19 @@ ghost use Rattle.msr_record.specs.declared.fault.FaultKind.{FaultKind};
 /// Bytes begin with a record of one row, or are refused with one fault, and never both.
 pub fn one_answer()
     ensures row { (bytes : List ℕ) (row other : Row) → IsRowOf bytes row → IsRowOf bytes other → row ≡ other }
-    ensures whole { (bytes : List ℕ) (found other : Record) → IsRecordOf bytes found → IsRecordOf bytes other → found ≡ other }
-    ensures fault { (bytes : List ℕ) (fault other : FaultKind) → IsRefused bytes fault → IsRefused bytes other → fault ≡ other }
-    ensures not_both { (bytes : List ℕ) (found : Record) (fault : FaultKind) → IsRecordOf bytes found → IsRefused bytes fault → ⊥ }
+    ensures whole { (bytes : List ℕ) (found other : Record) → IsRecordOf bytes found → IsRecordOf bytes other
+        → found ≡ other }
+    ensures fault { (bytes : List ℕ) (fault other : FaultKind) → IsRefused bytes fault → IsRefused bytes other
+        → fault ≡ other }
+    ensures not_both { (bytes : List ℕ) (found : Record) (fault : FaultKind) → IsRecordOf bytes found
+        → IsRefused bytes fault → ⊥ }
 {}
 
 /// Bytes say one thing of the reverse constant of the record that they begin with, be it in time or not: what the record
 /// says, where it is read. They say nothing where another fault than that of its time refuses it.
 pub fn one_reverse()
-    ensures one { (bytes : List ℕ) (agrees other : Bool) → HasReverse bytes agrees → HasReverse bytes other → agrees ≡ other }
+    ensures one { (bytes : List ℕ) (agrees other : Bool) → HasReverse bytes agrees → HasReverse bytes other
+        → agrees ≡ other }
     ensures whole { (bytes : List ℕ) (found : Record) → IsRecordOf bytes found → HasReverse bytes found.reverse_agrees }
     ensures not_both { (bytes : List ℕ) (agrees : Bool) → HasReverse bytes agrees → IsRefusedBeforeTime bytes → ⊥ }
 {}
@@ -37,22 +41,26 @@ pub fn own_bytes_decide()
     ensures row { (bytes others : List ℕ) (row : Row) → (is_row : IsRowOf bytes row)
         → take (2 ^ is_row.header.exponent) others ≡ take (2 ^ is_row.header.exponent) bytes → IsRowOf others row }
     ensures refused { (bytes others : List ℕ) (header : Header) (fault : FaultKind) → header_of bytes ≡ Ok header
-        → take (2 ^ header.exponent) others ≡ take (2 ^ header.exponent) bytes → IsRefused bytes fault → IsRefused others fault }
+        → take (2 ^ header.exponent) others ≡ take (2 ^ header.exponent) bytes → IsRefused bytes fault
+        → IsRefused others fault }
 {}
 
 /// A row that was read meets what `encode_record` asks of the key and of the number of samples, and
 /// one whose time is in range what it asks of the start.
 pub fn rows_are_writable()
     ensures row { (bytes : List ℕ) (row : Row) → IsRowOf bytes row
-        → IsTrue (is_quality row.key.quality) × (is_pending row.key.activity row.key.correction ≡ false) × (1 ≤ length row.samples) }
+        → IsTrue (is_quality row.key.quality) × (is_pending row.key.activity row.key.correction ≡ false)
+        × (1 ≤ length row.samples) }
     ensures start { (row : Row) → RowIsInTime row → IsInstant row.start }
 {}
 
 /// What is written is determined: one text of bytes for a key, a start, a sequence number, a run with
 /// the sample before it, a kind and a length.
 pub fn one_written()
-    ensures { (bytes others : List ℕ) (key : Key) (start : ℤ) (sequence : ℕ) (before : Option ℤ) (samples : List ℤ) (kind : Kind) (size : ℕ)
-        → IsWritten bytes key start sequence before samples kind size → IsWritten others key start sequence before samples kind size → bytes ≡ others }
+    ensures { (bytes others : List ℕ) (key : Key) (start : ℤ) (sequence : ℕ) (before : Option ℤ) (samples : List ℤ)
+        (kind : Kind) (size : ℕ)
+        → IsWritten bytes key start sequence before samples kind size
+        → IsWritten others key start sequence before samples kind size → bytes ≡ others }
 {}
 
 /// Each run that fits a record of a kind has one written record of it.

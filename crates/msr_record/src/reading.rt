@@ -258,7 +258,8 @@ pub fn decode_record(alloc: Global, rest: &[u8]) -> Result<Record, FaultKind>
 
     // The first bytes decide.
     ensures found_in_first { IfOk result (IsRecordOf (first_bytes rest.now)) }
-    ensures refused_in_first { IfErr result (λ fault. fault ≢ FaultKind.Memory → IsRefused (first_bytes rest.now) fault) }
+    ensures refused_in_first { IfErr result (λ fault. fault ≢ FaultKind.Memory
+        → IsRefused (first_bytes rest.now) fault) }
 {
     decode(alloc, rest)
 }

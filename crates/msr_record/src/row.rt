@@ -1,3 +1,4 @@
+//! What a record says: its key, where it begins, and its samples.
 use msr_plain::Samples;
 use msr_time::Rate;
 use msr_words::Kind;

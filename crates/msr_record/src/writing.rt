@@ -37,31 +37,47 @@ fn sequence_digits(sequence: u32) -> [u8; 6]
     ]
 }
 
-/// The header of a written record.
-fn header_for(
-    key: &Key,
+/// A run of samples as a record is to carry it.
+#[derive(Drop)]
+struct WrittenRun<'a> {
+    key: &'a Key,
+    /// The instant of the first sample, in microseconds.
+    start: i64,
+    sequence: u32,
+    /// The sample before the run.
+    before: Option<i32>,
+    samples: &'a [i32],
+    kind: Kind,
+}
+
+/// What a header tells of the record's time and data, beside what is the run's own.
+#[derive(Drop)]
+struct DataTold {
     time: BTime,
     micros: u8,
-    sequence: u32,
     count: u16,
-    kind: Kind,
     exponent: u8,
     frames: u8,
-) -> Header
-    requires { micros < 100 }
-    ensures header { result ≡ header_for key.now time micros sequence count kind exponent frames }
-    ensures rate { (key.now.rate.factor ≢ pos 0) × (key.now.rate.multiplier ≢ pos 0) }
+}
+
+/// The header of a written record.
+fn header_for(run: &WrittenRun<'_>, told: DataTold) -> Header
+    requires { told.micros < 100 }
+    ensures header { result ≡ header_for run.now.key.now told.time told.micros run.now.sequence told.count run.now.kind
+        told.exponent told.frames }
+    ensures rate { (run.now.key.now.rate.factor ≢ pos 0) × (run.now.key.now.rate.multiplier ≢ pos 0) }
 {
+    let key = run.key;
     Header {
         order: Order::Big,
-        sequence: sequence_digits(sequence),
+        sequence: sequence_digits(run.sequence),
         quality: key.quality,
         station: key.station,
         location: key.location,
         channel: key.channel,
         network: key.network,
-        time,
-        samples: count,
+        time: told.time,
+        samples: told.count,
         factor: key.rate.factor(),
         multiplier: key.rate.multiplier(),
         activity: key.activity,
@@ -69,13 +85,13 @@ fn header_for(
         data_quality: key.data_quality,
         correction: key.correction,
         data_at: 64,
-        encoding: kind.code(),
+        encoding: run.kind.code(),
         data_order: Order::Big,
-        exponent,
+        exponent: told.exponent,
         timing: Some(Timing {
             quality: key.timing,
-            micros: micros as i8,
-            frames,
+            micros: told.micros as i8,
+            frames: told.frames,
         }),
         chain_end: 64,
     }
@@ -92,29 +108,42 @@ fn put_header(bytes: &mut [u8], header: &[u8; 64])
 /// Fills the bytes, as many as the length says, with the record of the run.
 fn fill_record(
     alloc: Global,
-    key: &Key,
-    start: i64,
-    sequence: u32,
-    before: Option<i32>,
-    run: &[i32],
-    kind: Kind,
+    run: &WrittenRun<'_>,
     record_length: Length,
     bytes: &mut [u8],
 ) -> Result<(), AllocError>
-    requires quality { IsTrue (is_quality key.now.quality) }
-    requires normal { is_pending key.now.activity key.now.correction ≡ false }
-    requires start { IsInstant start }
-    requires sequence { (1 ≤ sequence) × (sequence ≤ 999999) }
-    requires some { 1 ≤ length run.now }
-    requires fits { Fits kind (bytes_of record_length) (points before run.now) }
+    requires quality { IsTrue (is_quality run.now.key.now.quality) }
+    requires normal { is_pending run.now.key.now.activity run.now.key.now.correction ≡ false }
+    requires start { IsInstant run.now.start }
+    requires sequence { (1 ≤ run.now.sequence) × (run.now.sequence ≤ 999999) }
+    requires some { 1 ≤ length run.now.samples.now }
+    requires fits { Fits run.now.kind (bytes_of record_length) (points run.now.before run.now.samples.now) }
     requires size { length bytes.old ≡ bytes_of record_length }
-    ensures { OnOk result (AppendsRecord [] bytes.new key.now start sequence before run.now kind (bytes_of record_length)) }
+    ensures { OnOk result (AppendsRecord [] bytes.new run.now.key.now run.now.start run.now.sequence run.now.before
+        run.now.samples.now run.now.kind (bytes_of record_length)) }
 {
-    let (time, micros) = split(start).unwrap();
-    let frames = fill_area(alloc, before, run, kind, record_length, &mut bytes[64..])?;
-    let count = run.len() as u16;
+    let (time, micros) = split(run.start).unwrap();
+    let area = &mut bytes[64..];
+    let frames = fill_area(
+        alloc,
+        run.before,
+        run.samples,
+        run.kind,
+        record_length,
+        area,
+    )?;
+    let count = run.samples.len() as u16;
     let exponent = record_length.exponent();
-    let header = header_for(key, time, micros, sequence, count, kind, exponent, frames);
+    let header = header_for(
+        run,
+        DataTold {
+            time,
+            micros,
+            count,
+            exponent,
+            frames,
+        },
+    );
     put_header(bytes, &write_header(&header));
     Ok(())
 }
@@ -142,22 +171,22 @@ pub fn encode_record(
     requires sequence { (1 ≤ sequence) × (sequence ≤ 999999) }
     requires some { 1 ≤ length run.now }
     requires fits { Fits kind (bytes_of record_length) (points before run.now) }
-    ensures appended { OnOk result (AppendsRecord out.old.items out.new.items key.now start sequence before run.now kind (bytes_of record_length)) }
+    ensures appended { OnOk result
+        (AppendsRecord out.old.items out.new.items key.now start sequence before run.now kind
+        (bytes_of record_length)) }
     ensures unchanged { OnErr result (out.new.items ≡ out.old.items) }
 {
     let end = out.len();
     out.resize(end + record_length.bytes() as usize, 0)?;
-    let filled = fill_record(
-        alloc,
+    let written = WrittenRun {
         key,
         start,
         sequence,
         before,
-        run,
+        samples: run,
         kind,
-        record_length,
-        &mut out[end..],
-    );
+    };
+    let filled = fill_record(alloc, &written, record_length, &mut out[end..]);
     if filled.is_err() {
         out.truncate(end);
     }

@@ -50,7 +50,8 @@ fn fill_steim1_frames(
     requires range { All (FitsSigned w32) run.now }
     requires fits { CanDivide Version.One (words_of (bytes_of record_length)) (differences before run.now) }
     requires size { length area.old ≡ bytes_of record_length - 64 }
-    ensures written { IfOk result (λ frames. AreFrames Version.One before run.now (bytes_of record_length - 64) frames area.new) }
+    ensures written { IfOk result (λ frames. AreFrames Version.One before run.now
+        (bytes_of record_length - 64) frames area.new) }
     ensures carried { OnOk result (CarriesSteim Version.One Order.Big area.new run.now) }
     ensures reverse { OnOk result (FramesAgree Order.Big area.new run.now) }
 {
@@ -92,7 +93,8 @@ pub(crate) fn fill_area(
     requires some { 1 ≤ length run.now }
     requires fits { Fits kind (bytes_of record_length) (points before run.now) }
     requires size { length area.old ≡ bytes_of record_length - 64 }
-    ensures written { IfOk result (λ frames. IsWrittenArea kind before run.now (bytes_of record_length - 64) frames area.new) }
+    ensures written { IfOk result (λ frames. IsWrittenArea kind before run.now
+        (bytes_of record_length - 64) frames area.new) }
     ensures carried { OnOk result (Carries kind Order.Big area.new run.now) }
     ensures reverse { OnOk result (ReverseAgrees kind Order.Big area.new run.now) }
 {

@@ -26,11 +26,23 @@ count_2100 : day_count (pos 2100) 1 1 ≡ 4_419_435
 count_2100 = day_count-early (pos 2100) 12099 1 1 refl (omega arith) (omega arith) (omega arith)
 
 next_year : (year : ℕ) → day_count (pos (year + 1)) 1 1 ≡ day_count (pos year) 1 1 + days_in_year (pos year)
-next_year year = day_count-next_year (pos year) (pos (year + 1)) (omega (arith, signed_arith)) (omega (arith, signed_arith))
+next_year year = day_count-next_year (pos year) (pos (year + 1)) (omega (arith, signed_arith))
+    (omega (arith, signed_arith))
 
 next_day : (n year day : ℕ) → IsDay n year day → (y : ℕ) × ((d : ℕ) × IsDay (suc n) y d)
 next_day n year day h = elim (cases_lt day (days_in_year (pos year))) [
-  | inl lt ↦ (year, (day + 1, record { low = h.low; first = omega arith; last = omega arith; count = omega (arith, h.count) }))
+  | inl lt ↦ (
+    year,
+    (
+      day + 1,
+      record {
+        low = h.low;
+        first = omega arith;
+        last = omega arith;
+        count = omega (arith, h.count);
+      },
+    ),
+  )
   | inr le ↦ (
     year + 1,
     (
@@ -46,7 +58,18 @@ next_day n year day h = elim (cases_lt day (days_in_year (pos year))) [
 ]
 
 has_day : (n : ℕ) → (y : ℕ) × ((d : ℕ) × IsDay n y d)
-has_day zero = (1900, (1, record { low = omega arith; first = omega arith; last = omega (arith, days_in_year_bounds (pos 1900)); count = omega (arith, count_1900) }))
+has_day zero = (
+  1900,
+  (
+    1,
+    record {
+      low = omega arith;
+      first = omega arith;
+      last = omega (arith, days_in_year_bounds (pos 1900));
+      count = omega (arith, count_1900);
+    },
+  ),
+)
 has_day (suc n) = let day = has_day n in next_day n day.0 day.1.0 day.1.1
 
 supported_year : (n year day : ℕ) → IsDay n year day → n < 73_414 → year ≤ 2100
@@ -68,11 +91,20 @@ time_at year day micros = record {
   fract = micros % 1_000_000 / 100;
 }
 
-time_parts : (year day micros : ℕ) → micros < 86_400_000_000 → 1900 ≤ year → year ≤ 2100 → 1 ≤ day → day ≤ days_in_year (pos year)
-    → IsTime (time_at year day micros) × ((time_at year day micros).second < 60) × (micros_of_day (time_at year day micros) + micros % 100 ≡ micros)
+time_parts : (year day micros : ℕ) → micros < 86_400_000_000 → 1900 ≤ year → year ≤ 2100 → 1 ≤ day
+    → day ≤ days_in_year (pos year)
+    → IsTime (time_at year day micros) × ((time_at year day micros).second < 60)
+    × (micros_of_day (time_at year day micros) + micros % 100 ≡ micros)
 unfolding time_at
 time_parts year day micros few low high first last = (
-  record { year = (low, high); day = (first, last); hour = omega arith; minute = omega arith; second = omega arith; fract = omega arith },
+  record {
+    year = (low, high);
+    day = (first, last);
+    hour = omega arith;
+    minute = omega arith;
+    second = omega arith;
+    fract = omega arith;
+  },
   omega arith,
   omega arith,
 )
@@ -92,7 +124,8 @@ has_split t h =
     let is_day = found.1.1 in
     let high = supported_year n year day is_day within.0 in
     let parts = time_parts year day rest few is_day.low high is_day.first is_day.last in
-    let number : day_number year day ≡ whole = omega (arith, signed_arith, day_number_parts year day is_day.first, is_day.count, within.1) in (
+    let number : day_number year day ≡ whole = omega
+    (arith, signed_arith, day_number_parts year day is_day.first, is_day.count, within.1) in (
       time_at year day rest,
       (
         rest % 100,

@@ -4,7 +4,7 @@ use Rattle.std.proofs.lemmas.List.{append-nil, take-append-drop, take_more}
 use Rattle.std.proofs.lemmas.List.Elements.{All-drop}
 use Rattle.msr_devices.specs.Device.{Device, Takes}
 use Rattle.msr_devices.specs.WriteBuffer.{Passes}
-use Rattle.msr_devices.proofs.Chaining.{takes-append, takes-none}
+use Rattle.msr_devices.proofs.Chaining.{takes_append, takes_none}
 use Rattle.msr_report.specs.Proper.{IsProper, IsProperLine, records_of}
 use Rattle.msr_report.specs.Text.{IsSegmentText, AreSegmentTexts, first_lines, end_line, IsReportText}
 use Rattle.msr_report.specs.Writing.{TakesFront}
@@ -13,7 +13,8 @@ use Rattle.msr_report.specs.declared.report.Report.{Report}
 use Rattle.msr_report.proofs.OneText.{has_segments_text, has_report_text}
 
 -- the first i lines and line i
-one_more : (lines : List SegmentLine) (i : ℕ) (line : SegmentLine) → i < length lines → line ≡ get_or lines i line → take i lines ++ line ∷ [] ≡ take (i + 1) lines
+one_more : (lines : List SegmentLine) (i : ℕ) (line : SegmentLine) → i < length lines → line ≡ get_or lines i line
+    → take i lines ++ line ∷ [] ≡ take (i + 1) lines
 one_more lines i line within item =
     ap (λ (x : SegmentLine). take i lines ++ x ∷ []) item ∙ sym (take_more lines i line within)
 
@@ -25,41 +26,60 @@ pub record IsWritten (old new : Device) (report : Report) (lines : List SegmentL
   pub takes : Takes old new taken
   pub whole : first_lines report ++ segments ≡ taken ++ waits
 
-segments-append : (lines others : List SegmentLine) (text more : List ℕ) → AreSegmentTexts lines text → AreSegmentTexts others more → AreSegmentTexts (lines ++ others) (text ++ more)
-segments-append [] others text more h k = let P : List ℕ → Type 0 = λ t. AreSegmentTexts others (t ++ more) in subst P (sym h) k
-segments-append (line ∷ lines) others text more h k =
-    (h.0, (h.1.0 ++ more, (h.1.1.0, segments-append lines others h.1.0 more h.1.1.1 k, ap (λ (t : List ℕ). t ++ more) h.1.1.2 ∙ append_assoc h.0 h.1.0 more)))
+segments_append : (lines others : List SegmentLine) (text more : List ℕ) → AreSegmentTexts lines text
+    → AreSegmentTexts others more → AreSegmentTexts (lines ++ others) (text ++ more)
+segments_append [] others text more h k = let P : List ℕ → Type 0 = λ t. AreSegmentTexts others (t ++ more) in
+    subst P (sym h) k
+segments_append (line ∷ lines) others text more h k = (
+  h.0,
+  (
+    h.1.0 ++ more,
+    (
+      h.1.1.0,
+      segments_append lines others h.1.0 more h.1.1.1 k,
+      ap
+          (λ (t : List ℕ). t ++ more) h.1.1.2 ∙ append_assoc h.0 h.1.0 more,
+    ),
+  ),
+)
 
 pub one_segment : (line : SegmentLine) (text : List ℕ) → IsSegmentText line text → AreSegmentTexts (line ∷ []) text
 one_segment line text h = (text, ([], (h, refl, sym (append-nil text))))
 
 -- a prefix was taken of what waited with more text
-passed : (front text taken waits more pushed took left : List ℕ) → front ≡ taken ++ waits → pushed ≡ waits ++ text → pushed ++ [] ≡ took ++ left → front ++ text ≡ (taken ++ took) ++ left
+passed : (front text taken waits more pushed took left : List ℕ) → front ≡ taken ++ waits → pushed ≡ waits ++ text
+    → pushed ++ [] ≡ took ++ left → front ++ text ≡ (taken ++ took) ++ left
 passed front text taken waits more pushed took left whole is passes =
     ap (λ (t : List ℕ). t ++ text) whole
     ∙ append_assoc taken waits text
     ∙ ap (λ (t : List ℕ). taken ++ t) (sym is ∙ sym (append-nil pushed) ∙ passes)
     ∙ sym (append_assoc taken took left)
 
-pub written_more : (old new next : Device) (report : Report) (lines : List SegmentLine) (line : SegmentLine) (waits text pushed left : List ℕ)
-    → IsWritten old new report lines waits → IsSegmentText line text → pushed ≡ waits ++ text → Passes new next pushed [] left → IsWritten old next report (lines ++ line ∷ []) left
+pub written_more : (old new next : Device) (report : Report) (lines : List SegmentLine) (line : SegmentLine)
+    (waits text pushed left : List ℕ)
+    → IsWritten old new report lines waits → IsSegmentText line text → pushed ≡ waits ++ text
+    → Passes new next pushed [] left → IsWritten old next report (lines ++ line ∷ []) left
 written_more old new next report lines line waits text pushed left w is_text is p = record {
   segments = w.segments ++ text;
-  are = segments-append lines (line ∷ []) w.segments text w.are (one_segment line text is_text);
+  are = segments_append lines (line ∷ []) w.segments text w.are (one_segment line text is_text);
   taken = w.taken ++ p.taken;
-  takes = takes-append old new next w.taken p.taken w.takes p.takes;
-  whole = sym (append_assoc (first_lines report) w.segments text) ∙ passed (first_lines report ++ w.segments) text w.taken waits [] pushed p.taken left w.whole is p.whole;
+  takes = takes_append old new next w.taken p.taken w.takes p.takes;
+  whole = sym (append_assoc (first_lines report) w.segments text)
+      ∙ passed (first_lines report ++ w.segments) text w.taken waits [] pushed p.taken left w.whole is p.whole;
 }
 
 -- one more of the report's segments
-pub written_next : (old new next : Device) (report : Report) (i : ℕ) (line : SegmentLine) (waits text pushed left : List ℕ)
+pub written_next : (old new next : Device) (report : Report) (i : ℕ) (line : SegmentLine)
+    (waits text pushed left : List ℕ)
     → i < length report.segments.items → line ≡ get_or report.segments.items i line
-    → IsWritten old new report (take i report.segments.items) waits → IsSegmentText line text → pushed ≡ waits ++ text → Passes new next pushed [] left
+    → IsWritten old new report (take i report.segments.items) waits → IsSegmentText line text
+    → pushed ≡ waits ++ text → Passes new next pushed [] left
     → IsWritten old next report (take (i + 1) report.segments.items) left
 written_next old new next report i line waits text pushed left within item w is_text is p =
     let items = report.segments.items in
     let P : List SegmentLine → Type 0 = λ l. IsWritten old next report l left in
-    subst P (one_more items i line within item) (written_more old new next report (take i items) line waits text pushed left w is_text is p)
+    subst P (one_more items i line within item) (written_more old new next report
+    (take i items) line waits text pushed left w is_text is p)
 
 -- Where some segments are written, a prefix of the report's text is taken.
 pub written_front : (old new : Device) (report : Report) (lines others : List SegmentLine) (waits : List ℕ)
@@ -70,7 +90,12 @@ written_front old new report lines others waits all more are w =
     let P : List SegmentLine → Type 0 = λ l. AreSegmentTexts l (w.segments ++ more) in (
       first_lines report ++ ((w.segments ++ more) ++ end),
       (
-        record { segments = w.segments ++ more; are = subst P all (segments-append lines others w.segments more w.are are); is = refl },
+        record {
+          segments = w.segments ++ more;
+          are =
+              subst P all (segments_append lines others w.segments more w.are are);
+          is = refl;
+        },
         record {
           taken = w.taken;
           rest = waits ++ (more ++ end);
@@ -86,17 +111,23 @@ written_front old new report lines others waits all more are w =
 
 -- the same of the first i segments of a proper report
 pub written_front_of : (old new : Device) (report : Report) (i : ℕ) (waits : List ℕ)
-    → IsProper report → IsWritten old new report (take i report.segments.items) waits → (text : List ℕ) × (IsReportText report text × TakesFront old new text)
+    → IsProper report → IsWritten old new report (take i report.segments.items) waits
+    → (text : List ℕ) × (IsReportText report text × TakesFront old new text)
 written_front_of old new report i waits proper w =
     let others = drop i report.segments.items in
     let more = has_segments_text others (All-drop IsProperLine i report.segments.items proper.lines) in
-    written_front old new report (take i report.segments.items) others waits (take-append-drop i report.segments.items) more.0 more.1 w
+    written_front old new report (take i report.segments.items) others waits
+    (take-append-drop i report.segments.items) more.0 more.1 w
 
 -- Where all segments and the last line are put down, a prefix of the report's text is taken, and the rest waits.
-pub written_end : (old new next : Device) (report : Report) (lines : List SegmentLine) (waits pushed left : List ℕ) (segments records : ℕ)
-    → lines ≡ report.segments.items → segments ≡ length report.segments.items → records ≡ records_of report.segments.items
-    → IsWritten old new report lines waits → pushed ≡ waits ++ end_line segments records → Passes new next pushed [] left
-    → (text : List ℕ) × (IsReportText report text × ((taken : List ℕ) × (Takes old next taken × (text ≡ taken ++ left))))
+pub written_end : (old new next : Device) (report : Report) (lines : List SegmentLine) (waits pushed left : List ℕ)
+    (segments records : ℕ)
+    → lines ≡ report.segments.items → segments ≡ length report.segments.items
+    → records ≡ records_of report.segments.items
+    → IsWritten old new report lines waits → pushed ≡ waits ++ end_line segments records
+    → Passes new next pushed [] left
+    → (text : List ℕ) × (IsReportText report text
+    × ((taken : List ℕ) × (Takes old next taken × (text ≡ taken ++ left))))
 written_end old new next report lines waits pushed left segments records all count sum w is p =
     let end = end_line segments records in
     let P : List SegmentLine → Type 0 = λ l. AreSegmentTexts l w.segments in (
@@ -105,13 +136,15 @@ written_end old new next report lines waits pushed left segments records all cou
         record {
           segments = w.segments;
           are = subst P all w.are;
-          is = ap (λ (n : ℕ). first_lines report ++ (w.segments ++ end_line n records)) count ∙ ap (λ (n : ℕ). first_lines report ++ (w.segments ++ end_line (length report.segments.items) n)) sum;
+          is = ap (λ (n : ℕ). first_lines report ++ (w.segments ++ end_line n records)) count
+              ∙ ap (λ (n : ℕ). first_lines report ++ (w.segments ++ end_line (length report.segments.items) n)) sum;
         },
         (
           w.taken ++ p.taken,
           (
-            takes-append old new next w.taken p.taken w.takes p.takes,
-            sym (append_assoc (first_lines report) w.segments end) ∙ passed (first_lines report ++ w.segments) end w.taken waits [] pushed p.taken left w.whole is p.whole,
+            takes_append old new next w.taken p.taken w.takes p.takes,
+            sym (append_assoc (first_lines report) w.segments end)
+                ∙ passed (first_lines report ++ w.segments) end w.taken waits [] pushed p.taken left w.whole is p.whole,
           ),
         ),
       ),
@@ -120,7 +153,14 @@ written_end old new next report lines waits pushed left segments records all cou
 pub end_front : (old new : Device) (report : Report) (left : List ℕ)
     → (text : List ℕ) × (IsReportText report text × ((taken : List ℕ) × (Takes old new taken × (text ≡ taken ++ left))))
     → (text : List ℕ) × (IsReportText report text × TakesFront old new text)
-end_front old new report left h = (h.0, (h.1.0, record { taken = h.1.1.0; rest = left; takes = h.1.1.1.0; whole = h.1.1.1.1 }))
+end_front old new report left h = (
+  h.0,
+  (
+    h.1.0,
+    record
+        { taken = h.1.1.0; rest = left; takes = h.1.1.1.0; whole = h.1.1.1.1 },
+  ),
+)
 
 pub end_whole : (old new : Device) (report : Report) (left : List ℕ) → left ≡ []
     → (text : List ℕ) × (IsReportText report text × ((taken : List ℕ) × (Takes old new taken × (text ≡ taken ++ left))))
@@ -131,21 +171,23 @@ end_whole old new report left none h =
     (h.0, (h.1.0, subst P (sym same) h.1.1.1.0))
 
 -- a sink that took nothing took a prefix
-pub nothing_taken : (device : Device) (report : Report) → IsProper report → (text : List ℕ) × (IsReportText report text × TakesFront device device text)
+pub nothing_taken : (device : Device) (report : Report) → IsProper report
+    → (text : List ℕ) × (IsReportText report text × TakesFront device device text)
 nothing_taken device report proper =
     let whole = has_report_text report proper in
-    (whole.0, (whole.1, record { taken = []; rest = whole.0; takes = takes-none device; whole = refl }))
+    (whole.0, (whole.1, record { taken = []; rest = whole.0; takes = takes_none device; whole = refl }))
 
 -- records of more segments
-records-append : (lines others : List SegmentLine) → records_of (lines ++ others) ≡ records_of lines + records_of others
-records-append [] others = omega arith
-records-append (line ∷ lines) others = omega (arith, records-append lines others)
+records_append : (lines others : List SegmentLine) → records_of (lines ++ others) ≡ records_of lines + records_of others
+records_append [] others = omega arith
+records_append (line ∷ lines) others = omega (arith, records_append lines others)
 
-pub records-next : (lines : List SegmentLine) (i : ℕ) (line : SegmentLine) → i < length lines → line ≡ get_or lines i line → records_of (take (i + 1) lines) ≡ records_of (take i lines) + line.records
-records-next lines i line within item =
-    omega (arith, ap records_of (one_more lines i line within item), records-append (take i lines) (line ∷ []))
+pub records_next : (lines : List SegmentLine) (i : ℕ) (line : SegmentLine) → i < length lines
+    → line ≡ get_or lines i line → records_of (take (i + 1) lines) ≡ records_of (take i lines) + line.records
+records_next lines i line within item =
+    omega (arith, ap records_of (one_more lines i line within item), records_append (take i lines) (line ∷ []))
 
 -- the records of the first segments are no more than those of all
-pub records-take : (i : ℕ) (lines : List SegmentLine) → records_of (take i lines) ≤ records_of lines
-records-take i lines =
-    omega (arith, records-append (take i lines) (drop i lines), ap records_of (take-append-drop i lines))
+pub records_take : (i : ℕ) (lines : List SegmentLine) → records_of (take i lines) ≤ records_of lines
+records_take i lines =
+    omega (arith, records_append (take i lines) (drop i lines), ap records_of (take-append-drop i lines))

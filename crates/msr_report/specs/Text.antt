@@ -28,7 +28,8 @@ field_text bytes = flat_map byte_text bytes
 -- network, station, location and channel, joined by dots
 abbrev pub name_text : Key → List ℕ
 name_text key =
-    field_text key.network ++ (46 ∷ (field_text key.station ++ (46 ∷ (field_text key.location ++ (46 ∷ field_text key.channel)))))
+    field_text key.network ++ (46 ∷ (field_text key.station
+    ++ (46 ∷ (field_text key.location ++ (46 ∷ field_text key.channel)))))
 
 -- the factor and the multiplier of a rate
 abbrev pub rate_text : SampleRate → List ℕ
@@ -104,12 +105,14 @@ pub record IsSegmentText (line : SegmentLine) (text : List ℕ) : Type 0 where
 abbrev pub AreSegmentTexts : List SegmentLine → List ℕ → Type 0
 AreSegmentTexts [] text = text ≡ []
 AreSegmentTexts (line ∷ lines) text =
-    (first : List ℕ) × ((more : List ℕ) × (IsSegmentText line first × AreSegmentTexts lines more × (text ≡ first ++ more)))
+    (first : List ℕ) × ((more : List ℕ) × (IsSegmentText line first × AreSegmentTexts lines more
+    × (text ≡ first ++ more)))
 
 -- the line of the counts, in a list and in a report
 abbrev pub counts_line : Counts → List ℕ
 counts_line counts =
-    codes "read " ++ (decimal counts.read ++ (codes " empty " ++ (decimal counts.empty ++ (codes " mismatched " ++ (decimal counts.mismatched ++ 10 ∷ [])))))
+    codes "read " ++ (decimal counts.read ++ (codes " empty "
+    ++ (decimal counts.empty ++ (codes " mismatched " ++ (decimal counts.mismatched ++ 10 ∷ [])))))
 
 -- the lines before the segments
 abbrev pub first_lines : Report → List ℕ
@@ -126,4 +129,5 @@ end_line segments records =
 pub record IsReportText (report : Report) (text : List ℕ) : Type 0 where
   pub segments : List ℕ
   pub are : AreSegmentTexts report.segments.items segments
-  pub is : text ≡ first_lines report ++ (segments ++ end_line (length report.segments.items) (records_of report.segments.items))
+  pub is : text ≡ first_lines report ++ (segments
+      ++ end_line (length report.segments.items) (records_of report.segments.items))

@@ -1,4 +1,4 @@
-// The texts of a segment's fields.
+//! The texts of a segment's fields.
 ghost use Rattle.std.specs.Prelude.{◌≡◌, ◌++◌, ◌≤◌, ◌<◌, ◌∷◌, IfOk, OnOk, string_bytes};
 ghost use Rattle.msr_time.specs.Instant.{IsInstant};
 ghost use Rattle.msr_report.specs.Text.{hex_text, byte_text, field_text, name_text, rate_text, flags_text, padded_decimal, date_text, clock_text, split_text, IsTimeText, settings_text};
@@ -7,7 +7,7 @@ use msr_record::Key;
 use msr_time::{BTime, Rate, split};
 use std::alloc::{AllocError, Global};
 
-// Two lower-case hexadecimal digits.
+/// Two lower-case hexadecimal digits.
 #[tactic(auto, using(std::proofs::lemmas::Fmt::hex_byte))]
 fn hex_string(alloc: Global, n: u8) -> Result<String, AllocError>
     ensures { IfOk result (λ text. string_bytes text ≡ hex_text n) }
@@ -15,7 +15,7 @@ fn hex_string(alloc: Global, n: u8) -> Result<String, AllocError>
     format!(in alloc; "{n:02x}")
 }
 
-// A byte of a name.
+/// A byte of a name.
 fn push_byte(alloc: Global, text: &mut String, byte: u8) -> Result<(), AllocError>
     ensures { OnOk result (string_bytes text.new ≡ string_bytes text.old ++ byte_text byte) }
 {
@@ -29,7 +29,7 @@ fn push_byte(alloc: Global, text: &mut String, byte: u8) -> Result<(), AllocErro
     }
 }
 
-// A field of a name in its full width.
+/// A field of a name in its full width.
 fn field_string(alloc: Global, field: &[u8]) -> Result<String, AllocError>
     ensures { IfOk result (λ text. string_bytes text ≡ field_text field.now) }
 {
@@ -113,7 +113,7 @@ fn clock_string(alloc: Global, time: BTime) -> Result<String, AllocError>
     format!(in alloc; "{hour}:{minute}:{second}")
 }
 
-// A time, and the microseconds below its fraction.
+/// A time, and the microseconds below its fraction.
 fn split_string(alloc: Global, time: BTime, micros: u8) -> Result<String, AllocError>
     requires { time.fract ≤ 9999 }
     ensures { IfOk result (λ text. string_bytes text ≡ split_text time micros) }

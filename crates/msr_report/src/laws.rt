@@ -7,7 +7,8 @@ ghost use Rattle.msr_report.specs.declared.report.Report.{Report as AReport};
 
 /// A report has at most one text, and so has a line of a list.
 pub fn one_text()
-    ensures report { (report : AReport) (text other : List ℕ) → IsReportText report text → IsReportText report other → text ≡ other }
+    ensures report { (report : AReport) (text other : List ℕ) → IsReportText report text
+        → IsReportText report other → text ≡ other }
     ensures line { (key : Key) (start : ℤ) (samples : ℕ) (text other : List ℕ)
         → IsListLine key start samples text → IsListLine key start samples other → text ≡ other }
 {}

@@ -1,4 +1,4 @@
-// The lines of a list and of a report.
+//! The lines of a list and of a report.
 ghost use Rattle.std.specs.Prelude.{◌≡◌, ◌++◌, ◌∷◌, [], ◌<◌, ℕ, List, IfOk, OnOk, OnErr, string_bytes, codes, decimal, length};
 ghost use Rattle.msr_time.specs.Instant.{IsInstant};
 ghost use Rattle.msr_report.specs.Text.{IsTimeText, words_after_quality, segment_words, IsListLine, separators_line, IsSegmentText, counts_line, first_lines, end_line};
@@ -9,7 +9,7 @@ use msr_base::Counts;
 use msr_record::Key;
 use std::alloc::{AllocError, Global};
 
-// The words after the quality, and then more text.
+/// The words after the quality, and then more text.
 fn words_string(
     alloc: Global,
     key: &Key,
@@ -23,7 +23,7 @@ fn words_string(
     format!(in alloc; " {settings} start {start} samples {samples}{more}")
 }
 
-// Appends the words of a segment, whose start has the given text, and then more text.
+/// Appends the words of a segment, whose start has the given text, and then more text.
 fn push_words(
     alloc: Global,
     out: &mut Vec<u8>,
@@ -53,7 +53,8 @@ pub fn push_list_line(
     samples: u64,
 ) -> Result<(), AllocError>
     requires { IsInstant start }
-    ensures pushed { OnOk result ((line : List ℕ) × (IsListLine key.now start samples line × (out.new.items ≡ out.old.items ++ line))) }
+    ensures pushed { OnOk result ((line : List ℕ)
+        × (IsListLine key.now start samples line × (out.new.items ≡ out.old.items ++ line))) }
     ensures refused { OnErr result (out.new.items ≡ out.old.items) }
 {
     let time = time_string(alloc, start)?;
@@ -80,7 +81,7 @@ pub fn push_counts(alloc: Global, out: &mut Vec<u8>, counts: &Counts) -> Result<
     out.extend_from_slice(text.as_bytes())
 }
 
-// Appends a number after a space.
+/// Appends a number after a space.
 fn push_number(alloc: Global, out: &mut Vec<u8>, n: u64) -> Result<(), AllocError>
     ensures { OnOk result (out.new.items ≡ out.old.items ++ (32 ∷ decimal n)) }
 {
@@ -88,7 +89,7 @@ fn push_number(alloc: Global, out: &mut Vec<u8>, n: u64) -> Result<(), AllocErro
     out.extend_from_slice(word.as_bytes())
 }
 
-// Appends the line of the separators.
+/// Appends the line of the separators.
 fn push_separators(alloc: Global, out: &mut Vec<u8>, separators: &[u64]) -> Result<(), AllocError>
     ensures { OnOk result (out.new.items ≡ out.old.items ++ separators_line separators.now) }
 {

@@ -1,3 +1,4 @@
+//! What a report says.
 use msr_base::Counts;
 use msr_record::Key;
 use msr_words::Length;

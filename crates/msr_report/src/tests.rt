@@ -15,7 +15,7 @@ use std::alloc::{AllocError, Global};
 use std::process::Abort;
 use std::test::Fail;
 
-// 2020-01-01 00:00:00.
+/// 2020-01-01 00:00:00.
 const START: i64 = 1_577_836_800_000_000;
 
 const NO_RECORDS: Counts = Counts {
@@ -79,7 +79,7 @@ fn key(factor: i16, multiplier: i16) -> Option<Key>
     })
 }
 
-// The first of two segments, and the second.
+/// The first of two segments, and the second.
 fn segments(alloc: Global, key: Key, with_second: bool) -> Result<Vec<SegmentLine>, AllocError>
     requires { IsTrue (is_quality key.quality) }
     ensures { IfOk result (λ lines. All IsProperLine lines.items × (records_of lines.items < 2 ^ 64)) }
@@ -142,7 +142,7 @@ fn lists(rt: HostRuntime) -> Result<(), Fail> {
     Ok(())
 }
 
-// The report has this text.
+/// The report has this text.
 fn writes(rt: &impl Abort, alloc: Global, given: Option<Report>, text: &str) -> Result<(), Fail>
     requires { IfSome given IsProper }
 {
@@ -174,7 +174,7 @@ fn reports(rt: HostRuntime) -> Result<(), Fail> {
     writes(&rt, alloc, two, TWO_SEGMENTS)
 }
 
-// The text has 233 bytes, so twelve writes.
+/// The text has 233 bytes, so twelve writes.
 #[test]
 fn a_sink_that_fails_took_a_front(rt: HostRuntime) -> Result<(), Fail> {
     let alloc = rt.alloc();

@@ -1,4 +1,4 @@
-// The text of a report, written to a sink.
+//! The text of a report, written to a sink.
 ghost use Rattle.std.specs.Prelude.{◌≡◌, ◌↔◌, ℕ, List, MatchResult, OnOk, IsErrOf};
 ghost use Rattle.msr_devices.specs.Device.{CanCountCall, CountsFew, HasFailed, IsCalm, Takes};
 ghost use Rattle.msr_report.specs.Proper.{IsProper};
@@ -45,7 +45,8 @@ impl Report {
         requires report { IsProper self.now }
         requires count { CanCountCall (W.device sink.old) }
         ensures text { (text : List ℕ) × (IsReportText self.now text
-            × MatchResult result (λ _. Takes (W.device sink.old) (W.device sink.new) text) (λ _. TakesFront (W.device sink.old) (W.device sink.new) text)) }
+            × MatchResult result (λ _. Takes (W.device sink.old) (W.device sink.new) text)
+            (λ _. TakesFront (W.device sink.old) (W.device sink.new) text)) }
         ensures write { IsErrOf result TextFault.Write ↔ HasFailed (W.device sink.old) (W.device sink.new) }
         ensures calm { OnOk result (IsCalm (W.device sink.old) (W.device sink.new)) }
         ensures few { CountsFew (W.device sink.old) (W.device sink.new) }

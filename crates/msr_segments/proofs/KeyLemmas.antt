@@ -14,7 +14,20 @@ bytes_same xs = (slice_eq-Decides Decides-eqb xs xs (pointwise eqb xs xs) refl).
 -- a key tests as equal to itself
 key_test_same : (a : Key) → key_test a a ≡ true
 key_test_same a =
-    rw (bytes_same a.network, bytes_same a.station, bytes_same a.location, bytes_same a.channel, (Decides-eqb a.quality a.quality).1 refl, (Decides-int_eq a.rate.factor a.rate.factor).1 refl, (Decides-int_eq a.rate.multiplier a.rate.multiplier).1 refl, (Decides-eqb a.activity a.activity).1 refl, (Decides-eqb a.clock a.clock).1 refl, (Decides-eqb a.data_quality a.data_quality).1 refl, (Decides-int_eq a.correction a.correction).1 refl, (Decides-eqb a.timing a.timing).1 refl) refl
+    rw (
+      bytes_same a.network,
+      bytes_same a.station,
+      bytes_same a.location,
+      bytes_same a.channel,
+      (Decides-eqb a.quality a.quality).1 refl,
+      (Decides-int_eq a.rate.factor a.rate.factor).1 refl,
+      (Decides-int_eq a.rate.multiplier a.rate.multiplier).1 refl,
+      (Decides-eqb a.activity a.activity).1 refl,
+      (Decides-eqb a.clock a.clock).1 refl,
+      (Decides-eqb a.data_quality a.data_quality).1 refl,
+      (Decides-int_eq a.correction a.correction).1 refl,
+      (Decides-eqb a.timing a.timing).1 refl,
+    ) refl
 
 -- the test of two keys is true exactly where they are equal
 pub key_decides : (a b : Key) → Decides (key_test a b) (a ≡ b)

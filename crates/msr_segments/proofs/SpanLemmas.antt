@@ -9,27 +9,34 @@ use Rattle.msr_segments.specs.declared.joiner.Segment.{Segment}
 use Rattle.msr_segments.specs.Spans.{Continues, EndsOutOfRange, SpanIsInTime, longer, Following, BeginsSegment, JoinsSegment}
 use Rattle.msr_segments.specs.Segments.{row_span, segment_span}
 use Rattle.msr_segments.specs.Joining.{segment_at, joining_of, following_of, IsCounted, JoinsRow, BeginsRow}
-use Rattle.msr_segments.proofs.Divisions.{span-with_row}
+use Rattle.msr_segments.proofs.Divisions.{span_with_row}
 
 -- where the rounded instant of the last sample was found, that sample is not out of range
-pub not_out : (span : Span) (found : Option ℤ) (v : ℤ) → ((r : ℤ) → IsRoundedNominal span.key.rate span.start (span.count - 1) r → SomeIff found (IsInstant r) r) → found ≡ Some v → EndsOutOfRange span → ⊥
+pub not_out : (span : Span) (found : Option ℤ) (v : ℤ)
+    → ((r : ℤ) → IsRoundedNominal span.key.rate span.start (span.count - 1) r → SomeIff found (IsInstant r) r)
+    → found ≡ Some v → EndsOutOfRange span → ⊥
 not_out span found v only e out =
-    let some = subst (λ (o : Option ℤ). SomeIff o (IsInstant out.instant) out.instant) e (only out.instant out.nominal) in
+    let some = subst (λ (o : Option ℤ). SomeIff o (IsInstant out.instant) out.instant) e
+    (only out.instant out.nominal) in
     out.out some.0
 
 -- and the span lies in the supported years
-pub found_in_time : (span : Span) (found : Option ℤ) (v : ℤ) → ((r : ℤ) × IsRoundedNominal span.key.rate span.start (span.count - 1) r × SomeIff found (IsInstant r) r) → found ≡ Some v → IsInstant span.start → SpanIsInTime span
+pub found_in_time : (span : Span) (found : Option ℤ) (v : ℤ)
+    → ((r : ℤ) × IsRoundedNominal span.key.rate span.start (span.count - 1) r × SomeIff found (IsInstant r) r)
+    → found ≡ Some v → IsInstant span.start → SpanIsInTime span
 found_in_time span found v h e first =
     let some = subst (λ (o : Option ℤ). SomeIff o (IsInstant h.0) h.0) e h.2 in
     record { last = h.0; nominal = h.1; first_in = first; last_in = some.0 }
 
-pub breaks_some : (tolerance : ℕ) (row : Span) (current : Option Span) (at : Span) → current ≡ Some at → (Continues tolerance at row → ⊥) → (segment : Span) → current ≡ Some segment → Continues tolerance segment row → ⊥
+pub breaks_some : (tolerance : ℕ) (row : Span) (current : Option Span) (at : Span) → current ≡ Some at
+    → (Continues tolerance at row → ⊥) → (segment : Span) → current ≡ Some segment → Continues tolerance segment row → ⊥
 breaks_some tolerance row current at e h segment f k =
     let some : Some at ≡ Some segment = sym e ∙ f in
     let same : at ≡ segment = cc in
     h (subst (λ (s : Span). Continues tolerance s row) (sym same) k)
 
-pub breaks_none : (tolerance : ℕ) (row : Span) (current : Option Span) → current ≡ None → (segment : Span) → current ≡ Some segment → Continues tolerance segment row → ⊥
+pub breaks_none : (tolerance : ℕ) (row : Span) (current : Option Span) → current ≡ None → (segment : Span)
+    → current ≡ Some segment → Continues tolerance segment row → ⊥
 breaks_none tolerance row current e segment f k =
     let none : ◌≡◌ {A = Option Span} None (Some segment) = sym e ∙ f in
     absurd cc
@@ -38,17 +45,21 @@ breaks_none tolerance row current e segment f k =
 span_at : (samples : List ℤ) (span : Span) → span.count ≡ length samples → segment_span (segment_at samples span) ≡ span
 span_at samples span e = ap (λ (n : ℕ). record { key = span.key; start = span.start; count = n }) (sym e)
 
-same_current : (samples : List ℤ) (current : Option Span) → IsCounted current samples → option_map segment_span (option_map (segment_at samples) current) ≡ current
+same_current : (samples : List ℤ) (current : Option Span) → IsCounted current samples
+    → option_map segment_span (option_map (segment_at samples) current) ≡ current
 same_current samples None h = refl
 same_current samples (Some span) h = ap (λ (s : Span). Some s) (span_at samples span (h span refl))
 
 -- a joiner without its samples is its follower
-pub following_same : (following : Following) (samples : List ℤ) → IsCounted following.current samples → following_of (joining_of following samples) ≡ following
+pub following_same : (following : Following) (samples : List ℤ) → IsCounted following.current samples
+    → following_of (joining_of following samples) ≡ following
 following_same following samples h =
-    ap (λ (o : Option Span). record { tolerance = following.tolerance; current = o }) (same_current samples following.current h)
+    ap (λ (o : Option Span). record { tolerance = following.tolerance; current = o })
+    (same_current samples following.current h)
 
 -- the samples stay as many as the follower says
-pub counted_joins : (old new : Following) (samples more : List ℤ) (row : Row) → IsCounted old.current samples → JoinsSegment old (row_span row) new → more ≡ samples ++ row.samples → IsCounted new.current more
+pub counted_joins : (old new : Following) (samples more : List ℤ) (row : Row) → IsCounted old.current samples
+    → JoinsSegment old (row_span row) new → more ≡ samples ++ row.samples → IsCounted new.current more
 counted_joins old new samples more row counted k e span is =
     let after = ap (λ (f : Following). f.current) k.after in
     let some : Some span ≡ Some (longer k.segment (row_span row)) = sym is ∙ after in
@@ -59,24 +70,33 @@ counted_joins old new samples more row counted k e span is =
     ∙ ap length (sym e)
 
 -- what a joiner shows once its follower and its samples have moved on
-pub moved_joins : (old new : Following) (samples more : List ℤ) (row : Row) → IsCounted old.current samples → JoinsSegment old (row_span row) new → more ≡ samples ++ row.samples → JoinsRow (joining_of old samples) row None (joining_of new more)
+pub moved_joins : (old new : Following) (samples more : List ℤ) (row : Row) → IsCounted old.current samples
+    → JoinsSegment old (row_span row) new → more ≡ samples ++ row.samples
+    → JoinsRow (joining_of old samples) row None (joining_of new more)
 moved_joins old new samples more row counted k e =
-    let at : segment_span (segment_at samples k.segment) ≡ k.segment = span_at samples k.segment (counted k.segment k.current) in
+    let at : segment_span (segment_at samples k.segment) ≡ k.segment =
+    span_at samples k.segment (counted k.segment k.current) in
     record {
       segment = segment_at samples k.segment;
       current = ap (option_map (segment_at samples)) k.current;
       continues = subst (λ (s : Span). Continues old.tolerance s (row_span row)) (sym at) k.continues;
-      in_time = subst (λ (s : Span). SpanIsInTime s) (sym (span-with_row (segment_at samples k.segment) row ∙ ap (λ (s : Span). longer s (row_span row)) at)) k.in_time;
+      in_time = subst (λ (s : Span). SpanIsInTime s)
+          (sym (span_with_row (segment_at samples k.segment) row
+          ∙ ap (λ (s : Span). longer s (row_span row)) at)) k.in_time;
       none = refl;
       after = rw (k.after, e) refl;
     }
 
 -- the span of the segment that a joiner shows
-current_at : (samples : List ℤ) (current : Option Span) (s : Segment) → option_map (segment_at samples) current ≡ Some s → (span : Span) × (current ≡ Some span) × (s ≡ segment_at samples span)
+current_at : (samples : List ℤ) (current : Option Span) (s : Segment)
+    → option_map (segment_at samples) current ≡ Some s
+    → (span : Span) × (current ≡ Some span) × (s ≡ segment_at samples span)
 current_at samples None s e = absurd cc
 current_at samples (Some span) s e = let same : s ≡ segment_at samples span = cc in (span, refl, same)
 
-pub moved_begins : (old new : Following) (samples : List ℤ) (row : Row) → IsCounted old.current samples → BeginsSegment old (row_span row) new → BeginsRow (joining_of old samples) row (option_map (segment_at samples) old.current) (joining_of new row.samples)
+pub moved_begins : (old new : Following) (samples : List ℤ) (row : Row) → IsCounted old.current samples
+    → BeginsSegment old (row_span row) new → BeginsRow (joining_of old samples) row
+    (option_map (segment_at samples) old.current) (joining_of new row.samples)
 moved_begins old new samples row counted k = record {
   breaks = λ s e continues.
       (let at = current_at samples old.current s e in

@@ -85,7 +85,8 @@ abbrev pub StepsArePushes : Type 0
 StepsArePushes =
     (old : Joining) (row : Row) (answer : Step) (next : Following)
     → IsStep (following_of old) (row_span row) answer next
-    → (new : Joining) × (ended : Option Segment) × IsPushTold answer old row ended new × IsPush old row ended new × (next ≡ following_of new)
+    → (new : Joining) × (ended : Option Segment) × IsPushTold answer old row ended new × IsPush old row ended new
+    × (next ≡ following_of new)
 
 -- After the same rows, with the same tolerance, a follower stands where a joiner does.
 abbrev pub FollowersStandWithJoiners : Type 0

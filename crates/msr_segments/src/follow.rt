@@ -1,3 +1,4 @@
+//! Following rows from span to span, without their samples.
 use crate::span::Span;
 use msr_record::Key;
 use std::marker::Model;

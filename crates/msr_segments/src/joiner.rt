@@ -1,3 +1,4 @@
+//! Joining rows into segments.
 ghost use Rattle.std.specs.Prelude.{◌≡◌, option_map};
 ghost use Rattle.msr_segments.specs.Joining.{segment_at};
 

@@ -1,3 +1,4 @@
+//! Where samples lie in time, and what continues them.
 ghost use Rattle.std.specs.Prelude.{◌≡◌, ◌↔◌, ◌≤◌, ◌^◌, IsTrue, IsNone, IfSome};
 ghost use Rattle.msr_time.specs.Instant.{IsInstant};
 ghost use Rattle.msr_segments.specs.Spans.{Continues, EndsOutOfRange, SpanIsInTime, longer};

@@ -16,7 +16,7 @@ use std::test::Fail;
 
 const TOLERANCE: u32 = 1000;
 
-// 2020-01-01 00:00:00, and 2101-01-01 00:00:00, the first instant that is out of range.
+/// 2020-01-01 00:00:00, and 2101-01-01 00:00:00, the first instant that is out of range.
 const START: i64 = 1_577_836_800_000_000;
 
 const END: i64 = 4_133_980_800_000_000;
@@ -27,7 +27,7 @@ const JOINS: Result<Step, OutOfRange> = Ok(Step::Joins);
 
 const REFUSED: Result<Step, OutOfRange> = Err(OutOfRange);
 
-// 20 samples per second, as two factors and multipliers.
+/// 20 samples per second, as two factors and multipliers.
 const RATE: (i16, i16) = (20, 1);
 
 const SAME_RATE: (i16, i16) = (200, -10);
@@ -142,7 +142,7 @@ fn key(rate: (i16, i16)) -> Option<Key> {
     })
 }
 
-// A row of that many samples of 0.
+/// A row of that many samples of 0.
 fn row(alloc: Global, key: Key, start: i64, count: u16) -> Result<Row, AllocError>
     ensures start { IfOk result (λ row. row.start ≡ start) }
     ensures samples { IfOk result (λ row. length row.samples ≡ count) }
@@ -156,7 +156,7 @@ fn row(alloc: Global, key: Key, start: i64, count: u16) -> Result<Row, AllocErro
     })
 }
 
-// Pushes a row that must do this, and gives the start and length of the segment that it ended.
+/// Pushes a row that must do this, and gives the start and length of the segment that it ended.
 fn push(
     rt: &impl Abort,
     alloc: Global,

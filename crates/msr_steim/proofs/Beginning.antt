@@ -11,8 +11,8 @@ use Rattle.msr_steim.specs.declared.word.Version.{Version}
 use Rattle.msr_steim.specs.Area.{FirstWordsHold, WordHolds, arranged_word, code_of, constant, differences, samples_of, sums_after, whole_word, word_count}
 use Rattle.msr_steim.specs.InOrder.{BeginsAfter, differences_from, numbers_of, word_differences}
 use Rattle.msr_steim.specs.Sums.{IsWritten, ReachesEnd}
-use Rattle.msr_steim.specs.Word.{AreFields, Holds, division_of}
-use Rattle.msr_steim.proofs.Decoding.{differences_push, length-samples_of, length-sums_after}
+use Rattle.msr_steim.specs.Word.{AreFields, division_of}
+use Rattle.msr_steim.proofs.Decoding.{AreReadBelow, differences_push, length-samples_of, length-sums_after}
 use Rattle.msr_steim.proofs.InOrderLemmas.{numbers_are_fields, one_word}
 use Rattle.msr_steim.proofs.OneList.{HasBits, has_bits, holds_one}
 use Rattle.msr_steim.proofs.Reading.{IsReached, IsStart, code_data, held_so, no_samples}
@@ -33,18 +33,21 @@ held_differences version order area number group holds =
     let code = code_of order area number in
     let word = arranged_word version order code area number in
     let division = division_of version code (word / 2 ^ 30) in
-    holds_one version code word (numbers_of division word) group (numbers_hold division word group (has_bits version code (word / 2 ^ 30)) holds) holds
+    holds_one version code word (numbers_of division word) group
+    (numbers_hold division word group (has_bits version code (word / 2 ^ 30)) holds) holds
 
 one_group : (version : Version) (order : Order) (area : List ℕ) (number : ℕ) (group : List ℤ)
     → number < word_count area → WordHolds version order area number group
     → differences_from version order area number ≡ group ++ differences_from version order area (number + 1)
 one_group version order area number group within holds =
-    one_word version order area number within ∙ ap (λ ds. ds ++ differences_from version order area (number + 1)) (held_differences version order area number group holds)
+    one_word version order area number within ∙ ap (λ ds. ds ++ differences_from version order area (number + 1))
+    (held_differences version order area number group holds)
 
 -- the groups of the first words are the first differences
-held_in_order : (version : Version) (order : Order) (area : List ℕ) (groups : List (List ℤ)) (words : ℕ)
+pub held_in_order : (version : Version) (order : Order) (area : List ℕ) (groups : List (List ℤ)) (words : ℕ)
     → FirstWordsHold version order area groups → words ≤ length groups
-    → differences_from version order area 0 ≡ differences (take words groups) ++ differences_from version order area words
+    → differences_from version order area 0 ≡ differences (take words groups)
+    ++ differences_from version order area words
 held_in_order version order area groups zero held within = refl
 held_in_order version order area groups (suc words) held within =
     let group = get_or groups words [] in
@@ -52,13 +55,15 @@ held_in_order version order area groups (suc words) held within =
     let rest = differences_from version order area (words + 1) in
     let here : words < length groups = omega (arith, within) in
     let below : words < word_count area = omega (arith, held.within, here) in
-    let more : differences (take (words + 1) groups) ≡ differences front ++ group = ap differences (take_more groups words [] here) ∙ differences_push front group in
+    let more : differences (take (words + 1) groups) ≡ differences front ++ group =
+    ap differences (take_more groups words [] here) ∙ differences_push front group in
     let next : words + 1 ≡ suc words = omega arith in
     let so : differences_from version order area 0 ≡ differences (take (words + 1) groups) ++ rest =
     held_in_order version order area groups words held (omega (arith, within))
     ∙ ap (λ ds. differences front ++ ds) (one_group version order area words group below (held.each words here))
     ∙ sym (append_assoc (differences front) group rest) ∙ ap (λ ds. ds ++ rest) (sym more) in
-    subst (λ n. differences_from version order area 0 ≡ differences (take n groups) ++ differences_from version order area n) next so
+    subst (λ n. differences_from version order area 0 ≡ differences (take n groups)
+    ++ differences_from version order area n) next so
 
 -- ---- what the first difference is added to
 
@@ -67,9 +72,29 @@ first_part : (first before : ℤ) (group rest all : List ℤ) → all ≡ group 
     → samples_of first group ≡ sums_after before group
 first_part first before [] rest all same begins = refl
 first_part first before (d ∷ ds) rest all same begins =
-    let so : samples_of first (d ∷ (ds ++ rest)) ≡ sums_after before (d ∷ (ds ++ rest)) = subst (λ s. samples_of first s ≡ sums_after before s) same begins in
+    let so : samples_of first (d ∷ (ds ++ rest)) ≡ sums_after before (d ∷ (ds ++ rest)) =
+    subst (λ s. samples_of first s ≡ sums_after before s) same begins in
     let head : first ≡ int_wrap w32 (before +ℤ d) = ap (λ s. get_or s 0 (pos 0)) so in
     ap (λ x. x ∷ sums_after x ds) head
+
+pub begins_here : (version : Version) (order : Order) (area : List ℕ) (count number : ℕ) (samples group : List ℤ)
+    (last : ℤ)
+    → AreReadBelow version order area count number (constant order area 1) samples → length samples ≡ 0
+    → BeginsAfter version order area last → number < word_count area → WordHolds version order area number group
+    → samples_of (constant order area 1) group ≡ sums_after last group
+begins_here version order area count number samples group last read none begins within here =
+    let rest = differences_from version order area (number + 1) in
+    let size : length (differences read.groups) ≡ 0 =
+    sym (length-samples_of (constant order area 1) (differences read.groups)) ∙ ap length (sym read.sums) ∙ none in
+    let empty : differences read.groups ≡ [] = no_samples (constant order area 1) (differences read.groups) size in
+    let before : differences_from version order area 0 ≡ differences_from version order area number =
+    held_in_order version order area read.groups (length read.groups) read.held (omega arith)
+    ∙ ap (λ gs. differences gs ++ differences_from version order area (length read.groups))
+    (take_all (length read.groups) read.groups (omega arith))
+    ∙ ap (λ ds. ds ++ differences_from version order area (length read.groups)) empty
+    ∙ ap (differences_from version order area) read.number_is in
+    first_part (constant order area 1) last group rest (differences_from version order area 0)
+    (before ∙ one_group version order area number group within here) begins.sums
 
 -- the first samples begin after it, the others after the one before
 pub starts_here : (version : Version) (order : Order) (area : List ℕ) (number code word : ℕ) (at : Place) (out : List ℤ)
@@ -78,21 +103,14 @@ pub starts_here : (version : Version) (order : Order) (area : List ℕ) (number 
     → number < word_count area → code ≡ code_of order area number
     → word ≡ arranged_word version order code area number
     → IsStart version code word (constant order area 1) at at
-starts_here version order area number code word at out reached begins within code_is word_is = record { place = refl; kept = λ some. refl; first = first }
-  where
-    first : at.place ≡ 0 → (group : List ℤ) → Holds version code word group
-        → samples_of (constant order area 1) group ≡ sums_after at.last group
-    first none group holds =
-        let read = reached.read in
-        let rest = differences_from version order area (number + 1) in
-        let size : length (differences read.groups) ≡ 0 = sym (length-samples_of (constant order area 1) (differences read.groups)) ∙ ap length (sym read.sums) ∙ length-take at.place out ∙ omega (arith, none) in
-        let empty : differences read.groups ≡ [] = no_samples (constant order area 1) (differences read.groups) size in
-        let before : differences_from version order area 0 ≡ differences_from version order area number =
-        held_in_order version order area read.groups (length read.groups) read.held (omega arith)
-        ∙ ap (λ gs. differences gs ++ differences_from version order area (length read.groups)) (take_all (length read.groups) read.groups (omega arith))
-        ∙ ap (λ ds. ds ++ differences_from version order area (length read.groups)) empty ∙ ap (differences_from version order area) read.number_is in
-        let here : WordHolds version order area number group = held_so version order area number code word group code_is word_is holds in
-        first_part (constant order area 1) at.last group rest (differences_from version order area 0) (before ∙ one_group version order area number group within here) (begins none).sums
+starts_here version order area number code word at out reached begins within code_is word_is = record {
+  place = refl;
+  kept = λ some. refl;
+  first = λ none group holds.
+      begins_here version order area (length out) number (take at.place out) group at.last reached.read
+      (length-take at.place out ∙ omega (arith, none)) (begins none) within
+      (held_so version order area number code word group code_is word_is holds);
+}
 
 -- and so on, until there are samples
 pub begins_on : (version : Version) (order : Order) (area : List ℕ) (at next : Place)
@@ -101,7 +119,8 @@ pub begins_on : (version : Version) (order : Order) (area : List ℕ) (at next :
     → next.place ≡ 0 → BeginsAfter version order area next.last
 begins_on version order area at next on begins none =
     ⊎_elim
-    (λ (same : next ≡ at). subst (λ (p : Place). BeginsAfter version order area p.last) (sym same) (begins (sym (ap (λ (p : Place). p.place) same) ∙ none)))
+    (λ (same : next ≡ at). subst (λ (p : Place). BeginsAfter version order area p.last) (sym same)
+    (begins (sym (ap (λ (p : Place). p.place) same) ∙ none)))
     (λ (more : at.place < next.place). absurd (omega (arith, more, none)))
     on
 
@@ -115,10 +134,14 @@ pub end_reached : (version : Version) (code word : ℕ) (at next : Place) (old n
 end_reached version code word at next old new ends written room same =
     let reaches : length old ≤ at.place + length written.group = ends.reaches written.group written.holds in
     let sums = sums_after at.last written.group in
-    let taken : length (take next.place new) ≡ length (take (length old) (take at.place old ++ sums)) = ap length written.samples in
+    let taken : length (take next.place new) ≡ length (take (length old) (take at.place old ++ sums)) =
+    ap length written.samples in
     let left : length (take next.place new) ≡ min next.place (length new) = length-take next.place new in
-    let right : length (take (length old) (take at.place old ++ sums)) ≡ min (length old) (length (take at.place old ++ sums)) = length-take (length old) (take at.place old ++ sums) in
-    let both : length (take at.place old ++ sums) ≡ length (take at.place old) + length sums = length-append (take at.place old) sums in
+    let right : length (take (length old) (take at.place old ++ sums))
+    ≡ min (length old) (length (take at.place old ++ sums)) =
+    length-take (length old) (take at.place old ++ sums) in
+    let both : length (take at.place old ++ sums) ≡ length (take at.place old) + length sums =
+    length-append (take at.place old) sums in
     let front : length (take at.place old) ≡ min at.place (length old) = length-take at.place old in
     let many : length sums ≡ length written.group = length-sums_after at.last written.group in
     omega (arith, written.within)
@@ -132,7 +155,8 @@ pub code_here : (order : Order) (area : List ℕ) (frame slot codes : ℕ) → 1
     → codes / 1073741824 ≡ code_of order area (16 * frame + slot)
 code_here order area frame slot codes some small late same =
     let word = whole_word order area (16 * frame) in
-    code_data order area frame slot word (codes / 1073741824) some small late refl (ap (λ n. n / 1073741824) same ∙ code_shifted word slot small)
+    code_data order area frame slot word (codes / 1073741824) some small late refl
+    (ap (λ n. n / 1073741824) same ∙ code_shifted word slot small)
 
 -- shifted by two more
 pub codes_on : (codes word slot : ℕ) → codes ≡ word * 2 ^ (2 * slot) % 4294967296
@@ -141,4 +165,5 @@ codes_on codes word slot same =
     let more : 2 * (slot + 1) ≡ 2 * slot + 2 = omega arith in
     let power : 2 ^ (2 * (slot + 1)) ≡ 2 ^ (2 * slot) * 4 = ap (λ n. 2 ^ n) more ∙ pow-add 2 (2 * slot) 2 in
     let product : word * 2 ^ (2 * slot) * 4 ≡ word * 2 ^ (2 * (slot + 1)) = rw power (omega arith) in
-    ap (λ n. n * 4 % 4294967296) same ∙ mul-mod_first (word * 2 ^ (2 * slot)) 4 4294967296 ∙ ap (λ n. n % 4294967296) product
+    ap (λ n. n * 4 % 4294967296) same ∙ mul-mod_first (word * 2 ^ (2 * slot)) 4 4294967296
+    ∙ ap (λ n. n % 4294967296) product

@@ -10,7 +10,9 @@ use Rattle.msr_base.specs.declared.order.Order.{Order}
 use Rattle.msr_steim.specs.declared.word.Version.{Version}
 use Rattle.msr_steim.specs.Area.{CarriesSteim, FirstWordsHold, WordHolds, constant, differences, samples_of, sums_after, word_count}
 
-pub sums_after_push : (x : ℤ) (es : List ℤ) (d : ℤ) → sums_after x (es ++ d ∷ []) ≡ sums_after x es ++ int_wrap w32 (get_or (x ∷ sums_after x es) (length (sums_after x es)) (pos 0) +ℤ d) ∷ []
+pub sums_after_push : (x : ℤ) (es : List ℤ) (d : ℤ)
+    → sums_after x (es ++ d ∷ []) ≡ sums_after x es
+    ++ int_wrap w32 (get_or (x ∷ sums_after x es) (length (sums_after x es)) (pos 0) +ℤ d) ∷ []
 sums_after_push x [] d = refl
 sums_after_push x (e ∷ es) d = ap (λ s. int_wrap w32 (x +ℤ e) ∷ s) (sums_after_push (int_wrap w32 (x +ℤ e)) es d)
 
@@ -25,14 +27,16 @@ length-samples_of first (e ∷ es) = ap suc (length-sums_after first es)
 -- ---- word by word
 
 -- the words below this number were read, and gave these samples
-pub record AreReadBelow (version : Version) (order : Order) (area : List ℕ) (count number : ℕ) (first : ℤ) (samples : List ℤ) : Type 0 where
+pub record AreReadBelow (version : Version) (order : Order) (area : List ℕ) (count number : ℕ) (first : ℤ)
+    (samples : List ℤ) : Type 0 where
   pub groups : List (List ℤ)
   pub held : FirstWordsHold version order area groups
   pub number_is : length groups ≡ number
   pub few : length (differences groups) < count
   pub sums : samples ≡ samples_of first (differences groups)
 
-pub one_more_held : (version : Version) (order : Order) (area : List ℕ) (groups : List (List ℤ)) (group : List ℤ) → FirstWordsHold version order area groups → length groups < word_count area
+pub one_more_held : (version : Version) (order : Order) (area : List ℕ) (groups : List (List ℤ)) (group : List ℤ)
+    → FirstWordsHold version order area groups → length groups < word_count area
     → WordHolds version order area (length groups) group → FirstWordsHold version order area (groups ++ group ∷ [])
 one_more_held version order area groups group held within here = record {
   within = rw length-append (omega arith);
@@ -43,14 +47,18 @@ one_more_held version order area groups group held within here = record {
     each n below = ⊎_elim
         (λ (lt : n < length groups). rw (get_or-append groups (group ∷ []) [] n lt) (held.each n lt))
         (λ (le : length groups ≤ n). let e : length groups ≡ n = omega arith in
-        subst (λ m. WordHolds version order area m (get_or (groups ++ group ∷ []) m [])) e (rw (get_or-append_seam groups group [] []) here))
+        subst (λ m. WordHolds version order area m (get_or (groups ++ group ∷ []) m [])) e
+        (rw (get_or-append_seam groups group [] []) here))
         (cases_lt n (length groups))
 
-pub differences_push : (groups : List (List ℤ)) (group : List ℤ) → differences (groups ++ group ∷ []) ≡ differences groups ++ group
-differences_push groups group = flat_map-append (λ g. g) groups (group ∷ []) ∙ ap (λ g. differences groups ++ g) (append-nil group)
+pub differences_push : (groups : List (List ℤ)) (group : List ℤ)
+    → differences (groups ++ group ∷ []) ≡ differences groups ++ group
+differences_push groups group = flat_map-append (λ g. g) groups (group ∷ [])
+    ∙ ap (λ g. differences groups ++ g) (append-nil group)
 
 -- one more word, and still too few samples
-pub read_more : (version : Version) (order : Order) (area : List ℕ) (count number : ℕ) (first : ℤ) (old new group : List ℤ) → AreReadBelow version order area count number first old
+pub read_more : (version : Version) (order : Order) (area : List ℕ) (count number : ℕ) (first : ℤ)
+    (old new group : List ℤ) → AreReadBelow version order area count number first old
     → number < word_count area → WordHolds version order area number group
     → ((before : List ℤ) → old ≡ samples_of first before → new ≡ take count (samples_of first (before ++ group)))
     → length new ≢ count → AreReadBelow version order area count (number + 1) first new
@@ -59,7 +67,8 @@ read_more version order area count number first old new group read within here p
     let here_so : WordHolds version order area (length read.groups) group = rw read.number_is here in
     let more : differences (read.groups ++ group ∷ []) ≡ ds = differences_push read.groups group in
     let cut : new ≡ take count (samples_of first ds) = pushed (differences read.groups) read.sums in
-    let size : length new ≡ min count (length (samples_of first ds)) = ap length cut ∙ length-take count (samples_of first ds) in
+    let size : length new ≡ min count (length (samples_of first ds)) = ap length cut
+    ∙ length-take count (samples_of first ds) in
     let number_of_samples : length (samples_of first ds) ≡ length ds = length-samples_of first ds in
     let few : length ds < count = omega arith in
     record {
@@ -71,9 +80,11 @@ read_more version order area count number first old new group read within here p
     }
 
 -- one more word, and the samples are there
-pub read_enough : (version : Version) (order : Order) (area : List ℕ) (count number : ℕ) (old new group : List ℤ) → AreReadBelow version order area count number (constant order area 1) old
+pub read_enough : (version : Version) (order : Order) (area : List ℕ) (count number : ℕ) (old new group : List ℤ)
+    → AreReadBelow version order area count number (constant order area 1) old
     → number < word_count area → WordHolds version order area number group
-    → ((before : List ℤ) → old ≡ samples_of (constant order area 1) before → new ≡ take count (samples_of (constant order area 1) (before ++ group)))
+    → ((before : List ℤ) → old ≡ samples_of (constant order area 1) before
+    → new ≡ take count (samples_of (constant order area 1) (before ++ group)))
     → length new ≡ count → CarriesSteim version order area new
 read_enough version order area count number old new group read within here pushed same =
     let first = constant order area 1 in
@@ -81,7 +92,8 @@ read_enough version order area count number old new group read within here pushe
     let here_so : WordHolds version order area (length read.groups) group = rw read.number_is here in
     let more : differences (read.groups ++ group ∷ []) ≡ ds = differences_push read.groups group in
     let cut : new ≡ take count (samples_of first ds) = pushed (differences read.groups) read.sums in
-    let size : length new ≡ min count (length (samples_of first ds)) = ap length cut ∙ length-take count (samples_of first ds) in
+    let size : length new ≡ min count (length (samples_of first ds)) = ap length cut
+    ∙ length-take count (samples_of first ds) in
     let number_of_samples : length (samples_of first ds) ≡ length ds = length-samples_of first ds in
     record {
       groups = read.groups ++ group ∷ [];

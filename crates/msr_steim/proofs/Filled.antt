@@ -28,12 +28,13 @@ use Rattle.msr_steim.proofs.Fields.{joined_fields_lt, all_fit_zeros, pow_pow}
 use Rattle.msr_steim.proofs.OneList.{number_after}
 use Rattle.msr_steim.proofs.OneOutcome.{samples_more}
 use Rattle.msr_steim.proofs.Words.{word_holds}
-use Rattle.msr_steim.proofs.Filling.{codes_below, codes_lt, group_or_none, length-words}
+use Rattle.msr_steim.proofs.Filling.{codes_below, codes_lt, group_or_none, length_words}
 
 -- ---- the word of a group
 
 -- fields that fill the word
-whole_word_of : (version : Version) (code count width fields : ℕ) → count * width ≡ 32 → ((top : ℕ) → division_of version code top ≡ Some (record { count = count; width = width }))
+whole_word_of : (version : Version) (code count width fields : ℕ) → count * width ≡ 32
+    → ((top : ℕ) → division_of version code top ≡ Some (record { count = count; width = width }))
     → fields < 2 ^ (count * width) → IsWordOf version code 0 fields count width
 whole_word_of version code count width fields size division few =
     let few_so : fields < 2 ^ 32 = subst (λ n. fields < 2 ^ n) size few in
@@ -45,7 +46,8 @@ whole_word_of version code count width fields size division few =
     }
 
 -- fields below two bits that tell the division
-top_word_of : (version : Version) (code top count width fields : ℕ) → count * width ≤ 30 → top < 4 → division_of version code top ≡ Some (record { count = count; width = width })
+top_word_of : (version : Version) (code top count width fields : ℕ) → count * width ≤ 30 → top < 4
+    → division_of version code top ≡ Some (record { count = count; width = width })
     → fields < 2 ^ (count * width) → IsWordOf version code top fields count width
 top_word_of version code top count width fields size small division few =
     let s = count * width in
@@ -53,7 +55,8 @@ top_word_of version code top count width fields size small division few =
     let below : fields < 2 ^ 30 = omega arith in
     let split : 30 - s + s ≡ 30 = omega arith in
     let product : 2 ^ 30 ≡ 2 ^ (30 - s) * 2 ^ s = ap (λ n. 2 ^ n) (sym split) ∙ pow-add 2 (30 - s) s in
-    let spelled : top * 2 ^ 30 + fields ≡ (top * 2 ^ (30 - s)) * 2 ^ s + fields = regroup top (2 ^ 30) (2 ^ (30 - s)) (2 ^ s) product in
+    let spelled : top * 2 ^ 30 + fields ≡ (top * 2 ^ (30 - s)) * 2 ^ s + fields =
+    regroup top (2 ^ 30) (2 ^ (30 - s)) (2 ^ s) product in
     record {
       small = omega arith;
       division = ap (division_of version code) (digits_div top below) ∙ division;
@@ -69,13 +72,17 @@ record HoldsAll (version : Version) (code word : ℕ) (zs : List ℤ) : Type 0 w
   holds : Holds version code word zs
   small : word < 4294967296
 
-made : (version : Version) (code top count width : ℕ) (zs : List ℤ) → 0 < width → length zs ≡ count → AllByRecursion (FitsBits width) zs
-    → ((fields : ℕ) → fields < 2 ^ (count * width) → IsWordOf version code top fields count width) → HoldsAll version code (top * 2 ^ 30 + joined_fields width zs) zs
+made : (version : Version) (code top count width : ℕ) (zs : List ℤ) → 0 < width → length zs ≡ count
+    → AllByRecursion (FitsBits width) zs
+    → ((fields : ℕ) → fields < 2 ^ (count * width) → IsWordOf version code top fields count width)
+    → HoldsAll version code (top * 2 ^ 30 + joined_fields width zs) zs
 made version code top count width zs positive number all words =
-    let few : joined_fields width zs < 2 ^ (count * width) = subst (λ n. joined_fields width zs < 2 ^ (n * width)) number (joined_fields_lt width zs positive all) in
+    let few : joined_fields width zs < 2 ^ (count * width) =
+    subst (λ n. joined_fields width zs < 2 ^ (n * width)) number (joined_fields_lt width zs positive all) in
     let is = words (joined_fields width zs) few in
     record {
-      holds = (word_holds version code top (joined_fields width zs) count width (top * 2 ^ 30 + joined_fields width zs) zs is refl number all refl).0;
+      holds = (word_holds version code top (joined_fields width zs) count width
+          (top * 2 ^ 30 + joined_fields width zs) zs is refl number all refl).0;
       small = is.small;
     }
 
@@ -102,38 +109,59 @@ no_group : (zs : List ℤ) (o : Option ℕ) → o ≡ None → IsSomeAnd o (λ w
 no_group zs o none is = subst (λ w. IsSomeAnd w (λ width. AllByRecursion (FitsBits width) zs)) none is
 
 -- the word of a group holds it
-group_held : (version : Version) (zs : List ℤ) → IsGroup version zs → HoldsAll version (group_code version (length zs)) (group_word version zs) (as_read version zs)
+group_held : (version : Version) (zs : List ℤ) → IsGroup version zs
+    → HoldsAll version (group_code version (length zs)) (group_word version zs) (as_read version zs)
 group_held One [] is = absurd is
-group_held One (a ∷ []) is = made One 3 0 1 32 (a ∷ []) (lit< tt) refl is (λ f few. whole_word_of One 3 1 32 f refl (λ t. refl) few)
-group_held One (a ∷ b ∷ []) is = made One 2 0 2 16 (a ∷ b ∷ []) (lit< tt) refl is (λ f few. whole_word_of One 2 2 16 f refl (λ t. refl) few)
-group_held One (a ∷ b ∷ c ∷ []) is = made One 1 0 4 8 (a ∷ b ∷ c ∷ pos 0 ∷ []) (lit< tt) refl (all_fit_zeros 8 1 (a ∷ b ∷ c ∷ []) is) (λ f few. whole_word_of One 1 4 8 f refl (λ t. refl) few)
-group_held One (a ∷ b ∷ c ∷ d ∷ []) is = made One 1 0 4 8 (a ∷ b ∷ c ∷ d ∷ []) (lit< tt) refl is (λ f few. whole_word_of One 1 4 8 f refl (λ t. refl) few)
+group_held One (a ∷ []) is = made One 3 0 1 32 (a ∷ []) (lit< tt) refl is
+    (λ f few. whole_word_of One 3 1 32 f refl (λ t. refl) few)
+group_held One (a ∷ b ∷ []) is = made One 2 0 2 16 (a ∷ b ∷ []) (lit< tt) refl is
+    (λ f few. whole_word_of One 2 2 16 f refl (λ t. refl) few)
+group_held One (a ∷ b ∷ c ∷ []) is = made One 1 0 4 8 (a ∷ b ∷ c ∷ pos 0 ∷ []) (lit< tt) refl
+    (all_fit_zeros 8 1 (a ∷ b ∷ c ∷ []) is) (λ f few. whole_word_of One 1 4 8 f refl (λ t. refl) few)
+group_held One (a ∷ b ∷ c ∷ d ∷ []) is = made One 1 0 4 8 (a ∷ b ∷ c ∷ d ∷ []) (lit< tt) refl is
+    (λ f few. whole_word_of One 1 4 8 f refl (λ t. refl) few)
 group_held One (a ∷ b ∷ c ∷ d ∷ e ∷ zs) is =
     let many : 4 < length (a ∷ b ∷ c ∷ d ∷ e ∷ zs) = omega arith in
-    absurd (no_group (a ∷ b ∷ c ∷ d ∷ e ∷ zs) (group_width One (length (a ∷ b ∷ c ∷ d ∷ e ∷ zs))) (too_many One (length (a ∷ b ∷ c ∷ d ∷ e ∷ zs)) many refl) is)
+    absurd (no_group (a ∷ b ∷ c ∷ d ∷ e ∷ zs) (group_width One (length (a ∷ b ∷ c ∷ d ∷ e ∷ zs)))
+    (too_many One (length (a ∷ b ∷ c ∷ d ∷ e ∷ zs)) many refl) is)
 group_held Two [] is = absurd is
-group_held Two (a ∷ []) is = made Two 2 1 1 30 (a ∷ []) (lit< tt) refl is (λ f few. top_word_of Two 2 1 1 30 f (lit≤ tt) (lit< tt) refl few)
-group_held Two (a ∷ b ∷ []) is = made Two 2 2 2 15 (a ∷ b ∷ []) (lit< tt) refl is (λ f few. top_word_of Two 2 2 2 15 f (lit≤ tt) (lit< tt) refl few)
-group_held Two (a ∷ b ∷ c ∷ []) is = made Two 2 3 3 10 (a ∷ b ∷ c ∷ []) (lit< tt) refl is (λ f few. top_word_of Two 2 3 3 10 f (lit≤ tt) (lit< tt) refl few)
-group_held Two (a ∷ b ∷ c ∷ d ∷ []) is = made Two 1 0 4 8 (a ∷ b ∷ c ∷ d ∷ []) (lit< tt) refl is (λ f few. whole_word_of Two 1 4 8 f refl (λ t. refl) few)
-group_held Two (a ∷ b ∷ c ∷ d ∷ e ∷ []) is = made Two 3 0 5 6 (a ∷ b ∷ c ∷ d ∷ e ∷ []) (lit< tt) refl is (λ f few. top_word_of Two 3 0 5 6 f (lit≤ tt) (lit< tt) refl few)
-group_held Two (a ∷ b ∷ c ∷ d ∷ e ∷ f ∷ []) is = made Two 3 1 6 5 (a ∷ b ∷ c ∷ d ∷ e ∷ f ∷ []) (lit< tt) refl is (λ f few. top_word_of Two 3 1 6 5 f (lit≤ tt) (lit< tt) refl few)
-group_held Two (a ∷ b ∷ c ∷ d ∷ e ∷ f ∷ g ∷ []) is = made Two 3 2 7 4 (a ∷ b ∷ c ∷ d ∷ e ∷ f ∷ g ∷ []) (lit< tt) refl is (λ f few. top_word_of Two 3 2 7 4 f (lit≤ tt) (lit< tt) refl few)
+group_held Two (a ∷ []) is = made Two 2 1 1 30 (a ∷ []) (lit< tt) refl is
+    (λ f few. top_word_of Two 2 1 1 30 f (lit≤ tt) (lit< tt) refl few)
+group_held Two (a ∷ b ∷ []) is = made Two 2 2 2 15 (a ∷ b ∷ []) (lit< tt) refl is
+    (λ f few. top_word_of Two 2 2 2 15 f (lit≤ tt) (lit< tt) refl few)
+group_held Two (a ∷ b ∷ c ∷ []) is = made Two 2 3 3 10 (a ∷ b ∷ c ∷ []) (lit< tt) refl is
+    (λ f few. top_word_of Two 2 3 3 10 f (lit≤ tt) (lit< tt) refl few)
+group_held Two (a ∷ b ∷ c ∷ d ∷ []) is = made Two 1 0 4 8 (a ∷ b ∷ c ∷ d ∷ []) (lit< tt) refl is
+    (λ f few. whole_word_of Two 1 4 8 f refl (λ t. refl) few)
+group_held Two (a ∷ b ∷ c ∷ d ∷ e ∷ []) is =
+    made Two 3 0 5 6 (a ∷ b ∷ c ∷ d ∷ e ∷ []) (lit< tt) refl is
+    (λ f few. top_word_of Two 3 0 5 6 f (lit≤ tt) (lit< tt) refl few)
+group_held Two (a ∷ b ∷ c ∷ d ∷ e ∷ f ∷ []) is =
+    made Two 3 1 6 5 (a ∷ b ∷ c ∷ d ∷ e ∷ f ∷ []) (lit< tt) refl is
+    (λ f few. top_word_of Two 3 1 6 5 f (lit≤ tt) (lit< tt) refl few)
+group_held Two (a ∷ b ∷ c ∷ d ∷ e ∷ f ∷ g ∷ []) is =
+    made Two 3 2 7 4 (a ∷ b ∷ c ∷ d ∷ e ∷ f ∷ g ∷ []) (lit< tt) refl is
+    (λ f few. top_word_of Two 3 2 7 4 f (lit≤ tt) (lit< tt) refl few)
 group_held Two (a ∷ b ∷ c ∷ d ∷ e ∷ f ∷ g ∷ h ∷ zs) is =
     let many : 7 < length (a ∷ b ∷ c ∷ d ∷ e ∷ f ∷ g ∷ h ∷ zs) = omega arith in
-    absurd (no_group (a ∷ b ∷ c ∷ d ∷ e ∷ f ∷ g ∷ h ∷ zs) (group_width Two (length (a ∷ b ∷ c ∷ d ∷ e ∷ f ∷ g ∷ h ∷ zs))) (too_many_two (length (a ∷ b ∷ c ∷ d ∷ e ∷ f ∷ g ∷ h ∷ zs)) many) is)
+    absurd (no_group (a ∷ b ∷ c ∷ d ∷ e ∷ f ∷ g ∷ h ∷ zs)
+    (group_width Two (length (a ∷ b ∷ c ∷ d ∷ e ∷ f ∷ g ∷ h ∷ zs)))
+    (too_many_two (length (a ∷ b ∷ c ∷ d ∷ e ∷ f ∷ g ∷ h ∷ zs)) many) is)
 
 -- ---- the words of an area
 
-word_read : (ws : List ℕ) (n : ℕ) → ((k : ℕ) → k < length ws → get_or ws k 0 < 4294967296) → n < length ws → big_number 4 (drop (4 * n) (flat_map (big_bytes 4) ws)) ≡ get_or ws n 0
+word_read : (ws : List ℕ) (n : ℕ) → ((k : ℕ) → k < length ws → get_or ws k 0 < 4294967296) → n < length ws
+    → big_number 4 (drop (4 * n) (flat_map (big_bytes 4) ws)) ≡ get_or ws n 0
 word_read [] n small within = absurd (omega arith)
 word_read (w ∷ ws) zero small within = big_number-reads_back 4 w (flat_map (big_bytes 4) ws) (small 0 (omega arith))
 word_read (w ∷ ws) (suc n) small within =
     let e : 4 * suc n ≡ suc (suc (suc (suc (4 * n)))) = omega arith in
-    ap (λ k. big_number 4 (drop k (flat_map (big_bytes 4) (w ∷ ws)))) e ∙ word_read ws n (λ k h. small (suc k) (omega arith)) (omega arith)
+    ap (λ k. big_number 4 (drop k (flat_map (big_bytes 4) (w ∷ ws)))) e
+    ∙ word_read ws n (λ k h. small (suc k) (omega arith)) (omega arith)
 
 -- a digit of a number
-digit_at : (b n : ℕ) (ds : List ℕ) (i : ℕ) → AllBelowBase b ds → i < length ds → number_from_digits_after b n ds / b ^ (length ds - 1 - i) % b ≡ get_or ds i 0
+digit_at : (b n : ℕ) (ds : List ℕ) (i : ℕ) → AllBelowBase b ds → i < length ds
+    → number_from_digits_after b n ds / b ^ (length ds - 1 - i) % b ≡ get_or ds i 0
 digit_at b n [] i all within = absurd (omega arith)
 digit_at b n (d ∷ ds) zero all within =
     let places : length (d ∷ ds) - 1 - 0 ≡ length ds = omega arith in
@@ -144,9 +172,11 @@ digit_at b n (d ∷ ds) zero all within =
     ∙ digits_mod n all.0
 digit_at b n (d ∷ ds) (suc i) all within =
     let places : length (d ∷ ds) - 1 - suc i ≡ length ds - 1 - i = omega arith in
-    ap (λ k. number_from_digits_after b (n * b + d) ds / b ^ k % b) places ∙ digit_at b (n * b + d) ds i all.1 (omega arith)
+    ap (λ k. number_from_digits_after b (n * b + d) ds / b ^ k % b) places
+    ∙ digit_at b (n * b + d) ds i all.1 (omega arith)
 
-one_of_four : (a b c : Bool) (p q r s : ℕ) → p < 4294967296 → q < 4294967296 → r < 4294967296 → s < 4294967296 → cond a p (cond b q (cond c r s)) < 4294967296
+one_of_four : (a b c : Bool) (p q r s : ℕ) → p < 4294967296 → q < 4294967296 → r < 4294967296 → s < 4294967296
+    → cond a p (cond b q (cond c r s)) < 4294967296
 one_of_four true b c p q r s hp hq hr hs = hp
 one_of_four false true c p q r s hp hq hr hs = hq
 one_of_four false false true p q r s hp hq hr hs = hr
@@ -167,29 +197,36 @@ group_word_lt version g (inr is) = (group_held version g is).small
 unsigned_lt : (z : ℤ) → SFits w32 z → of_z w32 z < 4294967296
 unsigned_lt z fits = (Fits-of_z fits).fits
 
-frame_word_lt : (version : Version) (first last : ℤ) (gs : List (List ℤ)) (number : ℕ) → AreGroups version gs → SFits w32 first → SFits w32 last → frame_word version first last gs number < 4294967296
+frame_word_lt : (version : Version) (first last : ℤ) (gs : List (List ℤ)) (number : ℕ) → AreGroups version gs
+    → SFits w32 first → SFits w32 last → frame_word version first last gs number < 4294967296
 unfolding frame_word
 frame_word_lt version first last gs number are f g =
-    one_of_four (eqb (number % 16) 0) (eqb number 1) (eqb number 2) (codes_word version gs number) (of_z w32 first) (of_z w32 last) (group_word version (group_in gs number))
-    (codes_word_lt version gs number) (unsigned_lt first f) (unsigned_lt last g) (group_word_lt version (group_in gs number) (group_or_none version gs number are))
+    one_of_four (eqb (number % 16) 0) (eqb number 1) (eqb number 2) (codes_word version gs number) (of_z w32 first)
+    (of_z w32 last) (group_word version (group_in gs number))
+    (codes_word_lt version gs number) (unsigned_lt first f) (unsigned_lt last g)
+    (group_word_lt version (group_in gs number) (group_or_none version gs number are))
 
 -- a word of the area is the word with that number
-word_is : (version : Version) (first last : ℤ) (gs : List (List ℤ)) (frames number : ℕ) → AreGroups version gs → SFits w32 first → SFits w32 last → number < 16 * frames
+word_is : (version : Version) (first last : ℤ) (gs : List (List ℤ)) (frames number : ℕ) → AreGroups version gs
+    → SFits w32 first → SFits w32 last → number < 16 * frames
     → whole_word Big (frame_bytes version first last gs frames) number ≡ frame_word version first last gs number
 word_is version first last gs frames number are f g within =
     let w = frame_word version first last gs in
     let ws = frame_words version first last gs frames in
     let size : length ws ≡ 16 * frames = length-map-range_with_len w 0 (16 * frames) in
     let at = λ (k : ℕ) (h : k < 16 * frames). get_or-map-range_with_len w 0 (16 * frames) k k 0 h (omega arith) in
-    word_read ws number (λ k h. subst (λ n. n < 4294967296) (sym (at k (omega arith))) (frame_word_lt version first last gs k are f g)) (omega arith) ∙ at number within
+    word_read ws number (λ k h. subst (λ n. n < 4294967296) (sym (at k (omega arith)))
+    (frame_word_lt version first last gs k are f g)) (omega arith) ∙ at number within
 
-first_word_is : (version : Version) (first last : ℤ) (gs : List (List ℤ)) (number : ℕ) → number % 16 ≡ 0 → frame_word version first last gs number ≡ codes_word version gs number
+first_word_is : (version : Version) (first last : ℤ) (gs : List (List ℤ)) (number : ℕ) → number % 16 ≡ 0
+    → frame_word version first last gs number ≡ codes_word version gs number
 unfolding frame_word
 first_word_is version first last gs number here =
     let e : eqb (number % 16) 0 ≡ true = grind (arith, nat_tests) in
     simp e
 
-code_read : (version : Version) (gs : List (List ℤ)) (number p : ℕ) → p < 16 → codes_word version gs number / 2 ^ (30 - 2 * p) % 4 ≡ code_in version gs (number + p)
+code_read : (version : Version) (gs : List (List ℤ)) (number p : ℕ) → p < 16
+    → codes_word version gs number / 2 ^ (30 - 2 * p) % 4 ≡ code_in version gs (number + p)
 unfolding codes_word
 code_read version gs number p small =
     let ds = map (code_in version gs) (range_with_len number 16) in
@@ -204,12 +241,14 @@ no_code : (version : Version) → 0 ≡ group_code version 0
 no_code One = refl
 no_code Two = refl
 
-code_cases : (version : Version) (b : Bool) (g : List ℤ) (x : ℕ) → x ≡ group_code version (length (cond b [] g)) → cond b 0 x ≡ group_code version (length (cond b [] g))
+code_cases : (version : Version) (b : Bool) (g : List ℤ) (x : ℕ) → x ≡ group_code version (length (cond b [] g))
+    → cond b 0 x ≡ group_code version (length (cond b [] g))
 code_cases version true g x e = no_code version
 code_cases version false g x e = e
 
 -- a code of the area is the code of the word with that number
-code_is : (version : Version) (first last : ℤ) (gs : List (List ℤ)) (frames number : ℕ) → AreGroups version gs → SFits w32 first → SFits w32 last → number < 16 * frames
+code_is : (version : Version) (first last : ℤ) (gs : List (List ℤ)) (frames number : ℕ) → AreGroups version gs
+    → SFits w32 first → SFits w32 last → number < 16 * frames
     → code_of Big (frame_bytes version first last gs frames) number ≡ code_in version gs number
 code_is version first last gs frames number are f g within =
     let s = number / 16 * 16 in
@@ -218,7 +257,8 @@ code_is version first last gs frames number are f g within =
     let start : s % 16 ≡ 0 = omega arith in
     let word : whole_word Big (frame_bytes version first last gs frames) s ≡ codes_word version gs s =
     word_is version first last gs frames s are f g (omega arith) ∙ first_word_is version first last gs s start in
-    code_cases version (ltb number 3 || eqb (number % 16) 0) (get_or gs (number - number / 16 - 3) []) (whole_word Big (frame_bytes version first last gs frames) s / 2 ^ (30 - 2 * p) % 4)
+    code_cases version (ltb number 3 || eqb (number % 16) 0) (get_or gs (number - number / 16 - 3) [])
+    (whole_word Big (frame_bytes version first last gs frames) s / 2 ^ (30 - 2 * p) % 4)
     (ap (λ w. w / 2 ^ (30 - 2 * p) % 4) word ∙ code_read version gs s p (omega arith) ∙ ap (code_in version gs) back)
 
 -- ---- what each word holds
@@ -231,7 +271,8 @@ or_right : (a b : Bool) → (a || b) ≡ false → b ≡ false
 or_right true b e = absurd (cc)
 or_right false b e = e
 
-data_word : (version : Version) (first last : ℤ) (gs : List (List ℤ)) (number : ℕ) → (ltb number 3 || eqb (number % 16) 0) ≡ false
+data_word : (version : Version) (first last : ℤ) (gs : List (List ℤ)) (number : ℕ)
+    → (ltb number 3 || eqb (number % 16) 0) ≡ false
     → frame_word version first last gs number ≡ group_word version (group_in gs number)
 unfolding frame_word
 data_word version first last gs number e =
@@ -239,7 +280,8 @@ data_word version first last gs number e =
     let a : eqb (number % 16) 0 ≡ false = or_right (ltb number 3) (eqb (number % 16) 0) e in
     let b : eqb number 1 ≡ false = grind (arith, nat_tests) in
     let c : eqb number 2 ≡ false = grind (arith, nat_tests) in
-    pick (eqb (number % 16) 0) (eqb number 1) (eqb number 2) (codes_word version gs number) (of_z w32 first) (of_z w32 last) (group_word version (group_in gs number)) a b c
+    pick (eqb (number % 16) 0) (eqb number 1) (eqb number 2) (codes_word version gs number) (of_z w32 first)
+    (of_z w32 last) (group_word version (group_in gs number)) a b c
   where
     pick : (a b c : Bool) (p q r s : ℕ) → a ≡ false → b ≡ false → c ≡ false → cond a p (cond b q (cond c r s)) ≡ s
     pick true b c p q r s e f g = absurd (cc)
@@ -260,7 +302,8 @@ code_0_holds_none : (version : Version) (word : ℕ) → Holds version 0 word []
 code_0_holds_none One word = record { count = refl; fit = tt; bits = mod-one word }
 code_0_holds_none Two word = record { count = refl; fit = tt; bits = mod-one word }
 
-arranged_is : (version : Version) (code : ℕ) (area : List ℕ) (number : ℕ) → arranged_word version Big code area number ≡ whole_word Big area number
+arranged_is : (version : Version) (code : ℕ) (area : List ℕ) (number : ℕ)
+    → arranged_word version Big code area number ≡ whole_word Big area number
 arranged_is One code area number = refl
 arranged_is Two code area number = refl
 
@@ -268,42 +311,59 @@ read_none : (version : Version) → as_read version [] ≡ []
 read_none One = refl
 read_none Two = refl
 
-held_here : (version : Version) (gs : List (List ℤ)) (number code word : ℕ) → AreGroups version gs → code ≡ code_in version gs number → ((ltb number 3 || eqb (number % 16) 0) ≡ false → word ≡ group_word version (group_in gs number))
+held_here : (version : Version) (gs : List (List ℤ)) (number code word : ℕ) → AreGroups version gs
+    → code ≡ code_in version gs number → ((ltb number 3 || eqb (number % 16) 0) ≡ false
+    → word ≡ group_word version (group_in gs number))
     → Holds version code word (as_read version (group_in gs number))
 held_here version gs number code word are code_so word_so =
     ⊎_elim
-    (λ (e : group_in gs number ≡ []). let zero_code : code ≡ 0 = code_so ∙ ap (λ g. group_code version (length g)) e ∙ sym (no_code version) in
-    subst (λ c. Holds version c word (as_read version (group_in gs number))) (sym zero_code) (subst (λ g. Holds version 0 word g) (sym (ap (as_read version) e ∙ read_none version)) (code_0_holds_none version word)))
-    (λ (is : IsGroup version (group_in gs number)). let w = word_so (is_data version (ltb number 3 || eqb (number % 16) 0) (get_or gs (number - number / 16 - 3) []) is) in
-    subst (λ c. Holds version c word (as_read version (group_in gs number))) (sym code_so) (subst (λ x. Holds version (code_in version gs number) x (as_read version (group_in gs number))) (sym w) (group_held version (group_in gs number) is).holds))
+    (λ (e : group_in gs number ≡ []). let zero_code : code ≡ 0 = code_so
+    ∙ ap (λ g. group_code version (length g)) e ∙ sym (no_code version) in
+    subst (λ c. Holds version c word (as_read version (group_in gs number))) (sym zero_code)
+    (subst (λ g. Holds version 0 word g) (sym (ap (as_read version) e ∙ read_none version))
+    (code_0_holds_none version word)))
+    (λ (is : IsGroup version (group_in gs number)). let w =
+    word_so (is_data version (ltb number 3 || eqb (number % 16) 0) (get_or gs (number - number / 16 - 3) []) is) in
+    subst (λ c. Holds version c word (as_read version (group_in gs number))) (sym code_so)
+    (subst (λ x. Holds version (code_in version gs number) x (as_read version (group_in gs number))) (sym w)
+    (group_held version (group_in gs number) is).holds))
     (group_or_none version gs number are)
 
 -- each word holds its group, or nothing
-word_holds_group : (version : Version) (first last : ℤ) (gs : List (List ℤ)) (frames number : ℕ) → AreGroups version gs → SFits w32 first → SFits w32 last → number < 16 * frames
+word_holds_group : (version : Version) (first last : ℤ) (gs : List (List ℤ)) (frames number : ℕ)
+    → AreGroups version gs → SFits w32 first → SFits w32 last → number < 16 * frames
     → WordHolds version Big (frame_bytes version first last gs frames) number (as_read version (group_in gs number))
 word_holds_group version first last gs frames number are f g within =
     let area = frame_bytes version first last gs frames in
-    held_here version gs number (code_of Big area number) (arranged_word version Big (code_of Big area number) area number) are
+    held_here version gs number (code_of Big area number)
+    (arranged_word version Big (code_of Big area number) area number) are
     (code_is version first last gs frames number are f g within)
-    (λ e. arranged_is version (code_of Big area number) area number ∙ word_is version first last gs frames number are f g within ∙ data_word version first last gs number e)
+    (λ e. arranged_is version (code_of Big area number) area number
+    ∙ word_is version first last gs frames number are f g within ∙ data_word version first last gs number e)
 
-pub length-frame_bytes : (version : Version) (first last : ℤ) (gs : List (List ℤ)) (frames : ℕ) → length (frame_bytes version first last gs frames) ≡ 64 * frames
+pub length-frame_bytes : (version : Version) (first last : ℤ) (gs : List (List ℤ)) (frames : ℕ)
+    → length (frame_bytes version first last gs frames) ≡ 64 * frames
 length-frame_bytes version first last gs frames =
     let e : 4 * (16 * frames) ≡ 64 * frames = omega arith in
-    length-words (frame_words version first last gs frames) ∙ ap (λ n. 4 * n) (length-map-range_with_len (frame_word version first last gs) 0 (16 * frames)) ∙ e
+    length_words (frame_words version first last gs frames)
+    ∙ ap (λ n. 4 * n) (length-map-range_with_len (frame_word version first last gs) 0 (16 * frames)) ∙ e
 
-all_held : (version : Version) (first last : ℤ) (gs : List (List ℤ)) (frames : ℕ) → AreGroups version gs → SFits w32 first → SFits w32 last
-    → FirstWordsHold version Big (frame_bytes version first last gs frames) (map (λ number. as_read version (group_in gs number)) (range_with_len 0 (16 * frames)))
+all_held : (version : Version) (first last : ℤ) (gs : List (List ℤ)) (frames : ℕ) → AreGroups version gs
+    → SFits w32 first → SFits w32 last
+    → FirstWordsHold version Big (frame_bytes version first last gs frames)
+    (map (λ number. as_read version (group_in gs number)) (range_with_len 0 (16 * frames)))
 all_held version first last gs frames are f g =
     let h = λ (number : ℕ). as_read version (group_in gs number) in
     let n = 16 * frames in
     let size : length (map h (range_with_len 0 n)) ≡ n = length-map-range_with_len h 0 n in
-    let bytes : length (frame_bytes version first last gs frames) ≡ 64 * frames = length-frame_bytes version first last gs frames in
+    let bytes : length (frame_bytes version first last gs frames) ≡ 64 * frames =
+    length-frame_bytes version first last gs frames in
     let words : 64 * frames / 64 * 16 ≡ n = omega arith in
     record {
       within = subst (λ k. length (map h (range_with_len 0 n)) ≤ k / 64 * 16) (sym bytes) (omega arith);
       each = λ number below. let lt : number < n = omega arith in
-          subst (WordHolds version Big (frame_bytes version first last gs frames) number) (sym (get_or-map-range_with_len h 0 n number number [] lt (omega arith)))
+          subst (WordHolds version Big (frame_bytes version first last gs frames) number)
+          (sym (get_or-map-range_with_len h 0 n number number [] lt (omega arith)))
           (word_holds_group version first last gs frames number are f g lt);
     }
 
@@ -314,10 +374,16 @@ past [] k le = refl
 past (g ∷ gs) zero le = absurd (omega arith)
 past (g ∷ gs) (suc k) le = past gs k (omega arith)
 
-place_more : (version : Version) (gs : List (List ℤ)) (k : ℕ) → flat_map (as_read version) (take k gs) ++ as_read version (get_or gs k []) ≡ flat_map (as_read version) (take (k + 1) gs)
+place_more : (version : Version) (gs : List (List ℤ)) (k : ℕ)
+    → flat_map (as_read version) (take k gs) ++ as_read version (get_or gs k [])
+    ≡ flat_map (as_read version) (take (k + 1) gs)
 place_more version gs k = ⊎_elim
-    (λ (lt : k < length gs). sym (ap (flat_map (as_read version)) (take_more gs k [] lt) ∙ flat_map-append (as_read version) (take k gs) (get_or gs k [] ∷ []) ∙ ap (λ xs. flat_map (as_read version) (take k gs) ++ xs) (append-nil (as_read version (get_or gs k [])))))
-    (λ (ge : length gs ≤ k). ap (λ g. flat_map (as_read version) (take k gs) ++ as_read version g) (past gs k ge) ∙ ap (λ xs. flat_map (as_read version) (take k gs) ++ xs) (read_none version) ∙ append-nil (flat_map (as_read version) (take k gs))
+    (λ (lt : k < length gs). sym (ap (flat_map (as_read version)) (take_more gs k [] lt)
+    ∙ flat_map-append (as_read version) (take k gs) (get_or gs k [] ∷ [])
+    ∙ ap (λ xs. flat_map (as_read version) (take k gs) ++ xs) (append-nil (as_read version (get_or gs k [])))))
+    (λ (ge : length gs ≤ k). ap (λ g. flat_map (as_read version) (take k gs) ++ as_read version g) (past gs k ge)
+    ∙ ap (λ xs. flat_map (as_read version) (take k gs) ++ xs) (read_none version)
+    ∙ append-nil (flat_map (as_read version) (take k gs))
     ∙ ap (flat_map (as_read version)) (take_all k gs ge ∙ sym (take_all (k + 1) gs (omega arith))))
     (cases_lt k (length gs))
 
@@ -348,10 +414,13 @@ place_next n e =
     omega arith
 
 word_more : (version : Version) (gs : List (List ℤ)) (n : ℕ) (b : Bool) → (ltb n 3 || eqb (n % 16) 0) ≡ b
-    → flat_map (as_read version) (take (n - (n + 15) / 16 - 2) gs) ++ as_read version (cond b [] (get_or gs (n - n / 16 - 3) [])) ≡ flat_map (as_read version) (take (suc n - (suc n + 15) / 16 - 2) gs)
+    → flat_map (as_read version) (take (n - (n + 15) / 16 - 2) gs)
+    ++ as_read version (cond b [] (get_or gs (n - n / 16 - 3) []))
+    ≡ flat_map (as_read version) (take (suc n - (suc n + 15) / 16 - 2) gs)
 word_more version gs n true e =
     let stay : n - (n + 15) / 16 - 2 ≡ suc n - (suc n + 15) / 16 - 2 = no_place n e in
-    ap (λ xs. flat_map (as_read version) (take (n - (n + 15) / 16 - 2) gs) ++ xs) (read_none version) ∙ append-nil (flat_map (as_read version) (take (n - (n + 15) / 16 - 2) gs))
+    ap (λ xs. flat_map (as_read version) (take (n - (n + 15) / 16 - 2) gs) ++ xs) (read_none version)
+    ∙ append-nil (flat_map (as_read version) (take (n - (n + 15) / 16 - 2) gs))
     ∙ ap (λ k. flat_map (as_read version) (take k gs)) stay
 word_more version gs n false e =
     let here : n - n / 16 - 3 ≡ n - (n + 15) / 16 - 2 = place_here n e in
@@ -360,13 +429,17 @@ word_more version gs n false e =
     ∙ place_more version gs (n - (n + 15) / 16 - 2) ∙ ap (λ k. flat_map (as_read version) (take k gs)) next
 
 -- the groups in the words below a number
-groups_below : (version : Version) (gs : List (List ℤ)) (n : ℕ) → flat_map (λ group. group) (map (λ number. as_read version (group_in gs number)) (range_with_len 0 n)) ≡ flat_map (as_read version) (take (n - (n + 15) / 16 - 2) gs)
+groups_below : (version : Version) (gs : List (List ℤ)) (n : ℕ)
+    → flat_map (λ group. group) (map (λ number. as_read version (group_in gs number)) (range_with_len 0 n))
+    ≡ flat_map (as_read version) (take (n - (n + 15) / 16 - 2) gs)
 groups_below version gs zero = refl
 groups_below version gs (suc n) =
     let h = λ (number : ℕ). as_read version (group_in gs number) in
     let one : suc n ≡ n + 1 = omega arith in
-    let more : map h (range_with_len 0 (suc n)) ≡ map h (range_with_len 0 n) ++ h n ∷ [] = ap (λ k. map h (range_with_len 0 k)) one ∙ map-range_with_len_more h 0 n n (omega arith) in
-    ap (flat_map (λ group. group)) more ∙ flat_map-append (λ group. group) (map h (range_with_len 0 n)) (h n ∷ []) ∙ ap (λ xs. xs ++ (h n ++ [])) (groups_below version gs n)
+    let more : map h (range_with_len 0 (suc n)) ≡ map h (range_with_len 0 n) ++ h n ∷ [] =
+    ap (λ k. map h (range_with_len 0 k)) one ∙ map-range_with_len_more h 0 n n (omega arith) in
+    ap (flat_map (λ group. group)) more ∙ flat_map-append (λ group. group) (map h (range_with_len 0 n)) (h n ∷ [])
+    ∙ ap (λ xs. xs ++ (h n ++ [])) (groups_below version gs n)
     ∙ ap (λ xs. flat_map (as_read version) (take (n - (n + 15) / 16 - 2) gs) ++ xs) (append-nil (h n))
     ∙ word_more version gs n (ltb n 3 || eqb (n % 16) 0) refl
 
@@ -387,13 +460,15 @@ are_padded : (version : Version) (gs : List (List ℤ)) → AreGroups version gs
 are_padded version [] are = record { padding = []; join = refl }
 are_padded version (g ∷ []) are = record {
   padding = replicate (padding_of version (length g)) (pos 0);
-  join = append-nil (as_read version g) ∙ ap (λ xs. xs ++ replicate (padding_of version (length g)) (pos 0)) (sym (append-nil g));
+  join = append-nil (as_read version g) ∙ ap (λ xs. xs ++ replicate (padding_of version (length g)) (pos 0))
+      (sym (append-nil g));
 }
 are_padded version (g ∷ h ∷ gs) are =
     let r = are_padded version (h ∷ gs) are.1 in
     record {
       padding = r.padding;
-      join = ap (λ xs. xs ++ flat_map (as_read version) (h ∷ gs)) (inner_as_read version g are.0) ∙ ap (λ xs. g ++ xs) r.join ∙ sym (append_assoc g (differences (h ∷ gs)) r.padding);
+      join = ap (λ xs. xs ++ flat_map (as_read version) (h ∷ gs)) (inner_as_read version g are.0)
+          ∙ ap (λ xs. g ++ xs) r.join ∙ sym (append_assoc g (differences (h ∷ gs)) r.padding);
     }
 
 -- ---- the samples
@@ -406,9 +481,11 @@ back_by_difference x y fits =
 sums_of_differences : (x : ℤ) (xs : List ℤ) → AllByRecursion (SFits w32) xs → sums_after x (differences_after x xs) ≡ xs
 sums_of_differences x [] all = refl
 sums_of_differences x (y ∷ ys) all =
-    ap (λ z. z ∷ sums_after z (differences_after y ys)) (back_by_difference x y all.0) ∙ ap (λ zs. y ∷ zs) (sums_of_differences y ys all.1)
+    ap (λ z. z ∷ sums_after z (differences_after y ys)) (back_by_difference x y all.0)
+    ∙ ap (λ zs. y ∷ zs) (sums_of_differences y ys all.1)
 
-samples_of_differences : (before : ℤ) (xs : List ℤ) → AllByRecursion (SFits w32) xs → samples_of (get_or xs 0 (pos 0)) (differences_after before xs) ≡ xs
+samples_of_differences : (before : ℤ) (xs : List ℤ) → AllByRecursion (SFits w32) xs
+    → samples_of (get_or xs 0 (pos 0)) (differences_after before xs) ≡ xs
 samples_of_differences before [] all = refl
 samples_of_differences before (x ∷ xs) all = ap (λ zs. x ∷ zs) (sums_of_differences x xs all.1)
 
@@ -425,23 +502,34 @@ first_fits [] all = record { sfits = lit< tt }
 first_fits (x ∷ xs) all = all.0
 
 -- a constant is read back
-constant_is : (version : Version) (first last : ℤ) (gs : List (List ℤ)) (frames : ℕ) → AreGroups version gs → SFits w32 first → SFits w32 last → 0 < frames
-    → (constant Big (frame_bytes version first last gs frames) 1 ≡ first) × (constant Big (frame_bytes version first last gs frames) 2 ≡ last)
+constant_is : (version : Version) (first last : ℤ) (gs : List (List ℤ)) (frames : ℕ) → AreGroups version gs
+    → SFits w32 first → SFits w32 last → 0 < frames
+    → (constant Big (frame_bytes version first last gs frames) 1 ≡ first)
+    × (constant Big (frame_bytes version first last gs frames) 2 ≡ last)
 unfolding frame_word
-constant_is version first last gs frames are f g some =
-    (ap (to_z w32) (word_is version first last gs frames 1 are f g (omega arith)) ∙ to_z-of_z w32 first f, ap (to_z w32) (word_is version first last gs frames 2 are f g (omega arith)) ∙ to_z-of_z w32 last g)
+constant_is version first last gs frames are f g some = (
+  ap (to_z w32) (word_is version first last gs frames 1 are f g (omega arith))
+      ∙ to_z-of_z w32 first f,
+  ap (to_z w32) (word_is version first last gs frames 2 are f g (omega arith))
+      ∙ to_z-of_z w32 last g,
+)
 
-pub filled_reverse : (version : Version) (first last : ℤ) (gs : List (List ℤ)) (frames : ℕ) → AreGroups version gs → 0 < frames → SFits w32 first → SFits w32 last
+pub filled_reverse : (version : Version) (first last : ℤ) (gs : List (List ℤ)) (frames : ℕ) → AreGroups version gs
+    → 0 < frames → SFits w32 first → SFits w32 last
     → constant Big (frame_bytes version first last gs frames) 2 ≡ last
 filled_reverse version first last gs frames are some f g = (constant_is version first last gs frames are f g some).1
 
 -- the last sample is the reverse constant
-pub filled_agrees : (version : Version) (first last : ℤ) (gs : List (List ℤ)) (xs : List ℤ) (frames : ℕ) → AreGroups version gs → 0 < frames → SFits w32 first → SFits w32 last
+pub filled_agrees : (version : Version) (first last : ℤ) (gs : List (List ℤ)) (xs : List ℤ) (frames : ℕ)
+    → AreGroups version gs → 0 < frames → SFits w32 first → SFits w32 last
     → slice_get xs (length xs - 1) ≡ Some last → ReverseAgrees Big (frame_bytes version first last gs frames) xs
-filled_agrees version first last gs xs frames are some f g is = is ∙ ap Some (sym (filled_reverse version first last gs frames are some f g))
+filled_agrees version first last gs xs frames are some f g is = is
+    ∙ ap Some (sym (filled_reverse version first last gs frames are some f g))
 
-pub filled_carries : (version : Version) (before last : ℤ) (gs : List (List ℤ)) (xs : List ℤ) (frames : ℕ) → AreGroups version gs → length gs + 2 ≤ 15 * frames → differences gs ≡ differences_after before xs
-    → All (SFits w32) xs → SFits w32 last → CarriesSteim version Big (frame_bytes version (get_or xs 0 (pos 0)) last gs frames) xs
+pub filled_carries : (version : Version) (before last : ℤ) (gs : List (List ℤ)) (xs : List ℤ) (frames : ℕ)
+    → AreGroups version gs → length gs + 2 ≤ 15 * frames → differences gs ≡ differences_after before xs
+    → All (SFits w32) xs → SFits w32 last → CarriesSteim version Big
+    (frame_bytes version (get_or xs 0 (pos 0)) last gs frames) xs
 filled_carries version before last gs xs frames are room join fit g =
     let all : AllByRecursion (SFits w32) xs = each_fits xs (λ i h. All-get_or (SFits w32) xs i (pos 0) h fit) in
     let first = get_or xs 0 (pos 0) in
@@ -452,14 +540,20 @@ filled_carries version before last gs xs frames are room join fit g =
     let places : 16 * frames - (16 * frames + 15) / 16 - 2 ≡ 15 * frames - 2 = omega arith in
     let ds = differences_after before xs in
     let spelled : differences held ≡ ds ++ padded.padding =
-    groups_below version gs (16 * frames) ∙ ap (λ k. flat_map (as_read version) (take k gs)) places ∙ ap (flat_map (as_read version)) (take_all (15 * frames - 2) gs (omega arith)) ∙ padded.join ∙ ap (λ d. d ++ padded.padding) join in
-    let size : length (differences held) ≡ length xs + length padded.padding = ap length spelled ∙ length-append ds padded.padding ∙ ap (λ n. n + length padded.padding) (length-differences_after before xs) in
+    groups_below version gs (16 * frames) ∙ ap (λ k. flat_map (as_read version) (take k gs)) places
+    ∙ ap (flat_map (as_read version)) (take_all (15 * frames - 2) gs (omega arith)) ∙ padded.join
+    ∙ ap (λ d. d ++ padded.padding) join in
+    let size : length (differences held) ≡ length xs + length padded.padding = ap length spelled
+    ∙ length-append ds padded.padding ∙ ap (λ n. n + length padded.padding) (length-differences_after before xs) in
     let first_is : constant Big area 1 ≡ first = (constant_is version first last gs frames are f g (omega arith)).0 in
-    let few : length xs ≤ length ds = subst (λ n. length xs ≤ n) (sym (length-differences_after before xs)) (omega arith) in
+    let few : length xs ≤ length ds = subst (λ n. length xs ≤ n) (sym (length-differences_after before xs))
+    (omega arith) in
     record {
       groups = held;
       held = all_held version first last gs frames are f g;
       enough = omega arith;
-      sums = sym (ap (λ c. take (length xs) (samples_of c (differences held))) first_is ∙ ap (λ d. take (length xs) (samples_of first d)) spelled ∙ samples_more first ds padded.padding (length xs) few
+      sums = sym (ap (λ c. take (length xs) (samples_of c (differences held))) first_is
+          ∙ ap (λ d. take (length xs) (samples_of first d)) spelled
+          ∙ samples_more first ds padded.padding (length xs) few
           ∙ ap (take (length xs)) (samples_of_differences before xs all) ∙ take_all (length xs) xs (omega arith));
     }

@@ -21,27 +21,32 @@ pub inner_is_group : (version : Version) (group : List ℤ) → IsInnerGroup ver
 inner_is_group One group is = is.0
 inner_is_group Two group is = is
 
-group_at_place : (version : Version) (gs : List (List ℤ)) (i : ℕ) → AreGroups version gs → (get_or gs i [] ≡ []) ⊎ IsGroup version (get_or gs i [])
+group_at_place : (version : Version) (gs : List (List ℤ)) (i : ℕ) → AreGroups version gs
+    → (get_or gs i [] ≡ []) ⊎ IsGroup version (get_or gs i [])
 group_at_place version [] i are = inl refl
 group_at_place version (g ∷ []) zero are = inr are
 group_at_place version (g ∷ []) (suc i) are = inl refl
 group_at_place version (g ∷ h ∷ gs) zero are = inr (inner_is_group version g are.0)
 group_at_place version (g ∷ h ∷ gs) (suc i) are = group_at_place version (h ∷ gs) i are.1
 
-none_or : (version : Version) (b : Bool) (g : List ℤ) → (g ≡ []) ⊎ IsGroup version g → (cond b [] g ≡ []) ⊎ IsGroup version (cond b [] g)
+none_or : (version : Version) (b : Bool) (g : List ℤ) → (g ≡ []) ⊎ IsGroup version g
+    → (cond b [] g ≡ []) ⊎ IsGroup version (cond b [] g)
 none_or version true g h = inl refl
 none_or version false g h = h
 
 -- a word has no group, or one that a word can hold
-pub group_or_none : (version : Version) (gs : List (List ℤ)) (number : ℕ) → AreGroups version gs → (group_in gs number ≡ []) ⊎ IsGroup version (group_in gs number)
-group_or_none version gs number are = none_or version (ltb number 3 || eqb (number % 16) 0) (get_or gs (number - number / 16 - 3) []) (group_at_place version gs (number - number / 16 - 3) are)
+pub group_or_none : (version : Version) (gs : List (List ℤ)) (number : ℕ) → AreGroups version gs
+    → (group_in gs number ≡ []) ⊎ IsGroup version (group_in gs number)
+group_or_none version gs number are = none_or version (ltb number 3 || eqb (number % 16) 0)
+    (get_or gs (number - number / 16 - 3) []) (group_at_place version gs (number - number / 16 - 3) are)
 
 word_of_none : (version : Version) → 0 ≡ group_word version []
 word_of_none One = refl
 word_of_none Two = refl
 
 -- a word without a group is 0
-pub no_group_no_word : (version : Version) (gs : List (List ℤ)) (number : ℕ) → AreGroups version gs → (IsGroup version (group_in gs number) → ⊥) → 0 ≡ group_word version (group_in gs number)
+pub no_group_no_word : (version : Version) (gs : List (List ℤ)) (number : ℕ) → AreGroups version gs
+    → (IsGroup version (group_in gs number) → ⊥) → 0 ≡ group_word version (group_in gs number)
 no_group_no_word version gs number are not_one =
     ⊎_elim (λ (e : group_in gs number ≡ []). word_of_none version ∙ ap (group_word version) (sym e))
     (λ (is : IsGroup version (group_in gs number)). absurd (not_one is))
@@ -76,13 +81,18 @@ codes_below version gs [] = tt
 codes_below version gs (n ∷ ns) = (code_lt version (length (group_in gs n)), codes_below version gs ns)
 
 -- so many codes are a number below this
-pub codes_lt : (version : Version) (gs : List (List ℤ)) (number k : ℕ) → number_from_digits 4 (map (code_in version gs) (range_with_len number k)) < 4 ^ k
+pub codes_lt : (version : Version) (gs : List (List ℤ)) (number k : ℕ)
+    → number_from_digits 4 (map (code_in version gs) (range_with_len number k)) < 4 ^ k
 codes_lt version gs number k =
-    rw (length-map-range_with_len (code_in version gs) number k) at (number_lt 4 (map (code_in version gs) (range_with_len number k)) (codes_below version gs (range_with_len number k)))
+    rw (length-map-range_with_len (code_in version gs) number k) at
+    (number_lt 4 (map (code_in version gs) (range_with_len number k))
+    (codes_below version gs (range_with_len number k)))
 
 -- one more code
 pub codes_more : (version : Version) (gs : List (List ℤ)) (number k : ℕ)
-    → number_from_digits 4 (map (code_in version gs) (range_with_len number (k + 1))) ≡ number_from_digits 4 (map (code_in version gs) (range_with_len number k)) * 4 + code_in version gs (number + k)
+    → number_from_digits 4 (map (code_in version gs) (range_with_len number (k + 1)))
+    ≡ number_from_digits 4 (map (code_in version gs) (range_with_len number k)) * 4 + code_in version gs
+    (number + k)
 codes_more version gs number k =
     ap (number_from_digits 4) (map-range_with_len_more (code_in version gs) number k (number + k) refl)
     ∙ number_push 4 (map (code_in version gs) (range_with_len number k)) (code_in version gs (number + k))
@@ -95,19 +105,20 @@ codes_fit codes k few small =
 
 -- ---- the bytes of the words
 
-pub length-words : (ws : List ℕ) → length (flat_map (big_bytes 4) ws) ≡ 4 * length ws
-length-words [] = refl
-length-words (w ∷ ws) = let e : length (flat_map (big_bytes 4) ws) ≡ 4 * length ws = length-words ws in omega arith
+pub length_words : (ws : List ℕ) → length (flat_map (big_bytes 4) ws) ≡ 4 * length ws
+length_words [] = refl
+length_words (w ∷ ws) = let e : length (flat_map (big_bytes 4) ws) ≡ 4 * length ws = length_words ws in omega arith
 
 -- one more word
-pub fill_step : (ws : List ℕ) (w n : ℕ) (old area buf : List ℕ) → length ws ≡ n → area ≡ flat_map (big_bytes 4) ws ++ drop (4 * n) old
+pub fill_step : (ws : List ℕ) (w n : ℕ) (old area buf : List ℕ) → length ws ≡ n
+    → area ≡ flat_map (big_bytes 4) ws ++ drop (4 * n) old
     → buf ≡ big_bytes 4 w ++ drop 4 (take (length area - 4 * n) (drop (4 * n) area)) → 4 * n + 4 ≤ length area
     → put_mid (4 * n) (length area - 4 * n) area buf ≡ flat_map (big_bytes 4) (ws ++ w ∷ []) ++ drop (4 * (n + 1)) old
 fill_step ws w n old area buf number same written room =
     let g = flat_map (big_bytes 4) ws in
     let d = drop (4 * n) old in
     let k = length area - 4 * n in
-    let size : length g ≡ 4 * n = length-words ws ∙ ap (λ m. 4 * m) number in
+    let size : length g ≡ 4 * n = length_words ws ∙ ap (λ m. 4 * m) number in
     let front : take (4 * n) area ≡ g = ap (take (4 * n)) same ∙ take_at g d (4 * n) size in
     let back : drop (4 * n) area ≡ d = ap (drop (4 * n)) same ∙ drop_at g d (4 * n) size in
     let left : length (drop (4 * n) area) ≡ length area - 4 * n = length-drop (4 * n) area in
@@ -116,6 +127,8 @@ fill_step ws w n old area buf number same written room =
     let places : 4 * n + 4 ≡ 4 * (n + 1) = omega arith in
     let rest : drop 4 d ≡ drop (4 * (n + 1)) old = drop-drop 4 (4 * n) old ∙ ap (λ m. drop m old) places in
     let more : flat_map (big_bytes 4) (ws ++ w ∷ []) ≡ g ++ big_bytes 4 w = flat_map-append (big_bytes 4) ws (w ∷ []) in
-    let now : buf ≡ big_bytes 4 w ++ drop (4 * (n + 1)) old = written ∙ ap (λ x. big_bytes 4 w ++ drop 4 x) (whole ∙ back) ∙ ap (λ x. big_bytes 4 w ++ x) rest in
-    ap (λ x. x ++ (buf ++ drop k (drop (4 * n) area))) front ∙ ap (λ x. g ++ (buf ++ x)) none ∙ ap (λ x. g ++ x) (append-nil buf ∙ now)
+    let now : buf ≡ big_bytes 4 w ++ drop (4 * (n + 1)) old = written
+    ∙ ap (λ x. big_bytes 4 w ++ drop 4 x) (whole ∙ back) ∙ ap (λ x. big_bytes 4 w ++ x) rest in
+    ap (λ x. x ++ (buf ++ drop k (drop (4 * n) area))) front ∙ ap (λ x. g ++ (buf ++ x)) none
+    ∙ ap (λ x. g ++ x) (append-nil buf ∙ now)
     ∙ sym (append_assoc g (big_bytes 4 w) (drop (4 * (n + 1)) old)) ∙ ap (λ x. x ++ drop (4 * (n + 1)) old) (sym more)

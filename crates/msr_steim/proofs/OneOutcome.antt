@@ -12,27 +12,38 @@ use Rattle.msr_steim.proofs.OneList.{holds_one, undefined_holds_none}
 use Rattle.msr_steim.proofs.Decoding.{length-samples_of}
 
 -- the first words hold one list of groups
-same_groups : (version : Version) (order : Order) (area : List ℕ) (gs hs : List (List ℤ)) → FirstWordsHold version order area gs → FirstWordsHold version order area hs → length gs ≤ length hs → gs ≡ take (length gs) hs
+same_groups : (version : Version) (order : Order) (area : List ℕ) (gs hs : List (List ℤ))
+    → FirstWordsHold version order area gs → FirstWordsHold version order area hs → length gs ≤ length hs
+    → gs ≡ take (length gs) hs
 same_groups version order area gs hs f g few =
     ext_get_or [] gs (take (length gs) hs) (sym (length-take (length gs) hs ∙ omega arith))
-    (λ k (within : k < length gs). holds_one version (code_of order area k) (arranged_word version order (code_of order area k) area k) (get_or gs k []) (get_or (take (length gs) hs) k [])
+    (λ k (within : k < length gs). holds_one version (code_of order area k)
+    (arranged_word version order (code_of order area k) area k) (get_or gs k []) (get_or (take (length gs) hs) k [])
     (f.each k within) (rw (get_or-take (length gs) hs k [] within) (g.each k (omega arith))))
 
 -- so the differences of fewer words begin those of more
-more_differences : (version : Version) (order : Order) (area : List ℕ) (gs hs : List (List ℤ)) → FirstWordsHold version order area gs → FirstWordsHold version order area hs → length gs ≤ length hs
+more_differences : (version : Version) (order : Order) (area : List ℕ) (gs hs : List (List ℤ))
+    → FirstWordsHold version order area gs → FirstWordsHold version order area hs → length gs ≤ length hs
     → differences hs ≡ differences gs ++ differences (drop (length gs) hs)
 more_differences version order area gs hs f g few =
-    ap differences (sym (take-append-drop (length gs) hs)) ∙ flat_map-append (λ g. g) (take (length gs) hs) (drop (length gs) hs)
-    ∙ ap (λ xs. differences xs ++ differences (drop (length gs) hs)) (sym (same_groups version order area gs hs f g few))
+    ap differences (sym (take-append-drop (length gs) hs))
+    ∙ flat_map-append (λ g. g) (take (length gs) hs) (drop (length gs) hs)
+    ∙ ap (λ xs. differences xs ++ differences (drop (length gs) hs))
+    (sym (same_groups version order area gs hs f g few))
 
-fewer_differences : (version : Version) (order : Order) (area : List ℕ) (gs hs : List (List ℤ)) → FirstWordsHold version order area gs → FirstWordsHold version order area hs → length gs ≤ length hs
+fewer_differences : (version : Version) (order : Order) (area : List ℕ) (gs hs : List (List ℤ))
+    → FirstWordsHold version order area gs → FirstWordsHold version order area hs → length gs ≤ length hs
     → length (differences gs) ≤ length (differences hs)
 fewer_differences version order area gs hs f g few =
-    let e : length (differences hs) ≡ length (differences gs) + length (differences (drop (length gs) hs)) = ap length (more_differences version order area gs hs f g few) ∙ length-append (differences gs) (differences (drop (length gs) hs)) in
+    let e : length (differences hs) ≡ length (differences gs) + length (differences (drop (length gs) hs)) =
+    ap length (more_differences version order area gs hs f g few)
+    ∙ length-append (differences gs) (differences (drop (length gs) hs)) in
     omega arith
 
 -- words that hold too few differences are no more than those that hold enough
-enough_after : (version : Version) (order : Order) (area : List ℕ) (gs hs : List (List ℤ)) (count : ℕ) → FirstWordsHold version order area gs → FirstWordsHold version order area hs → length (differences gs) < count → count ≤ length (differences hs)
+enough_after : (version : Version) (order : Order) (area : List ℕ) (gs hs : List (List ℤ)) (count : ℕ)
+    → FirstWordsHold version order area gs → FirstWordsHold version order area hs → length (differences gs) < count
+    → count ≤ length (differences hs)
     → length gs < length hs
 enough_after version order area gs hs count f g few enough =
     ⊎_elim (λ (lt : length gs < length hs). lt)
@@ -40,29 +51,39 @@ enough_after version order area gs hs count f g few enough =
     (cases_lt (length gs) (length hs))
 
 -- an undefined word is none of the words that hold lists
-undefined_not_held : (version : Version) (order : Order) (area : List ℕ) (hs : List (List ℤ)) (number : ℕ) → IsUndefined version order area number → FirstWordsHold version order area hs → number < length hs → ⊥
+undefined_not_held : (version : Version) (order : Order) (area : List ℕ) (hs : List (List ℤ)) (number : ℕ)
+    → IsUndefined version order area number → FirstWordsHold version order area hs → number < length hs → ⊥
 undefined_not_held version order area hs number undefined held within =
-    undefined_holds_none version (code_of order area number) (arranged_word version order (code_of order area number) area number) (get_or hs number []) undefined (held.each number within)
+    undefined_holds_none version (code_of order area number)
+    (arranged_word version order (code_of order area number) area number) (get_or hs number []) undefined
+    (held.each number within)
 
-pub not_short : (version : Version) (order : Order) (area : List ℕ) (samples : List ℤ) → CarriesSteim version order area samples → EndsBefore version order area (length samples) → ⊥
+pub not_short : (version : Version) (order : Order) (area : List ℕ) (samples : List ℤ)
+    → CarriesSteim version order area samples → EndsBefore version order area (length samples) → ⊥
 not_short version order area samples c e =
     let more = enough_after version order area e.groups c.groups (length samples) e.held c.held e.few c.enough in
     absurd (omega (arith, e.all, c.held.within))
 
-pub not_undefined : (version : Version) (order : Order) (area : List ℕ) (samples : List ℤ) (number : ℕ) → CarriesSteim version order area samples → IsUndefinedBefore version order area (length samples) number → ⊥
+pub not_undefined : (version : Version) (order : Order) (area : List ℕ) (samples : List ℤ) (number : ℕ)
+    → CarriesSteim version order area samples → IsUndefinedBefore version order area (length samples) number → ⊥
 not_undefined version order area samples number c u =
     let more = enough_after version order area u.groups c.groups (length samples) u.held c.held u.few c.enough in
     undefined_not_held version order area c.groups number u.undefined c.held (omega (arith, u.first))
 
-pub short_or_undefined : (version : Version) (order : Order) (area : List ℕ) (count number : ℕ) → EndsBefore version order area count → IsUndefinedBefore version order area count number → ⊥
-short_or_undefined version order area count number e u = undefined_not_held version order area e.groups number u.undefined e.held (omega (arith, e.all, u.within))
+pub short_or_undefined : (version : Version) (order : Order) (area : List ℕ) (count number : ℕ)
+    → EndsBefore version order area count → IsUndefinedBefore version order area count number → ⊥
+short_or_undefined version order area count number e u =
+    undefined_not_held version order area e.groups number u.undefined e.held (omega (arith, e.all, u.within))
 
-pub one_undefined : (version : Version) (order : Order) (area : List ℕ) (count m n : ℕ) → IsUndefinedBefore version order area count m → IsUndefinedBefore version order area count n → m ≡ n
+pub one_undefined : (version : Version) (order : Order) (area : List ℕ) (count m n : ℕ)
+    → IsUndefinedBefore version order area count m → IsUndefinedBefore version order area count n → m ≡ n
 one_undefined version order area count m n u v =
     ⊎_elim
-    (λ (lt : m < n). absurd (undefined_not_held version order area v.groups m u.undefined v.held (omega (arith, v.first))))
+    (λ (lt : m < n). absurd (undefined_not_held version order area v.groups m u.undefined v.held
+    (omega (arith, v.first))))
     (λ (ge : n ≤ m). ⊎_elim
-    (λ (lt : n < m). absurd (undefined_not_held version order area u.groups n v.undefined u.held (omega (arith, u.first))))
+    (λ (lt : n < m). absurd (undefined_not_held version order area u.groups n v.undefined u.held
+    (omega (arith, u.first))))
     (λ (le : m ≤ n). omega arith)
     (cases_lt n m))
     (cases_lt m n)
@@ -76,7 +97,8 @@ sums_more x (e ∷ es) more =
     let r = sums_more y es more in
     (r.0, ap (λ s. y ∷ s) r.1)
 
-pub samples_more : (first : ℤ) (es more : List ℤ) (m : ℕ) → m ≤ length es → take m (samples_of first (es ++ more)) ≡ take m (samples_of first es)
+pub samples_more : (first : ℤ) (es more : List ℤ) (m : ℕ) → m ≤ length es
+    → take m (samples_of first (es ++ more)) ≡ take m (samples_of first es)
 samples_more first [] more zero few = refl
 samples_more first [] more (suc m) few = absurd (omega arith)
 samples_more first (e ∷ es) more m few =
@@ -84,15 +106,21 @@ samples_more first (e ∷ es) more m few =
     let size : length (samples_of first (e ∷ es)) ≡ length (e ∷ es) = length-samples_of first (e ∷ es) in
     ap (λ s. take m (first ∷ s)) r.1 ∙ take-append-le m (first ∷ sums_after first es) r.0 (omega arith)
 
-samples_fewer : (version : Version) (order : Order) (area : List ℕ) (xs ys : List ℤ) (c : CarriesSteim version order area xs) (d : CarriesSteim version order area ys) → length xs ≡ length ys → length c.groups ≤ length d.groups → xs ≡ ys
+samples_fewer : (version : Version) (order : Order) (area : List ℕ) (xs ys : List ℤ)
+    (c : CarriesSteim version order area xs) (d : CarriesSteim version order area ys) → length xs ≡ length ys
+    → length c.groups ≤ length d.groups → xs ≡ ys
 samples_fewer version order area xs ys c d same few =
     let first = constant order area 1 in
     let ds = differences c.groups in
     let more = differences (drop (length c.groups) d.groups) in
-    let e : differences d.groups ≡ ds ++ more = more_differences version order area c.groups d.groups c.held d.held few in
-    c.sums ∙ sym (samples_more first ds more (length xs) c.enough) ∙ ap (λ z. take (length xs) (samples_of first z)) (sym e) ∙ ap (λ n. take n (samples_of first (differences d.groups))) same ∙ sym d.sums
+    let e : differences d.groups ≡ ds ++ more =
+    more_differences version order area c.groups d.groups c.held d.held few in
+    c.sums ∙ sym (samples_more first ds more (length xs) c.enough)
+    ∙ ap (λ z. take (length xs) (samples_of first z)) (sym e)
+    ∙ ap (λ n. take n (samples_of first (differences d.groups))) same ∙ sym d.sums
 
-pub carries_one : (version : Version) (order : Order) (area : List ℕ) (xs ys : List ℤ) → CarriesSteim version order area xs → CarriesSteim version order area ys → length xs ≡ length ys → xs ≡ ys
+pub carries_one : (version : Version) (order : Order) (area : List ℕ) (xs ys : List ℤ)
+    → CarriesSteim version order area xs → CarriesSteim version order area ys → length xs ≡ length ys → xs ≡ ys
 carries_one version order area xs ys c d same =
     ⊎_elim
     (λ (lt : length c.groups < length d.groups). samples_fewer version order area xs ys c d same (omega arith))

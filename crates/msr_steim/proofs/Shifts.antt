@@ -44,24 +44,34 @@ shifted_up word left bits =
 
 -- the field below so many bits, shifted up to the highest bit, and what stands below it
 field_up : (word below width : ℕ) → (below + 1) * width ≤ 32
-    → (rest : ℕ) × (rest < 2 ^ (32 - width)) × (word * 2 ^ (32 - (below + 1) * width) % 2 ^ 32 ≡ (word / 2 ^ (below * width) % 2 ^ width) * 2 ^ (32 - width) + rest)
+    → (rest : ℕ) × (rest < 2 ^ (32 - width)) × (word * 2 ^ (32 - (below + 1) * width) % 2 ^ 32
+    ≡ (word / 2 ^ (below * width) % 2 ^ width) * 2 ^ (32 - width) + rest)
 field_up word below width within =
     let left = 32 - (below + 1) * width in
     let low = below * width in
     let places : (below + 1) * width ≡ width + low = omega arith in
     let whole : width + low + left ≡ 32 = omega (arith, within) in
     let rest_places : low + left ≡ 32 - width = omega (arith, within) in
-    let up : (word * 2 ^ left) % 2 ^ (width + low + left) ≡ (word % 2 ^ (width + low)) * 2 ^ left = shifted_up word left (width + low) in
-    let apart : word % 2 ^ (width + low) ≡ (word / 2 ^ low % 2 ^ width) * 2 ^ low + word % 2 ^ low = mod-pow-add word width low in
+    let up : (word * 2 ^ left) % 2 ^ (width + low + left) ≡ (word % 2 ^ (width + low)) * 2 ^ left =
+    shifted_up word left (width + low) in
+    let apart : word % 2 ^ (width + low) ≡ (word / 2 ^ low % 2 ^ width) * 2 ^ low + word % 2 ^ low =
+    mod-pow-add word width low in
     let both : 2 ^ (low + left) ≡ 2 ^ low * 2 ^ left = pow-add 2 low left in
     let some : 0 < 2 ^ low = pow_pos low in
     let some_left : 0 < 2 ^ left = pow_pos left in
     let small : word % 2 ^ low < 2 ^ low = mod-lt word some in
     let few = scaled (word % 2 ^ low) (2 ^ low) (2 ^ left) small some_left in
-    let few_so : word % 2 ^ low * 2 ^ left < 2 ^ (32 - width) = subst (λ n. word % 2 ^ low * 2 ^ left < 2 ^ n) rest_places (rw both few) in
-    let sum = regroup (word / 2 ^ low % 2 ^ width) (2 ^ low) (word % 2 ^ low) (2 ^ left) (word % 2 ^ (width + low)) (2 ^ (low + left)) apart both in
-    let up_so : (word * 2 ^ left) % 2 ^ 32 ≡ (word % 2 ^ (width + low)) * 2 ^ left = subst (λ n. (word * 2 ^ left) % 2 ^ n ≡ (word % 2 ^ (width + low)) * 2 ^ left) whole up in
-    (word % 2 ^ low * 2 ^ left, few_so, up_so ∙ sum ∙ ap (λ n. (word / 2 ^ low % 2 ^ width) * 2 ^ n + word % 2 ^ low * 2 ^ left) rest_places)
+    let few_so : word % 2 ^ low * 2 ^ left < 2 ^ (32 - width) =
+    subst (λ n. word % 2 ^ low * 2 ^ left < 2 ^ n) rest_places (rw both few) in
+    let sum = regroup (word / 2 ^ low % 2 ^ width) (2 ^ low) (word % 2 ^ low) (2 ^ left) (word % 2 ^ (width + low))
+    (2 ^ (low + left)) apart both in
+    let up_so : (word * 2 ^ left) % 2 ^ 32 ≡ (word % 2 ^ (width + low)) * 2 ^ left =
+    subst (λ n. (word * 2 ^ left) % 2 ^ n ≡ (word % 2 ^ (width + low)) * 2 ^ left) whole up in (
+      word % 2 ^ low * 2 ^ left,
+      few_so,
+      up_so ∙ sum
+          ∙ ap (λ n. (word / 2 ^ low % 2 ^ width) * 2 ^ n + word % 2 ^ low * 2 ^ left) rest_places,
+    )
   where
     scaled : (r b k : ℕ) → r < b → 0 < k → r * k < b * k
     scaled r b k small some = grind arith
@@ -77,25 +87,31 @@ shifted_down : (field width rest : ℕ) → 0 < width → width ≤ 32 → field
 shifted_down field width rest positive small within few =
     let half : 2 ^ width ≡ 2 * 2 ^ (width - 1) = power_is_half width positive in
     let places : (width - 1) + (32 - width) ≡ 31 = omega arith in
-    let product : 2 ^ (width - 1) * 2 ^ (32 - width) ≡ 2147483648 = sym (pow-add 2 (width - 1) (32 - width)) ∙ ap (λ n. 2 ^ n) places in
+    let product : 2 ^ (width - 1) * 2 ^ (32 - width) ≡ 2147483648 = sym (pow-add 2 (width - 1) (32 - width))
+    ∙ ap (λ n. 2 ^ n) places in
     ⊎_elim
     (λ (low : field < 2 ^ (width - 1)).
     let bound = below_half field rest (2 ^ (width - 1)) (2 ^ (32 - width)) low few product in
-    let e : to_z w32 (field * 2 ^ (32 - width) + rest) ≡ pos (field * 2 ^ (32 - width) + rest) = to_z_pos w32 (field * 2 ^ (32 - width) + rest) bound in
-    ap (λ z. int_shr z (32 - width)) e ∙ ap pos (shr_high field (32 - width) rest few) ∙ sym (low_signed width field low))
+    let e : to_z w32 (field * 2 ^ (32 - width) + rest) ≡ pos (field * 2 ^ (32 - width) + rest) =
+    to_z_pos w32 (field * 2 ^ (32 - width) + rest) bound in
+    ap (λ z. int_shr z (32 - width)) e ∙ ap pos (shr_high field (32 - width) rest few)
+    ∙ sym (low_signed width field low))
     (λ (high : 2 ^ (width - 1) ≤ field).
     let k = 2 ^ (32 - width) in
     let a = 2 ^ width - 1 - field in
     let bound = above_half field rest (2 ^ (width - 1)) (2 ^ (32 - width)) (2 ^ width) high few within product half in
     let under : k - 1 - rest < k = omega arith in
-    let e : to_z w32 (field * k + rest) ≡ negsuc (a * k + (k - 1 - rest)) = ap (to_z w32) bound.1 ∙ to_z-neg w32 (a * k + (k - 1 - rest)) bound.0 in
-    ap (λ z. int_shr z (32 - width)) e ∙ ap negsuc (shr_high a (32 - width) (k - 1 - rest) under) ∙ sym (high_signed width field high))
+    let e : to_z w32 (field * k + rest) ≡ negsuc (a * k + (k - 1 - rest)) = ap (to_z w32) bound.1
+    ∙ to_z-neg w32 (a * k + (k - 1 - rest)) bound.0 in
+    ap (λ z. int_shr z (32 - width)) e ∙ ap negsuc (shr_high a (32 - width) (k - 1 - rest) under)
+    ∙ sym (high_signed width field high))
     (cases_lt field (2 ^ (width - 1)))
   where
     below_half : (f r h k : ℕ) → f < h → r < k → h * k ≡ 2147483648 → f * k + r < 2147483648
     below_half f r h k low few product = let e : (f + 1) * k ≤ h * k = grind arith in omega arith
 
-    above_half : (f r h k w : ℕ) → h ≤ f → r < k → f < w → h * k ≡ 2147483648 → w ≡ 2 * h → ((w - 1 - f) * k + (k - 1 - r) < 2147483648) × (f * k + r ≡ 4294967296 - suc ((w - 1 - f) * k + (k - 1 - r)))
+    above_half : (f r h k w : ℕ) → h ≤ f → r < k → f < w → h * k ≡ 2147483648 → w ≡ 2 * h
+        → ((w - 1 - f) * k + (k - 1 - r) < 2147483648) × (f * k + r ≡ 4294967296 - suc ((w - 1 - f) * k + (k - 1 - r)))
     above_half f r h k w high few within product half =
         let a = w - 1 - f in
         let total : a + f + 1 ≡ w = omega arith in
@@ -106,21 +122,25 @@ shifted_down field width rest positive small within few =
 
 -- the number in a field of a word, as the code shifts it
 pub shifted_is : (word below width : ℕ) → 0 < width → (below + 1) * width ≤ 32
-    → int_shr (to_z w32 (word * 2 ^ (32 - (below + 1) * width) % 4294967296)) (32 - width) ≡ signed_of width (word / 2 ^ (below * width) % 2 ^ width)
+    → int_shr (to_z w32 (word * 2 ^ (32 - (below + 1) * width) % 4294967296)) (32 - width)
+    ≡ signed_of width (word / 2 ^ (below * width) % 2 ^ width)
 shifted_is word below width positive within =
     let up = field_up word below width within in
     let some : 0 < 2 ^ width = pow_pos width in
     let small : width ≤ 32 = omega (arith, within) in
     let few : word / 2 ^ (below * width) % 2 ^ width < 2 ^ width = mod-lt (word / 2 ^ (below * width)) some in
-    ap (λ n. int_shr (to_z w32 n) (32 - width)) up.2 ∙ shifted_down (word / 2 ^ (below * width) % 2 ^ width) width up.0 positive small few up.1
+    ap (λ n. int_shr (to_z w32 n) (32 - width)) up.2
+    ∙ shifted_down (word / 2 ^ (below * width) % 2 ^ width) width up.0 positive small few up.1
 
 -- a code of a frame, as the code shifts it
-pub code_shifted : (codes slot : ℕ) → slot < 16 → codes * 2 ^ (2 * slot) % 4294967296 / 1073741824 ≡ codes / 2 ^ (30 - 2 * slot) % 4
+pub code_shifted : (codes slot : ℕ) → slot < 16
+    → codes * 2 ^ (2 * slot) % 4294967296 / 1073741824 ≡ codes / 2 ^ (30 - 2 * slot) % 4
 code_shifted codes slot small =
     let up = field_up codes (15 - slot) 2 (omega arith) in
     let left : 32 - (15 - slot + 1) * 2 ≡ 2 * slot = omega arith in
     let low : (15 - slot) * 2 ≡ 30 - 2 * slot = omega arith in
-    let sum : codes * 2 ^ (2 * slot) % 4294967296 ≡ (codes / 2 ^ (30 - 2 * slot) % 4) * 2 ^ 30 + up.0 = rw (left, low) at up.2 in
+    let sum : codes * 2 ^ (2 * slot) % 4294967296 ≡ (codes / 2 ^ (30 - 2 * slot) % 4) * 2 ^ 30 + up.0 =
+    rw (left, low) at up.2 in
     ap (λ n. n / 1073741824) sum ∙ shr_high (codes / 2 ^ (30 - 2 * slot) % 4) 30 up.0 up.1
 
 -- ---- what the number is
@@ -130,14 +150,16 @@ signed_fits width field positive within =
     let half : 2 ^ width ≡ 2 * 2 ^ (width - 1) = power_is_half width positive in
     ⊎_elim
     (λ (low : field < 2 ^ (width - 1)). subst (FitsBits width) (sym (low_signed width field low)) low)
-    (λ (high : 2 ^ (width - 1) ≤ field). let few : 2 ^ width - 1 - field < 2 ^ (width - 1) = omega arith in subst (FitsBits width) (sym (high_signed width field high)) few)
+    (λ (high : 2 ^ (width - 1) ≤ field). let few : 2 ^ width - 1 - field < 2 ^ (width - 1) = omega arith in
+    subst (FitsBits width) (sym (high_signed width field high)) few)
     (cases_lt field (2 ^ (width - 1)))
 
 pub signed_same : (width field : ℕ) → field < 2 ^ width → twos_complement width (signed_of width field) ≡ field
 signed_same width field within =
     ⊎_elim
     (λ (low : field < 2 ^ (width - 1)). ap (twos_complement width) (low_signed width field low))
-    (λ (high : 2 ^ (width - 1) ≤ field). let back : 2 ^ width - suc (2 ^ width - 1 - field) ≡ field = omega arith in ap (twos_complement width) (high_signed width field high) ∙ back)
+    (λ (high : 2 ^ (width - 1) ≤ field). let back : 2 ^ width - suc (2 ^ width - 1 - field) ≡ field =
+    omega arith in ap (twos_complement width) (high_signed width field high) ∙ back)
     (cases_lt field (2 ^ (width - 1)))
 
 -- ---- all fields of a word
@@ -151,10 +173,14 @@ numbers_fit : (word width count : ℕ) → 0 < width → AllByRecursion (FitsBit
 unfolding numbers_in
 numbers_fit word width zero positive = tt
 numbers_fit word width (suc below) positive =
-    let some : 0 < 2 ^ width = pow_pos width in
-    (signed_fits width (word / 2 ^ (below * width) % 2 ^ width) positive (mod-lt (word / 2 ^ (below * width)) some), numbers_fit word width below positive)
+    let some : 0 < 2 ^ width = pow_pos width in (
+      signed_fits width (word / 2 ^ (below * width) % 2 ^ width) positive
+          (mod-lt (word / 2 ^ (below * width)) some),
+      numbers_fit word width below positive,
+    )
 
-numbers_join : (word width count : ℕ) → 0 < width → word % 2 ^ (count * width) ≡ joined_fields width (numbers_in word width count)
+numbers_join : (word width count : ℕ) → 0 < width
+    → word % 2 ^ (count * width) ≡ joined_fields width (numbers_in word width count)
 unfolding numbers_in
 numbers_join word width zero positive =
     let none : 0 * width ≡ 0 = omega arith in
@@ -167,26 +193,44 @@ numbers_join word width (suc below) positive =
     let some : 0 < 2 ^ width = pow_pos width in
     let within : field < 2 ^ width = mod-lt (word / 2 ^ (below * width)) some in
     let digits = map (twos_complement width) (numbers_in word width below) in
-    let count : length digits ≡ below = length-map (numbers_in word width below) (twos_complement width) ∙ length-numbers_in word width below in
+    let count : length digits ≡ below = length-map (numbers_in word width below) (twos_complement width)
+    ∙ length-numbers_in word width below in
     let places : suc below * width ≡ width + below * width = omega arith in
-    let apart : word % 2 ^ (width + below * width) ≡ field * 2 ^ (below * width) + word % 2 ^ (below * width) = mod-pow-add word width (below * width) in
-    let first : 0 * 2 ^ width + twos_complement width (signed_of width field) ≡ field = first_is (2 ^ width) (twos_complement width (signed_of width field)) ∙ signed_same width field within in
-    let power : (2 ^ width) ^ length digits ≡ 2 ^ (below * width) = ap (λ n. (2 ^ width) ^ n) count ∙ pow_pow 2 width below in
-    let rest : number_from_digits_after (2 ^ width) (0 * 2 ^ width + twos_complement width (signed_of width field)) digits ≡ (0 * 2 ^ width + twos_complement width (signed_of width field)) * (2 ^ width) ^ length digits + number_from_digits (2 ^ width) digits =
+    let apart : word % 2 ^ (width + below * width) ≡ field * 2 ^ (below * width) + word % 2 ^ (below * width) =
+    mod-pow-add word width (below * width) in
+    let first : 0 * 2 ^ width + twos_complement width (signed_of width field) ≡ field =
+    first_is (2 ^ width) (twos_complement width (signed_of width field)) ∙ signed_same width field within in
+    let power : (2 ^ width) ^ length digits ≡ 2 ^ (below * width) = ap (λ n. (2 ^ width) ^ n) count
+    ∙ pow_pow 2 width below in
+    let rest : number_from_digits_after (2 ^ width)
+    (0 * 2 ^ width + twos_complement width (signed_of width field)) digits
+    ≡ (0 * 2 ^ width + twos_complement width (signed_of width field)) *
+    (2 ^ width) ^ length digits + number_from_digits (2 ^ width) digits =
     number_after (2 ^ width) (0 * 2 ^ width + twos_complement width (signed_of width field)) digits in
-    let whole : number_from_digits_after (2 ^ width) (0 * 2 ^ width + twos_complement width (signed_of width field)) digits ≡ field * 2 ^ (below * width) + number_from_digits (2 ^ width) digits =
-    rest ∙ ap (λ n. n * (2 ^ width) ^ length digits + number_from_digits (2 ^ width) digits) first ∙ ap (λ n. field * n + number_from_digits (2 ^ width) digits) power in
-    ap (λ n. word % 2 ^ n) places ∙ apart ∙ ap (λ n. field * 2 ^ (below * width) + n) (numbers_join word width below positive) ∙ sym whole
+    let whole : number_from_digits_after (2 ^ width)
+    (0 * 2 ^ width + twos_complement width (signed_of width field)) digits
+    ≡ field * 2 ^ (below * width) + number_from_digits (2 ^ width) digits =
+    rest ∙ ap (λ n. n * (2 ^ width) ^ length digits + number_from_digits (2 ^ width) digits) first
+    ∙ ap (λ n. field * n + number_from_digits (2 ^ width) digits) power in
+    ap (λ n. word % 2 ^ n) places ∙ apart ∙ ap (λ n. field * 2 ^ (below * width) + n)
+    (numbers_join word width below positive) ∙ sym whole
   where
     first_is : (b n : ℕ) → 0 * b + n ≡ n
     first_is b n = omega arith
 
 -- they are what the word holds
-pub are_fields : (word width count : ℕ) → 0 < width → AreFields word (numbers_in word width count) (record { count = count; width = width })
-are_fields word width count positive = record { count = length-numbers_in word width count; fit = numbers_fit word width count positive; bits = numbers_join word width count positive }
+pub are_fields : (word width count : ℕ) → 0 < width
+    → AreFields word (numbers_in word width count) (record { count = count; width = width })
+are_fields word width count positive = record {
+  count = length-numbers_in word width count;
+  fit = numbers_fit word width count positive;
+  bits = numbers_join word width count positive;
+}
 
 -- the number at a place
-pub number_at : (word width count i : ℕ) → i < count → get_or (numbers_in word width count) i (pos 0) ≡ signed_of width (word / 2 ^ ((count - 1 - i) * width) % 2 ^ width)
+pub number_at : (word width count i : ℕ) → i < count
+    → get_or (numbers_in word width count) i (pos 0)
+    ≡ signed_of width (word / 2 ^ ((count - 1 - i) * width) % 2 ^ width)
 unfolding numbers_in
 number_at word width zero i within = absurd (omega (arith, within))
 number_at word width (suc below) zero within =
@@ -194,4 +238,5 @@ number_at word width (suc below) zero within =
     sym (ap (λ n. signed_of width (word / 2 ^ (n * width) % 2 ^ width)) e)
 number_at word width (suc below) (suc i) within =
     let e : below - 1 - i ≡ suc below - 1 - suc i = omega arith in
-    number_at word width below i (omega (arith, within)) ∙ ap (λ n. signed_of width (word / 2 ^ (n * width) % 2 ^ width)) e
+    number_at word width below i (omega (arith, within))
+    ∙ ap (λ n. signed_of width (word / 2 ^ (n * width) % 2 ^ width)) e

@@ -10,36 +10,54 @@ use Rattle.msr_steim.specs.Word.{AreFields, FitsBits, HasNoOtherBits, Holds, IsR
 use Rattle.msr_steim.proofs.Fields.{joined_fields_lt, joined_fields_zeros, all_fit_zeros}
 
 -- what a word of these fields holds
-pub word_holds : (version : Version) (code top fields count width word : ℕ) (zs : List ℤ) → IsWordOf version code top fields count width → word ≡ top * 2 ^ 30 + fields
-    → length zs ≡ count → AllByRecursion (FitsBits width) zs → fields ≡ joined_fields width zs → Holds version code word zs × HasNoOtherBits version code word
+pub word_holds : (version : Version) (code top fields count width word : ℕ) (zs : List ℤ)
+    → IsWordOf version code top fields count width → word ≡ top * 2 ^ 30 + fields
+    → length zs ≡ count → AllByRecursion (FitsBits width) zs → fields ≡ joined_fields width zs
+    → Holds version code word zs × HasNoOtherBits version code word
 word_holds version code top fields count width word zs is same number all spelled =
     let division : Division = record { count = count; width = width } in
-    let lowest : word % 2 ^ (count * width) ≡ joined_fields width zs = ap (λ n. n % 2 ^ (count * width)) same ∙ is.lowest ∙ spelled in
+    let lowest : word % 2 ^ (count * width) ≡ joined_fields width zs = ap (λ n. n % 2 ^ (count * width)) same
+    ∙ is.lowest ∙ spelled in
     let others : word % 2 ^ 30 < 2 ^ (count * width) = rw same is.others in
-    let divided : division_of version code (word / 2 ^ 30) ≡ Some division = ap (λ n. division_of version code (n / 2 ^ 30)) same ∙ is.division in
-    let fields_are : AreFields word zs division = record { count = number; fit = all; bits = lowest } in
-    (subst (λ d. IsSomeAnd d (AreFields word zs)) (sym divided) fields_are, subst (λ d. IfSome d (λ d. word % 2 ^ 30 < 2 ^ (d.count * d.width))) (sym divided) others)
+    let divided : division_of version code (word / 2 ^ 30) ≡ Some division =
+    ap (λ n. division_of version code (n / 2 ^ 30)) same ∙ is.division in
+    let fields_are : AreFields word zs division = record { count = number; fit = all; bits = lowest } in (
+      subst (λ d. IsSomeAnd d (AreFields word zs)) (sym divided) fields_are,
+      subst
+          (λ d. IfSome d (λ d. word % 2 ^ 30 < 2 ^ (d.count * d.width))) (sym divided) others,
+    )
 
 -- the word that the row and the fields of a group make
-pub row_word : (version : Version) (zs : List ℤ) (row : Row) (fields word : ℕ) → IsRowFor version (length zs) row → AllByRecursion (FitsBits row.width) zs → fields ≡ joined_fields row.width zs
+pub row_word : (version : Version) (zs : List ℤ) (row : Row) (fields word : ℕ) → IsRowFor version (length zs) row
+    → AllByRecursion (FitsBits row.width) zs → fields ≡ joined_fields row.width zs
     → word ≡ row.top * 1073741824 % 4294967296 + fields * 2 ^ (row.padding * row.width) % 4294967296
-    → (word < 2 ^ 32) × Holds version row.code word (as_read version zs) × HasNoOtherBits version row.code word × (word ≡ row.top * 2 ^ 30 + joined_fields row.width (as_read version zs))
+    → (word < 2 ^ 32) × Holds version row.code word (as_read version zs) × HasNoOtherBits version row.code word
+    × (word ≡ row.top * 2 ^ 30 + joined_fields row.width (as_read version zs))
 row_word version zs row fields word is all spelled same =
     let spelling = fields * 2 ^ (row.padding * row.width) in
-    let read : as_read version zs ≡ zs ++ replicate row.padding (pos 0) = ap (λ p. zs ++ replicate p (pos 0)) (sym is.padding) in
-    let zeros : joined_fields row.width (zs ++ replicate row.padding (pos 0)) ≡ joined_fields row.width zs * 2 ^ (row.padding * row.width) = joined_fields_zeros row.width row.padding zs in
-    let spelled_so : spelling ≡ joined_fields row.width (as_read version zs) = ap (λ n. n * 2 ^ (row.padding * row.width)) spelled ∙ sym zeros ∙ ap (joined_fields row.width) (sym read) in
-    let fit : AllByRecursion (FitsBits row.width) (as_read version zs) = subst (AllByRecursion (FitsBits row.width)) (sym read) (all_fit_zeros row.width row.padding zs all) in
-    let number : length (as_read version zs) ≡ length zs + row.padding = ap length read ∙ length-append zs (replicate row.padding (pos 0)) ∙ ap (λ n. length zs + n) (length-replicate row.padding (pos 0)) in
-    let bound : joined_fields row.width (as_read version zs) < 2 ^ (length (as_read version zs) * row.width) = joined_fields_lt row.width (as_read version zs) is.positive fit in
+    let read : as_read version zs ≡ zs ++ replicate row.padding (pos 0) =
+    ap (λ p. zs ++ replicate p (pos 0)) (sym is.padding) in
+    let zeros : joined_fields row.width (zs ++ replicate row.padding (pos 0))
+    ≡ joined_fields row.width zs * 2 ^ (row.padding * row.width) = joined_fields_zeros row.width row.padding zs in
+    let spelled_so : spelling ≡ joined_fields row.width (as_read version zs) =
+    ap (λ n. n * 2 ^ (row.padding * row.width)) spelled ∙ sym zeros ∙ ap (joined_fields row.width) (sym read) in
+    let fit : AllByRecursion (FitsBits row.width) (as_read version zs) =
+    subst (AllByRecursion (FitsBits row.width)) (sym read) (all_fit_zeros row.width row.padding zs all) in
+    let number : length (as_read version zs) ≡ length zs + row.padding = ap length read
+    ∙ length-append zs (replicate row.padding (pos 0))
+    ∙ ap (λ n. length zs + n) (length-replicate row.padding (pos 0)) in
+    let bound : joined_fields row.width (as_read version zs) < 2 ^ (length (as_read version zs) * row.width) =
+    joined_fields_lt row.width (as_read version zs) is.positive fit in
     let few : spelling < 2 ^ ((length zs + row.padding) * row.width) = rw (spelled_so, ← number) bound in
     let made = is.words spelling few in
     let sum : word ≡ row.top * 2 ^ 30 + spelling = omega (arith, made.small) in
-    let holds = word_holds version row.code row.top spelling (length zs + row.padding) row.width word (as_read version zs) made sum number fit spelled_so in
+    let holds = word_holds version row.code row.top spelling (length zs + row.padding) row.width word
+    (as_read version zs) made sum number fit spelled_so in
     (omega (arith, made.small), holds.0, holds.1, sum ∙ ap (λ n. row.top * 2 ^ 30 + n) spelled_so)
 
 -- the same word by the tables
-pub group_word_is : (version : Version) (zs : List ℤ) (row : Row) (word : ℕ) → group_width version (length zs) ≡ Some row.width → group_top version (length zs) ≡ row.top
+pub group_word_is : (version : Version) (zs : List ℤ) (row : Row) (word : ℕ)
+    → group_width version (length zs) ≡ Some row.width → group_top version (length zs) ≡ row.top
     → word ≡ row.top * 2 ^ 30 + joined_fields row.width (as_read version zs) → word ≡ group_word version zs
 group_word_is version zs row word width top same =
     same ∙ ap (λ t. t * 2 ^ 30 + joined_fields row.width (as_read version zs)) (sym top)

@@ -45,12 +45,14 @@ WordHolds version order area number =
 -- the word with this number is undefined
 abbrev pub IsUndefined : Version → Order → List ℕ → ℕ → Type 0
 IsUndefined version order area number =
-    IsUndefinedWord version (code_of order area number) (arranged_word version order (code_of order area number) area number)
+    IsUndefinedWord version (code_of order area number)
+    (arranged_word version order (code_of order area number) area number)
 
 -- the first words hold these groups, one each
 pub record FirstWordsHold (version : Version) (order : Order) (area : List ℕ) (groups : List (List ℤ)) : Type 0 where
   pub within : length groups ≤ word_count area
-  pub each : (number : ℕ) → number < length groups → WordHolds version order area number (slice_index_or groups number [])
+  pub each : (number : ℕ) → number < length groups
+      → WordHolds version order area number (slice_index_or groups number [])
 
 -- the differences of some groups, one group after the other
 abbrev pub differences : List (List ℤ) → List ℤ

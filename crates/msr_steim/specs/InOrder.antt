@@ -1,10 +1,10 @@
 -- The samples of an area in order, one word after the other.
-use Rattle.std.specs.Prelude.{◌≡◌, ◌≤◌, ℕ, zero, suc, ◌-◌, ◌/◌, ◌^◌, ℤ, List, [], ◌∷◌, ◌++◌, length, Option, Some, None}
+use Rattle.std.specs.Prelude.{◌≡◌, ◌↔◌, ℕ, zero, suc, ◌-◌, ◌/◌, ◌^◌, ℤ, Bool, List, [], ◌++◌, IsTrue, length, Option, Some, None}
 use Rattle.msr_base.specs.declared.order.Order.{Order}
 use Rattle.msr_steim.specs.declared.borrowed.Fields.{Fields}
 use Rattle.msr_steim.specs.declared.word.Division.{Division}
 use Rattle.msr_steim.specs.declared.word.Version.{Version}
-use Rattle.msr_steim.specs.Area.{FirstWordsHold, arranged_word, code_of, constant, differences, samples_of, sums_after, word_count}
+use Rattle.msr_steim.specs.Area.{CarriesSteim, ReverseAgrees, arranged_word, code_of, constant, samples_of, sums_after, word_count}
 use Rattle.msr_steim.specs.Word.{division_of, numbers_in}
 
 -- the numbers in the fields of a word that is divided so; an undefined word has none
@@ -15,12 +15,14 @@ numbers_of (Some division) word = numbers_in word division.width division.count
 -- how the word with this number is divided
 abbrev pub word_division : Version → Order → List ℕ → ℕ → Option Division
 word_division version order area number =
-    division_of version (code_of order area number) (arranged_word version order (code_of order area number) area number / 2 ^ 30)
+    division_of version (code_of order area number)
+    (arranged_word version order (code_of order area number) area number / 2 ^ 30)
 
 -- the differences of the word with this number
 unfoldable pub word_differences : Version → Order → List ℕ → ℕ → List ℤ
 word_differences version order area number =
-    numbers_of (word_division version order area number) (arranged_word version order (code_of order area number) area number)
+    numbers_of (word_division version order area number)
+    (arranged_word version order (code_of order area number) area number)
 
 -- the differences of so many words, from this one on
 abbrev pub differences_of : Version → Order → List ℕ → ℕ → ℕ → List ℤ
@@ -35,20 +37,17 @@ differences_from version order area number = differences_of version order area n
 -- the word with this number has these fields
 pub record HasFields (version : Version) (order : Order) (area : List ℕ) (number : ℕ) (fields : Fields) : Type 0 where
   pub word_is : fields.word ≡ arranged_word version order (code_of order area number) area number
-  pub division_is : word_division version order area number ≡ Some (record { count = fields.count; width = fields.width })
+  pub division_is : word_division version order area number
+      ≡ Some (record { count = fields.count; width = fields.width })
 
--- the first words hold lists, which have the first differences in order, at least so many
-pub record HoldsEnough (version : Version) (order : Order) (area : List ℕ) (count : ℕ) : Type 0 where
-  pub groups : List (List ℤ)
-  pub held : FirstWordsHold version order area groups
-  pub in_order : differences_from version order area 0 ≡ differences groups ++ differences_from version order area (length groups)
-  pub enough : count ≤ length (differences groups)
-
--- the last of some samples, of which one came before
-abbrev pub last_after : ℤ → List ℤ → ℤ
-last_after before [] = before
-last_after before (x ∷ xs) = last_after x xs
+-- The area carries so many samples, and the last of them is the reverse constant or not.
+pub record HasSamples (version : Version) (order : Order) (area : List ℕ) (count : ℕ) (agrees : Bool) : Type 0 where
+  pub samples : List ℤ
+  pub carried : CarriesSteim version order area samples
+  pub count_is : length samples ≡ count
+  pub reverse : IsTrue agrees ↔ ReverseAgrees order area samples
 
 -- the first difference is added to this, so that the first sample is the forward constant
 pub record BeginsAfter (version : Version) (order : Order) (area : List ℕ) (before : ℤ) : Type 0 where
-  pub sums : samples_of (constant order area 1) (differences_from version order area 0) ≡ sums_after before (differences_from version order area 0)
+  pub sums : samples_of (constant order area 1) (differences_from version order area 0)
+      ≡ sums_after before (differences_from version order area 0)

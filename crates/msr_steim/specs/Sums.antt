@@ -19,11 +19,13 @@ pub record IsWritten (version : Version) (code word : ℕ) (at : Place) (old new
 pub record IsGroupWritten (word count width : ℕ) (at : Place) (old new : List ℤ) (next : Place) : Type 0 where
   pub place : next.place ≡ at.place + count
   pub room : next.place < length old
-  pub samples : take next.place new ≡ take (length old) (take at.place old ++ sums_after at.last (numbers_in word width count))
+  pub samples : take next.place new ≡ take (length old)
+      (take at.place old ++ sums_after at.last (numbers_in word width count))
   pub last : next.last ≡ slice_index_or new (next.place - 1) (pos 0)
 
 -- the samples of a word were written, and a place is left after them; where there are none, nothing has changed
-pub record IsInnerWritten (version : Version) (code word : ℕ) (at : Place) (old new : List ℤ) (next : Place) : Type 0 where
+pub record IsInnerWritten (version : Version) (code word : ℕ) (at : Place) (old new : List ℤ)
+    (next : Place) : Type 0 where
   pub written : IsWritten version code word at old new next
   pub room : next.place < length old
   pub on : (next ≡ at) ⊎ (at.place < next.place)

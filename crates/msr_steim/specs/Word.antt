@@ -24,7 +24,8 @@ signed_of width field = if nat_lt field (2 ^ (width - 1)) then pos field else ne
 -- the numbers in the lowest so many fields of a word, the highest first
 unfoldable pub numbers_in : ℕ → ℕ → ℕ → List ℤ
 numbers_in word width zero = []
-numbers_in word width (suc below) = signed_of width (word / 2 ^ (below * width) % 2 ^ width) ∷ numbers_in word width below
+numbers_in word width (suc below) = signed_of width
+    (word / 2 ^ (below * width) % 2 ^ width) ∷ numbers_in word width below
 
 -- the fields of some numbers side by side, as one number: the first field has the highest bits
 abbrev pub joined_fields : ℕ → List ℤ → ℕ
@@ -142,7 +143,8 @@ group_word version differences =
 -- these fields below these top bits are a word of `count` fields, with no other bit set
 pub record IsWordOf (version : Version) (code top fields count width : ℕ) : Type 0 where
   pub small : top * 2 ^ 30 + fields < 2 ^ 32
-  pub division : division_of version code ((top * 2 ^ 30 + fields) / 2 ^ 30) ≡ Some (record { count = count; width = width })
+  pub division : division_of version code ((top * 2 ^ 30 + fields) / 2 ^ 30)
+      ≡ Some (record { count = count; width = width })
   pub lowest : (top * 2 ^ 30 + fields) % 2 ^ (count * width) ≡ fields
   pub others : (top * 2 ^ 30 + fields) % 2 ^ 30 < 2 ^ (count * width)
 

@@ -59,7 +59,7 @@ pub(crate) fn whole_word_at(order: Order, area: &[u8], number: usize) -> u32
 
 /// The first word of a frame that has differences: its first word has the codes, and two more of the
 /// first frame are the constants.
-fn first_slot(frame: usize) -> usize
+pub(crate) fn first_slot(frame: usize) -> usize
     ensures first { frame ≡ 0 → result ≡ 3 }
     ensures others { 0 < frame → result ≡ 1 }
 {
@@ -97,7 +97,7 @@ pub(crate) fn constant_at(order: Order, area: &[u8], number: usize) -> i32
 }
 
 /// Whether this is the last sample.
-fn is_last(samples: &[i32], sample: i32) -> bool
+pub(crate) fn is_last(samples: &[i32], sample: i32) -> bool
     ensures { IsTrue result ↔ (slice_get samples.now (length samples.now - 1) ≡ Some sample) }
 {
     samples.last().copied() == Some(sample)

@@ -1,13 +1,14 @@
 //! The samples of a data area of Steim frames, one after the other, without memory.
 
-ghost use Rattle.std.specs.Prelude.{◌≡◌, ◌<◌, ◌≤◌, ◌↔◌, ◌++◌, ◌-◌, ◌*◌, ◌/◌, ◌%◌, ◌^◌, ℕ, ℤ, List, ⊤, IfOk, IfSome, IsErrOf, IsNone, IsSome, IsTrue, OnOk, [], length};
+ghost use Rattle.std.specs.Prelude.{◌≡◌, ◌<◌, ◌≤◌, ◌↔◌, ◌++◌, ◌-◌, ◌*◌, ◌/◌, ◌%◌, ◌^◌, ℕ, ℤ, List, ⊤, IfOk, IfSome, IsErrOf, IsNone, IsSome, IsTrue, [], length};
 ghost use Rattle.std.specs.Iterator.{YieldsFirst, item_count};
 ghost use Rattle.msr_steim.specs.Area.{CarriesSteim, EndsBefore, IsUndefined, IsUndefinedBefore, ReverseAgrees, code_of, word_count};
-ghost use Rattle.msr_steim.specs.InOrder.{BeginsAfter, HasFields, HoldsEnough, differences_from};
+ghost use Rattle.msr_steim.specs.InOrder.{BeginsAfter, HasFields, differences_from};
 ghost use Rattle.msr_steim.specs.Left.{GivesFirst};
 ghost use Rattle.msr_steim.specs.Word.{numbers_in};
 
 use crate::area::{SteimFault, arranged_word_at, constant_at, whole_word_at};
+use crate::check::check_area;
 use crate::word::{Version, difference_at, division_for};
 use msr_base::Order;
 use std::alloc::AllocError;
@@ -56,8 +57,9 @@ pub struct SteimSamples<'a> {
     differences: Differences<'a>,
     /// The sample before, to which the next difference is added.
     last: i32,
-    reverse: i32,
     left: u16,
+    /// Whether the last of all samples is the reverse constant.
+    agrees: bool,
 }
 
 impl<'a> Model for SteimSamples<'a> {
@@ -99,7 +101,6 @@ fn fields_at(version: Version, order: Order, area: &[u8], number: usize) -> Opti
     requires { number < word_count area.now }
     ensures some { IfSome result (HasFields version order area.now number) }
     ensures none { IsNone result → IsUndefined version order area.now number }
-    ensures few { IfSome result (λ fields. fields.count ≤ 7) }
     ensures positive { IfSome result (λ fields. 0 < fields.count → 0 < fields.width) }
     ensures within { IfSome result (λ fields. fields.count * fields.width ≤ 32) }
 {
@@ -207,20 +208,16 @@ impl<'a> SteimSamples<'a> {
         SteimSamples {
             differences: self.differences.copy(),
             last: self.last,
-            reverse: self.reverse,
             left: self.left,
+            agrees: self.agrees,
         }
     }
 
-    /// Whether the last sample of the area is the reverse constant. Reads the samples that are left.
+    /// Whether the last sample of the area is the reverse constant.
     pub fn reverse_agrees(&self) -> bool
         ensures { result ≡ self.now.agrees }
     {
-        let mut last = self.last;
-        for sample in self.copy() {
-            last = sample;
-        }
-        last == self.reverse
+        self.agrees
     }
 }
 
@@ -233,29 +230,6 @@ impl<'a> Clone for SteimSamples<'a> {
     fn clone(&self) -> Result<SteimSamples<'a>, AllocError> {
         Ok(self.copy())
     }
-}
-
-/// Whether the first words hold so many differences, before an undefined word or the end comes.
-fn check_words(version: Version, order: Order, area: &[u8], count: u16) -> Result<(), SteimFault>
-    requires some { 1 ≤ count }
-    requires small { length area.now ≤ 1048576 }
-    ensures enough { OnOk result (HoldsEnough version order area.now count) }
-    ensures short { IsErrOf result SteimFault.DataShort → EndsBefore version order area.now count }
-    ensures bad { (number : ℕ) → IsErrOf result (SteimFault.BadCode number)
-        → IsUndefinedBefore version order area.now count number }
-    ensures never_memory { IsErrOf result SteimFault.Memory → ⊥ }
-{
-    let mut found = 0;
-    for number in 0..area.len() / 64 * 16 {
-        let Some(fields) = fields_at(version, order, area, number) else {
-            return Err(SteimFault::BadCode(number as u32));
-        };
-        found += fields.count;
-        if found >= u32::from(count) {
-            return Ok(());
-        }
-    }
-    Err(SteimFault::DataShort)
 }
 
 /// The first `count` samples that the area carries, as `decode_steim` gives them. Takes no memory, and
@@ -276,7 +250,7 @@ pub fn steim_samples<'a>(
         → IsUndefinedBefore version order area.now count number }
     ensures never_memory { IsErrOf result SteimFault.Memory → ⊥ }
 {
-    check_words(version, order, area, count)?;
+    let agrees = check_area(version, order, area, count)?;
     Ok(SteimSamples {
         differences: Differences {
             version,
@@ -290,7 +264,7 @@ pub fn steim_samples<'a>(
             },
         },
         last: before_first(version, order, area),
-        reverse: constant_at(order, area, 2),
         left: count,
+        agrees,
     })
 }

@@ -103,7 +103,8 @@ pub fn filled_area_carries()
         → AreGroups version groups → length groups + 2 ≤ 15 * frames
         → differences groups ≡ differences_after before samples
         → All (FitsSigned w32) samples → FitsSigned w32 last
-        → CarriesSteim version Order.Big (frame_bytes version (slice_index_or samples 0 (pos 0)) last groups frames) samples }
+        → CarriesSteim version Order.Big (frame_bytes version
+        (slice_index_or samples 0 (pos 0)) last groups frames) samples }
     ensures reverse { (version : Version) (first last : ℤ) (groups : List (List ℤ)) (frames : ℕ)
         → AreGroups version groups → 0 < frames → FitsSigned w32 first → FitsSigned w32 last
         → constant Order.Big (frame_bytes version first last groups frames) 2 ≡ last }

@@ -4,6 +4,7 @@
 
 mod area;
 mod borrowed;
+mod check;
 mod frames;
 mod group;
 mod sums;

@@ -1,4 +1,4 @@
-// Words and areas from outside, and what no clause says: that a call succeeds, and the text of a fault.
+//! Words and areas from outside, and what no clause says: that a call succeeds, and the text of a fault.
 ghost use Rattle.std.specs.Prelude.{IsTrue, map};
 ghost use Rattle.msr_steim.specs.Word.{AreGroups};
 
@@ -8,7 +8,8 @@ use crate::{
 };
 use byteorder::{BigEndian, ByteOrder};
 use msr_base::Order;
-use std::alloc::AllocError;
+use std::alloc::{AllocError, Global};
+use std::process::Abort;
 use std::test::Fail;
 
 #[test]
@@ -78,9 +79,37 @@ fn frame_of(words: [u32; 4]) -> [u8; 64] {
     frame
 }
 
+/// The first words of a frame; the samples that it carries, and whether its reverse constant agrees.
+type Carrying<'a> = (Version, Order, [u32; 4], &'a [i32], bool);
+
+/// The samples are decoded, and shown one by one from each place on.
+fn assert_carried(rt: &impl Abort, alloc: Global, row: Carrying<'_>) -> Result<(), Fail> {
+    let (version, order, words, samples, agrees) = row;
+    let count = u16::try_from(samples.len()).map_err(|_| "too many samples")?;
+    assert!(rt; count >= 1);
+    let area = frame_of(words);
+    let decoded = decode_steim(alloc, version, order, &area, count)?;
+    assert_eq!(rt; decoded.samples.as_slice(), samples);
+    assert_eq!(rt; decoded.reverse_agrees, agrees);
+
+    let mut viewed = steim_samples(version, order, &area, count)?;
+    let copied: Vec<i32> = viewed.clone()?.collect(alloc)?;
+    assert_eq!(rt; copied.as_slice(), samples);
+    assert_eq!(rt; viewed.reverse_agrees(), agrees);
+    assert_eq!(rt; viewed.next(), samples.first().copied());
+    let left: Vec<i32> = viewed.clone()?.collect(alloc)?;
+    assert_eq!(rt; left.as_slice(), &samples[1..]);
+    for sample in left {
+        assert_eq!(rt; viewed.next(), Some(sample));
+    }
+    assert_eq!(rt; viewed.next(), None);
+    assert_eq!(rt; viewed.reverse_agrees(), agrees);
+    Ok(())
+}
+
 #[test]
 fn areas_carry_samples(rt: HostRuntime) -> Result<(), Fail> {
-    let rows: [(Version, Order, [u32; 4], &[i32], bool); 6] = [
+    let rows: [Carrying<'_>; 6] = [
         (
             Version::One,
             Order::Big,
@@ -124,26 +153,8 @@ fn areas_carry_samples(rt: HostRuntime) -> Result<(), Fail> {
             true,
         ),
     ];
-    for (version, order, words, samples, agrees) in rows {
-        let count = samples.len() as u16;
-        assert!(rt; count >= 1);
-        let decoded = decode_steim(rt.alloc(), version, order, &frame_of(words), count)?;
-        assert_eq!(rt; decoded.samples.as_slice(), samples);
-        assert_eq!(rt; decoded.reverse_agrees, agrees);
-
-        let area = frame_of(words);
-        let mut viewed = steim_samples(version, order, &area, count)?;
-        let copied: Vec<i32> = viewed.clone()?.collect(rt.alloc())?;
-        assert_eq!(rt; copied.as_slice(), samples);
-        assert_eq!(rt; viewed.reverse_agrees(), agrees);
-        assert_eq!(rt; viewed.next(), samples.first().copied());
-        let left: Vec<i32> = viewed.clone()?.collect(rt.alloc())?;
-        assert_eq!(rt; left.as_slice(), &samples[1..]);
-        for sample in left {
-            assert_eq!(rt; viewed.next(), Some(sample));
-        }
-        assert_eq!(rt; viewed.next(), None);
-        assert_eq!(rt; viewed.reverse_agrees(), agrees);
+    for row in rows {
+        assert_carried(&rt, rt.alloc(), row)?;
     }
     Ok(())
 }
@@ -213,11 +224,50 @@ fn append_groups(groups: &mut Vec<Group>, list: &[i32], times: usize) -> Result<
     Ok(())
 }
 
+/// Version, first and last sample, number of samples; groups, each so many times; words, each so many times.
+type Filling<'a> = (
+    Version,
+    [i32; 2],
+    u16,
+    &'a [(&'a [i32], usize)],
+    &'a [(u32, usize)],
+);
+
+/// An area is filled with the words of the groups, and gives the samples.
+fn assert_filled(rt: &impl Abort, alloc: Global, row: Filling<'_>) -> Result<(), Fail> {
+    let (version, [first, last], count, parts, words) = row;
+    let mut groups = Vec::new(alloc);
+    for (list, times) in parts {
+        append_groups(&mut groups, list, *times)?;
+    }
+    let mut bytes = Vec::new(alloc);
+    for (word, times) in words {
+        append_words(&mut bytes, *word, *times)?;
+    }
+    let mut area = [255; 192];
+    assert!(rt; are_groups(version, &groups));
+    assert!(rt; groups.len() <= 43);
+    fill_steim(version, first, last, &groups, &mut area);
+    assert!(rt; area.as_slice() == bytes.as_slice());
+
+    assert!(rt; count >= 1);
+    let decoded = decode_steim(alloc, version, Order::Big, &area, count)?;
+    assert_eq!(rt; decoded.samples.len(), usize::from(count));
+    assert!(rt; decoded.reverse_agrees);
+    for (place, sample) in decoded.samples.as_slice().iter().enumerate() {
+        let high = place % 2 == 1 || place >= 84;
+        assert_eq!(rt; *sample, if high { last } else { first });
+    }
+    let viewed = steim_samples(version, Order::Big, &area, count)?;
+    assert!(rt; viewed.reverse_agrees());
+    let copied: Vec<i32> = viewed.collect(alloc)?;
+    assert_eq!(rt; copied.as_slice(), decoded.samples.as_slice());
+    Ok(())
+}
+
 #[test]
 fn records_byte_for_byte(rt: HostRuntime) -> Result<(), Fail> {
-    // Version, first and last sample, number of samples; groups, each so many times; words, each so
-    // many times.
-    let rows: [(Version, [i32; 2], u16, &[(&[i32], usize)], &[(u32, usize)]); 3] = [
+    let rows: [Filling<'_>; 3] = [
         (
             Version::Two,
             [0, 0],
@@ -259,33 +309,8 @@ fn records_byte_for_byte(rt: HostRuntime) -> Result<(), Fail> {
             ],
         ),
     ];
-    for (version, [first, last], count, parts, words) in rows {
-        let mut groups = Vec::new(rt.alloc());
-        for (list, times) in parts {
-            append_groups(&mut groups, list, *times)?;
-        }
-        let mut bytes = Vec::new(rt.alloc());
-        for (word, times) in words {
-            append_words(&mut bytes, *word, *times)?;
-        }
-        let mut area = [255; 192];
-        assert!(rt; are_groups(version, &groups));
-        assert!(rt; groups.len() <= 43);
-        fill_steim(version, first, last, &groups, &mut area);
-        assert!(rt; area.as_slice() == bytes.as_slice());
-
-        assert!(rt; count >= 1);
-        let decoded = decode_steim(rt.alloc(), version, Order::Big, &area, count)?;
-        assert_eq!(rt; decoded.samples.len(), usize::from(count));
-        assert!(rt; decoded.reverse_agrees);
-        for (place, sample) in decoded.samples.as_slice().iter().enumerate() {
-            let high = place % 2 == 1 || place >= 84;
-            assert_eq!(rt; *sample, if high { last } else { first });
-        }
-        let viewed = steim_samples(version, Order::Big, &area, count)?;
-        assert!(rt; viewed.reverse_agrees());
-        let copied: Vec<i32> = viewed.collect(rt.alloc())?;
-        assert_eq!(rt; copied.as_slice(), decoded.samples.as_slice());
+    for row in rows {
+        assert_filled(&rt, rt.alloc(), row)?;
     }
     Ok(())
 }

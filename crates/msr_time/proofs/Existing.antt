@@ -14,7 +14,8 @@ unfolding day_count days_of_years days_of_months
 year_length y =
     let e : suc y + 10000 ≡ suc (y + 10000) = omega arith in
     let z : pos (y + 10000) -ℤ pos 10000 ≡ pos y = omega (arith, signed_arith) in
-    let next : days_of_years (suc y + 10000) ≡ days_of_years (y + 10000) + days_in_year (pos (y + 10000) -ℤ pos 10000) = ap days_of_years e in
+    let next : days_of_years (suc y + 10000) ≡ days_of_years (y + 10000) + days_in_year
+    (pos (y + 10000) -ℤ pos 10000) = ap days_of_years e in
     let same : days_in_year (pos (y + 10000) -ℤ pos 10000) ≡ days_in_year (pos y) = ap days_in_year z in
     omega (arith, next, same)
 
@@ -35,7 +36,9 @@ year_of (suc n) c low high = elim (cases_lt c (day_count (pos (1900 + n)) 1 1)) 
       record { year = h.year; low = h.low; high = omega arith; begun = h.begun; ended = h.ended }
   | inr here ↦
       let e : 1900 + suc n ≡ suc (1900 + n) = omega arith in
-      let next : day_count (pos (1900 + suc n)) 1 1 ≡ day_count (pos (1900 + n)) 1 1 + days_in_year (pos (1900 + n)) = ap (λ (y : ℕ). day_count (pos y) 1 1) e ∙ year_length (1900 + n) in
+      let next : day_count (pos (1900 + suc n)) 1 1
+      ≡ day_count (pos (1900 + n)) 1 1 + days_in_year (pos (1900 + n)) =
+      ap (λ (y : ℕ). day_count (pos y) 1 1) e ∙ year_length (1900 + n) in
       record { year = 1900 + n; low = omega arith; high = omega arith; begun = here; ended = omega arith }
 ]
 
@@ -76,7 +79,9 @@ clock_of r h = record {
 pub has_split : (t : ℤ) → IsInstant t → HasSplit t
 has_split t h = from (up t + 2_208_988_800_000_000 - down t) (omega (arith, signed_arith)) (omega (arith, signed_arith))
   where
-    on_day : (n k y d r : ℕ) → up t + 2_208_988_800_000_000 ≡ down t + n → n ≡ 86_400_000_000 * k + r → 1900 ≤ y → y ≤ 2100 → 1 ≤ d → d ≤ days_in_year (pos y) → day_count (pos y) 1 1 + d ≡ k + 4_346_387 → HasClock r → HasSplit t
+    on_day : (n k y d r : ℕ) → up t + 2_208_988_800_000_000 ≡ down t + n → n ≡ 86_400_000_000 * k + r → 1900 ≤ y
+        → y ≤ 2100 → 1 ≤ d → d ≤ days_in_year (pos y) → day_count (pos y) 1 1 + d ≡ k + 4_346_387 → HasClock r
+        → HasSplit t
     on_day n k y d r e parts low high first last place c =
         let number = day_number_parts y d first in
         let sum = c.sum in
@@ -85,7 +90,14 @@ has_split t h = from (up t + 2_208_988_800_000_000 - down t) (omega (arith, sign
           time = record { year = y; day = d; hour = c.hour; minute = c.minute; second = c.second; fract = c.fract };
           micros = c.micros;
           split = record {
-            is_time = record { year = (low, high); day = (first, last); hour = c.in_day; minute = c.in_hour; second = omega arith; fract = c.in_second };
+            is_time = record {
+              year = (low, high);
+              day = (first, last);
+              hour = c.in_day;
+              minute = c.in_hour;
+              second = omega arith;
+              fract = c.in_second;
+            };
             no_leap_second = c.in_minute;
             below = c.below;
             sum = omega (arith, signed_arith);
@@ -101,4 +113,5 @@ has_split t h = from (up t + 2_208_988_800_000_000 - down t) (omega (arith, sign
         let begun = y.begun in
         let ended = y.ended in
         let high = y.high in
-        on_day n k y.year (k + 4_346_387 - day_count (pos y.year) 1 1) r e (omega arith) y.low (omega arith) (omega arith) (omega arith) (omega arith) (clock_of r (omega arith))
+        on_day n k y.year (k + 4_346_387 - day_count (pos y.year) 1 1) r e (omega arith) y.low (omega arith)
+        (omega arith) (omega arith) (omega arith) (clock_of r (omega arith))

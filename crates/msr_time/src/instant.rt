@@ -1,3 +1,4 @@
+//! Instants: microseconds of the years 1900 to 2100.
 ghost use Rattle.std.specs.Prelude.{◌≡◌, ◌↔◌, IsTrue};
 ghost use Rattle.msr_time.specs.Instant.{IsInstant};
 

@@ -1,3 +1,4 @@
+//! What holds of times alone.
 ghost use Rattle.std.specs.Prelude.{ℕ, ℤ};
 ghost use Rattle.msr_time.specs.Instant.{IsInstant, IsSplit};
 ghost use Rattle.msr_time.specs.SampleRate.{OneNominalInstant};

@@ -1,3 +1,4 @@
+//! Sample rates, and the instants of samples.
 ghost use Rattle.std.specs.Prelude.{◌≡◌, ◌≢◌, ℕ, ℤ, ◌<◌, ◌≤◌, ◌^◌, ◌↔◌, IsSome, IsTrue, SomeIff, pos};
 ghost use Rattle.msr_time.specs.Instant.{IsInstant};
 ghost use Rattle.msr_time.specs.SampleRate.{SampleRate, period_of, IsRoundedNominal, IsNear};

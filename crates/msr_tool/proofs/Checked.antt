@@ -1,7 +1,7 @@
 -- What is answered where checking stops.
 use Rattle.std.proofs.Common.{ℕ, List, Result, Ok, Err}
 use Rattle.msr_devices.specs.Device.{Device, HasLeft}
-use Rattle.msr_devices.proofs.Chaining.{left-of}
+use Rattle.msr_devices.proofs.Chaining.{left_of}
 use Rattle.msr_report.specs.declared.report.Report.{Report}
 use Rattle.msr_certificate.specs.Reading.{ReadsReport}
 use Rattle.msr_certificate.specs.declared.fault.ReportFault.{ReportFault}
@@ -16,17 +16,24 @@ use Rattle.msr_tool.specs.declared.fault.ToolFault.{ToolFault}
 
 -- what is answered, for some packed records and some text
 abbrev pub IsCheckAnswered : Device → Device → Result Verdict ToolFault → Type 0
-IsCheckAnswered packed0 report0 result = (input : List ℕ) × (text : List ℕ) × HasLeft packed0 input × HasLeft report0 text × CheckAnswers input text result
+IsCheckAnswered packed0 report0 result = (input : List ℕ) × (text : List ℕ) × HasLeft packed0 input
+    × HasLeft report0 text × CheckAnswers input text result
 
 -- the report is not read
-pub report-fails : (packed0 report0 : Device) (text : List ℕ) (why : ReportFault) → HasLeft report0 text → ReadsReport text (Err why) → IsCheckAnswered packed0 report0 (Err (fault_of_report why))
-report-fails packed0 report0 text (report.Line line) left reads = let p = left-of packed0 in (p.0, text, p.1, left, reads)
-report-fails packed0 report0 text report.Read left reads = let p = left-of packed0 in (p.0, text, p.1, left, tt)
-report-fails packed0 report0 text report.Memory left reads = let p = left-of packed0 in (p.0, text, p.1, left, tt)
+pub report_fails : (packed0 report0 : Device) (text : List ℕ) (why : ReportFault) → HasLeft report0 text
+    → ReadsReport text (Err why) → IsCheckAnswered packed0 report0 (Err (fault_of_report why))
+report_fails packed0 report0 text (report.Line line) left reads = let p = left_of packed0 in
+    (p.0, text, p.1, left, reads)
+report_fails packed0 report0 text report.Read left reads = let p = left_of packed0 in (p.0, text, p.1, left, tt)
+report_fails packed0 report0 text report.Memory left reads = let p = left_of packed0 in (p.0, text, p.1, left, tt)
 
 -- the packed records are not
-pub verify-fails : (packed0 report0 : Device) (input text : List ℕ) (found : Report) (why : ReadFault) → HasLeft packed0 input → HasLeft report0 text → ReadsReport text (Ok found) → Answers found input (Err why) → IsCheckAnswered packed0 report0 (Err (fault_of_reading why))
-verify-fails packed0 report0 input text found (read.Input other) left left_text reads answers =
+pub verify_fails : (packed0 report0 : Device) (input text : List ℕ) (found : Report) (why : ReadFault)
+    → HasLeft packed0 input → HasLeft report0 text → ReadsReport text (Ok found) → Answers found input (Err why)
+    → IsCheckAnswered packed0 report0 (Err (fault_of_reading why))
+verify_fails packed0 report0 input text found (read.Input other) left left_text reads answers =
     (input, text, left, left_text, record { report = found; read = reads; answers = answers })
-verify-fails packed0 report0 input text found read.Read left left_text reads answers = (input, text, left, left_text, tt)
-verify-fails packed0 report0 input text found read.Memory left left_text reads answers = (input, text, left, left_text, tt)
+verify_fails packed0 report0 input text found read.Read left left_text reads answers =
+    (input, text, left, left_text, tt)
+verify_fails packed0 report0 input text found read.Memory left left_text reads answers =
+    (input, text, left, left_text, tt)

@@ -10,37 +10,52 @@ use Rattle.msr_tool.specs.Choice.{Choice, as_strict, settings_of, size_of}
 use Rattle.msr_tool.specs.Laws.{OneRepacking, OneRefusal, ReadableIsRepacked, ReadableIsListed, StrictWritesTheSame}
 use Rattle.msr_tool.specs.declared.fault.ToolFault.TheVariants as fault
 
-pub readable-repacked : ReadableHasNoFault → ReadableIsRepacked
-readable-repacked law choice input written records segments (Ok report) readable answers not_read not_write = tt
-readable-repacked law choice input written records segments (Err (fault.Input found)) readable answers not_read not_write = absurd (law (settings_of choice) input records answers.records segments found readable answers.first)
-readable-repacked law choice input written records segments (Err (fault.Report line)) readable answers not_read not_write = absurd answers
-readable-repacked law choice input written records segments (Err fault.Read) readable answers not_read not_write = absurd (not_read refl)
-readable-repacked law choice input written records segments (Err fault.Write) readable answers not_read not_write = absurd (not_write refl)
-readable-repacked law choice input written records segments (Err fault.Memory) readable answers not_read not_write = refl
+pub readable_repacked : ReadableHasNoFault → ReadableIsRepacked
+readable_repacked law choice input written records segments (Ok report) readable answers not_read not_write = tt
+readable_repacked law choice input written records segments
+    (Err (fault.Input found)) readable answers not_read not_write =
+    absurd (law (settings_of choice) input records answers.records segments found readable answers.first)
+readable_repacked law choice input written records segments
+    (Err (fault.Report line)) readable answers not_read not_write = absurd answers
+readable_repacked law choice input written records segments (Err fault.Read) readable answers not_read not_write =
+    absurd (not_read refl)
+readable_repacked law choice input written records segments (Err fault.Write) readable answers not_read not_write =
+    absurd (not_write refl)
+readable_repacked law choice input written records segments
+    (Err fault.Memory) readable answers not_read not_write = refl
 
-pub readable-listed : ReadableHasNoFault → ReadableIsListed
-readable-listed law settings input written records segments (Ok counts) readable answers not_read not_write = tt
-readable-listed law settings input written records segments (Err (fault.Input found)) readable answers not_read not_write = absurd (law settings input records answers.records segments found readable answers.first)
-readable-listed law settings input written records segments (Err (fault.Report line)) readable answers not_read not_write = absurd answers
-readable-listed law settings input written records segments (Err fault.Read) readable answers not_read not_write = absurd (not_read refl)
-readable-listed law settings input written records segments (Err fault.Write) readable answers not_read not_write = absurd (not_write refl)
-readable-listed law settings input written records segments (Err fault.Memory) readable answers not_read not_write = refl
+pub readable_listed : ReadableHasNoFault → ReadableIsListed
+readable_listed law settings input written records segments (Ok counts) readable answers not_read not_write = tt
+readable_listed law settings input written records segments
+    (Err (fault.Input found)) readable answers not_read not_write =
+    absurd (law settings input records answers.records segments found readable answers.first)
+readable_listed law settings input written records segments
+    (Err (fault.Report line)) readable answers not_read not_write = absurd answers
+readable_listed law settings input written records segments (Err fault.Read) readable answers not_read not_write =
+    absurd (not_read refl)
+readable_listed law settings input written records segments (Err fault.Write) readable answers not_read not_write =
+    absurd (not_write refl)
+readable_listed law settings input written records segments
+    (Err fault.Memory) readable answers not_read not_write = refl
 
-pub one-repacking : OneListOfRecords → OneOutput → OneRepacking
-one-repacking records_law output_law choice input written other report another one two =
+pub repacking_alone : OneListOfRecords → OneOutput → OneRepacking
+repacking_alone records_law output_law choice input written other report another one two =
     let same = records_law (settings_of choice) input one.records two.records _ _ one.readable two.readable in
-    let outputs = output_law (size_of choice) one.packed two.packed one.rows two.rows written other same.1 one.output two.output in (
+    let outputs = output_law
+    (size_of choice) one.packed two.packed one.rows two.rows written other same.1 one.output two.output in (
       outputs.2,
       one.is_report.counts ∙ ap counts_of same.0 ∙ sym two.is_report.counts,
       (one.packed, one.is_report.lines, rw (outputs.0) two.is_report.lines),
     )
 
-pub one-refusal : OneFirstFault → OneRefusal
-one-refusal law choice input written other found another one two = (law (settings_of choice) input one.records two.records found another one.first two.first).1
+pub refusal_alone : OneFirstFault → OneRefusal
+refusal_alone law choice input written other found another one two =
+    (law (settings_of choice) input one.records two.records found another one.first two.first).1
 
 -- what was repacked, strictly or not
-report-as : (a b : Bool) (choice : Choice) (records : List Record) (packed : List Packed) (report : Report) → IsReportOf (as_strict a choice) records packed report → IsReportOf (as_strict b choice) records packed report
-report-as a b choice records packed report is = record {
+report_as : (a b : Bool) (choice : Choice) (records : List Record) (packed : List Packed) (report : Report)
+    → IsReportOf (as_strict a choice) records packed report → IsReportOf (as_strict b choice) records packed report
+report_as a b choice records packed report is = record {
   size = is.size;
   tolerance = is.tolerance;
   counts = is.counts;
@@ -49,8 +64,10 @@ report-as a b choice records packed report is = record {
   is_form = is.is_form;
 }
 
-repacked-as : (a b : Bool) (choice : Choice) (input written : List ℕ) (report : Report) (is : IsRepacked (as_strict a choice) input written report) → AllAgree b is.records → IsRepacked (as_strict b choice) input written report
-repacked-as a b choice input written report is agree = record {
+repacked_as : (a b : Bool) (choice : Choice) (input written : List ℕ) (report : Report)
+    (is : IsRepacked (as_strict a choice) input written report) → AllAgree b is.records
+    → IsRepacked (as_strict b choice) input written report
+repacked_as a b choice input written report is agree = record {
   records = is.records;
   packed = is.packed;
   rows = is.rows;
@@ -60,11 +77,16 @@ repacked-as a b choice input written report is agree = record {
   };
   output = is.output;
   same_segments = is.same_segments;
-  is_report = report-as a b choice is.records is.packed report is.is_report;
+  is_report = report_as a b choice is.records is.packed report is.is_report;
 }
 
-pub strict-writes : StrictWritesTheSame
-strict-writes choice input written report = (
-  λ is. (repacked-as true false choice input written report is (λ strict. absurd cc), ap (λ (c : Counts). c.mismatched) is.is_report.counts ∙ is.readable.are_read.agree refl),
-  λ both. repacked-as false true choice input written report both.0 (λ strict. sym (ap (λ (c : Counts). c.mismatched) both.0.is_report.counts) ∙ both.1),
+pub strict_writes : StrictWritesTheSame
+strict_writes choice input written report = (
+  λ is. (
+    repacked_as true false choice input written report is (λ strict. absurd cc),
+    ap
+        (λ (c : Counts). c.mismatched) is.is_report.counts ∙ is.readable.are_read.agree refl,
+  ),
+  λ both. repacked_as false true choice input written report both.0
+      (λ strict. sym (ap (λ (c : Counts). c.mismatched) both.0.is_report.counts) ∙ both.1),
 )

@@ -13,8 +13,9 @@ use Rattle.msr_verdict.specs.declared.verdict.Verdict.TheVariants.{Least, NotSho
 use Rattle.msr_tool.specs.Shown.{RepackedIsLeast, RepackedIsShown}
 use Rattle.msr_tool.specs.declared.fault.ToolFault.TheVariants as fault
 
-same-shown : (size : ℕ) (part : Part) (line other : SegmentLine) → form_line line ≡ form_line other → IsShownBy size part line → IsShownBy size part other
-same-shown size part line other same is =
+same_shown : (size : ℕ) (part : Part) (line other : SegmentLine) → form_line line ≡ form_line other
+    → IsShownBy size part line → IsShownBy size part other
+same_shown size part line other same is =
     let separators : line.separators.items ≡ other.separators.items = ap (λ (l : FormLine). l.separators) same in
     record {
       key = sym (ap (λ (l : FormLine). l.key) same) ∙ is.key;
@@ -27,43 +28,66 @@ same-shown size part line other same is =
     }
 
 -- lines that say the same show the same
-same-lines : (size : ℕ) (parts : List Part) (lines others : List SegmentLine) → map form_line lines ≡ map form_line others → AreShownBy size parts lines → AreShownBy size parts others
-same-lines size [] [] [] same are = tt
-same-lines size [] [] (other ∷ others) same are = absurd (cc)
-same-lines size [] (line ∷ lines) others same are = absurd are
-same-lines size (part ∷ parts) [] others same are = absurd are
-same-lines size (part ∷ parts) (line ∷ lines) [] same are = absurd (cc)
-same-lines size (part ∷ parts) (line ∷ lines) (other ∷ others) same are =
+same_lines : (size : ℕ) (parts : List Part) (lines others : List SegmentLine)
+    → map form_line lines ≡ map form_line others → AreShownBy size parts lines → AreShownBy size parts others
+same_lines size [] [] [] same are = tt
+same_lines size [] [] (other ∷ others) same are = absurd (cc)
+same_lines size [] (line ∷ lines) others same are = absurd are
+same_lines size (part ∷ parts) [] others same are = absurd are
+same_lines size (part ∷ parts) (line ∷ lines) [] same are = absurd (cc)
+same_lines size (part ∷ parts) (line ∷ lines) (other ∷ others) same are =
     let first : form_line line ≡ form_line other = cc in
     let rest : map form_line lines ≡ map form_line others = cc in
-    (same-shown size part line other first are.0, same-lines size parts lines others rest are.1)
+    (same_shown size part line other first are.0, same_lines size parts lines others rest are.1)
 
 -- and so do reports that say the same
-shows-same : (report other : Report) (input : List ℕ) → form_of report ≡ form_of other → ShowsLeast report input → ShowsLeast other input
-shows-same report other input same shows =
+shows_same : (report other : Report) (input : List ℕ) → form_of report ≡ form_of other → ShowsLeast report input
+    → ShowsLeast other input
+shows_same report other input same shows =
     let tolerance : report.tolerance ≡ other.tolerance = ap (λ (f : Form). f.tolerance) same in
     let bytes : bytes_of report.length ≡ bytes_of other.length = ap (λ (f : Form). f.bytes) same in
-    let lines : map form_line report.segments.items ≡ map form_line other.segments.items = ap (λ (f : Form). f.segments) same in
+    let lines : map form_line report.segments.items ≡ map form_line other.segments.items =
+    ap (λ (f : Form). f.segments) same in
     record {
       records = shows.records;
       parts = shows.parts;
-      are_read = subst (λ (t : ℕ). AreRead (record { tolerance = t; strict = false }) input shows.records []) tolerance shows.are_read;
+      are_read = subst (λ (t : ℕ). AreRead (record { tolerance = t; strict = false }) input shows.records
+          []) tolerance shows.are_read;
       division = subst (λ (t : ℕ). IsDivision t (rows_of_records shows.records) shows.parts) tolerance shows.division;
       full = subst (λ (n : ℕ). All (IsFull n) shows.records) bytes shows.full;
-      shown = subst (λ (n : ℕ). AreShownBy n shows.parts other.segments.items) bytes (same-lines (bytes_of report.length) shows.parts report.segments.items other.segments.items lines shows.shown);
+      shown = subst (λ (n : ℕ). AreShownBy n shows.parts other.segments.items) bytes
+          (same_lines (bytes_of report.length) shows.parts report.segments.items other.segments.items lines
+          shows.shown);
     }
 
-pub repacked-least : RepackedIsShown → ShownIsReadable → OneReport → NoLineAtFault → ReadableHasNoFault → RepackedIsLeast
-repacked-least shown readable one none has_none choice input written text report records segments (Ok Least) repacked are_readable before is_text answers not_read not_memory = refl
-repacked-least shown readable one none has_none choice input written text report records segments (Ok NotShown) repacked are_readable before is_text answers not_read not_memory =
-    let same = one report answers.report text repacked.is_report.is_form answers.read.is_form is_text answers.read.is_text in
-    absurd (answers.answers.none (shows-same report answers.report written same (shown choice input written report records segments repacked are_readable before)))
-repacked-least shown readable one none has_none choice input written text report records segments (Err (fault.Input found)) repacked are_readable before is_text answers not_read not_memory =
-    let same = one report answers.report text repacked.is_report.is_form answers.read.is_form is_text answers.read.is_text in
-    let again = readable answers.report written (shows-same report answers.report written same (shown choice input written report records segments repacked are_readable before)) in
-    absurd (has_none (settings_by answers.report) written again.0 answers.answers.records again.1 found again.2 answers.answers.first)
-repacked-least shown readable one none has_none choice input written text report records segments (Err (fault.Report line)) repacked are_readable before is_text answers not_read not_memory =
-    absurd (none report text line (record { proper = repacked.is_report.proper; is_form = repacked.is_report.is_form; is_text = is_text }) answers)
-repacked-least shown readable one none has_none choice input written text report records segments (Err fault.Read) repacked are_readable before is_text answers not_read not_memory = absurd (not_read refl)
-repacked-least shown readable one none has_none choice input written text report records segments (Err fault.Write) repacked are_readable before is_text answers not_read not_memory = absurd answers
-repacked-least shown readable one none has_none choice input written text report records segments (Err fault.Memory) repacked are_readable before is_text answers not_read not_memory = absurd (not_memory refl)
+pub repacked_least : RepackedIsShown → ShownIsReadable → OneReport → NoLineAtFault → ReadableHasNoFault
+    → RepackedIsLeast
+repacked_least shown readable one none has_none choice input written text report records segments
+    (Ok Least) repacked are_readable before is_text answers not_read not_memory = refl
+repacked_least shown readable one none has_none choice input written text report records segments
+    (Ok NotShown) repacked are_readable before is_text answers not_read not_memory =
+    let same = one report answers.report text repacked.is_report.is_form answers.read.is_form is_text
+    answers.read.is_text in
+    absurd (answers.answers.none (shows_same report answers.report written same
+    (shown choice input written report records segments repacked are_readable before)))
+repacked_least shown readable one none has_none choice input written text report records segments
+    (Err (fault.Input found)) repacked are_readable before is_text answers not_read not_memory =
+    let same = one report answers.report text repacked.is_report.is_form answers.read.is_form is_text
+    answers.read.is_text in
+    let again = readable answers.report written (shows_same report answers.report written same
+    (shown choice input written report records segments repacked are_readable before)) in
+    absurd (has_none (settings_by answers.report) written again.0 answers.answers.records again.1 found again.2
+    answers.answers.first)
+repacked_least shown readable one none has_none choice input written text report records segments
+    (Err (fault.Report line)) repacked are_readable before is_text answers not_read not_memory =
+    absurd (none report text line (record {
+      proper = repacked.is_report.proper;
+      is_form = repacked.is_report.is_form;
+      is_text = is_text;
+    }) answers)
+repacked_least shown readable one none has_none choice input written text report records segments
+    (Err fault.Read) repacked are_readable before is_text answers not_read not_memory = absurd (not_read refl)
+repacked_least shown readable one none has_none choice input written text report records segments
+    (Err fault.Write) repacked are_readable before is_text answers not_read not_memory = absurd answers
+repacked_least shown readable one none has_none choice input written text report records segments
+    (Err fault.Memory) repacked are_readable before is_text answers not_read not_memory = absurd (not_memory refl)

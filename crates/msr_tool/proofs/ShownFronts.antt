@@ -10,13 +10,14 @@ use Rattle.msr_segments.proofs.Divisions.{no_empty, cases_last, last_same}
 use Rattle.msr_segments.proofs.DivisionLaws.{one_list}
 
 -- a list that is split in two ways is cut first in one of them
-split-first : {X : Type 0} (xs u f v : List X) → xs ++ u ≡ f ++ v → ((a : List X) × (xs ≡ f ++ a)) ⊎ ((y : X) × (g : List X) × (f ≡ xs ++ y ∷ g) × (u ≡ y ∷ (g ++ v)))
-split-first {X} xs u [] v e = inl (xs, refl)
-split-first {X} [] u (y ∷ f) v e = inr (y, f, refl, e)
-split-first {X} (x ∷ xs) u (y ∷ f) v e =
+split_first : {X : Type 0} (xs u f v : List X) → xs ++ u ≡ f ++ v
+    → ((a : List X) × (xs ≡ f ++ a)) ⊎ ((y : X) × (g : List X) × (f ≡ xs ++ y ∷ g) × (u ≡ y ∷ (g ++ v)))
+split_first {X} xs u [] v e = inl (xs, refl)
+split_first {X} [] u (y ∷ f) v e = inr (y, f, refl, e)
+split_first {X} (x ∷ xs) u (y ∷ f) v e =
     let h : x ≡ y = cc in
     let t : xs ++ u ≡ f ++ v = cc in
-    elim (split-first xs u f v t) [
+    elim (split_first xs u f v t) [
       | inl w ↦ inl (w.0, (let rest = w.1 in cc))
       | inr w ↦ inr (w.0, w.1, (let rest = w.2 in cc), w.3)
     ]
@@ -32,8 +33,9 @@ pub record IsCutIn (parts : List Part) (front : List Row) : Type 0 where
   pub rows : part.1 ≡ kept ++ left
   pub front_is : front ≡ flat_map rows_of before ++ part.0 ∷ kept
 
-cut-later : (p : Part) (ps : List Part) (front : List Row) (c : IsCutIn ps front) → IsCutIn (p ∷ ps) (rows_of p ++ front)
-cut-later p ps front c = record {
+cut_later : (p : Part) (ps : List Part) (front : List Row) (c : IsCutIn ps front)
+    → IsCutIn (p ∷ ps) (rows_of p ++ front)
+cut_later p ps front c = record {
   before = p ∷ c.before;
   after = c.after;
   part = c.part;
@@ -41,15 +43,17 @@ cut-later p ps front c = record {
   left = c.left;
   whole = ap (λ (xs : List Part). p ∷ xs) c.whole;
   rows = c.rows;
-  front_is = ap (λ (r : List Row). rows_of p ++ r) c.front_is ∙ sym (append_assoc (rows_of p) (flat_map rows_of c.before) (c.part.0 ∷ c.kept));
+  front_is = ap (λ (r : List Row). rows_of p ++ r) c.front_is
+      ∙ sym (append_assoc (rows_of p) (flat_map rows_of c.before) (c.part.0 ∷ c.kept));
 }
 
-cut-parts : (parts : List Part) (first : Row) (front rest : List Row) → flat_map rows_of parts ≡ first ∷ (front ++ rest) → IsCutIn parts (first ∷ front)
-cut-parts [] first front rest e = absurd (no_empty [] (front ++ rest) first e)
-cut-parts (p ∷ ps) first front rest e =
+cut_parts : (parts : List Part) (first : Row) (front rest : List Row)
+    → flat_map rows_of parts ≡ first ∷ (front ++ rest) → IsCutIn parts (first ∷ front)
+cut_parts [] first front rest e = absurd (no_empty [] (front ++ rest) first e)
+cut_parts (p ∷ ps) first front rest e =
     let h : p.0 ≡ first = cc in
     let t : p.1 ++ flat_map rows_of ps ≡ front ++ rest = cc in
-    elim (split-first p.1 (flat_map rows_of ps) front rest t) [
+    elim (split_first p.1 (flat_map rows_of ps) front rest t) [
       | inl w ↦ record {
         before = [];
         after = ps;
@@ -61,8 +65,9 @@ cut-parts (p ∷ ps) first front rest e =
         front_is = ap (λ (r : Row). r ∷ front) (sym h);
       }
       | inr w ↦
-          let later = cut-later p ps (w.0 ∷ w.1) (cut-parts ps w.0 w.1 rest w.3) in
-          let same : rows_of p ++ w.0 ∷ w.1 ≡ first ∷ front = ap (λ (r : Row). r ∷ (p.1 ++ w.0 ∷ w.1)) h ∙ ap (λ (r : List Row). first ∷ r) (sym w.2) in
+          let later = cut_later p ps (w.0 ∷ w.1) (cut_parts ps w.0 w.1 rest w.3) in
+          let same : rows_of p ++ w.0 ∷ w.1 ≡ first ∷ front = ap (λ (r : Row). r ∷ (p.1 ++ w.0 ∷ w.1)) h
+          ∙ ap (λ (r : List Row). first ∷ r) (sym w.2) in
           subst (λ (r : List Row). IsCutIn (p ∷ ps) r) same later
     ]
 
@@ -71,20 +76,32 @@ abbrev kept_part : (parts : List Part) (front : List Row) → IsCutIn parts fron
 kept_part parts front c = (c.part.0, c.kept)
 
 -- the front's parts are those before the cut, and what is left of the part that is cut
-cut-division : (tolerance : ℕ) (rows : List Row) (parts : List Part) (front : List Row) (c : IsCutIn parts front) → IsDivision tolerance rows parts → IsDivision tolerance front (c.before ++ kept_part parts front c ∷ [])
-cut-division tolerance rows parts front c d =
+cut_division : (tolerance : ℕ) (rows : List Row) (parts : List Part) (front : List Row) (c : IsCutIn parts front)
+    → IsDivision tolerance rows parts → IsDivision tolerance front (c.before ++ kept_part parts front c ∷ [])
+cut_division tolerance rows parts front c d =
     let last : Part = kept_part parts front c in
-    let last_joined : IsJoined tolerance last = λ before after row e. d.joined c.before c.after c.part c.whole before (after ++ c.left) row (c.rows ∙ ap (λ (r : List Row). r ++ c.left) e ∙ append_assoc before (row ∷ after) c.left) in
+    let last_joined : IsJoined tolerance last =
+    λ before after row e. d.joined c.before c.after c.part c.whole before (after ++ c.left) row
+    (c.rows ∙ ap (λ (r : List Row). r ++ c.left) e ∙ append_assoc before (row ∷ after) c.left) in
     record {
-      whole = c.front_is ∙ ap (λ (r : List Row). flat_map rows_of c.before ++ r) (sym (append-nil (rows_of last))) ∙ sym (flat_map-append rows_of c.before (last ∷ []));
+      whole = c.front_is ∙ ap (λ (r : List Row). flat_map rows_of c.before ++ r) (sym (append-nil (rows_of last)))
+          ∙ sym (flat_map-append rows_of c.before (last ∷ []));
       joined = λ before after p e. elim (cases_last c.before before after last p e) [
         | inl w ↦ subst (λ (q : Part). IsJoined tolerance q) w.2 last_joined
-        | inr w ↦ d.joined before (w.0 ++ c.part ∷ c.after) p (c.whole ∙ ap (λ (ps : List Part). ps ++ c.part ∷ c.after) w.2 ∙ append_assoc before (p ∷ w.0) (c.part ∷ c.after))
+        | inr w ↦ d.joined before (w.0 ++ c.part ∷ c.after) p
+            (c.whole ∙ ap (λ (ps : List Part). ps ++ c.part ∷ c.after) w.2
+            ∙ append_assoc before (p ∷ w.0) (c.part ∷ c.after))
       ];
-      apart = λ before after p next e h. elim (cases_last c.before (before ++ p ∷ []) after last next (e ∙ sym (append_assoc before (p ∷ []) (next ∷ after)))) [
-        | inl w ↦ d.apart before c.after p c.part (c.whole ∙ ap (λ (ps : List Part). ps ++ c.part ∷ c.after) w.1 ∙ append_assoc before (p ∷ []) (c.part ∷ c.after)) (subst (λ (q : Part). ContinuesSegment tolerance (segment_of p) q.0) (sym w.2) h)
-        | inr w ↦ d.apart before (w.0 ++ c.part ∷ c.after) p next (c.whole ∙ ap (λ (ps : List Part). ps ++ c.part ∷ c.after) (w.2 ∙ append_assoc before (p ∷ []) (next ∷ w.0)) ∙ append_assoc before (p ∷ next ∷ w.0) (c.part ∷ c.after)) h
-      ];
+      apart = λ before after p next e h. elim (cases_last c.before (before ++ p ∷ []) after last next
+          (e ∙ sym (append_assoc before (p ∷ []) (next ∷ after)))) [
+            | inl w ↦ d.apart before c.after p c.part (c.whole ∙ ap (λ (ps : List Part). ps ++ c.part ∷ c.after) w.1
+                ∙ append_assoc before (p ∷ []) (c.part ∷ c.after)) (subst
+                (λ (q : Part). ContinuesSegment tolerance (segment_of p) q.0) (sym w.2) h)
+            | inr w ↦ d.apart before (w.0 ++ c.part ∷ c.after) p next
+                (c.whole ∙ ap (λ (ps : List Part). ps ++ c.part ∷ c.after)
+                (w.2 ∙ append_assoc before (p ∷ []) (next ∷ w.0))
+                ∙ append_assoc before (p ∷ next ∷ w.0) (c.part ∷ c.after)) h
+          ];
     }
 
 -- The segment is a prefix of the other.
@@ -93,12 +110,16 @@ pub record IsFrontOf (front whole : Segment) : Type 0 where
   pub start : front.start ≡ whole.start
   pub fewer : length front.samples ≤ length whole.samples
 
-kept-front : (part : Part) (kept left : List Row) → part.1 ≡ kept ++ left → IsFrontOf (segment_of (part.0, kept)) (segment_of part)
+kept_front : (part : Part) (kept left : List Row) → part.1 ≡ kept ++ left
+    → IsFrontOf (segment_of (part.0, kept)) (segment_of part)
 unfolding segment_of
-kept-front part kept left e =
+kept_front part kept left e =
     let samples = λ (r : Row). r.samples in
-    let all : flat_map samples (rows_of part) ≡ flat_map samples (part.0 ∷ kept) ++ flat_map samples left = ap (λ (rs : List Row). flat_map samples (part.0 ∷ rs)) e ∙ flat_map-append samples (part.0 ∷ kept) left in
-    let size : length (flat_map samples (rows_of part)) ≡ length (flat_map samples (part.0 ∷ kept)) + length (flat_map samples left) = ap length all ∙ length-append (flat_map samples (part.0 ∷ kept)) (flat_map samples left) in
+    let all : flat_map samples (rows_of part) ≡ flat_map samples (part.0 ∷ kept) ++ flat_map samples left =
+    ap (λ (rs : List Row). flat_map samples (part.0 ∷ rs)) e ∙ flat_map-append samples (part.0 ∷ kept) left in
+    let size : length (flat_map samples (rows_of part))
+    ≡ length (flat_map samples (part.0 ∷ kept)) + length (flat_map samples left) = ap length all
+    ∙ length-append (flat_map samples (part.0 ∷ kept)) (flat_map samples left) in
     record { key = refl; start = refl; fewer = omega (arith, size) }
 
 -- the last segment of the start begins one of the segments of all rows
@@ -109,20 +130,24 @@ pub record BeginsOne (last : Segment) (parts : List Part) : Type 0 where
   pub whole : parts ≡ before ++ part ∷ after
   pub is_front : IsFrontOf last (segment_of part)
 
-pub last-of-front : (tolerance : ℕ) (rows : List Row) (parts : List Part) (first : Row) (front rest : List Row) (segments : List Segment) (last : Segment) → IsDivision tolerance rows parts → rows ≡ first ∷ (front ++ rest) → AreSegments tolerance (first ∷ front) (segments ++ last ∷ []) → BeginsOne last parts
-last-of-front tolerance rows parts first front rest segments last d e a =
-    let c = cut-parts parts first front rest (sym d.whole ∙ e) in
+pub last_of_front : (tolerance : ℕ) (rows : List Row) (parts : List Part) (first : Row) (front rest : List Row)
+    (segments : List Segment) (last : Segment) → IsDivision tolerance rows parts → rows ≡ first ∷ (front ++ rest)
+    → AreSegments tolerance (first ∷ front) (segments ++ last ∷ []) → BeginsOne last parts
+last_of_front tolerance rows parts first front rest segments last d e a =
+    let c = cut_parts parts first front rest (sym d.whole ∙ e) in
     let part : Part = kept_part parts (first ∷ front) c in
     let cut : AreSegments tolerance (first ∷ front) (map segment_of c.before ++ segment_of part ∷ []) = record {
       parts = c.before ++ part ∷ [];
-      division = cut-division tolerance rows parts (first ∷ front) c d;
+      division = cut_division tolerance rows parts (first ∷ front) c d;
       each = sym (map-append segment_of c.before (part ∷ []));
     } in
-    let same : last ≡ segment_of part = last_same segments (map segment_of c.before) last (segment_of part) (one_list tolerance (first ∷ front) _ _ a cut) in
+    let same : last ≡ segment_of part = last_same segments (map segment_of c.before) last (segment_of part)
+    (one_list tolerance (first ∷ front) _ _ a cut) in
     record {
       before = c.before;
       after = c.after;
       part = c.part;
       whole = c.whole;
-      is_front = subst (λ (s : Segment). IsFrontOf s (segment_of c.part)) (sym same) (kept-front c.part c.kept c.left c.rows);
+      is_front = subst (λ (s : Segment). IsFrontOf s (segment_of c.part)) (sym same)
+          (kept_front c.part c.kept c.left c.rows);
     }

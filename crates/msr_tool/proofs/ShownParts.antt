@@ -12,39 +12,41 @@ use Rattle.msr_segments.proofs.Divisions.{no_empty}
 use Rattle.msr_report.specs.declared.report.SegmentLine.{SegmentLine}
 use Rattle.msr_output.specs.Output.{Packed, IsPacked, AreWritten, next_number, number_after, cuts_at, cuts_of, segment_of_packed}
 use Rattle.msr_output.specs.Writing.{IsLineOf}
-use Rattle.msr_output.proofs.Cutting.{IsFitting, written-split}
-use Rattle.msr_output.proofs.Once.{all-first, all-rest}
+use Rattle.msr_output.proofs.CutRows.{IsFitting, written_split}
+use Rattle.msr_output.proofs.OneOutput.{all_first, all_rest}
 use Rattle.msr_verdict.specs.Packed.{runs_of_rows, IsShownAs, IsShownBy, AreShownBy}
-use Rattle.msr_verdict.proofs.Runs.{samples_of, segment-samples}
+use Rattle.msr_verdict.proofs.Runs.{samples_of, segment_samples}
 use Rattle.msr_tool.specs.Answer.{AreLinesOf}
-use Rattle.msr_tool.proofs.ShownRows.{IsSound, AreSound, range-length}
+use Rattle.msr_tool.proofs.ShownRows.{IsSound, AreSound, range_length}
 
-sound-first : (xs ys : List Row) → AreSound (xs ++ ys) → AreSound xs
-sound-first [] ys sound = tt
-sound-first (x ∷ xs) ys sound = (sound.0, sound-first xs ys sound.1)
+first_sound : (xs ys : List Row) → AreSound (xs ++ ys) → AreSound xs
+first_sound [] ys sound = tt
+first_sound (x ∷ xs) ys sound = (sound.0, first_sound xs ys sound.1)
 
-sound-rest : (xs ys : List Row) → AreSound (xs ++ ys) → AreSound ys
-sound-rest [] ys sound = sound
-sound-rest (x ∷ xs) ys sound = sound-rest xs ys sound.1
+sound_rest : (xs ys : List Row) → AreSound (xs ++ ys) → AreSound ys
+sound_rest [] ys sound = sound
+sound_rest (x ∷ xs) ys sound = sound_rest xs ys sound.1
 
-some-samples : (row : Row) (rows : List Row) → IsSound row → 0 ≡ length (samples_of (row ∷ rows)) → ⊥
-some-samples row rows is e = omega (arith, e, is.some, length-append row.samples (samples_of rows))
+some_samples : (row : Row) (rows : List Row) → IsSound row → 0 ≡ length (samples_of (row ∷ rows)) → ⊥
+some_samples row rows is e = omega (arith, e, is.some, length-append row.samples (samples_of rows))
 
 -- prefixes of the same rows with as many samples are the same prefix, since each row has some
-same-front : (xs ys u v : List Row) → xs ++ u ≡ ys ++ v → AreSound xs → AreSound ys → length (samples_of xs) ≡ length (samples_of ys) → (xs ≡ ys) × (u ≡ v)
-same-front [] [] u v e first second size = (refl, e)
-same-front [] (y ∷ ys) u v e first second size = absurd (some-samples y ys second.0 size)
-same-front (x ∷ xs) [] u v e first second size = absurd (some-samples x xs first.0 (sym size))
-same-front (x ∷ xs) (y ∷ ys) u v e first second size =
+same_front : (xs ys u v : List Row) → xs ++ u ≡ ys ++ v → AreSound xs → AreSound ys
+    → length (samples_of xs) ≡ length (samples_of ys) → (xs ≡ ys) × (u ≡ v)
+same_front [] [] u v e first second size = (refl, e)
+same_front [] (y ∷ ys) u v e first second size = absurd (some_samples y ys second.0 size)
+same_front (x ∷ xs) [] u v e first second size = absurd (some_samples x xs first.0 (sym size))
+same_front (x ∷ xs) (y ∷ ys) u v e first second size =
     let h : x ≡ y = cc in
     let t : xs ++ u ≡ ys ++ v = cc in
     let count : length x.samples ≡ length y.samples = ap (λ (r : Row). length r.samples) h in
-    let rest : length (samples_of xs) ≡ length (samples_of ys) = omega (arith, size, count, length-append x.samples (samples_of xs), length-append y.samples (samples_of ys)) in
-    let same = same-front xs ys u v t first.1 second.1 rest in
+    let rest : length (samples_of xs) ≡ length (samples_of ys) =
+    omega (arith, size, count, length-append x.samples (samples_of xs), length-append y.samples (samples_of ys)) in
+    let same = same_front xs ys u v t first.1 second.1 rest in
     (ap (λ (r : Row). r ∷ xs) h ∙ ap (λ (r : List Row). y ∷ r) same.0, same.1)
 
-same-run : (a b : Run) → a.start ≡ b.start → a.end ≡ b.end → a.kind ≡ b.kind → a ≡ b
-same-run a b start end kind =
+same_run : (a b : Run) → a.start ≡ b.start → a.end ≡ b.end → a.kind ≡ b.kind → a ≡ b
+same_run a b start end kind =
     ap (λ (n : ℕ). record { start = n; end = a.end; kind = a.kind }) start
     ∙ ap (λ (n : ℕ). record { start = b.start; end = n; kind = a.kind }) end
     ∙ ap (λ (k : Kind). record { start = b.start; end = b.end; kind = k }) kind
@@ -54,28 +56,37 @@ record AreRuns (a : ℕ) (runs : List Run) (end : ℕ) (rows : List Row) : Type 
   same : runs_of_rows a rows ≡ runs
   size : a + length (samples_of rows) ≡ end
 
-are-runs : (size n : ℕ) (segment : Segment) (runs : List Run) (a : ℕ) (rows : List Row) (bytes : List ℕ) → All (IsFitting size segment.samples) runs → Joins a runs (length segment.samples) → AreWritten size n (cuts_at segment runs) rows bytes → AreRuns a runs (length segment.samples) rows
-are-runs size n segment [] a rows bytes fitting joined are = subst (λ (r : List Row). AreRuns a [] (length segment.samples) r) (sym are.0) (record { same = refl; size = omega (arith, joined) })
-are-runs size n segment (run ∷ runs) a rows bytes fitting joined are =
+are_runs : (size n : ℕ) (segment : Segment) (runs : List Run) (a : ℕ) (rows : List Row) (bytes : List ℕ)
+    → All (IsFitting size segment.samples) runs → Joins a runs (length segment.samples)
+    → AreWritten size n (cuts_at segment runs) rows bytes → AreRuns a runs (length segment.samples) rows
+are_runs size n segment [] a rows bytes fitting joined are =
+    subst (λ (r : List Row). AreRuns a [] (length segment.samples) r) (sym are.0)
+    (record { same = refl; size = omega (arith, joined) })
+are_runs size n segment (run ∷ runs) a rows bytes fitting joined are =
     let w = are.2 in
     let is_row = w.is_record.of_run in
-    let fits = all-first (IsFitting size segment.samples) run runs fitting in
-    let count : length w.row.samples ≡ run.end - run.start = ap length is_row.samples ∙ range-length segment.samples run.start run.end fits.1 in
+    let fits = all_first (IsFitting size segment.samples) run runs fitting in
+    let count : length w.row.samples ≡ run.end - run.start = ap length is_row.samples
+    ∙ range_length segment.samples run.start run.end fits.1 in
     let start : run.start ≡ a = joined.0 in
     let end : a + length w.row.samples ≡ run.end = omega (arith, count, start, fits.0) in
-    let rest = are-runs size (next_number n) segment runs run.end are.0 are.1 (all-rest (IsFitting size segment.samples) run runs fitting) joined.1 are.3 in
+    let rest = are_runs size (next_number n) segment runs run.end are.0 are.1
+    (all_rest (IsFitting size segment.samples) run runs fitting) joined.1 are.3 in
     let first : Run = record { start = a; end = a + length w.row.samples; kind = w.row.kind } in
-    let is_first : first ≡ run = same-run first run (sym start) end is_row.kind in
-    let others : runs_of_rows (a + length w.row.samples) are.0 ≡ runs = ap (λ (m : ℕ). runs_of_rows m are.0) end ∙ rest.same in
+    let is_first : first ≡ run = same_run first run (sym start) end is_row.kind in
+    let others : runs_of_rows (a + length w.row.samples) are.0 ≡ runs = ap (λ (m : ℕ). runs_of_rows m are.0) end
+    ∙ rest.same in
     let all : AreRuns a (run ∷ runs) (length segment.samples) (w.row ∷ are.0) = record {
-      same = ap (λ (r : Run). r ∷ runs_of_rows (a + length w.row.samples) are.0) is_first ∙ ap (λ (rs : List Run). run ∷ rs) others;
+      same = ap (λ (r : Run). r ∷ runs_of_rows (a + length w.row.samples) are.0) is_first
+          ∙ ap (λ (rs : List Run). run ∷ rs) others;
       size = omega (arith, end, rest.size, length-append w.row.samples (samples_of are.0));
     } in
     subst (λ (r : List Row). AreRuns a (run ∷ runs) (length segment.samples) r) (sym w.all_rows) all
 
 -- the line of a packed segment shows it
-is-shown : (size : ℕ) (packed : Packed) (line : SegmentLine) → IsPacked size packed → IsLineOf packed line → IsShownAs size packed.segment packed.runs line
-is-shown size packed line is its = record {
+is_shown : (size : ℕ) (packed : Packed) (line : SegmentLine) → IsPacked size packed → IsLineOf packed line
+    → IsShownAs size packed.segment packed.runs line
+is_shown size packed line is its = record {
   key = its.key;
   start = its.start;
   samples = its.samples;
@@ -86,23 +97,38 @@ is-shown size packed line is its = record {
 }
 
 -- the parts of the rows are shown by the lines of the segments
-pub are-shown : (size n : ℕ) (packed : List Packed) (lines : List SegmentLine) (parts : List Part) (rows : List Row) (bytes : List ℕ) → All (IsPacked size) packed → AreLinesOf packed lines → map segment_of_packed packed ≡ map segment_of parts → rows ≡ flat_map rows_of parts → AreSound rows → AreWritten size n (flat_map cuts_of packed) rows bytes → AreShownBy size parts lines
-are-shown size n [] [] [] rows bytes packings lines_are each whole sound are = tt
-are-shown size n [] [] (p ∷ ps) rows bytes packings lines_are each whole sound are = absurd (no_empty [] (map segment_of ps) (segment_of p) each)
-are-shown size n [] (line ∷ lines) parts rows bytes packings lines_are each whole sound are = absurd (no_empty [] lines line (sym lines_are))
-are-shown size n (one ∷ packed) [] parts rows bytes packings lines_are each whole sound are = absurd lines_are
-are-shown size n (one ∷ packed) (line ∷ lines) [] rows bytes packings lines_are each whole sound are = absurd (no_empty [] (map segment_of_packed packed) one.segment (sym each))
-are-shown size n (one ∷ packed) (line ∷ lines) (p ∷ ps) rows bytes packings lines_are each whole sound are =
+pub are_shown : (size n : ℕ) (packed : List Packed) (lines : List SegmentLine) (parts : List Part)
+    (rows : List Row) (bytes : List ℕ) → All (IsPacked size) packed → AreLinesOf packed lines
+    → map segment_of_packed packed ≡ map segment_of parts → rows ≡ flat_map rows_of parts → AreSound rows
+    → AreWritten size n (flat_map cuts_of packed) rows bytes → AreShownBy size parts lines
+are_shown size n [] [] [] rows bytes packings lines_are each whole sound are = tt
+are_shown size n [] [] (p ∷ ps) rows bytes packings lines_are each whole sound are =
+    absurd (no_empty [] (map segment_of ps) (segment_of p) each)
+are_shown size n [] (line ∷ lines) parts rows bytes packings lines_are each whole sound are =
+    absurd (no_empty [] lines line (sym lines_are))
+are_shown size n (one ∷ packed) [] parts rows bytes packings lines_are each whole sound are = absurd lines_are
+are_shown size n (one ∷ packed) (line ∷ lines) [] rows bytes packings lines_are each whole sound are =
+    absurd (no_empty [] (map segment_of_packed packed) one.segment (sym each))
+are_shown size n (one ∷ packed) (line ∷ lines) (p ∷ ps) rows bytes packings lines_are each whole sound are =
     let head : one.segment ≡ segment_of p = cc in
     let tail : map segment_of_packed packed ≡ map segment_of ps = cc in
-    let is = all-first (IsPacked size) one packed packings in
-    let split = written-split size n (cuts_of one) (flat_map cuts_of packed) rows bytes are in
-    let runs = are-runs size n one.segment one.runs 0 split.first_rows split.first_bytes is.packing.each_fits is.packing.joined split.first in
+    let is = all_first (IsPacked size) one packed packings in
+    let split = written_split size n (cuts_of one) (flat_map cuts_of packed) rows bytes are in
+    let runs = are_runs size n one.segment one.runs 0 split.first_rows split.first_bytes is.packing.each_fits
+    is.packing.joined split.first in
     let two : split.first_rows ++ split.other_rows ≡ rows_of p ++ flat_map rows_of ps = sym split.whole ∙ whole in
     let sound_first = subst (λ (r : List Row). AreSound r) split.whole sound in
     let sound_parts = subst (λ (r : List Row). AreSound r) whole sound in
-    let total : length (samples_of (rows_of p)) ≡ length one.segment.samples = ap length (sym (segment-samples p)) ∙ ap (λ (s : Segment). length s.samples) (sym head) in
-    let same = same-front split.first_rows (rows_of p) split.other_rows (flat_map rows_of ps) two (sound-first split.first_rows split.other_rows sound_first) (sound-first (rows_of p) (flat_map rows_of ps) sound_parts) (omega (arith, total, runs.size)) in
+    let total : length (samples_of (rows_of p)) ≡ length one.segment.samples = ap length (sym (segment_samples p))
+    ∙ ap (λ (s : Segment). length s.samples) (sym head) in
+    let same = same_front split.first_rows (rows_of p) split.other_rows (flat_map rows_of ps) two
+    (first_sound split.first_rows split.other_rows sound_first)
+    (first_sound (rows_of p) (flat_map rows_of ps) sound_parts) (omega (arith, total, runs.size)) in
     let its_runs : one.runs ≡ runs_of_rows 0 (rows_of p) = sym runs.same ∙ ap (runs_of_rows 0) same.0 in
-    let shown : IsShownBy size p line = subst (λ (r : List Run). IsShownAs size (segment_of p) r line) its_runs (subst (λ (s : Segment). IsShownAs size s one.runs line) head (is-shown size one line is lines_are.0)) in
-    (shown, are-shown size (number_after n (cuts_of one)) packed lines ps split.other_rows split.other_bytes (all-rest (IsPacked size) one packed packings) lines_are.1 tail same.1 (sound-rest split.first_rows split.other_rows sound_first) split.others)
+    let shown : IsShownBy size p line = subst (λ (r : List Run). IsShownAs size (segment_of p) r line) its_runs
+    (subst (λ (s : Segment). IsShownAs size s one.runs line) head (is_shown size one line is lines_are.0)) in (
+      shown,
+      are_shown size (number_after n (cuts_of one)) packed lines ps split.other_rows split.other_bytes
+          (all_rest (IsPacked size) one packed packings) lines_are.1 tail same.1
+          (sound_rest split.first_rows split.other_rows sound_first) split.others,
+    )

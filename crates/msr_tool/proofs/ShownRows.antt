@@ -14,8 +14,8 @@ use Rattle.msr_report.specs.Proper.{IsProperLine}
 use Rattle.msr_report.specs.declared.report.SegmentLine.{SegmentLine}
 use Rattle.msr_input.specs.Input.{BeginsWith, rows_of_records}
 use Rattle.msr_output.specs.Output.{Packed, IsPacked, IsRowOfRun, Cut, AreWritten, next_number, cuts_at, cuts_of, segment_of_packed}
-use Rattle.msr_output.proofs.Cutting.{IsFitting}
-use Rattle.msr_output.proofs.Once.{all-first, all-rest}
+use Rattle.msr_output.proofs.CutRows.{IsFitting}
+use Rattle.msr_output.proofs.OneOutput.{all_first, all_rest}
 use Rattle.msr_output.proofs.Times.{nominal_within}
 use Rattle.msr_verdict.specs.Packed.{IsFull}
 use Rattle.msr_tool.specs.Answer.{AreLinesOf}
@@ -51,84 +51,103 @@ AreSound [] = Unit {0}
 AreSound (row ∷ rows) = IsSound row × AreSound rows
 
 -- the segments of a report's lines
-pub lines-within : (packed : List Packed) (lines : List SegmentLine) → AreLinesOf packed lines → All IsProperLine lines → All EndsBeforeTheLast (map segment_of_packed packed) → AreWithin (map segment_of_packed packed)
-lines-within [] lines are proper before = tt
-lines-within (one ∷ packed) [] are proper before = absurd are
-lines-within (one ∷ packed) (line ∷ lines) are proper before =
-    let first = all-first IsProperLine line lines proper in (
+pub lines_within : (packed : List Packed) (lines : List SegmentLine) → AreLinesOf packed lines
+    → All IsProperLine lines → All EndsBeforeTheLast (map segment_of_packed packed)
+    → AreWithin (map segment_of_packed packed)
+lines_within [] lines are proper before = tt
+lines_within (one ∷ packed) [] are proper before = absurd are
+lines_within (one ∷ packed) (line ∷ lines) are proper before =
+    let first = all_first IsProperLine line lines proper in (
       record {
         start = subst (λ (t : ℤ). IsInstant t) are.0.start first.start;
-        end = all-first EndsBeforeTheLast one.segment (map segment_of_packed packed) before;
+        end = all_first EndsBeforeTheLast one.segment (map segment_of_packed packed) before;
       },
-      lines-within packed lines are.1 (all-rest IsProperLine line lines proper) (all-rest EndsBeforeTheLast one.segment (map segment_of_packed packed) before),
+      lines_within packed lines are.1 (all_rest IsProperLine line lines proper)
+          (all_rest EndsBeforeTheLast one.segment (map segment_of_packed packed) before),
     )
 
 abbrev IsSomeRun : Run → Type 0
 IsSomeRun run = run.start < run.end
 
-runs-within : (size : ℕ) (segment : Segment) (runs : List Run) → IsWithin segment → All IsSomeRun runs → All (IsFitting size segment.samples) runs → AreCutsWithin (cuts_at segment runs)
-runs-within size segment [] within some fitting = tt
-runs-within size segment (run ∷ runs) within some fitting =
-    let fits = all-first (IsFitting size segment.samples) run runs fitting in (
-      record { some = all-first IsSomeRun run runs some; inside = fits.1; within = within },
-      runs-within size segment runs within (all-rest IsSomeRun run runs some) (all-rest (IsFitting size segment.samples) run runs fitting),
+runs_within : (size : ℕ) (segment : Segment) (runs : List Run) → IsWithin segment → All IsSomeRun runs
+    → All (IsFitting size segment.samples) runs → AreCutsWithin (cuts_at segment runs)
+runs_within size segment [] within some fitting = tt
+runs_within size segment (run ∷ runs) within some fitting =
+    let fits = all_first (IsFitting size segment.samples) run runs fitting in (
+      record { some = all_first IsSomeRun run runs some; inside = fits.1; within = within },
+      runs_within size segment runs within (all_rest IsSomeRun run runs some)
+          (all_rest (IsFitting size segment.samples) run runs fitting),
     )
 
-cuts-append : (xs ys : List Cut) → AreCutsWithin xs → AreCutsWithin ys → AreCutsWithin (xs ++ ys)
-cuts-append [] ys first second = second
-cuts-append (x ∷ xs) ys first second = (first.0, cuts-append xs ys first.1 second)
+cuts_append : (xs ys : List Cut) → AreCutsWithin xs → AreCutsWithin ys → AreCutsWithin (xs ++ ys)
+cuts_append [] ys first second = second
+cuts_append (x ∷ xs) ys first second = (first.0, cuts_append xs ys first.1 second)
 
-pub cuts-within : (size : ℕ) (packed : List Packed) → All (IsPacked size) packed → AreWithin (map segment_of_packed packed) → AreCutsWithin (flat_map cuts_of packed)
-cuts-within size [] packings within = tt
-cuts-within size (one ∷ packed) packings within =
-    let packing = (all-first (IsPacked size) one packed packings).packing in
-    cuts-append (cuts_of one) (flat_map cuts_of packed) (runs-within size one.segment one.runs within.0 packing.none_empty packing.each_fits) (cuts-within size packed (all-rest (IsPacked size) one packed packings) within.1)
+pub cuts_within : (size : ℕ) (packed : List Packed) → All (IsPacked size) packed
+    → AreWithin (map segment_of_packed packed) → AreCutsWithin (flat_map cuts_of packed)
+cuts_within size [] packings within = tt
+cuts_within size (one ∷ packed) packings within =
+    let packing = (all_first (IsPacked size) one packed packings).packing in
+    cuts_append (cuts_of one) (flat_map cuts_of packed)
+    (runs_within size one.segment one.runs within.0 packing.none_empty packing.each_fits)
+    (cuts_within size packed (all_rest (IsPacked size) one packed packings) within.1)
 
 -- the row of a run has as many samples as the run
-pub range-length : (samples : List ℤ) (a b : ℕ) → b ≤ length samples → length (slice_range samples a b) ≡ b - a
-range-length samples a b inside = omega (arith, length-take (b - a) (drop a samples), length-drop a samples)
+pub range_length : (samples : List ℤ) (a b : ℕ) → b ≤ length samples → length (slice_range samples a b) ≡ b - a
+range_length samples a b inside = omega (arith, length-take (b - a) (drop a samples), length-drop a samples)
 
-row-sound : (cut : Cut) (row : Row) → IsCutWithin cut → IsRowOfRun cut.segment cut.run row → IsSound row
-row-sound cut row is of_run =
-    let size : length row.samples ≡ cut.run.end - cut.run.start = ap length of_run.samples ∙ range-length cut.segment.samples cut.run.start cut.run.end is.inside in
-    let few : cut.run.start + (length row.samples - 1) ≤ length cut.segment.samples - 1 = omega (arith, size, is.some, is.inside) in
+row_sound : (cut : Cut) (row : Row) → IsCutWithin cut → IsRowOfRun cut.segment cut.run row → IsSound row
+row_sound cut row is of_run =
+    let size : length row.samples ≡ cut.run.end - cut.run.start = ap length of_run.samples
+    ∙ range_length cut.segment.samples cut.run.start cut.run.end is.inside in
+    let few : cut.run.start + (length row.samples - 1) ≤ length cut.segment.samples - 1 =
+    omega (arith, size, is.some, is.inside) in
     let end = is.within.end in
-    let times = nominal_within cut.segment.key.rate cut.segment.start row.start end.last cut.run.start (length row.samples - 1) (length cut.segment.samples - 1) few of_run.start end.nominal is.within.start end.before in
-    let time : IsInTime cut.segment.key.rate row.start (length row.samples) = record { last = times.0; nominal = times.1; first_in = times.2; last_in = times.3 } in
+    let times = nominal_within cut.segment.key.rate cut.segment.start row.start end.last cut.run.start
+    (length row.samples - 1)
+    (length cut.segment.samples - 1) few of_run.start end.nominal is.within.start end.before in
+    let time : IsInTime cut.segment.key.rate row.start (length row.samples) =
+    record { last = times.0; nominal = times.1; first_in = times.2; last_in = times.3 } in
     record {
       some = omega (arith, size, is.some);
       in_time = subst (λ (key : Key). IsInTime key.rate row.start (length row.samples)) (sym of_run.key) time;
     }
 
-pub rows-sound : (size n : ℕ) (cuts : List Cut) (rows : List Row) (bytes : List ℕ) → AreCutsWithin cuts → AreWritten size n cuts rows bytes → AreSound rows
-rows-sound size n [] rows bytes within are = subst (λ (r : List Row). AreSound r) (sym are.0) tt
-rows-sound size n (cut ∷ cuts) rows bytes within are =
+pub rows_sound : (size n : ℕ) (cuts : List Cut) (rows : List Row) (bytes : List ℕ) → AreCutsWithin cuts
+    → AreWritten size n cuts rows bytes → AreSound rows
+rows_sound size n [] rows bytes within are = subst (λ (r : List Row). AreSound r) (sym are.0) tt
+rows_sound size n (cut ∷ cuts) rows bytes within are =
     let w = are.2 in
-    let rest = rows-sound size (next_number n) cuts are.0 are.1 within.1 are.3 in
-    let all : AreSound (w.row ∷ are.0) = (row-sound cut w.row within.0 w.is_record.of_run, rest) in
+    let rest = rows_sound size (next_number n) cuts are.0 are.1 within.1 are.3 in
+    let all : AreSound (w.row ∷ are.0) = (row_sound cut w.row within.0 w.is_record.of_run, rest) in
     subst (λ (r : List Row). AreSound r) (sym w.all_rows) all
 
 -- the record that a row is written as
 abbrev pub record_of : ℕ → Row → Record
 record_of size row = record { length = size; row = Some row; reverse_agrees = true }
 
-pub bytes-begin : (size n : ℕ) (cuts : List Cut) (rows : List Row) (bytes : List ℕ) → AreCutsWithin cuts → AreWritten size n cuts rows bytes → BeginsWith (map (record_of size) rows) bytes []
-bytes-begin size n [] rows bytes within are = subst (λ (r : List Row). BeginsWith (map (record_of size) r) bytes []) (sym are.0) are.1
-bytes-begin size n (cut ∷ cuts) rows bytes within are =
+pub bytes_begin : (size n : ℕ) (cuts : List Cut) (rows : List Row) (bytes : List ℕ) → AreCutsWithin cuts
+    → AreWritten size n cuts rows bytes → BeginsWith (map (record_of size) rows) bytes []
+bytes_begin size n [] rows bytes within are =
+    subst (λ (r : List Row). BeginsWith (map (record_of size) r) bytes []) (sym are.0) are.1
+bytes_begin size n (cut ∷ cuts) rows bytes within are =
     let w = are.2 in
-    let sound = row-sound cut w.row within.0 w.is_record.of_run in
-    let is : IsRecordOf bytes (record_of size w.row) = subst (λ (l : List ℕ). IsRecordOf l (record_of size w.row)) (sym w.all_bytes) (w.is_record.reads are.1 sound.in_time) in
-    let rest = bytes-begin size (next_number n) cuts are.0 are.1 within.1 are.3 in
+    let sound = row_sound cut w.row within.0 w.is_record.of_run in
+    let is : IsRecordOf bytes (record_of size w.row) =
+    subst (λ (l : List ℕ). IsRecordOf l (record_of size w.row)) (sym w.all_bytes)
+    (w.is_record.reads are.1 sound.in_time) in
+    let rest = bytes_begin size (next_number n) cuts are.0 are.1 within.1 are.3 in
     let left : drop size bytes ≡ are.1 = ap (drop size) w.all_bytes ∙ drop_at w.first are.1 size w.is_record.size_is in
-    let others : BeginsWith (map (record_of size) are.0) (drop size bytes) [] = subst (λ (l : List ℕ). BeginsWith (map (record_of size) are.0) l []) (sym left) rest in
+    let others : BeginsWith (map (record_of size) are.0) (drop size bytes) [] =
+    subst (λ (l : List ℕ). BeginsWith (map (record_of size) are.0) l []) (sym left) rest in
     let all : BeginsWith (map (record_of size) (w.row ∷ are.0)) bytes [] = (is, others) in
     subst (λ (r : List Row). BeginsWith (map (record_of size) r) bytes []) (sym w.all_rows) all
 
-pub records-full : (size : ℕ) (rows : List Row) → All (IsFull size) (map (record_of size) rows)
-records-full size [] k d h = absurd (omega arith)
-records-full size (row ∷ rows) zero d h = record { length_is = refl; some = refl }
-records-full size (row ∷ rows) (suc k) d h = records-full size rows k d (omega arith)
+pub records_full : (size : ℕ) (rows : List Row) → All (IsFull size) (map (record_of size) rows)
+records_full size [] k d h = absurd (omega arith)
+records_full size (row ∷ rows) zero d h = record { length_is = refl; some = refl }
+records_full size (row ∷ rows) (suc k) d h = records_full size rows k d (omega arith)
 
-pub records-rows : (size : ℕ) (rows : List Row) → rows_of_records (map (record_of size) rows) ≡ rows
-records-rows size [] = refl
-records-rows size (row ∷ rows) = ap (λ (r : List Row). row ∷ r) (records-rows size rows)
+pub records_rows : (size : ℕ) (rows : List Row) → rows_of_records (map (record_of size) rows) ≡ rows
+records_rows size [] = refl
+records_rows size (row ∷ rows) = ap (λ (r : List Row). row ∷ r) (records_rows size rows)

@@ -18,7 +18,8 @@ use Rattle.msr_tool.specs.declared.fault.ToolFault.TheVariants.{Read, Write, Mem
 -- where no device failed, a readable input is repacked, or there is no memory
 abbrev pub ReadableIsRepacked : Type 0
 ReadableIsRepacked =
-    (choice : Choice) (input written : List ℕ) (records : List Record) (segments : List Segment) (result : Result Report ToolFault)
+    (choice : Choice) (input written : List ℕ) (records : List Record) (segments : List Segment)
+    (result : Result Report ToolFault)
     → IsReadable (settings_of choice) input records segments
     → Answers choice input written result
     → result ≢ Err Read → result ≢ Err Write
@@ -27,7 +28,8 @@ ReadableIsRepacked =
 -- and so is it listed
 abbrev pub ReadableIsListed : Type 0
 ReadableIsListed =
-    (settings : Settings) (input written : List ℕ) (records : List Record) (segments : List Segment) (result : Result Counts ToolFault)
+    (settings : Settings) (input written : List ℕ) (records : List Record) (segments : List Segment)
+    (result : Result Counts ToolFault)
     → IsReadable settings input records segments
     → ListAnswers settings input written result
     → result ≢ Err Read → result ≢ Err Write

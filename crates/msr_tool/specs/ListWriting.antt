@@ -1,11 +1,11 @@
 -- What writing the lines of segments does.
 use Rattle.std.specs.Prelude.{◌≡◌, ℕ, ◌+◌, ◌≤◌, ◌^◌, List, [], ◌++◌, length, Option, Some, None}
 use Rattle.msr_time.specs.Instant.{IsInstant}
-use Rattle.msr_record.specs.declared.row.Row.{Row}
 use Rattle.msr_devices.specs.Device.{Device, IsCalm, Takes}
 use Rattle.msr_segments.specs.declared.follow.Step.{Step}
 use Rattle.msr_segments.specs.declared.follow.Step.TheVariants.{Begins, Joins}
 use Rattle.msr_segments.specs.declared.joiner.Segment.{Segment}
+use Rattle.msr_input.specs.declared.outline.RowOutline.{RowOutline}
 use Rattle.msr_report.specs.Text.{IsListLine, counts_line}
 use Rattle.msr_base.specs.declared.counts.Counts.{Counts}
 use Rattle.msr_tool.specs.Writing.{StopsSink}
@@ -22,16 +22,17 @@ pub record Lister : Type 0 where
 abbrev pub open_of : Segment → OpenSegment
 open_of segment = record { key = segment.key; start = segment.start; count = length segment.samples }
 
-abbrev pub open_row : Row → OpenSegment
-open_row row = record { key = row.key; start = row.start; count = length row.samples }
+abbrev pub open_row : RowOutline → OpenSegment
+open_row row = record { key = row.key; start = row.start; count = row.count }
 
 -- with the samples of a row that joins it
-abbrev pub open_longer : Option OpenSegment → Row → Option OpenSegment
+abbrev pub open_longer : Option OpenSegment → RowOutline → Option OpenSegment
 open_longer None row = None
-open_longer (Some before) row = Some (record { key = before.key; start = before.start; count = before.count + length row.samples })
+open_longer (Some before) row = Some (record
+    { key = before.key; start = before.start; count = before.count + row.count })
 
 -- the segment that was begun last, after a row
-abbrev pub open_after : Step → Option OpenSegment → Row → Option OpenSegment
+abbrev pub open_after : Step → Option OpenSegment → RowOutline → Option OpenSegment
 open_after Begins last row = Some (open_row row)
 open_after Joins last row = open_longer last row
 

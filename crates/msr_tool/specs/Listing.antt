@@ -21,7 +21,8 @@ pub record ListsFirst (segment : Segment) (text others : List ℕ) : Type 0 wher
 -- the text is the lines of these segments, one after another
 abbrev pub AreListLines : List Segment → List ℕ → Type 0
 AreListLines [] text = text ≡ []
-AreListLines (segment ∷ segments) text = (others : List ℕ) × ListsFirst segment text others × AreListLines segments others
+AreListLines (segment ∷ segments) text = (others : List ℕ) × ListsFirst segment text others
+    × AreListLines segments others
 
 -- the prefix of the lines of some first ones of these segments
 pub record IsFrontOfList (segments : List Segment) (text : List ℕ) : Type 0 where

@@ -39,7 +39,8 @@ RepackedIsShown =
 -- source failed or that memory was refused.
 abbrev pub RepackedIsLeast : Type 0
 RepackedIsLeast =
-    (choice : Choice) (input written text : List ℕ) (report : Report) (records : List Record) (segments : List Segment) (answer : Result Verdict ToolFault)
+    (choice : Choice) (input written text : List ℕ) (report : Report) (records : List Record)
+    (segments : List Segment) (answer : Result Verdict ToolFault)
     → IsRepacked choice input written report
     → IsReadable (settings_of choice) input records segments
     → All EndsBeforeTheLast segments

@@ -42,7 +42,8 @@ ReportAnswers choice input written told (Err fault.Memory) =
     IsUnreported choice input written told ⊎ IsReportedInPart choice input written told
 
 -- What a repack did with its devices, the source, the sink of the records and that of the text, and what it answers.
-pub record Reports (choice : Choice) (source : Device) (records0 records text0 text : Device) (result : Result Report ToolFault) : Type 0 where
+pub record Reports (choice : Choice) (source : Device) (records0 records text0 text : Device)
+    (result : Result Report ToolFault) : Type 0 where
   pub input : List ℕ
   pub written : List ℕ
   pub told : List ℕ

@@ -40,7 +40,8 @@ current_after Joins current row = longer_current current row.samples
 
 -- the segments that the row ends or makes longer
 abbrev pub segments_with : Step → Option Segment → Row → List Segment
-segments_with step current row = option_to_list (ended_by step current) ++ option_to_list (current_after step current row)
+segments_with step current row = option_to_list (ended_by step current)
+    ++ option_to_list (current_after step current row)
 
 -- the same for a record, which may have no row
 abbrev pub ended_with : Option NextRow → Option Segment → Option Segment
@@ -63,13 +64,15 @@ StandsWritten start now writing packed (Some segment) (Some opened) = HasBegun s
 
 -- From the one state of the sink to the other a prefix of the output of these segments and of the one that has not ended
 -- was written; the rest waits. Each that has ended has its line, whose fields are in the ranges of their types.
-pub record HasLined (start now : Device) (lined : Lined) (packed : List Packed) (current : Option Segment) : Type 0 where
+pub record HasLined (start now : Device) (lined : Lined) (packed : List Packed)
+    (current : Option Segment) : Type 0 where
   pub written : StandsWritten start now lined.writing packed current lined.last
   pub are_lines : AreLinesOf packed lined.lines
   pub forms : All IsFormLine (map form_line lined.lines)
 
 -- these segments ended after the others, each with its line, and this one has not ended
-pub record LinesMore (start now : Device) (lined : Lined) (packed : List Packed) (more : List Segment) (current : Option Segment) : Type 0 where
+pub record LinesMore (start now : Device) (lined : Lined) (packed : List Packed) (more : List Segment)
+    (current : Option Segment) : Type 0 where
   pub all : List Packed
   pub same : map segment_of_packed all ≡ map segment_of_packed packed ++ more
   pub after : HasLined start now lined all current

@@ -1,4 +1,4 @@
-// Checking packed records with their report.
+//! Checking packed records with their report.
 ghost use Rattle.std.specs.Prelude.{◌≡◌, ◌⊎◌, ◌↔◌, List, ℕ, IsErrOf};
 ghost use Rattle.msr_devices.specs.Device.{CanCountCall, CountsFew, HasFailed, HasLeft};
 ghost use Rattle.msr_tool.specs.Checking.{CheckAnswers, GivesReport};
@@ -20,10 +20,13 @@ pub fn check_packed<R: Source, Q: Source>(
     requires report { CanCountCall (Q.device report.old) }
 
     // What is answered, for the bytes that the sources have.
-    ensures answer { (input : List ℕ) × (text : List ℕ) × HasLeft (R.device packed.old) input × HasLeft (Q.device report.old) text × CheckAnswers input text result }
+    ensures answer { (input : List ℕ) × (text : List ℕ) × HasLeft (R.device packed.old) input
+        × HasLeft (Q.device report.old) text × CheckAnswers input text result }
 
     // A failure of a source is answered as such, and nothing else is.
-    ensures read { IsErrOf result ToolFault.Read ↔ (HasFailed (R.device packed.old) (R.device packed.new) ⊎ HasFailed (Q.device report.old) (Q.device report.new)) }
+    ensures read { IsErrOf result ToolFault.Read
+        ↔ (HasFailed (R.device packed.old) (R.device packed.new)
+        ⊎ HasFailed (Q.device report.old) (Q.device report.new)) }
 
     // The report is read first: where the text is none, where its source fails, and where memory is refused while it
     // is read, no record was read.

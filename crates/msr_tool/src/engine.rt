@@ -35,7 +35,8 @@ pub fn repack<R: Source, W: Sink>(
     requires sink { CanCountCall (W.device sink.old) }
 
     // What was written and what is answered, for the bytes that the source has.
-    ensures answer { (input : List ℕ) × (written : List ℕ) × HasLeft (R.device source.old) input × Takes (W.device sink.old) (W.device sink.new) written × Answers options input written result }
+    ensures answer { (input : List ℕ) × (written : List ℕ) × HasLeft (R.device source.old) input
+        × Takes (W.device sink.old) (W.device sink.new) written × Answers options input written result }
 
     // A failure of a device is answered as such, and nothing else is.
     ensures read { IsErrOf result ToolFault.Read ↔ HasFailed (R.device source.old) (R.device source.new) }
@@ -58,21 +59,23 @@ pub fn feed<R: Source, W: Sink>(
     requires sink { CanCountCall (W.device sink.old) }
 
     // What was written and what is answered, for the bytes that the source has.
-    ensures answer { (input : List ℕ) × (written : List ℕ) × HasLeft (R.device source.old) input × Takes (W.device sink.old) (W.device sink.new) written × Answers options input written result }
+    ensures answer { (input : List ℕ) × (written : List ℕ) × HasLeft (R.device source.old) input
+        × Takes (W.device sink.old) (W.device sink.new) written × Answers options input written result }
 
     // A failure of a device is answered as such, and nothing else is.
     ensures read { IsErrOf result ToolFault.Read ↔ HasFailed (R.device source.old) (R.device source.new) }
     ensures write { IsErrOf result ToolFault.Write ↔ HasFailed (W.device sink.old) (W.device sink.new) }
 
     // Where a read fails, which may be any, all that is decided by the records that came before it was written.
-    ensures live { IsErrOf result ToolFault.Read → IsLive options (R.device source.old) (R.device source.new) (W.device sink.old) (W.device sink.new) }
+    ensures live { IsErrOf result ToolFault.Read
+        → IsLive options (R.device source.old) (R.device source.new) (W.device sink.old) (W.device sink.new) }
     ensures few_source { CountsFew (R.device source.old) (R.device source.new) }
     ensures few_sink { CountsFew (W.device sink.old) (W.device sink.new) }
 {
     repack_with(alloc, source, sink, options, Flush::Live)
 }
 
-// Whether what waits is to be written now, since the next step may read.
+/// Whether what waits is to be written now, since the next step may read.
 fn must_flush(flush: Flush, reader: &RowReader) -> bool
     ensures full { flush ≡ Flush.Full → result ≡ false }
     ensures live { flush ≡ Flush.Live → (result ≡ false ↔ HoldsRecord reader.now.position.waiting) }
@@ -91,12 +94,14 @@ fn repack_with<R: Source, W: Sink>(
     requires sink { CanCountCall (W.device sink.old) }
 
     // What was written and what is answered, for the bytes that the source has.
-    ensures answer { (input : List ℕ) × (written : List ℕ) × HasLeft (R.device source.old) input × Takes (W.device sink.old) (W.device sink.new) written × Answers options input written result }
+    ensures answer { (input : List ℕ) × (written : List ℕ) × HasLeft (R.device source.old) input
+        × Takes (W.device sink.old) (W.device sink.new) written × Answers options input written result }
 
     // A failure of a device is answered as such, and nothing else is.
     ensures read { IsErrOf result ToolFault.Read ↔ HasFailed (R.device source.old) (R.device source.new) }
     ensures write { IsErrOf result ToolFault.Write ↔ HasFailed (W.device sink.old) (W.device sink.new) }
-    ensures live { flush ≡ Flush.Live → IsErrOf result ToolFault.Read → IsLive options (R.device source.old) (R.device source.new) (W.device sink.old) (W.device sink.new) }
+    ensures live { flush ≡ Flush.Live → IsErrOf result ToolFault.Read
+        → IsLive options (R.device source.old) (R.device source.new) (W.device sink.old) (W.device sink.new) }
     ensures few_source { CountsFew (R.device source.old) (R.device source.new) }
     ensures few_sink { CountsFew (W.device sink.old) (W.device sink.new) }
 {

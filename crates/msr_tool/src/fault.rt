@@ -1,4 +1,4 @@
-// Why the tool stops.
+//! Why the tool stops.
 ghost use Rattle.std.specs.Prelude.{◌≡◌};
 ghost use Rattle.msr_tool.specs.Fault.{fault_of_reading, fault_of_report, fault_of_text, fault_of_writing};
 ghost use Rattle.msr_tool.specs.declared.fault.ToolFault.TheVariants.{Write, Memory};

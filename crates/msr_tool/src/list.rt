@@ -13,8 +13,7 @@ use msr_report::Counts;
 use std::alloc::Global;
 
 /// Reads all records of the source, and writes a line for each segment of their rows and a last line with the
-/// counts of the records. Of the options it takes all but the length. It holds no samples but those of the
-/// record at hand.
+/// counts of the records. Of the options it takes all but the length. It holds no samples.
 pub fn list_segments<R: Source, W: Sink>(
     alloc: Global,
     source: &mut R,
@@ -25,7 +24,9 @@ pub fn list_segments<R: Source, W: Sink>(
     requires sink { CanCountCall (W.device sink.old) }
 
     // What was written and what is answered, for the bytes that the source has.
-    ensures answer { (input : List ℕ) × (written : List ℕ) × HasLeft (R.device source.old) input × Takes (W.device sink.old) (W.device sink.new) written × ListAnswers (settings_of options) input written result }
+    ensures answer { (input : List ℕ) × (written : List ℕ) × HasLeft (R.device source.old) input
+        × Takes (W.device sink.old) (W.device sink.new) written × ListAnswers (settings_of
+        options) input written result }
 
     // A failure of a device is answered as such, and nothing else is.
     ensures read { IsErrOf result ToolFault.Read ↔ HasFailed (R.device source.old) (R.device source.new) }
@@ -35,7 +36,7 @@ pub fn list_segments<R: Source, W: Sink>(
 {
     let mut reader = RowReader::new(alloc, options.settings());
     let mut writer = ListWriter::new(alloc);
-    'rows: while let Some(next) = reader.next_row(source)? {
+    'rows: while let Some(next) = reader.next_outline(source)? {
         writer.take(sink, &next)?;
     }
     let counts = reader.counts();

@@ -6,7 +6,7 @@ ghost use Rattle.msr_tool.specs.ListWriting.{IsLastLine};
 use crate::fault::ToolFault;
 use crate::open_segment::{OpenSegment, begun, longer};
 use msr_devices::{Sink, WriteBuffer};
-use msr_input::NextRow;
+use msr_input::NextOutline;
 use msr_report::{Counts, push_counts, push_list_line};
 use msr_segments::Step;
 use std::alloc::{AllocError, Global};
@@ -29,7 +29,7 @@ impl Model for ListWriter {
     ghost view = { λ w. record { waiting = w.buffer.bytes.items; last = w.last } };
 }
 
-// Appends the line of the segment that was begun last, if one was.
+/// Appends the line of the segment that was begun last, if one was.
 fn push_last(alloc: Global, out: &mut Vec<u8>, last: Option<OpenSegment>) -> Result<(), AllocError>
     requires { IfSome last (λ segment. IsInstant segment.start) }
     ensures pushed { OnOk result ((line : List ℕ)
@@ -65,10 +65,9 @@ impl ListWriter {
     }
 
     /// Takes the next row. One that begins a segment ends the one before it, whose line is written.
-    pub fn take<W: Sink>(&mut self, sink: &mut W, next: &NextRow) -> Result<(), ToolFault>
+    pub fn take<W: Sink>(&mut self, sink: &mut W, next: &NextOutline) -> Result<(), ToolFault>
         requires count { CanCountCall (W.device sink.old) }
         requires last { IfSome self.old.last IsOpenInBounds }
-        requires row { length next.now.row.samples ≤ 65_535 }
         requires few_wait { length self.old.waiting < 65536 }
         ensures written { (start : Device) (segments : List Joined) (current : Option Joined)
             → HasListed start (W.device sink.old) self.old.waiting segments

@@ -1,8 +1,9 @@
 //! The segment that was begun last, without its samples.
-ghost use Rattle.std.specs.Prelude.{◌≡◌, ◌≤◌, ◌^◌, length, IfSome};
+ghost use Rattle.std.specs.Prelude.{◌≡◌, ◌≤◌, ◌^◌, IfSome};
 ghost use Rattle.msr_tool.specs.ListWriting.{open_row, open_longer};
 
-use msr_record::{Key, Row};
+use msr_input::RowOutline;
+use msr_record::Key;
 
 /// The segment that was begun last, as its line tells it: without its samples.
 #[derive(Clone, Copy, Debug)]
@@ -15,26 +16,25 @@ pub struct OpenSegment {
 }
 
 /// The segment that the row begins.
-pub(crate) fn begun(row: &Row) -> OpenSegment
+pub(crate) fn begun(row: &RowOutline) -> OpenSegment
     ensures { result ≡ open_row row.now }
 {
     OpenSegment {
         key: row.key,
         start: row.start,
-        count: row.samples.len() as u64,
+        count: row.count as u64,
     }
 }
 
 /// The segment that was begun last, with the samples of the row that joins it.
-pub(crate) fn longer(last: Option<OpenSegment>, row: &Row) -> Option<OpenSegment>
+pub(crate) fn longer(last: Option<OpenSegment>, row: &RowOutline) -> Option<OpenSegment>
     requires count { IfSome last (λ before. before.count ≤ 2 ^ 63) }
-    requires row { length row.now.samples ≤ 65_535 }
     ensures { result ≡ open_longer last row.now }
 {
     let before = last?;
     Some(OpenSegment {
         key: before.key,
         start: before.start,
-        count: before.count + row.samples.len() as u64,
+        count: before.count + row.count as u64,
     })
 }

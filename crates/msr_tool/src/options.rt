@@ -1,4 +1,4 @@
-// How an input is repacked.
+//! How an input is repacked.
 ghost use Rattle.std.specs.Prelude.{◌≡◌, ◌↔◌, ◌≤◌, false, IsSome, IfSome};
 
 use msr_input::Settings;
@@ -36,7 +36,8 @@ impl Options {
     /// Options that are not strict; `None` where the tolerance in microseconds is not from 1 to 1,000,000.
     pub fn new(length: Length, tolerance: u32) -> Option<Options>
         ensures some { IsSome result ↔ (1 ≤ tolerance) × (tolerance ≤ 1_000_000) }
-        ensures same { IfSome result (λ options. options ≡ record { record_length = length; tolerance = tolerance; strict = false }) }
+        ensures same { IfSome result (λ options. options
+            ≡ record { record_length = length; tolerance = tolerance; strict = false }) }
     {
         if !(LEAST_TOLERANCE..=MOST_TOLERANCE).contains(&tolerance) {
             return None;

@@ -1,4 +1,4 @@
-// A writer of segments with their lines, which takes the rows.
+//! A writer of segments with their lines, which takes the rows.
 use crate::fault::ToolFault;
 use msr_certificate::line_has_form;
 use msr_devices::Sink;
@@ -55,7 +55,7 @@ impl LinedWriter {
         }
     }
 
-    // Ends the segment that was begun last, if there is one, and keeps its line.
+    /// Ends the segment that was begun last, if there is one, and keeps its line.
     fn end_last<W: Sink>(&mut self, sink: &mut W) -> Result<(), ToolFault>
         requires count { CanCountCall (W.device sink.old) }
         requires last { IfSome self.old.last (GoesOn self.old.writing.size) }
@@ -79,7 +79,7 @@ impl LinedWriter {
         Ok(())
     }
 
-    // Begins the segment of that row, whose samples are not yet taken. None is open.
+    /// Begins the segment of that row, whose samples are not yet taken. None is open.
     fn begin(&mut self, row: &Row)
         requires writable { IsWritable (row_segment row.now) }
         requires row { length row.now.samples ≤ 65_535 }
@@ -93,7 +93,7 @@ impl LinedWriter {
         self.last = Some(self.writer.begin(row.key, row.start));
     }
 
-    // Writes the samples after those of the segment that was begun last, where there is one.
+    /// Writes the samples after those of the segment that was begun last, where there is one.
     fn push<W: Sink>(&mut self, sink: &mut W, samples: &[i32]) -> Result<(), ToolFault>
         requires count { CanCountCall (W.device sink.old) }
         requires last { IfSome self.old.last (GoesOn self.old.writing.size) }
@@ -118,7 +118,7 @@ impl LinedWriter {
         }
     }
 
-    // Takes the next row. One that begins a segment ends the one before it, whose line is kept.
+    /// Takes the next row. One that begins a segment ends the one before it, whose line is kept.
     fn take_row<W: Sink>(&mut self, sink: &mut W, next: &NextRow) -> Result<(), ToolFault>
         requires count { CanCountCall (W.device sink.old) }
         requires last { IfSome self.old.last (GoesOn self.old.writing.size) }

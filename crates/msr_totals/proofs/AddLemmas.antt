@@ -8,7 +8,7 @@ use Rattle.std.proofs.lemmas.Slice.Eq.{bytes_eq-Decides}
 use Rattle.indexmap.specs.IndexMap.{insert_entry}
 use Rattle.msr_totals.specs.declared.Total.{Total}
 use Rattle.msr_totals.specs.Totals.{Add, adds_of, total_of, totals_of, first_names, saturated}
-use Rattle.msr_totals.proofs.FirstNameLemmas.{has, bytes_eq-sym, first_names-push, has-first_names, AreDistinct-first_names}
+use Rattle.msr_totals.proofs.FirstNameLemmas.{has, bytes_eq_sym, first_names-push, has_first_names, AreDistinct_first_names}
 use Rattle.msr_totals.proofs.RowLemmas.{rows, lookup-rows, insert_entry-rows}
 
 abbrev names_of : List Add → List (List ℕ)
@@ -19,10 +19,10 @@ names_of-push [] a = refl
 names_of-push (b ∷ adds) a = ap (λ names. b.name ∷ names) (names_of-push adds a)
 
 -- an add counts for its own name
-adds_of-push_same : (adds : List Add) (a : Add) (n : List ℕ) → bytes_eq n a.name ≡ true
+adds_of_push_same : (adds : List Add) (a : Add) (n : List ℕ) → bytes_eq n a.name ≡ true
     → adds_of (adds ++ a ∷ []) n ≡ adds_of adds n ++ a ∷ []
-adds_of-push_same [] a n same = rw same refl
-adds_of-push_same (b ∷ adds) a n same = by (bytes_eq n b.name) refl (adds_of-push_same adds a n same)
+adds_of_push_same [] a n same = rw same refl
+adds_of_push_same (b ∷ adds) a n same = by (bytes_eq n b.name) refl (adds_of_push_same adds a n same)
   where
     by : (c : Bool) → bytes_eq n b.name ≡ c → adds_of (adds ++ a ∷ []) n ≡ adds_of adds n ++ a ∷ []
         → adds_of ((b ∷ adds) ++ a ∷ []) n ≡ adds_of (b ∷ adds) n ++ a ∷ []
@@ -30,11 +30,11 @@ adds_of-push_same (b ∷ adds) a n same = by (bytes_eq n b.name) refl (adds_of-p
     by false e rest = rw e rest
 
 -- and for no other
-adds_of-push_other : (adds : List Add) (a : Add) (n : List ℕ) → bytes_eq n a.name ≡ false
+adds_of_push_other : (adds : List Add) (a : Add) (n : List ℕ) → bytes_eq n a.name ≡ false
     → adds_of (adds ++ a ∷ []) n ≡ adds_of adds n
-adds_of-push_other [] a n other = rw other refl
-adds_of-push_other (b ∷ adds) a n other =
-    by (bytes_eq n b.name) refl (adds_of-push_other adds a n other)
+adds_of_push_other [] a n other = rw other refl
+adds_of_push_other (b ∷ adds) a n other =
+    by (bytes_eq n b.name) refl (adds_of_push_other adds a n other)
   where
     by : (c : Bool) → bytes_eq n b.name ≡ c → adds_of (adds ++ a ∷ []) n ≡ adds_of adds n
         → adds_of ((b ∷ adds) ++ a ∷ []) n ≡ adds_of (b ∷ adds) n
@@ -42,9 +42,9 @@ adds_of-push_other (b ∷ adds) a n other =
     by false e rest = rw e rest
 
 -- a name that was not added has no adds
-adds_of-absent : (adds : List Add) (n : List ℕ) → has n (names_of adds) ≡ false → adds_of adds n ≡ []
-adds_of-absent [] n absent = refl
-adds_of-absent (b ∷ adds) n absent = by (bytes_eq n b.name) refl (λ tail. adds_of-absent adds n tail)
+adds_of_absent : (adds : List Add) (n : List ℕ) → has n (names_of adds) ≡ false → adds_of adds n ≡ []
+adds_of_absent [] n absent = refl
+adds_of_absent (b ∷ adds) n absent = by (bytes_eq n b.name) refl (λ tail. adds_of_absent adds n tail)
   where
     by : (c : Bool) → bytes_eq n b.name ≡ c → (has n (names_of adds) ≡ false → adds_of adds n ≡ [])
         → adds_of (b ∷ adds) n ≡ []
@@ -52,8 +52,8 @@ adds_of-absent (b ∷ adds) n absent = by (bytes_eq n b.name) refl (λ tail. add
     by false e rest = let tail : has n (names_of adds) ≡ false = rw e at absent in rw e (rest tail)
 
 -- a sum that stops at a bound can stop on its way
-min-sum : (bound x y : ℕ) → min (min x bound + y) bound ≡ min (x + y) bound
-min-sum bound x y = omega arith
+min_sum : (bound x y : ℕ) → min (min x bound + y) bound ≡ min (x + y) bound
+min_sum bound x y = omega arith
 
 -- the total of no add
 abbrev pub none : Total
@@ -70,46 +70,46 @@ total_of-push : (adds : List Add) (a : Add) (after : Total) → IsPlus (total_of
 total_of-push adds a after plus =
     let own = adds_of adds a.name in
     let same : bytes_eq a.name a.name ≡ true = (bytes_eq-Decides a.name a.name).1 refl in
-    let more = adds_of-push_same adds a a.name same in
+    let more = adds_of_push_same adds a a.name same in
     let bound = 2 ^ 64 - 1 in
     let files : after.files ≡ saturated (length (own ++ a ∷ [])) =
-    rw length-append (plus.files ∙ min-sum bound (length own) 1) in
+    rw length-append (plus.files ∙ min_sum bound (length own) 1) in
     let read : after.read ≡ saturated (sum_by (λ add. add.read) (own ++ a ∷ [])) =
     rw (sum_by_push (λ (add : Add). add.read) own a)
-    (plus.read ∙ min-sum bound (sum_by (λ add. add.read) own) a.read) in
+    (plus.read ∙ min_sum bound (sum_by (λ add. add.read) own) a.read) in
     let written : after.written ≡ saturated (sum_by (λ add. add.written) (own ++ a ∷ [])) =
     rw (sum_by_push (λ (add : Add). add.written) own a)
-    (plus.written ∙ min-sum bound (sum_by (λ add. add.written) own) a.written) in
+    (plus.written ∙ min_sum bound (sum_by (λ add. add.written) own) a.written) in
     rw more (λ i. record { files = files i; read = read i; written = written i })
 
 -- what a look-up finds, or the total of no add, is the total of the name
-total_of-before : (adds : List Add) (n : List ℕ)
+total_of_before : (adds : List Add) (n : List ℕ)
     → unwrap_or (lookup (bytes_eq n) (totals_of adds)) none ≡ total_of adds n
-total_of-before adds n = by (has n (names_of adds)) refl
+total_of_before adds n = by (has n (names_of adds)) refl
   where
     found : lookup (bytes_eq n) (totals_of adds)
         ≡ (if has n (names_of adds) then Some (total_of adds n) else None)
     found =
         lookup-rows (total_of adds) n (first_names (names_of adds))
-        ∙ ap (λ b. if b then Some (total_of adds n) else None) (has-first_names n (names_of adds))
+        ∙ ap (λ b. if b then Some (total_of adds n) else None) (has_first_names n (names_of adds))
 
     by : (b : Bool) → has n (names_of adds) ≡ b
         → unwrap_or (lookup (bytes_eq n) (totals_of adds)) none ≡ total_of adds n
     by true e = rw (found, e) refl
-    by false e = rw (found, e, adds_of-absent adds n e) refl
+    by false e = rw (found, e, adds_of_absent adds n e) refl
 
 -- the rows of a map after an add are the totals with it
-pub insert_entry-totals : (adds : List Add) (a : Add) (after : Total)
+pub insert_entry_totals : (adds : List Add) (a : Add) (after : Total)
     → IsPlus (unwrap_or (lookup (bytes_eq a.name) (totals_of adds)) none) a after
     → insert_entry bytes_eq (totals_of adds) a.name after ≡ totals_of (adds ++ a ∷ [])
-insert_entry-totals adds a after plus =
+insert_entry_totals adds a after plus =
     let names = names_of adds in
     let more = adds ++ a ∷ [] in
     let own : after ≡ total_of more a.name =
-    total_of-push adds a after (rw (total_of-before adds a.name) at plus) in
+    total_of-push adds a after (rw (total_of_before adds a.name) at plus) in
     let others = λ (m : List ℕ) (other : bytes_eq a.name m ≡ false).
-    adds_of-push_other adds a m (bytes_eq-sym m a.name ∙ other) in
+    adds_of_push_other adds a m (bytes_eq_sym m a.name ∙ other) in
     let kept = insert_entry-rows (total_of adds) (total_of more) a.name
-    (λ m other. rw (others m other) refl) (first_names names) (AreDistinct-first_names names) in
+    (λ m other. rw (others m other) refl) (first_names names) (AreDistinct_first_names names) in
     rw own (kept ∙ ap (rows (total_of more))
     (sym (first_names-push names a.name) ∙ ap first_names (sym (names_of-push adds a))))

@@ -63,11 +63,11 @@ module _ {X : Type 0} where
       by false false e f rest = rw (e, f, others m e, rest, f) refl
 
 -- a map by `String` shows the rows by the names' bytes
-pub lookup-named : {Z : Type 0} (n : List ℕ) (entries : List (String Z × Total))
+pub lookup_named : {Z : Type 0} (n : List ℕ) (entries : List (String Z × Total))
     → lookup (λ key. bytes_eq n (string_bytes key)) entries ≡ lookup (bytes_eq n) (named entries)
-lookup-named n [] = refl
-lookup-named n (e ∷ entries) =
-    ap (λ rest. if bytes_eq n (string_bytes e.0) then Some e.1 else rest) (lookup-named n entries)
+lookup_named n [] = refl
+lookup_named n (e ∷ entries) =
+    ap (λ rest. if bytes_eq n (string_bytes e.0) then Some e.1 else rest) (lookup_named n entries)
 
 pub named-insert_entry : {Z : Type 0} (entries : List (String Z × Total)) (key : String Z) (v : Total)
     → named (insert_entry string_eq entries key v)

@@ -1,5 +1,5 @@
 pub mod Lines
 pub mod Runs
 pub mod Parts
-pub mod States
-pub mod Endings
+pub mod ComparingStates
+pub mod StoppedReading

@@ -12,28 +12,33 @@ use Rattle.msr_verdict.specs.Packed.{runs_of_rows}
 abbrev pub samples_of : List Row → List ℤ
 samples_of rows = flat_map (λ (row : Row). row.samples) rows
 
-pub segment-samples : (part : Part) → (segment_of part).samples ≡ samples_of (rows_of part)
+pub segment_samples : (part : Part) → (segment_of part).samples ≡ samples_of (rows_of part)
 unfolding segment_of
-segment-samples part = refl
+segment_samples part = refl
 
-pub total-snoc : (rows : List Row) (row : Row) → length (samples_of (rows ++ row ∷ [])) ≡ length (samples_of rows) + length row.samples
-total-snoc rows row =
-    ap length (flat_map-append (λ (r : Row). r.samples) rows (row ∷ []) ∙ ap (λ (xs : List ℤ). samples_of rows ++ xs) (append-nil row.samples)) ∙ length-append (samples_of rows) row.samples
+pub total_snoc : (rows : List Row) (row : Row)
+    → length (samples_of (rows ++ row ∷ [])) ≡ length (samples_of rows) + length row.samples
+total_snoc rows row =
+    ap length (flat_map-append (λ (r : Row). r.samples) rows (row ∷ [])
+    ∙ ap (λ (xs : List ℤ). samples_of rows ++ xs)
+    (append-nil row.samples)) ∙ length-append (samples_of rows) row.samples
 
 -- the run of a row, after so many samples
 abbrev pub run_behind : ℕ → Row → Run
 run_behind at row = record { start = at; end = at + length row.samples; kind = row.kind }
 
-pub runs-snoc : (at : ℕ) (rows : List Row) (row : Row) → runs_of_rows at (rows ++ row ∷ []) ≡ runs_of_rows at rows ++ run_behind (at + length (samples_of rows)) row ∷ []
-runs-snoc at [] row =
+pub runs_snoc : (at : ℕ) (rows : List Row) (row : Row)
+    → runs_of_rows at (rows ++ row ∷ []) ≡ runs_of_rows at rows ++ run_behind (at + length (samples_of rows)) row ∷ []
+runs_snoc at [] row =
     let none : at ≡ at + length (samples_of []) = omega arith in
     ap (λ n. run_behind n row ∷ []) none
-runs-snoc at (one ∷ rows) row =
-    let far : (at + length one.samples) + length (samples_of rows) ≡ at + length (samples_of (one ∷ rows)) = omega (arith, length-append one.samples (samples_of rows)) in
-    ap (λ (runs : List Run). run_behind at one ∷ runs) (runs-snoc (at + length one.samples) rows row)
+runs_snoc at (one ∷ rows) row =
+    let far : (at + length one.samples) + length (samples_of rows) ≡ at + length (samples_of (one ∷ rows)) =
+    omega (arith, length-append one.samples (samples_of rows)) in
+    ap (λ (runs : List Run). run_behind at one ∷ runs) (runs_snoc (at + length one.samples) rows row)
     ∙ ap (λ n. run_behind at one ∷ (runs_of_rows (at + length one.samples) rows ++ run_behind n row ∷ [])) far
 
 -- as many runs as rows
-pub runs-length : (at : ℕ) (rows : List Row) → length (runs_of_rows at rows) ≡ length rows
-runs-length at [] = refl
-runs-length at (one ∷ rows) = ap (λ n. suc n) (runs-length (at + length one.samples) rows)
+pub runs_length : (at : ℕ) (rows : List Row) → length (runs_of_rows at rows) ≡ length rows
+runs_length at [] = refl
+runs_length at (one ∷ rows) = ap (λ n. suc n) (runs_length (at + length one.samples) rows)

@@ -24,13 +24,15 @@ pub record IsPieceOf (size : ℕ) (found : Record) (piece : Piece) : Type 0 wher
   pub count : piece.count ≡ length row.samples
 
 -- the line at that place is there, and is the segment's, in these runs
-pub record IsShownAt (size : ℕ) (lines : List SegmentLine) (place : ℕ) (segment : Segment) (runs : List Run) : Type 0 where
+pub record IsShownAt (size : ℕ) (lines : List SegmentLine) (place : ℕ) (segment : Segment)
+    (runs : List Run) : Type 0 where
   pub line : SegmentLine
   pub at_place : slice_get lines place ≡ Some line
   pub shown : IsShownAs size segment runs line
 
 -- the open segment ended, and is compared with its line
-pub record ComparesSegment (size : ℕ) (lines : List SegmentLine) (old : Compared) (segment : Segment) (new : Compared) : Type 0 where
+pub record ComparesSegment (size : ℕ) (lines : List SegmentLine) (old : Compared) (segment : Segment)
+    (new : Compared) : Type 0 where
   pub differs : old.agrees ≡ false → new.agrees ≡ false
   pub agrees : old.agrees ≡ true → (new.agrees ≡ true) ↔ IsShownAt size lines old.place segment old.runs
   pub place : new.agrees ≡ true → new.place ≡ old.place + 1
@@ -49,7 +51,8 @@ end_of_next compared piece = min (compared.samples + piece.count) (2 ^ 64 - 1)
 pub record AddsRun (old : Compared) (piece : Piece) (new : Compared) : Type 0 where
   pub agrees : new.agrees ≡ old.agrees
   pub place : new.place ≡ old.place
-  pub runs : old.agrees ≡ true → new.runs ≡ old.runs ++ (record { start = old.samples; end = end_of_next old piece; kind = piece.kind }) ∷ []
+  pub runs : old.agrees ≡ true → new.runs ≡ old.runs
+      ++ (record { start = old.samples; end = end_of_next old piece; kind = piece.kind }) ∷ []
   pub samples : old.agrees ≡ true → new.samples ≡ end_of_next old piece
 
 -- a record that is not full agrees with no report

@@ -95,7 +95,8 @@ Answers report input (Err Memory) = BeginsReadable (settings_by report) input
 -- No packing of the part's segment has fewer records than it stands in, nor than the line says.
 pub record StandsInFewest (size : ℕ) (part : Part) (line : SegmentLine) : Type 0 where
   pub records : line.records ≡ length (rows_of part)
-  pub fewest : (other : List Run) → IsPacking size (segment_of part).samples other → length (rows_of part) ≤ length other
+  pub fewest : (other : List Run) → IsPacking size (segment_of part).samples other
+      → length (rows_of part) ≤ length other
 
 abbrev pub AllStandInFewest : ℕ → List Part → List SegmentLine → Type 0
 AllStandInFewest size [] [] = Unit {0}

@@ -1,4 +1,4 @@
-// Comparing segments with the lines of a report, one after another.
+//! Comparing segments with the lines of a report, one after another.
 ghost use Rattle.std.specs.Prelude.{◌≡◌, ◌↔◌, IsTrue};
 
 use crate::piece::Piece;
@@ -13,7 +13,8 @@ use std::marker::Model;
 
 /// The line is of a segment with that key and start, so many samples and so many records.
 fn is_line_of(line: &SegmentLine, segment: &Segment, samples: u64, records: usize) -> bool
-    ensures { IsTrue result ↔ (line.now.key ≡ segment.now.key) × (line.now.start ≡ segment.now.start) × (line.now.samples ≡ samples) × (line.now.records ≡ records) }
+    ensures { IsTrue result ↔ (line.now.key ≡ segment.now.key) × (line.now.start ≡ segment.now.start)
+        × (line.now.samples ≡ samples) × (line.now.records ≡ records) }
 {
     line.key == segment.key
         && line.start == segment.start
@@ -58,7 +59,8 @@ impl Comparing {
 
     /// The segment, in the runs so far, is shown by the line at its place.
     fn is_shown(&self, report: &Report, segment: &Segment) -> bool
-        ensures shown { IsTrue result ↔ IsShownAt (bytes_of report.now.length) report.now.segments.items self.now.place segment.now self.now.runs }
+        ensures shown { IsTrue result
+            ↔ IsShownAt (bytes_of report.now.length) report.now.segments.items self.now.place segment.now self.now.runs }
         ensures few { length segment.now.samples < 2 ^ 64 }
     {
         let samples = segment.samples.len() as u64;
@@ -76,7 +78,8 @@ impl Comparing {
 
     /// Compares the segment that ended, if one did, with its line.
     pub fn compare(&mut self, report: &Report, ended: Option<Segment>)
-        ensures compared { ComparesEnded (bytes_of report.now.length) report.now.segments.items self.old ended self.new }
+        ensures compared { ComparesEnded
+            (bytes_of report.now.length) report.now.segments.items self.old ended self.new }
         ensures few { IfSome ended (λ segment. length segment.samples < 2 ^ 64) }
     {
         let Some(segment) = ended else {
@@ -115,7 +118,8 @@ impl Comparing {
 
     /// The verdict, where the last segment was compared.
     pub fn verdict(&self, report: &Report) -> Verdict
-        ensures { (result ≡ Verdict.Least) ↔ ((self.now.agrees ≡ true) × (self.now.place ≡ length report.now.segments.items)) }
+        ensures { (result ≡ Verdict.Least) ↔ ((self.now.agrees ≡ true)
+            × (self.now.place ≡ length report.now.segments.items)) }
     {
         if self.agrees && self.place == report.segments.len() {
             Verdict::Least

@@ -1,4 +1,4 @@
-// What a record is as a run of its segment.
+//! What a record is as a run of its segment.
 ghost use Rattle.std.specs.Prelude.{MatchOption};
 ghost use Rattle.msr_words.specs.Lengths.{bytes_of};
 ghost use Rattle.msr_verdict.specs.Packed.{IsFull};

@@ -5,6 +5,7 @@ ghost use Rattle.msr_record.specs.Correction.{is_pending};
 
 use crate::{Verdict, shown_is_fewest, verify_packed};
 use msr_devices::{Behavior, TestSource};
+use msr_fixtures::START;
 use msr_input::ReadFault;
 use msr_record::{Key, encode_record};
 use msr_report::{Counts, Report, SegmentLine};
@@ -14,9 +15,7 @@ use std::alloc::{AllocError, Global};
 use std::process::Abort;
 use std::test::Fail;
 
-// 2020-01-01 00:00:00, and where the second record begins, 85 samples later at 20 a second.
-const START: i64 = 1_577_836_800_000_000;
-
+/// Where the second record begins, 85 samples after the first one at 20 a second.
 const SECOND: i64 = START + 4_250_000;
 
 const WHOLE: Behavior = Behavior {
@@ -25,8 +24,8 @@ const WHOLE: Behavior = Behavior {
     fails_at: None,
 };
 
-// Only where the second record begins one sample before the first place that the first record does not reach,
-// do two records hold these 173 samples.
+/// Only where the second record begins one sample before the first place that the first record does not reach,
+/// do two records hold these 173 samples.
 fn samples() -> [i32; 173] {
     let mut samples = [1_000_000; 173];
     for odd in 0..42 {
@@ -65,7 +64,7 @@ fn of_bytes(rt: &impl Abort, bytes: u32) -> Length {
     }
 }
 
-// Appends a record of 256 bytes with the samples of a run.
+/// Appends a record of 256 bytes with the samples of a run.
 fn push_record(
     rt: &impl Abort,
     alloc: Global,
@@ -94,7 +93,7 @@ fn push_record(
     )
 }
 
-// The two records of those samples; the second begins so many microseconds late.
+/// The two records of those samples; the second begins so many microseconds late.
 fn packed(rt: &impl Abort, alloc: Global, late: i64) -> Result<Vec<u8>, AllocError> {
     let samples = samples();
     let (Some(first), Some(second)) = (samples.get(..85), samples.get(85..)) else {
@@ -107,7 +106,7 @@ fn packed(rt: &impl Abort, alloc: Global, late: i64) -> Result<Vec<u8>, AllocErr
     Ok(out)
 }
 
-// What a row of the tables changes in the line of those records.
+/// What a row of the tables changes in the line of those records.
 #[derive(Clone, Copy)]
 struct Line<'a> {
     channel: [u8; 3],
@@ -140,7 +139,7 @@ const RIGHT: Line<'static> = Line {
     separators: &[0, 86],
 };
 
-// A report with these lines.
+/// A report with these lines.
 fn report(
     rt: &impl Abort,
     alloc: Global,
@@ -176,80 +175,60 @@ fn verdict_of(
     verify_packed(alloc, &mut source, report)
 }
 
+/// A report with this line has that verdict on the two records.
+fn assert_line(
+    rt: &impl Abort,
+    alloc: Global,
+    bytes: &[u8],
+    line: Line<'_>,
+    want: Verdict,
+) -> Result<(), Fail> {
+    let report = report(rt, alloc, 256, 1000, &[line])?;
+    assert_eq!(rt; verdict_of(rt, alloc, bytes, &report, WHOLE), Ok(want));
+    Ok(())
+}
+
 #[test]
-fn lines_of_two_records(rt: HostRuntime) -> Result<(), Fail> {
+fn separators_of_two_records(rt: HostRuntime) -> Result<(), Fail> {
     let bytes = packed(&rt, rt.alloc(), 0)?;
-    let rows: [(Line<'_>, Verdict); 10] = [
-        (RIGHT, Verdict::Least),
-        (
-            Line {
-                separators: &[0, 85],
-                ..RIGHT
-            },
-            Verdict::NotShown,
-        ),
-        (
-            Line {
-                separators: &[0],
-                ..RIGHT
-            },
-            Verdict::NotShown,
-        ),
-        (
-            Line {
-                records: 1,
-                separators: &[0],
-                ..RIGHT
-            },
-            Verdict::NotShown,
-        ),
-        (
-            Line {
-                records: 1,
-                ..RIGHT
-            },
-            Verdict::NotShown,
-        ),
-        (
-            Line {
-                records: 3,
-                ..RIGHT
-            },
-            Verdict::NotShown,
-        ),
-        (
-            Line {
-                channel: *b"BHN",
-                ..RIGHT
-            },
-            Verdict::NotShown,
-        ),
-        (
-            Line {
-                start: START + 1,
-                ..RIGHT
-            },
-            Verdict::NotShown,
-        ),
-        (
-            Line {
-                samples: 172,
-                ..RIGHT
-            },
-            Verdict::NotShown,
-        ),
-        (
-            Line {
-                separators: &[0, 173],
-                ..RIGHT
-            },
-            Verdict::NotShown,
-        ),
+    // how many records there are said to be, and where they begin
+    let rows: [(u64, &[u64], Verdict); 7] = [
+        (2, &[0, 86], Verdict::Least),
+        (2, &[0, 85], Verdict::NotShown),
+        (2, &[0, 173], Verdict::NotShown),
+        (2, &[0], Verdict::NotShown),
+        (1, &[0], Verdict::NotShown),
+        (1, &[0, 86], Verdict::NotShown),
+        (3, &[0, 86], Verdict::NotShown),
     ];
-    for (given, want) in rows {
-        let report = report(&rt, rt.alloc(), 256, 1000, &[given])?;
-        let verdict = verdict_of(&rt, rt.alloc(), &bytes, &report, WHOLE);
-        assert_eq!(rt; verdict, Ok(want));
+    for (records, separators, want) in rows {
+        let line = Line {
+            records,
+            separators,
+            ..RIGHT
+        };
+        assert_line(&rt, rt.alloc(), &bytes, line, want)?;
+    }
+    Ok(())
+}
+
+#[test]
+fn lines_of_other_segments(rt: HostRuntime) -> Result<(), Fail> {
+    let bytes = packed(&rt, rt.alloc(), 0)?;
+    let rows: [([u8; 3], i64, u64, Verdict); 4] = [
+        (*b"BHZ", START, 173, Verdict::Least),
+        (*b"BHN", START, 173, Verdict::NotShown),
+        (*b"BHZ", START + 1, 173, Verdict::NotShown),
+        (*b"BHZ", START, 172, Verdict::NotShown),
+    ];
+    for (channel, start, samples, want) in rows {
+        let line = Line {
+            channel,
+            start,
+            samples,
+            ..RIGHT
+        };
+        assert_line(&rt, rt.alloc(), &bytes, line, want)?;
     }
     Ok(())
 }
@@ -275,7 +254,7 @@ fn lines_for_segments(rt: HostRuntime) -> Result<(), Fail> {
     Ok(())
 }
 
-// The second record belongs to the segment of the first, or begins one of its own.
+/// The second record belongs to the segment of the first, or begins one of its own.
 #[test]
 fn tolerances(rt: HostRuntime) -> Result<(), Fail> {
     let bytes = packed(&rt, rt.alloc(), 500)?;
@@ -304,7 +283,7 @@ fn tolerances(rt: HostRuntime) -> Result<(), Fail> {
     Ok(())
 }
 
-// One record of 256 bytes is no record of 512, though one record of either holds its samples.
+/// One record of 256 bytes is no record of 512, though one record of either holds its samples.
 #[test]
 fn lengths_and_empty_records(rt: HostRuntime) -> Result<(), Fail> {
     let samples = samples();
@@ -338,7 +317,7 @@ fn lengths_and_empty_records(rt: HostRuntime) -> Result<(), Fail> {
     Ok(())
 }
 
-// A fault of the input is told wherever it stands, also after a segment that is not shown.
+/// A fault of the input is told wherever it stands, also after a segment that is not shown.
 #[test]
 fn faults(rt: HostRuntime) -> Result<(), Fail> {
     let bytes = packed(&rt, rt.alloc(), 0)?;

@@ -1,4 +1,4 @@
-// What is said of packed records.
+//! What is said of packed records.
 use std::fmt;
 
 /// Whether a report shows that every segment of an input stands in the fewest records.

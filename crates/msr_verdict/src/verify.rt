@@ -1,4 +1,4 @@
-// Reading packed records beside their report.
+//! Reading packed records beside their report.
 ghost use Rattle.std.specs.Prelude.{◌↔◌, ◌≤◌, ℕ, List, IsErrOf};
 ghost use Rattle.msr_devices.specs.Device.{CanCountCall, CountsFew, HasFailed, HasLeft};
 ghost use Rattle.msr_verdict.specs.Packed.{Answers};

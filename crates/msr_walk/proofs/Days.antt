@@ -14,9 +14,10 @@ use Rattle.msr_walk.specs.declared.outcome.Refusal.{Refusal}
 use Rattle.msr_walk.specs.declared.outcome.Refusal.TheVariants.{CannotOpen, Listing, NotShown, Taken, Tool}
 use Rattle.msr_walk.specs.declared.outcome.Repacked.{Repacked}
 
-pub day-stops : (choice : Choice) (source records0 records text0 text : Device) (why : ToolFault) →
-    Reports choice source records0 records text0 text (Err why) → RepacksDay choice source records0 records text0 text (Err why)
-day-stops choice source records0 records text0 text why does = record {
+pub day_stops : (choice : Choice) (source records0 records text0 text : Device) (why : ToolFault) →
+    Reports choice source records0 records text0 text (Err why)
+    → RepacksDay choice source records0 records text0 text (Err why)
+day_stops choice source records0 records text0 text why does = record {
   input = does.input;
   written = does.written;
   told = does.told;
@@ -26,9 +27,9 @@ day-stops choice source records0 records text0 text why does = record {
   answers = does.answers;
 }
 
-pub day-answer : (choice : Choice) (source records0 records text0 text : Device) (result : Result Repacked ToolFault) →
+pub day_answer : (choice : Choice) (source records0 records text0 text : Device) (result : Result Repacked ToolFault) →
     RepacksDay choice source records0 records text0 text result → HasAnswer choice result
-day-answer choice source records0 records text0 text result does = record {
+day_answer choice source records0 records text0 text result does = record {
   input = does.input;
   written = does.written;
   told = does.told;
@@ -36,9 +37,9 @@ day-answer choice source records0 records text0 text result does = record {
 }
 
 -- what was written is not stored
-pub day-unsettled : (choice : Choice) (source records0 records text0 text : Device) (repacked : Repacked) →
+pub day_unsettled : (choice : Choice) (source records0 records text0 text : Device) (repacked : Repacked) →
     RepacksDay choice source records0 records text0 text (Ok repacked) → HasAnswer choice (Err fault.Write)
-day-unsettled choice source records0 records text0 text repacked does = record {
+day_unsettled choice source records0 records text0 text repacked does = record {
   input = does.input;
   written = does.written;
   told = does.told;
@@ -46,13 +47,14 @@ day-unsettled choice source records0 records text0 text repacked does = record {
 }
 
 -- what was written is not kept
-pub day-unkept : (asked : Asked) (source records0 records text0 text : Device) (repacked : Repacked) (why : Refusal) →
-    RepacksDay asked.choice source records0 records text0 text (Ok repacked) → IsShownWhere asked.check (Err why) → IsRepackedDay asked (Err why)
-day-unkept asked source records0 records text0 text repacked CannotOpen does is = tt
-day-unkept asked source records0 records text0 text repacked Listing does is = absurd is.1
-day-unkept asked source records0 records text0 text repacked NotShown does is = record { check = is.0; unshown = is.1 }
-day-unkept asked source records0 records text0 text repacked Taken does is = absurd is.1
-day-unkept asked source records0 records text0 text repacked (Tool why) does is = rw is.1 (record {
+pub day_unkept : (asked : Asked) (source records0 records text0 text : Device) (repacked : Repacked) (why : Refusal) →
+    RepacksDay asked.choice source records0 records text0 text (Ok repacked) → IsShownWhere asked.check (Err why)
+    → IsRepackedDay asked (Err why)
+day_unkept asked source records0 records text0 text repacked CannotOpen does is = tt
+day_unkept asked source records0 records text0 text repacked Listing does is = absurd is.1
+day_unkept asked source records0 records text0 text repacked NotShown does is = record { check = is.0; unshown = is.1 }
+day_unkept asked source records0 records text0 text repacked Taken does is = absurd is.1
+day_unkept asked source records0 records text0 text repacked (Tool why) does is = rw is.1 (record {
   input = does.input;
   written = does.written;
   told = does.told;
@@ -60,14 +62,15 @@ day-unkept asked source records0 records text0 text repacked (Tool why) does is 
 })
 
 -- what becomes of a day, told of an entry with its path
-pub outcome-of : (asked : Asked) (path channel : List ℕ) (outcome : Outcome) → IsDayOf path channel → IsDayOutcome asked outcome →
+pub outcome_of : (asked : Asked) (path channel : List ℕ) (outcome : Outcome) → IsDayOf path channel
+    → IsDayOutcome asked outcome →
     IsOutcomeOf asked path channel outcome
-outcome-of asked path channel (Done repacked) day is = (day, is)
-outcome-of asked path channel (Same repacked) day is = (day, is)
-outcome-of asked path channel (Skipped fault) day is = absurd is
-outcome-of asked path channel (Refused CannotOpen) day is = day
-outcome-of asked path channel (Refused Listing) day is = absurd is
-outcome-of asked path channel (Refused NotShown) day is = absurd is
-outcome-of asked path channel (Refused Taken) day is = day
-outcome-of asked path channel (Refused (Tool why)) day is = (day, is)
-outcome-of asked path channel Unshown day is = (day, is)
+outcome_of asked path channel (Done repacked) day is = (day, is)
+outcome_of asked path channel (Same repacked) day is = (day, is)
+outcome_of asked path channel (Skipped fault) day is = absurd is
+outcome_of asked path channel (Refused CannotOpen) day is = day
+outcome_of asked path channel (Refused Listing) day is = absurd is
+outcome_of asked path channel (Refused NotShown) day is = absurd is
+outcome_of asked path channel (Refused Taken) day is = day
+outcome_of asked path channel (Refused (Tool why)) day is = (day, is)
+outcome_of asked path channel Unshown day is = (day, is)

@@ -1,3 +1,4 @@
-pub mod Told
+pub mod EntriesTold
 pub mod Days
-pub mod Channels
+pub mod ChannelLines
+pub mod FolderLemmas

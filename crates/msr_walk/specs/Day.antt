@@ -43,7 +43,8 @@ CountAnswers choice input written told (Ok repacked) = IsCounted choice input wr
 CountAnswers choice input written told (Err fault) = ReportAnswers choice input written told (Err fault)
 
 -- What repacking a day did with its devices, the source, the sink of the records and that of the report.
-pub record RepacksDay (choice : Choice) (source records0 records text0 text : Device) (result : Result Repacked ToolFault) : Type 0 where
+pub record RepacksDay (choice : Choice) (source records0 records text0 text : Device)
+    (result : Result Repacked ToolFault) : Type 0 where
   pub input : List ℕ
   pub written : List ℕ
   pub told : List ℕ

@@ -50,11 +50,15 @@ IsEntry asked entry = IsOutcomeOf asked entry.path entry.channel entry.outcome
 -- The line of an entry. The texts of faults are shown by tests.
 abbrev pub IsLineOf : List ℕ → Outcome → List ℕ → Type 0
 IsLineOf path (Done repacked) line =
-    line ≡ codes "done " ++ (path ++ (codes " read " ++ (decimal repacked.read ++ (codes " written " ++ (decimal repacked.written ++ codes "\n")))))
+    line ≡ codes "done " ++ (path ++ (codes " read "
+    ++ (decimal repacked.read ++ (codes " written " ++ (decimal repacked.written ++ codes "\n")))))
 IsLineOf path (Same repacked) line =
-    line ≡ codes "same " ++ (path ++ (codes " read " ++ (decimal repacked.read ++ (codes " written " ++ (decimal repacked.written ++ codes "\n")))))
-IsLineOf path (Skipped fault) line = (why : List ℕ) × (line ≡ codes "skipped " ++ (path ++ (codes ": " ++ (why ++ codes "\n"))))
-IsLineOf path (Refused refusal) line = (why : List ℕ) × (line ≡ codes "refused " ++ (path ++ (codes ": " ++ (why ++ codes "\n"))))
+    line ≡ codes "same " ++ (path ++ (codes " read "
+    ++ (decimal repacked.read ++ (codes " written " ++ (decimal repacked.written ++ codes "\n")))))
+IsLineOf path (Skipped fault) line = (why : List ℕ)
+    × (line ≡ codes "skipped " ++ (path ++ (codes ": " ++ (why ++ codes "\n"))))
+IsLineOf path (Refused refusal) line = (why : List ℕ)
+    × (line ≡ codes "refused " ++ (path ++ (codes ": " ++ (why ++ codes "\n"))))
 IsLineOf path Unshown line = line ≡ codes "notshown " ++ (path ++ codes "\n")
 
 -- a line for each entry, in order

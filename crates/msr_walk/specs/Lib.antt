@@ -1,4 +1,6 @@
 pub mod Paths
+pub mod Files
+pub mod Stamp
 pub mod Day
 pub mod Entries
 pub mod Walk

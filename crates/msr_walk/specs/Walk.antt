@@ -15,16 +15,20 @@ use Rattle.msr_walk.specs.declared.tally.Tally.{Tally}
 -- the line of a channel's total
 abbrev pub channel_line : List ℕ × Total → List ℕ
 channel_line of =
-    codes "channel " ++ (of.0 ++ (codes " files " ++ (decimal of.1.files ++ (codes " read " ++ (decimal of.1.read ++ (codes " written " ++ (decimal of.1.written ++ codes "\n")))))))
+    codes "channel " ++ (of.0 ++ (codes " files "
+    ++ (decimal of.1.files ++ (codes " read " ++
+    (decimal of.1.read ++ (codes " written " ++ (decimal of.1.written ++ codes "\n")))))))
 
 -- the last line
 abbrev pub counts_line : (done skipped refused : ℕ) → List ℕ
 counts_line done skipped refused =
-    codes "files " ++ (decimal done ++ (codes " skipped " ++ (decimal skipped ++ (codes " refused " ++ (decimal refused ++ codes "\n")))))
+    codes "files " ++ (decimal done ++ (codes " skipped "
+    ++ (decimal skipped ++ (codes " refused " ++ (decimal refused ++ codes "\n")))))
 
 -- the lines after those of the entries
 abbrev pub summary : List Entry → List ℕ
-summary entries = flat_map channel_line (channels_of entries) ++ counts_line (counted is_done entries) (counted is_skipped entries) (counted is_refused entries)
+summary entries = flat_map channel_line (channels_of entries)
+    ++ counts_line (counted is_done entries) (counted is_skipped entries) (counted is_refused entries)
 
 -- a prefix of a text was printed where the walk stops: the sink failed, or else memory was refused
 abbrev pub StopsFront : Device → Device → List ℕ → ToolFault → Type 0
@@ -62,7 +66,8 @@ pub record IsWalk (asked : Asked) (text : List ℕ) (entries : List Entry) : Typ
 
 -- a walk that came to its end tells whether an entry was refused
 abbrev pub TellsRefusals : List Entry → Bool → Type 0
-TellsRefusals entries refused = (refused ≡ true → 0 < counted is_refused entries) × (refused ≡ false → counted is_refused entries ≡ 0)
+TellsRefusals entries refused = (refused ≡ true → 0 < counted is_refused entries)
+    × (refused ≡ false → counted is_refused entries ≡ 0)
 
 -- A prefix of the text of a whole walk.
 pub record IsWalkInPart (asked : Asked) (printed : List ℕ) : Type 0 where
@@ -72,7 +77,8 @@ pub record IsWalkInPart (asked : Asked) (printed : List ℕ) : Type 0 where
 
 -- the whole text was printed, or a prefix of it where the walk stopped, which no input and no source can make it do
 abbrev pub WalkEnds : Asked → (printed : List ℕ) → Result Bool ToolFault → Type 0
-WalkEnds asked printed (Ok refused) = (entries : List Entry) × IsWalk asked printed entries × TellsRefusals entries refused
+WalkEnds asked printed (Ok refused) = (entries : List Entry) × IsWalk asked printed entries
+    × TellsRefusals entries refused
 WalkEnds asked printed (Err (Input found)) = ⊥
 WalkEnds asked printed (Err (Report line)) = ⊥
 WalkEnds asked printed (Err Read) = ⊥

@@ -1,6 +1,7 @@
 //! One day file: from its file to the files of its records and its report.
-ghost use Rattle.std.specs.Prelude.{◌≡◌, IfErr, IfSome};
+ghost use Rattle.std.specs.Prelude.{◌≡◌, IfErr, IfOk, IfSome};
 ghost use Rattle.msr_walk.specs.Day.{Asked, IsDayOutcome, IsKept, IsRepackedDay, IsShownWhere, asked_of};
+ghost use Rattle.msr_walk.specs.Files.{day_names};
 
 use crate::files::{NewFile, settle};
 use crate::folders::Archive;
@@ -12,6 +13,7 @@ use msr_tool::{FromRead, FromWrite, Options};
 use std::alloc::{AllocError, Global};
 use std::fs;
 use std::fs::File;
+use std::marker::Model;
 use std::rt::Files;
 
 /// The files of a day.
@@ -23,9 +25,26 @@ pub struct Day {
     stamp: NewFile,
 }
 
+impl Model for Day {
+    ghost use Rattle.std.specs.String.{string_bytes};
+    ghost use Rattle.msr_walk.specs.Files.{DayNames};
+
+    ghost Value = { DayNames };
+
+    ghost view = { λ day. record {
+      input = string_bytes day.input;
+      records = day.records;
+      report = day.report;
+      stamp = day.stamp;
+    } };
+}
+
 impl Day {
     /// The files of the day with this path in the archive.
-    pub fn new(alloc: Global, archive: &Archive<'_>, path: &str) -> Result<Day, AllocError> {
+    pub fn new(alloc: Global, archive: &Archive<'_>, path: &str) -> Result<Day, AllocError>
+        ensures { IfOk result (λ day.
+            day ≡ day_names archive.now.root.now archive.now.out.now archive.now.reports.now path.now) }
+    {
         Ok(Day {
             input: join(alloc, archive.root, path)?,
             records: NewFile::new(alloc, archive.out, path, "")?,
@@ -34,7 +53,7 @@ impl Day {
         })
     }
 
-    // Opens the input before anything is made. What is to be shown is shown before anything gets its name.
+    /// Opens the input before anything is made. What is to be shown is shown before anything gets its name.
     fn write<R: Files>(
         &self,
         rt: &R,
@@ -65,9 +84,9 @@ impl Day {
         Ok(repacked)
     }
 
-    // The stamp and the records of an earlier walk go before anything gets its name, so that what has a stamp was made
-    // whole, and no report stands beside records that are not its own; the report gets its name first, so that records
-    // that have theirs have a report.
+    /// The stamp and the records of an earlier walk go before anything gets its name, so that what has a stamp was made
+    /// whole, and no report stands beside records that are not its own; the report gets its name first, so that records
+    /// that have theirs have a report.
     fn keep<R: Files>(&self, rt: &R) -> Result<(), Refusal>
         ensures { IfErr result (λ why. why ≡ Refusal.CannotOpen) }
     {
@@ -78,7 +97,7 @@ impl Day {
         self.records.keep(rt)
     }
 
-    // Reads the records and the report again that were written, and holds one against the other, where that is asked for.
+    /// Reads the records and the report again that were written, and holds one against the other, where that is asked for.
     fn hold<R: Files>(&self, rt: &R, alloc: Global, check: bool) -> Result<(), Refusal>
         ensures { IsShownWhere check result }
     {
@@ -98,8 +117,8 @@ impl Day {
         )
     }
 
-    // Repacks the day, and stamps it where it is asked for and the input did not change meanwhile; without a stamp the
-    // next walk repacks it again. Where it is refused, nothing of it is left, but for another walk that took it over.
+    /// Repacks the day, and stamps it where it is asked for and the input did not change meanwhile; without a stamp the
+    /// next walk repacks it again. Where it is refused, nothing of it is left, but for another walk that took it over.
     fn repack<R: Files>(
         &self,
         rt: &R,
@@ -133,7 +152,7 @@ impl Day {
         }
     }
 
-    // What an earlier walk left of the day, where it is whole, was made with these options, and from the input as it is.
+    /// What an earlier walk left of the day, where it is whole, was made with these options, and from the input as it is.
     fn kept<R: Files>(&self, rt: &R, alloc: Global, options: Options) -> Option<Repacked>
         ensures { IfSome result (IsKept options) }
     {
@@ -152,7 +171,7 @@ impl Day {
         }
     }
 
-    // Whether the file of the records is as long as so many are.
+    /// Whether the file of the records is as long as so many are.
     fn has_records<R: Files>(&self, rt: &R, records: u64, options: Options) -> bool {
         let Some(bytes) = records.checked_mul(u64::from(options.length().bytes())) else {
             return false;
@@ -163,7 +182,7 @@ impl Day {
         }
     }
 
-    // Whether the day's own file, or a file beside it in the archive, may be touched by what is made of it.
+    /// Whether the day's own file, or a file beside it in the archive, may be touched by what is made of it.
     fn may_touch_archive<R: Files>(&self, rt: &R) -> bool {
         let input = self.input.as_str();
         self.records.may_touch(rt, input)
@@ -192,7 +211,7 @@ impl Day {
     }
 }
 
-// What becomes of a day that is refused: what is not shown has an outcome of its own.
+/// What becomes of a day that is refused: what is not shown has an outcome of its own.
 fn refused(refusal: Refusal) -> Outcome
     ensures { (asked : Asked) → IsRepackedDay asked (Err refusal) → IsDayOutcome asked result }
 {

@@ -1,5 +1,6 @@
 //! Files that appear whole under their names, or not at all.
-ghost use Rattle.std.specs.Prelude.{◌≡◌, ◌⊎◌, IfErr};
+ghost use Rattle.std.specs.Prelude.{◌≡◌, ◌⊎◌, IfErr, IfOk};
+ghost use Rattle.msr_walk.specs.Files.{folder_of, new_file};
 
 use crate::outcome::Refusal;
 use crate::paths::join;
@@ -8,6 +9,7 @@ use std::alloc::{AllocError, Global};
 use std::fs;
 use std::fs::{Metadata, OpenFile, OpenOptions};
 use std::io::ErrorKind;
+use std::marker::Model;
 use std::os::unix::fs::MetadataExt;
 use std::rt::Files;
 
@@ -31,8 +33,8 @@ pub fn settle<F: OpenFile>(file: &F) -> Result<(), ToolFault>
     }
 }
 
-// Whether both names lead to one file or folder, by whatever paths or links, or the system does not tell. Where nothing
-// stands under one of them they do not.
+/// Whether both names lead to one file or folder, by whatever paths or links, or the system does not tell. Where nothing
+/// stands under one of them they do not.
 fn may_be_one<R: Files>(rt: &R, a: &str, b: &str) -> bool {
     let first = match fs::metadata(rt, a) {
         Ok(metadata) => metadata,
@@ -48,8 +50,10 @@ fn is_one(a: &Metadata, b: &Metadata) -> bool {
     a.dev() == b.dev() && a.ino() == b.ino()
 }
 
-// The folder in which a name stands; without a slash none, which is no folder's name.
-fn folder_of(path: &str) -> &str {
+/// The folder in which a name stands; without a slash none, which is no folder's name.
+fn folder_of(path: &str) -> &str
+    ensures { result.now ≡ folder_of path.now }
+{
     match path.rsplit_once('/') {
         Some((folder, _)) => folder,
         None => "",
@@ -64,14 +68,20 @@ pub struct NewFile {
     part: String,
 }
 
+impl Model for NewFile {
+    ghost use Rattle.std.specs.String.{string_bytes};
+    ghost use Rattle.msr_walk.specs.Files.{FileNames};
+
+    ghost Value = { FileNames };
+
+    ghost view = { λ file. record { path = string_bytes file.path; part = string_bytes file.part } };
+}
+
 impl NewFile {
     /// The file below that folder with that path and ending.
-    pub fn new(
-        alloc: Global,
-        folder: &str,
-        path: &str,
-        ending: &str,
-    ) -> Result<NewFile, AllocError> {
+    pub fn new(alloc: Global, folder: &str, path: &str, ending: &str) -> Result<NewFile, AllocError>
+        ensures { IfOk result (λ file. file ≡ new_file folder.now path.now ending.now) }
+    {
         let mut path = join(alloc, folder, path)?;
         let mut part = String::from_str(alloc, path.as_str())?;
         if !path.is_empty() {
@@ -83,12 +93,16 @@ impl NewFile {
     }
 
     /// The name that it gets.
-    pub fn path(&self) -> &str {
+    pub fn path(&self) -> &str
+        ensures { result.now ≡ self.now.path }
+    {
         self.path.as_str()
     }
 
     /// The name beside it, under which it is written.
-    pub fn part(&self) -> &str {
+    pub fn part(&self) -> &str
+        ensures { result.now ≡ self.now.part }
+    {
         self.part.as_str()
     }
 

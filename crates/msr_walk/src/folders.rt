@@ -38,7 +38,15 @@ pub struct Archive<'a> {
     pub check: bool,
 }
 
-// Prints the line of an entry, and counts it. The channel is that of a day.
+/// What walks an archive: the files that it goes through, memory and what is asked for.
+#[derive(Drop)]
+struct Walker<'a, R: Files> {
+    rt: &'a R,
+    alloc: Global,
+    archive: &'a Archive<'a>,
+}
+
+/// Prints the line of an entry, and counts it. The channel is that of a day.
 fn tell<O: Sink>(
     alloc: Global,
     path: &str,
@@ -60,10 +68,9 @@ fn tell<O: Sink>(
     Ok(())
 }
 
+/// Repacks a day, prints its line and counts it.
 fn tell_day<R: Files, O: Sink>(
-    rt: &R,
-    alloc: Global,
-    archive: &Archive<'_>,
+    walker: &Walker<'_, R>,
     path: &str,
     name: &SdsName<'_>,
     out: &mut O,
@@ -71,36 +78,38 @@ fn tell_day<R: Files, O: Sink>(
 ) -> Result<(), ToolFault>
     requires day { ReadsAsDay path.now name.now }
     requires count { CanCountCall (O.device out.old) }
-    ensures told { OnOk result (Tells (asked_of archive.now) (O.device out.old) (O.device out.new) tally.old tally.new) }
-    ensures stops { IfErr result (StopsTelling (asked_of archive.now) (O.device out.old) (O.device out.new)) }
+    ensures told { OnOk result (Tells (asked_of walker.now.archive.now) (O.device out.old)
+        (O.device out.new) tally.old tally.new) }
+    ensures stops { IfErr result (StopsTelling (asked_of walker.now.archive.now) (O.device out.old)
+        (O.device out.new)) }
 {
-    let channel = channel_text(alloc, name)?;
-    let day = Day::new(alloc, archive, path)?;
-    let outcome = day.handle(rt, alloc, archive);
-    tell(alloc, path, channel.as_str(), outcome, out, tally)
+    let channel = channel_text(walker.alloc, name)?;
+    let day = Day::new(walker.alloc, walker.archive, path)?;
+    let outcome = day.handle(walker.rt, walker.alloc, walker.archive);
+    tell(walker.alloc, path, channel.as_str(), outcome, out, tally)
 }
 
-// What is no folder of the walk.
+/// What is no folder of the walk.
 fn tell_file<R: Files, O: Sink>(
-    rt: &R,
-    alloc: Global,
-    archive: &Archive<'_>,
+    walker: &Walker<'_, R>,
     path: &str,
     out: &mut O,
     tally: &mut Tally,
 ) -> Result<(), ToolFault>
     requires { CanCountCall (O.device out.old) }
-    ensures told { OnOk result (Tells (asked_of archive.now) (O.device out.old) (O.device out.new) tally.old tally.new) }
-    ensures stops { IfErr result (StopsTelling (asked_of archive.now) (O.device out.old) (O.device out.new)) }
+    ensures told { OnOk result (Tells (asked_of walker.now.archive.now) (O.device out.old)
+        (O.device out.new) tally.old tally.new) }
+    ensures stops { IfErr result (StopsTelling (asked_of walker.now.archive.now) (O.device out.old)
+        (O.device out.new)) }
 {
     match SdsName::parse(path) {
-        Ok(name) => tell_day(rt, alloc, archive, path, &name, out, tally),
-        Err(fault) => tell(alloc, path, "", Outcome::Skipped(fault), out, tally),
+        Ok(name) => tell_day(walker, path, &name, out, tally),
+        Err(fault) => tell(walker.alloc, path, "", Outcome::Skipped(fault), out, tally),
     }
 }
 
-// Links are followed. What the system does not tell of may be a folder: then it is refused where it has no list, and
-// no part of the archive is taken for something else.
+/// Links are followed. What the system does not tell of may be a folder: then it is refused where it has no list, and
+/// no part of the archive is taken for something else.
 fn may_be_folder<R: Files>(rt: &R, path: &str) -> bool {
     match fs::metadata(rt, path) {
         Ok(metadata) => metadata.is_dir(),
@@ -108,22 +117,23 @@ fn may_be_folder<R: Files>(rt: &R, path: &str) -> bool {
     }
 }
 
-// The entries of a folder with that path from the archive's own, below which folders stand that many levels deep.
+/// The entries of a folder with that path from the archive's own, below which folders stand that many levels deep.
 fn walk_folder<R: Files, O: Sink>(
-    rt: &R,
-    alloc: Global,
-    archive: &Archive<'_>,
+    walker: &Walker<'_, R>,
     folder: &str,
     levels: u8,
     out: &mut O,
     tally: &mut Tally,
 ) -> Result<(), ToolFault>
     requires { CanCountCall (O.device out.old) }
-    ensures told { OnOk result (Tells (asked_of archive.now) (O.device out.old) (O.device out.new) tally.old tally.new) }
-    ensures stops { IfErr result (StopsTelling (asked_of archive.now) (O.device out.old) (O.device out.new)) }
+    ensures told { OnOk result (Tells (asked_of walker.now.archive.now) (O.device out.old)
+        (O.device out.new) tally.old tally.new) }
+    ensures stops { IfErr result (StopsTelling (asked_of walker.now.archive.now) (O.device out.old)
+        (O.device out.new)) }
 {
-    let place = join(alloc, archive.root, folder)?;
-    let names = match names_in(rt, alloc, place.as_str()) {
+    let alloc = walker.alloc;
+    let place = join(alloc, walker.archive.root, folder)?;
+    let names = match names_in(walker.rt, alloc, place.as_str()) {
         Ok(names) => names,
         Err(ListFault::Memory) => return Err(ToolFault::Memory),
         Err(ListFault::Listing) => {
@@ -134,34 +144,34 @@ fn walk_folder<R: Files, O: Sink>(
     };
     for name in &names {
         let path = entry_path(alloc, folder, name.as_str())?;
-        let place = join(alloc, archive.root, path.as_str())?;
-        if 0 < levels && may_be_folder(rt, place.as_str()) {
-            walk_folder(rt, alloc, archive, path.as_str(), levels - 1, out, tally)?;
+        let place = join(alloc, walker.archive.root, path.as_str())?;
+        if 0 < levels && may_be_folder(walker.rt, place.as_str()) {
+            walk_folder(walker, path.as_str(), levels - 1, out, tally)?;
         } else {
-            tell_file(rt, alloc, archive, path.as_str(), out, tally)?;
+            tell_file(walker, path.as_str(), out, tally)?;
         }
     }
     Ok(())
 }
 
-// The whole archive, or the folders of it that are asked for, one after another.
+/// The whole archive, or the folders of it that are asked for, one after another.
 fn walk_folders<R: Files, O: Sink>(
-    rt: &R,
-    alloc: Global,
-    archive: &Archive<'_>,
+    walker: &Walker<'_, R>,
     out: &mut O,
     tally: &mut Tally,
 ) -> Result<(), ToolFault>
     requires { CanCountCall (O.device out.old) }
-    ensures told { OnOk result (Tells (asked_of archive.now) (O.device out.old) (O.device out.new) tally.old tally.new) }
-    ensures stops { IfErr result (StopsTelling (asked_of archive.now) (O.device out.old) (O.device out.new)) }
+    ensures told { OnOk result (Tells (asked_of walker.now.archive.now) (O.device out.old)
+        (O.device out.new) tally.old tally.new) }
+    ensures stops { IfErr result (StopsTelling (asked_of walker.now.archive.now) (O.device out.old)
+        (O.device out.new)) }
 {
-    if archive.below.is_empty() {
-        return walk_folder(rt, alloc, archive, "", FOLDERS, out, tally);
+    if walker.archive.below.is_empty() {
+        return walk_folder(walker, "", FOLDERS, out, tally);
     }
-    for folder in archive.below {
+    for folder in walker.archive.below {
         let levels = levels_below(folder).unwrap_or(0);
-        walk_folder(rt, alloc, archive, folder, levels, out, tally)?;
+        walk_folder(walker, folder, levels, out, tally)?;
     }
     Ok(())
 }
@@ -180,7 +190,7 @@ pub fn walk<R: Files, O: Sink>(
     ensures write { IsErrOf result ToolFault.Write ↔ HasFailed (O.device out.old) (O.device out.new) }
 {
     let mut tally = Tally::new(alloc);
-    walk_folders(rt, alloc, archive, out, &mut tally)?;
+    walk_folders(&Walker { rt, alloc, archive }, out, &mut tally)?;
     write_summary(alloc, out, &tally)?;
     Ok(0 < tally.refused)
 }

@@ -1,8 +1,14 @@
 //! What an input was when it was repacked: kept beside its report, so that a later walk can leave the day alone.
+ghost use Rattle.std.specs.Prelude.{◌≡◌, IfErr, IfOk, OnOk};
+ghost use Rattle.std.specs.String.{string_bytes};
+ghost use Rattle.msr_devices.specs.Device.{CanCountCall, Takes};
+ghost use Rattle.msr_walk.specs.Stamp.{IsNotPut, stamp_text};
+ghost use Rattle.msr_walk.specs.Walk.{StopsFront};
+
 use crate::files::{NewFile, settle};
 use crate::outcome::Refusal;
 use msr_devices::write_all;
-use msr_tool::{FromWrite, ToolFault};
+use msr_tool::{FromWrite, Sink, ToolFault};
 use std::alloc::{AllocError, Global};
 use std::fs;
 use std::os::unix::fs::MetadataExt;
@@ -32,13 +38,24 @@ impl Stamp {
         })
     }
 
-    fn text(self, alloc: Global) -> Result<String, AllocError> {
-        let Stamp {
-            bytes,
-            seconds,
-            nanoseconds,
-        } = self;
+    fn text(self, alloc: Global) -> Result<String, AllocError>
+        ensures { IfOk result (λ text. string_bytes text ≡ stamp_text self) }
+    {
+        let bytes = self.bytes;
+        let seconds = self.seconds.to_string(alloc)?;
+        let nanoseconds = self.nanoseconds.to_string(alloc)?;
         format!(in alloc; "input {bytes} bytes, changed at {seconds} s {nanoseconds} ns\n")
+    }
+
+    /// Writes its text.
+    fn write<O: Sink>(self, alloc: Global, out: &mut O) -> Result<(), ToolFault>
+        requires { CanCountCall (O.device out.old) }
+        ensures all { OnOk result (Takes (O.device out.old) (O.device out.new) (stamp_text self)) }
+        ensures stops { IfErr result (StopsFront (O.device out.old) (O.device out.new) (stamp_text self)) }
+    {
+        let text = self.text(alloc)?;
+        write_all(out, text.as_bytes())?;
+        Ok(())
     }
 
     /// Whether that file has this stamp, and nothing else.
@@ -65,14 +82,11 @@ impl Stamp {
     }
 
     /// Makes that file with this stamp.
-    pub fn put<R: Files>(self, rt: &R, alloc: Global, file: &NewFile) -> Result<(), Refusal> {
-        let Ok(text) = self.text(alloc) else {
-            return Err(Refusal::Tool(ToolFault::Memory));
-        };
+    pub fn put<R: Files>(self, rt: &R, alloc: Global, file: &NewFile) -> Result<(), Refusal>
+        ensures { IfErr result IsNotPut }
+    {
         let mut open = file.create(rt)?;
-        if write_all(&mut FromWrite::new(&mut open), text.as_bytes()).is_err() {
-            return Err(Refusal::Tool(ToolFault::Write));
-        }
+        self.write(alloc, &mut FromWrite::new(&mut open))?;
         settle(&open)?;
         file.keep(rt)
     }

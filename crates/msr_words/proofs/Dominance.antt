@@ -17,9 +17,14 @@ use Rattle.msr_words.proofs.Steim2Groups.{IsSteim2Group, division_from, group_to
 
 all_narrow : (run : List (ℤ × ℤ)) → All (λ p. IsNarrow p.1) run → AllByRecursion IsNarrow (map (λ p. p.1) run)
 all_narrow [] all = tt
-all_narrow (p ∷ run) all = (All-head (λ (q : ℤ × ℤ). IsNarrow q.1) p run all, all_narrow run (All-tail (λ (q : ℤ × ℤ). IsNarrow q.1) p run all))
+all_narrow (p ∷ run) all = (
+  All-head (λ (q : ℤ × ℤ). IsNarrow q.1) p run all,
+  all_narrow run
+      (All-tail (λ (q : ℤ × ℤ). IsNarrow q.1) p run all),
+)
 
-both_narrow : (xs ys : List ℤ) → AllByRecursion IsNarrow (xs ++ ys) → AllByRecursion IsNarrow xs × AllByRecursion IsNarrow ys
+both_narrow : (xs ys : List ℤ) → AllByRecursion IsNarrow (xs ++ ys)
+    → AllByRecursion IsNarrow xs × AllByRecursion IsNarrow ys
 both_narrow [] ys all = (tt, all)
 both_narrow (x ∷ xs) ys all = let rest = both_narrow xs ys all.1 in ((all.0, rest.0), rest.1)
 
@@ -29,27 +34,36 @@ narrow_group (a ∷ []) narrow is = (narrow.0.1, tt)
 narrow_group (a ∷ b ∷ []) narrow is = (narrow.0.0 is.0, (narrow.1.0.0 is.1.0, tt))
 narrow_group (a ∷ b ∷ c ∷ []) narrow is = all_more 8 10 (a ∷ b ∷ c ∷ []) (lit≤ tt) is
 narrow_group (a ∷ b ∷ c ∷ d ∷ []) narrow is = is
-narrow_group (a ∷ b ∷ c ∷ d ∷ e ∷ more) narrow is = let few = one_has_few (a ∷ b ∷ c ∷ d ∷ e ∷ more) is in absurd (omega arith)
+narrow_group (a ∷ b ∷ c ∷ d ∷ e ∷ more) narrow is = let few = one_has_few (a ∷ b ∷ c ∷ d ∷ e ∷ more) is in
+    absurd (omega arith)
 
-narrow_back : (groups : List (List ℤ)) (front back : List ℤ) → AllByRecursion IsNarrow back → AreGroups One groups → flat_map (λ group. group) groups ≡ front ++ back → HasDivision IsSteim2Group (length groups) back
+narrow_back : (groups : List (List ℤ)) (front back : List ℤ) → AllByRecursion IsNarrow back → AreGroups One groups
+    → flat_map (λ group. group) groups ≡ front ++ back → HasDivision IsSteim2Group (length groups) back
 narrow_back [] [] back narrow are join = subst (HasDivision IsSteim2Group 0) join (no_groups IsSteim2Group 0)
 narrow_back [] (x ∷ front) back narrow are join = absurd cc
 narrow_back (group ∷ groups) front back narrow are join =
     elim (cut front back group (flat_map (λ g. g) groups) (sym join)) [
-      | inl c ↦ more_groups IsSteim2Group (length groups) (suc (length groups)) back (omega arith) (narrow_back groups c.0 back narrow (tail_groups One group groups are) c.2)
-      | inr c ↦ behind c.0 c.1 c.2 (λ rest. narrow_back groups [] (flat_map (λ g. g) groups) rest (tail_groups One group groups are) refl)
+      | inl c ↦ more_groups IsSteim2Group (length groups) (suc (length groups)) back (omega arith)
+          (narrow_back groups c.0 back narrow (tail_groups One group groups are) c.2)
+      | inr c ↦ behind c.0 c.1 c.2 (λ rest. narrow_back groups [] (flat_map (λ g. g) groups) rest
+          (tail_groups One group groups are) refl)
     ]
   where
     behind : (m : List ℤ) → group ≡ front ++ m → back ≡ m ++ flat_map (λ g. g) groups →
-        (AllByRecursion IsNarrow (flat_map (λ g. g) groups) → HasDivision IsSteim2Group (length groups) (flat_map (λ g. g) groups)) → HasDivision IsSteim2Group (suc (length groups)) back
+        (AllByRecursion IsNarrow (flat_map (λ g. g) groups)
+        → HasDivision IsSteim2Group (length groups) (flat_map
+        (λ g. g) groups)) → HasDivision IsSteim2Group (suc (length groups)) back
     behind [] p q rest =
         subst (HasDivision IsSteim2Group (suc (length groups))) (sym q)
-        (more_groups IsSteim2Group (length groups) (suc (length groups)) (flat_map (λ g. g) groups) (omega arith) (rest (subst (AllByRecursion IsNarrow) q narrow)))
+        (more_groups IsSteim2Group (length groups) (suc (length groups)) (flat_map (λ g. g) groups) (omega arith)
+        (rest (subst (AllByRecursion IsNarrow) q narrow)))
     behind (y ∷ ys) p q rest =
         let parts = both_narrow (y ∷ ys) (flat_map (λ g. g) groups) (subst (AllByRecursion IsNarrow) q narrow) in
-        let part : IsGroup One (y ∷ ys) = group_drop One front (y ∷ ys) (subst (IsGroup One) p (head_group One group groups are)) (omega arith) in
+        let part : IsGroup One (y ∷ ys) = group_drop One front (y ∷ ys)
+        (subst (IsGroup One) p (head_group One group groups are)) (omega arith) in
         subst (HasDivision IsSteim2Group (suc (length groups))) (sym q)
-        (one_group IsSteim2Group (length groups) (y ∷ ys) (flat_map (λ g. g) groups) (group_to (y ∷ ys) (narrow_group (y ∷ ys) parts.0 part)) (rest parts.1))
+        (one_group IsSteim2Group (length groups) (y ∷ ys) (flat_map (λ g. g) groups)
+        (group_to (y ∷ ys) (narrow_group (y ∷ ys) parts.0 part)) (rest parts.1))
 
 -- Steim-2 reaches as far as Steim-1
 pub steim2_dominates : (bytes : ℕ) → DominanceLaw (Fits Steim1 bytes) (Fits Steim2 bytes)
@@ -59,7 +73,8 @@ steim2_dominates bytes front back narrow fits =
       omega (arith, length-append front back, fits.0),
       division_from (words_of bytes) (map (λ p. p.1) back)
           (more_groups IsSteim2Group (length can.groups) (words_of bytes) (map (λ p. p.1) back) few
-          (narrow_back can.groups (map (λ p. p.1) front) (map (λ p. p.1) back) (all_narrow back narrow) can.are_groups can.join)),
+          (narrow_back can.groups (map (λ p. p.1) front) (map (λ p. p.1) back)
+          (all_narrow back narrow) can.are_groups can.join)),
     )
 
 -- ---- the size of a difference
@@ -67,7 +82,11 @@ steim2_dominates bytes front back narrow fits =
 module _ (d : ℤ) (size : ℕ) (size_is : (width : ℕ) → (FitsBits width d ↔ size < 2 ^ (width - 1))) where
   pub narrow_yes : (size < 16384) ⊎ (32768 ≤ size) → size < 536870912 → IsNarrow d
   narrow_yes apart small = (
-    λ fits. (size_is 15).1 (elim apart [ inl less ↦ less | inr more ↦ absurd (let f = (size_is 16).0 fits in omega arith) ]),
+    λ fits. (size_is 15).1 (elim apart [
+      | inl less ↦ less
+      | inr more ↦ absurd
+          (let f = (size_is 16).0 fits in omega arith)
+    ]),
     (size_is 30).1 small,
   )
 

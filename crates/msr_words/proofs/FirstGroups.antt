@@ -12,7 +12,7 @@ use Rattle.msr_words.specs.Canonical.{DividesFrom, IsCanonicalDivision}
 use Rattle.msr_words.specs.FirstGroup.{AreSizes, IsBest, IsCanonicalFirst, IsFirstGroup, IsLeast}
 use Rattle.msr_words.specs.Lemmas.LeastCounts.{a_group_has_few}
 use Rattle.msr_words.specs.Lemmas.SteimLaws.{head_group, none_divides, one_has_few, size_law, tail_groups}
-use Rattle.msr_words.proofs.Choosing.{at_place_is, divides_can, group_fits, no_groups, starts_with, tail_chosen, with_first}
+use Rattle.msr_words.proofs.WrittenDivision.{at_place_is, divides_can, group_fits, no_groups, starts_with, tail_chosen, with_first}
 use Rattle.msr_words.specs.NextWord.{IsNext}
 use Rattle.msr_words.proofs.Plain.{difference_of, length_differences}
 
@@ -34,19 +34,28 @@ all_left : (ds : List ℤ) (number : ℕ) → IsLeast ds number → length ds �
 all_left ds number is none =
     let few = is.fewest 0 (subst (CanDivide One 0) (sym (nil_from_length ds none)) (none_divides One 0)) in omega arith
 
-module _ (d : ℤ) (ds : List ℤ) (all one two three pair triple four size after : ℕ) (fits : FitsBits 32 d) (best : IsBest all one two three pair triple four size after)
-    (all_is : IsLeast ds all) (one_is : 1 ≤ length ds → IsLeast (drop 1 ds) one) (two_is : 2 ≤ length ds → IsLeast (drop 2 ds) two) (three_is : 3 ≤ length ds → IsLeast (drop 3 ds) three)
+module _ (d : ℤ) (ds : List ℤ) (all one two three pair triple four size after : ℕ) (fits : FitsBits 32 d)
+    (best : IsBest all one two three pair triple four size after)
+    (all_is : IsLeast ds all) (one_is : 1 ≤ length ds → IsLeast (drop 1 ds) one)
+    (two_is : 2 ≤ length ds → IsLeast (drop 2 ds) two) (three_is : 3 ≤ length ds → IsLeast (drop 3 ds) three)
     (two_group : pair < 32768 ↔ (2 ≤ length (d ∷ ds)) × IsGroup One (take 2 (d ∷ ds)))
     (three_group : triple < 128 ↔ (3 ≤ length (d ∷ ds)) × IsGroup One (take 3 (d ∷ ds)))
     (four_group : four < 128 ↔ (4 ≤ length (d ∷ ds)) × IsGroup One (take 4 (d ∷ ds))) where
   some : 0 < size
   some = elim best.which [
     | inl a ↦ omega (arith, a.0)
-    | inr a ↦ elim a [ inl b ↦ omega (arith, b.0) | inr b ↦ elim b [ inl e ↦ omega (arith, e.0) | inr e ↦ omega (arith, e.0) ] ]
+    | inr a ↦ elim a [
+      | inl b ↦ omega (arith, b.0)
+      | inr b ↦ elim b
+          [ inl e ↦ omega (arith, e.0) | inr e ↦ omega (arith, e.0) ]
+    ]
   ]
 
-  no_better : (other n : ℕ) → other ≤ length (d ∷ ds) → IsGroupAt One (eqb other (length (d ∷ ds))) (take other (d ∷ ds)) → CanDivide One n (drop other (d ∷ ds)) → (after ≤ n) × (n ≤ after → other ≤ size)
-  no_better zero n within group can = let few = (a_group_has_few One true [] (at_place_is One (eqb 0 (length (d ∷ ds))) [] group)).0 in absurd (omega arith)
+  no_better : (other n : ℕ) → other ≤ length (d ∷ ds)
+      → IsGroupAt One (eqb other (length (d ∷ ds))) (take other (d ∷ ds)) → CanDivide One n (drop other (d ∷ ds))
+      → (after ≤ n) × (n ≤ after → other ≤ size)
+  no_better zero n within group can = let few =
+      (a_group_has_few One true [] (at_place_is One (eqb 0 (length (d ∷ ds))) [] group)).0 in absurd (omega arith)
   no_better (suc zero) n within group can =
       let a = all_is.fewest n can in
       let b = best.single in
@@ -59,7 +68,11 @@ module _ (d : ℤ) (ds : List ℤ) (all one two three pair triple four size afte
   no_better (suc (suc (suc zero))) n within group can =
       let size_is : length (take 3 (d ∷ ds)) ≡ 3 = length-take-le 3 (d ∷ ds) within in
       let end = at_end (eqb 3 (length (d ∷ ds))) (take 3 (d ∷ ds)) group size_is in
-      let b = best.of_three (three_group.1 (within, at_place_is One (eqb 3 (length (d ∷ ds))) (take 3 (d ∷ ds)) group)) (all_left (drop 2 ds) two (two_is (omega arith)) (no_more end)) in
+      let b = best.of_three (three_group.1 (
+        within,
+        at_place_is One (eqb 3 (length (d ∷ ds)))
+            (take 3 (d ∷ ds)) group,
+      )) (all_left (drop 2 ds) two (two_is (omega arith)) (no_more end)) in
       (omega (arith, b.0), λ le. b.1)
     where
       no_more : eqb 3 (length (d ∷ ds)) ≡ true → length (drop 2 ds) ≡ 0
@@ -72,26 +85,34 @@ module _ (d : ℤ) (ds : List ℤ) (all one two three pair triple four size afte
       let b = best.of_four (four_group.1 (within, at_place_is One (eqb 4 (length (d ∷ ds))) (take 4 (d ∷ ds)) group)) in
       (omega (arith, b.0), λ le. b.1 (omega (arith, b.0)))
   no_better (suc (suc (suc (suc (suc other))))) n within group can =
-      let size_is : length (take (suc (suc (suc (suc (suc other))))) (d ∷ ds)) ≡ suc (suc (suc (suc (suc other)))) = length-take-le (suc (suc (suc (suc (suc other))))) (d ∷ ds) within in
-      let few = one_has_few (take (suc (suc (suc (suc (suc other))))) (d ∷ ds)) (at_place_is One (eqb (suc (suc (suc (suc (suc other))))) (length (d ∷ ds))) (take (suc (suc (suc (suc (suc other))))) (d ∷ ds)) group) in
+      let size_is : length (take (suc (suc (suc (suc (suc other))))) (d ∷ ds))
+      ≡ suc (suc (suc (suc (suc other)))) = length-take-le (suc (suc (suc (suc (suc other))))) (d ∷ ds) within in
+      let few = one_has_few (take (suc (suc (suc (suc (suc other))))) (d ∷ ds))
+      (at_place_is One (eqb (suc (suc (suc (suc (suc other))))) (length (d ∷ ds)))
+      (take (suc (suc (suc (suc (suc other))))) (d ∷ ds)) group) in
       absurd (omega arith)
 
-  with_this : (k a : ℕ) → size ≡ k → after ≡ a → k ≤ length (d ∷ ds) → IsGroupAt One (eqb k (length (d ∷ ds))) (take k (d ∷ ds)) → IsLeast (drop k (d ∷ ds)) a → IsFirstGroup (d ∷ ds) size after
+  with_this : (k a : ℕ) → size ≡ k → after ≡ a → k ≤ length (d ∷ ds)
+      → IsGroupAt One (eqb k (length (d ∷ ds))) (take k (d ∷ ds)) → IsLeast (drop k (d ∷ ds)) a
+      → IsFirstGroup (d ∷ ds) size after
   with_this k a size_is after_is within group left = record {
     within = omega arith;
     group = subst (λ n. IsGroupAt One (eqb n (length (d ∷ ds))) (take n (d ∷ ds))) (sym size_is) group;
-    left = subst (λ n. IsLeast (drop n (d ∷ ds)) after) (sym size_is) (subst (IsLeast (drop k (d ∷ ds))) (sym after_is) left);
+    left = subst (λ n. IsLeast (drop n (d ∷ ds)) after) (sym size_is)
+        (subst (IsLeast (drop k (d ∷ ds))) (sym after_is) left);
     best = no_better;
   }
 
   pub first_of : IsFirstGroup (d ∷ ds) size after
   first_of = elim best.which [
-    | inl a ↦ with_this 1 all a.0 a.1 (omega arith) (inside (eqb 1 (length (d ∷ ds))) (d ∷ []) (fits, tt) (λ e. omega arith)) all_is
+    | inl a ↦ with_this 1 all a.0 a.1 (omega arith)
+        (inside (eqb 1 (length (d ∷ ds))) (d ∷ []) (fits, tt) (λ e. omega arith)) all_is
     | inr a ↦ elim a [
       | inl b ↦
           let g = two_group.0 b.1 in
           let long : length (take 2 (d ∷ ds)) ≡ 2 = length-take-le 2 (d ∷ ds) g.0 in
-          with_this 2 one b.0 b.2 g.0 (inside (eqb 2 (length (d ∷ ds))) (take 2 (d ∷ ds)) g.1 (λ e. omega arith)) (one_is (omega (arith, g.0)))
+          with_this 2 one b.0 b.2 g.0 (inside (eqb 2 (length (d ∷ ds))) (take 2 (d ∷ ds)) g.1 (λ e. omega arith))
+          (one_is (omega (arith, g.0)))
       | inr b ↦ elim b [
         | inl e ↦
             let g = three_group.0 e.1 in
@@ -104,7 +125,8 @@ module _ (d : ℤ) (ds : List ℤ) (all one two three pair triple four size afte
         | inr e ↦
             let g = four_group.0 e.1 in
             let long : length (take 4 (d ∷ ds)) ≡ 4 = length-take-le 4 (d ∷ ds) g.0 in
-            with_this 4 three e.0 e.2 g.0 (inside (eqb 4 (length (d ∷ ds))) (take 4 (d ∷ ds)) g.1 (λ e'. omega arith)) (three_is (omega (arith, g.0)))
+            with_this 4 three e.0 e.2 g.0 (inside (eqb 4 (length (d ∷ ds))) (take 4 (d ∷ ds)) g.1
+            (λ e'. omega arith)) (three_is (omega (arith, g.0)))
       ]
     ]
   ]
@@ -117,7 +139,8 @@ fewer n ds can = let same : suc n - 1 ≡ n = omega arith in subst (λ m. CanDiv
 module _ (ds : List ℤ) (size after : ℕ) (first : IsFirstGroup ds size after) where
   pub first_some : 0 < size
   first_some =
-      let few = (a_group_has_few One true (take size ds) (at_place_is One (eqb size (length ds)) (take size ds) first.group)).0 in
+      let few = (a_group_has_few One true (take size ds)
+      (at_place_is One (eqb size (length ds)) (take size ds) first.group)).0 in
       let l = length-take-le size ds first.within in omega arith
 
   pub first_few : size ≤ 4
@@ -131,7 +154,12 @@ module _ (ds : List ℤ) (size after : ℕ) (first : IsFirstGroup ds size after)
   divides : DividesFrom One (after + 1) size ds
   divides =
       let same : after ≡ after + 1 - 1 = omega arith in
-      record { within = first.within; some = omega arith; group = first.group; can = subst (λ n. CanDivide One n (drop size ds)) same first.left.can }
+      record {
+        within = first.within;
+        some = omega arith;
+        group = first.group;
+        can = subst (λ n. CanDivide One n (drop size ds)) same first.left.can;
+      }
 
   fewest : (n : ℕ) (gs : List (List ℤ)) → AreGroups One gs → differences gs ≡ ds → length gs ≤ n → after + 1 ≤ n
   fewest n [] are join few =
@@ -144,13 +172,20 @@ module _ (ds : List ℤ) (size after : ℕ) (first : IsFirstGroup ds size after)
       omega (arith, b.0)
 
   pub least_of : IsLeast ds (after + 1)
-  least_of = record { can = divides_can One (after + 1) size ds divides; fewest = λ n can. fewest n can.groups can.are_groups can.join can.few }
+  least_of = record {
+    can = divides_can One (after + 1) size ds divides;
+    fewest = λ n can. fewest n can.groups can.are_groups can.join can.few;
+  }
 
   -- the rest is divided as it is
-  pub canonical_more : (gs : List (List ℤ)) → IsCanonicalDivision One gs (drop size ds) → IsCanonicalDivision One (take size ds ∷ gs) ds
+  pub canonical_more : (gs : List (List ℤ)) → IsCanonicalDivision One gs (drop size ds)
+      → IsCanonicalDivision One (take size ds ∷ gs) ds
   canonical_more gs rest =
-      let few : length gs ≤ after = (let a = rest.fewest first.left.can.groups first.left.can.are_groups first.left.can.join in let b = first.left.can.few in omega arith) in
-      let joined : differences (take size ds ∷ gs) ≡ ds = ap (λ x. take size ds ++ x) rest.join ∙ take-append-drop size ds in
+      let few : length gs ≤ after =
+      (let a = rest.fewest first.left.can.groups first.left.can.are_groups first.left.can.join in
+      let b = first.left.can.few in omega arith) in
+      let joined : differences (take size ds ∷ gs) ≡ ds = ap (λ x. take size ds ++ x) rest.join
+      ∙ take-append-drop size ds in
       let long : length (take size ds) ≡ size = length-take-le size ds first.within in
       record {
         are_groups = with_first One size ds gs first.within first.group rest.are_groups rest.join;
@@ -158,7 +193,8 @@ module _ (ds : List ℤ) (size after : ℕ) (first : IsFirstGroup ds size after)
         fewest = λ others are join. let l = fewest (length others) others are join (omega arith) in omega arith;
         longest = (
           λ other others are join short. let d = starts_with One other others ds are (join ∙ joined) in
-              let b = first.best (length other) (length others) d.within d.group (fewer (length others) (drop (length other) ds) d.can) in
+              let b = first.best (length other) (length others) d.within d.group
+              (fewer (length others) (drop (length other) ds) d.can) in
               let c = b.1 (omega arith) in omega arith,
           rest.longest,
         );
@@ -173,16 +209,20 @@ module _ (ds : List ℤ) (size after : ℕ) (first : IsFirstGroup ds size after)
       let d = starts_with One g gs ds chosen.are_groups chosen.join in
       let b = first.best (length g) (length gs) d.within d.group (fewer (length gs) (drop (length g) ds) d.can) in
       let left = first.left.can in
-      let are : AreGroups One (take size ds ∷ left.groups) = with_first One size ds left.groups first.within first.group left.are_groups left.join in
-      let joined : differences (take size ds ∷ left.groups) ≡ ds = ap (λ x. take size ds ++ x) left.join ∙ take-append-drop size ds in
+      let are : AreGroups One (take size ds ∷ left.groups) =
+      with_first One size ds left.groups first.within first.group left.are_groups left.join in
+      let joined : differences (take size ds ∷ left.groups) ≡ ds = ap (λ x. take size ds ++ x) left.join
+      ∙ take-append-drop size ds in
       let few = chosen.fewest (take size ds ∷ left.groups) are joined in
       let few' = left.few in
       let short : length g ≤ size = b.1 (omega arith) in
-      let long : length (take size ds) ≤ length g = chosen.longest.0 (take size ds) left.groups are (joined ∙ sym chosen.join) (omega (arith, b.0)) in
+      let long : length (take size ds) ≤ length g =
+      chosen.longest.0 (take size ds) left.groups are (joined ∙ sym chosen.join) (omega (arith, b.0)) in
       let size_is : length (take size ds) ≡ size = length-take-le size ds first.within in
       let same : length g ≡ size = omega arith in
       let front : g ≡ take size ds = sym (take_at g (differences gs) size same) ∙ ap (take size) chosen.join in
-      let back : differences gs ≡ drop size ds = sym (drop_at g (differences gs) size same) ∙ ap (drop size) chosen.join in
+      let back : differences gs ≡ drop size ds = sym (drop_at g (differences gs) size same)
+      ∙ ap (drop size) chosen.join in
       let s = first_some in
       record {
         group = front;
@@ -191,12 +231,15 @@ module _ (ds : List ℤ) (size after : ℕ) (first : IsFirstGroup ds size after)
         some = λ s. omega arith;
       }
 
-pub next_none : (gs : List (List ℤ)) (ds : List ℤ) (size : ℕ) → length ds ≡ 0 → size ≡ 0 → IsCanonicalDivision One gs ds → IsNext One gs ds size
+pub next_none : (gs : List (List ℤ)) (ds : List ℤ) (size : ℕ) → length ds ≡ 0 → size ≡ 0
+    → IsCanonicalDivision One gs ds → IsNext One gs ds size
 next_none gs ds size end none chosen =
     let no : gs ≡ [] = no_groups One gs chosen.are_groups (ap length chosen.join ∙ end) in
     let nil : ds ≡ [] = nil_from_length ds end in
-    let empty : IsCanonicalDivision One [] [] = subst (λ hs. IsCanonicalDivision One hs []) no (subst (IsCanonicalDivision One gs) nil chosen) in
-    subst (λ hs. IsNext One hs ds size) (sym no) (subst (λ xs. IsNext One [] xs size) (sym nil) (subst (IsNext One [] []) (sym none)
+    let empty : IsCanonicalDivision One [] [] = subst (λ hs. IsCanonicalDivision One hs []) no
+    (subst (IsCanonicalDivision One gs) nil chosen) in
+    subst (λ hs. IsNext One hs ds size) (sym no)
+    (subst (λ xs. IsNext One [] xs size) (sym nil) (subst (IsNext One [] []) (sym none)
     (record { group = refl; rest = empty; none = λ e. refl; some = λ s. absurd (omega arith) })))
 
 -- ---- the whole division
@@ -204,13 +247,20 @@ next_none gs ds size end none chosen =
 -- these groups are those of the differences before this place, whatever the others are
 pub record AreGroupsBefore (ds : List ℤ) (at : ℕ) (groups : List (List ℤ)) : Type 0 where
   pub low : at ≤ length ds
-  pub extend : (gs : List (List ℤ)) → IsCanonicalDivision One gs (drop at ds) → IsCanonicalDivision One (groups ++ gs) ds
+  pub extend : (gs : List (List ℤ)) → IsCanonicalDivision One gs (drop at ds)
+      → IsCanonicalDivision One (groups ++ gs) ds
 
 module _ (ds : List ℤ) (sizes : List ℕ) (are : AreSizes ds 0 sizes) where
   nothing_left : (at : ℕ) → length ds ≤ at → IsCanonicalDivision One [] (drop at ds)
-  nothing_left at end = record { are_groups = tt; join = sym (drop_all at ds end); fewest = λ others are join. omega arith; longest = tt }
+  nothing_left at end = record {
+    are_groups = tt;
+    join = sym (drop_all at ds end);
+    fewest = λ others are join. omega arith;
+    longest = tt;
+  }
 
-  build : (fuel at : ℕ) → length ds ≤ at + fuel → at ≤ length ds → (gs : List (List ℤ)) × IsCanonicalDivision One gs (drop at ds)
+  build : (fuel at : ℕ) → length ds ≤ at + fuel → at ≤ length ds
+      → (gs : List (List ℤ)) × IsCanonicalDivision One gs (drop at ds)
   build zero at enough within = ([], nothing_left at (omega arith))
   build (suc fuel) at enough within = elim (cases_lt at (length ds)) [
     | inr end ↦ ([], nothing_left at end)
@@ -221,29 +271,39 @@ module _ (ds : List ℤ) (sizes : List ℕ) (are : AreSizes ds 0 sizes) where
         let w = is.1.within in
         let rest = build fuel (at + get_or sizes at 0) (omega arith) (omega arith) in (
           take (get_or sizes at 0) (drop at ds) ∷ rest.0,
-          canonical_more (drop at ds) (get_or sizes at 0) is.0 is.1 rest.0 (subst (IsCanonicalDivision One rest.0) (sym (drop-drop (get_or sizes at 0) at ds)) rest.1),
+          canonical_more (drop at ds) (get_or sizes at 0) is.0 is.1 rest.0
+              (subst (IsCanonicalDivision One rest.0) (sym (drop-drop (get_or sizes at 0) at ds)) rest.1),
         )
   ]
 
   pub first_at : (at size : ℕ) → size ≡ get_or sizes at 0 → at < length ds → IsCanonicalFirst (drop at ds) size
   first_at at size size_is less = subst (IsCanonicalFirst (drop at ds)) (sym size_is) (are.each at (omega arith) less)
 
-  pub one_before : (at size : ℕ) (group : List ℤ) (groups : List (List ℤ)) → size ≡ get_or sizes at 0 → at < length ds → group ≡ take size (drop at ds) → AreGroupsBefore ds at groups → AreGroupsBefore ds (at + size) (groups ++ group ∷ [])
+  pub one_before : (at size : ℕ) (group : List ℤ) (groups : List (List ℤ)) → size ≡ get_or sizes at 0
+      → at < length ds → group ≡ take size (drop at ds) → AreGroupsBefore ds at groups
+      → AreGroupsBefore ds (at + size) (groups ++ group ∷ [])
   one_before at size group groups size_is less group_is before =
       let is : IsCanonicalFirst (drop at ds) size = first_at at size size_is less in
       let left = length-drop at ds in
       record {
         low = omega (arith, is.1.within);
         extend = λ gs chosen.
-            let rest : IsCanonicalDivision One gs (drop size (drop at ds)) = subst (IsCanonicalDivision One gs) (sym (drop-drop size at ds)) chosen in
-            let more : IsCanonicalDivision One (group ∷ gs) (drop at ds) = subst (λ g. IsCanonicalDivision One (g ∷ gs) (drop at ds)) (sym group_is) (canonical_more (drop at ds) size is.0 is.1 gs rest) in
-            subst (λ hs. IsCanonicalDivision One hs ds) (sym (append_assoc groups (group ∷ []) gs)) (before.extend (group ∷ gs) more);
+            let rest : IsCanonicalDivision One gs (drop size (drop at ds)) =
+            subst (IsCanonicalDivision One gs) (sym (drop-drop size at ds)) chosen in
+            let more : IsCanonicalDivision One (group ∷ gs) (drop at ds) =
+            subst (λ g. IsCanonicalDivision One (g ∷ gs) (drop at ds)) (sym group_is)
+            (canonical_more (drop at ds) size is.0 is.1 gs rest) in
+            subst (λ hs. IsCanonicalDivision One hs ds) (sym (append_assoc groups (group ∷ []) gs))
+            (before.extend (group ∷ gs) more);
       }
 
-  pub all_before : (at : ℕ) (groups : List (List ℤ)) → length ds ≤ at → AreGroupsBefore ds at groups → IsCanonicalDivision One groups ds
-  all_before at groups end before = subst (λ gs. IsCanonicalDivision One gs ds) (append-nil groups) (before.extend [] (nothing_left at end))
+  pub all_before : (at : ℕ) (groups : List (List ℤ)) → length ds ≤ at → AreGroupsBefore ds at groups
+      → IsCanonicalDivision One groups ds
+  all_before at groups end before = subst (λ gs. IsCanonicalDivision One gs ds) (append-nil groups)
+      (before.extend [] (nothing_left at end))
 
-  pub too_many : (words at : ℕ) (groups : List (List ℤ)) → at < length ds → words ≤ length groups → AreGroupsBefore ds at groups → CanDivide One words ds → ⊥
+  pub too_many : (words at : ℕ) (groups : List (List ℤ)) → at < length ds → words ≤ length groups
+      → AreGroupsBefore ds at groups → CanDivide One words ds → ⊥
   too_many words at groups less full before can =
       let rest = build (length ds) at (omega arith) (omega arith) in
       let whole = before.extend rest.0 rest.1 in
@@ -251,28 +311,34 @@ module _ (ds : List ℤ) (sizes : List ℕ) (are : AreSizes ds 0 sizes) where
       let few' = can.few in
       let number = length-append groups rest.0 in
       let left = length-drop at ds in
-      let enough = size_law One (length rest.0) (drop at ds) (record { groups = rest.0; are_groups = rest.1.are_groups; join = rest.1.join; few = omega arith }) in
+      let enough = size_law One (length rest.0) (drop at ds)
+      (record { groups = rest.0; are_groups = rest.1.are_groups; join = rest.1.join; few = omega arith }) in
       omega arith
 
 -- ---- one size more
 
-pub all_at : {X : Type 0} (P : X → Type 0) (xs : List X) (i : ℕ) (d : X) → i < length xs → AllByRecursion P xs → P (get_or xs i d)
+pub all_at : {X : Type 0} (P : X → Type 0) (xs : List X) (i : ℕ) (d : X) → i < length xs → AllByRecursion P xs
+    → P (get_or xs i d)
 all_at P [] i d less all = absurd (omega arith)
 all_at P (x ∷ xs) zero d less all = all.0
 all_at P (x ∷ xs) (suc i) d less all = all_at P xs i d (omega arith) all.1
 
-pub front_at : (before : Option ℤ) (run : List ℤ) (at end : ℕ) → at + 1 ≡ end → at < length run → drop at (run_differences before run) ≡ difference_from before run at ∷ drop end (run_differences before run)
+pub front_at : (before : Option ℤ) (run : List ℤ) (at end : ℕ) → at + 1 ≡ end → at < length run
+    → drop at (run_differences before run) ≡ difference_from before run at ∷ drop end (run_differences before run)
 front_at before run at end one less =
     let ds = run_differences before run in
     let long = length_differences before run in
     let there : at < length (run_differences before run) = omega arith in
     let next : suc at ≡ end = omega arith in
-    drop-cons ds at (pos 0) there ∙ ap (λ x. x ∷ drop (suc at) ds) (difference_of before run at less) ∙ ap (λ n. difference_from before run at ∷ drop n ds) next
+    drop-cons ds at (pos 0) there ∙ ap (λ x. x ∷ drop (suc at) ds) (difference_of before run at less)
+    ∙ ap (λ n. difference_from before run at ∷ drop n ds) next
 
-pub no_sizes : (ds : List ℤ) (from : ℕ) (sizes : List ℕ) → length sizes ≡ length ds → length ds ≤ from → AreSizes ds from sizes
+pub no_sizes : (ds : List ℤ) (from : ℕ) (sizes : List ℕ) → length sizes ≡ length ds → length ds ≤ from
+    → AreSizes ds from sizes
 no_sizes ds from sizes long end = record { long = long; each = λ at low less. absurd (omega arith) }
 
-pub sizes_more : (ds : List ℤ) (at end size : ℕ) (sizes : List ℕ) → at + 1 ≡ end → AreSizes ds end sizes → at < length ds → IsCanonicalFirst (drop at ds) size → AreSizes ds at (set sizes at size)
+pub sizes_more : (ds : List ℤ) (at end size : ℕ) (sizes : List ℕ) → at + 1 ≡ end → AreSizes ds end sizes
+    → at < length ds → IsCanonicalFirst (drop at ds) size → AreSizes ds at (set sizes at size)
 sizes_more ds at end size sizes one are less is = record { long = length-set sizes at size ∙ are.long; each = each }
   where
     each : (k : ℕ) → at ≤ k → k < length ds → IsCanonicalFirst (drop k ds) (get_or (set sizes at size) k 0)
@@ -285,18 +351,21 @@ sizes_more ds at end size sizes one are less is = record { long = length-set siz
           let long = are.long in
           let lt : at < length sizes = omega arith in
           let here : get_or (set sizes at size) at 0 ≡ size = rw get_or-set_same refl in
-          subst (λ n. IsCanonicalFirst (drop n ds) (get_or (set sizes at size) n 0)) same (subst (IsCanonicalFirst (drop at ds)) (sym here) is)
+          subst (λ n. IsCanonicalFirst (drop n ds) (get_or (set sizes at size) n 0)) same
+          (subst (IsCanonicalFirst (drop at ds)) (sym here) is)
     ]
 
 -- ---- each difference of a division is one of 32 bits
 
-all_joined : {X : Type 0} (P : X → Type 0) (xs ys : List X) → AllByRecursion P xs → AllByRecursion P ys → AllByRecursion P (xs ++ ys)
+all_joined : {X : Type 0} (P : X → Type 0) (xs ys : List X) → AllByRecursion P xs → AllByRecursion P ys
+    → AllByRecursion P (xs ++ ys)
 all_joined P [] ys front back = back
 all_joined P (x ∷ xs) ys front back = (front.0, all_joined P xs ys front.1 back)
 
 groups_fit : (gs : List (List ℤ)) → AreGroups One gs → AllByRecursion (FitsBits 32) (differences gs)
 groups_fit [] are = tt
-groups_fit (g ∷ gs) are = all_joined (FitsBits 32) g (differences gs) (group_fits One g (head_group One g gs are)) (groups_fit gs (tail_groups One g gs are))
+groups_fit (g ∷ gs) are = all_joined (FitsBits 32) g (differences gs) (group_fits One g (head_group One g gs are))
+    (groups_fit gs (tail_groups One g gs are))
 
 pub divided_fit : (words : ℕ) (ds : List ℤ) → CanDivide One words ds → AllByRecursion (FitsBits 32) ds
 divided_fit words ds can = subst (AllByRecursion (FitsBits 32)) can.join (groups_fit can.groups can.are_groups)

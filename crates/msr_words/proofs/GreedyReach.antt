@@ -39,20 +39,26 @@ reach_within (suc words) ds reach is =
     let e = is.4 in
     omega arith
 
-reach_fits : (words : ℕ) (ds : List ℤ) (reach : ℕ) → IsGreedyReach words ds reach → HasDivision IsSteim2Group words (take reach ds)
+reach_fits : (words : ℕ) (ds : List ℤ) (reach : ℕ) → IsGreedyReach words ds reach
+    → HasDivision IsSteim2Group words (take reach ds)
 reach_fits zero ds reach is = let e : reach ≡ 0 = is in rw e (no_groups IsSteim2Group 0)
 reach_fits (suc words) ds reach is =
-    let whole : take reach ds ≡ take is.0 ds ++ take is.1 (drop is.0 ds) = ap (λ n. take n ds) is.4 ∙ take-add is.0 is.1 ds in
+    let whole : take reach ds ≡ take is.0 ds ++ take is.1 (drop is.0 ds) = ap (λ n. take n ds) is.4
+    ∙ take-add is.0 is.1 ds in
     let rest = reach_fits words (drop is.0 ds) is.1 is.3 in
     rw whole (elim (cases_lt 0 is.0) [
-      | inl some ↦ one_group IsSteim2Group words (take is.0 ds) (take is.1 (drop is.0 ds)) (group_to (take is.0 ds) (is.2.group some)) rest
+      | inl some ↦ one_group IsSteim2Group words (take is.0 ds) (take is.1 (drop is.0 ds))
+          (group_to (take is.0 ds) (is.2.group some)) rest
       | inr none ↦ nothing is.0 (omega arith) (take is.1 (drop is.0 ds)) rest
     ])
   where
-    nothing : (count : ℕ) → 0 ≡ count → (rest : List ℤ) → HasDivision IsSteim2Group words rest → HasDivision IsSteim2Group (suc words) (take count ds ++ rest)
-    nothing count e rest h = subst (λ k. HasDivision IsSteim2Group (suc words) (take k ds ++ rest)) e (more_groups IsSteim2Group words (suc words) rest (omega arith) h)
+    nothing : (count : ℕ) → 0 ≡ count → (rest : List ℤ) → HasDivision IsSteim2Group words rest
+        → HasDivision IsSteim2Group (suc words) (take count ds ++ rest)
+    nothing count e rest h = subst (λ k. HasDivision IsSteim2Group (suc words) (take k ds ++ rest)) e
+        (more_groups IsSteim2Group words (suc words) rest (omega arith) h)
 
-alone : (most n : ℕ) (ds : List ℤ) → 0 < n → n ≤ length ds → HasDivision IsSteim2Group most (take n ds) → IsSteim2Group (take 1 ds)
+alone : (most n : ℕ) (ds : List ℤ) → 0 < n → n ≤ length ds → HasDivision IsSteim2Group most (take n ds)
+    → IsSteim2Group (take 1 ds)
 alone most zero ds some within h = absurd (omega arith)
 alone most (suc n) [] some within h = absurd (omega arith)
 alone most (suc n) (d ∷ ds) some within h = first_fits IsSteim2Group steim2_parts most d (take n ds) h
@@ -62,24 +68,32 @@ none_within zero ds within h = omega arith
 none_within (suc n) [] within h = omega arith
 none_within (suc n) (d ∷ ds) within h = absurd (none_left IsSteim2Group steim2_parts d (take n ds) h)
 
-reach_most : (words : ℕ) (ds : List ℤ) (reach n : ℕ) → IsGreedyReach words ds reach → n ≤ length ds → HasDivision IsSteim2Group words (take n ds) → n ≤ reach
+reach_most : (words : ℕ) (ds : List ℤ) (reach n : ℕ) → IsGreedyReach words ds reach → n ≤ length ds
+    → HasDivision IsSteim2Group words (take n ds) → n ≤ reach
 reach_most zero ds reach n is within h = let e : reach ≡ 0 = is in let none = none_within n ds within h in omega arith
 reach_most (suc words) ds reach n is within h = elim (cases_lt is.0 n) [
   | inl more ↦ further is.0 is.1 is.2 (λ m within' h'. reach_most words (drop is.0 ds) is.1 m is.3 within' h') is.4 more
   | inr not ↦ let e = is.4 in omega arith
 ]
   where
-    no_more : (count : ℕ) → IsLongestGroup ds count → count < length ds → (y : ℤ) (ys : List ℤ) → take (n - count) (drop count ds) ≡ y ∷ ys → count < n → IsSteim2Group (take count ds ++ y ∷ []) → ⊥
+    no_more : (count : ℕ) → IsLongestGroup ds count → count < length ds → (y : ℤ) (ys : List ℤ)
+        → take (n - count) (drop count ds) ≡ y ∷ ys → count < n → IsSteim2Group (take count ds ++ y ∷ []) → ⊥
     no_more count is less y ys e more group =
-        let one : take 1 (drop count ds) ≡ y ∷ [] = sym (take-take 1 (n - count) (drop count ds) (omega arith)) ∙ ap (take 1) e in
-        let next : take (count + 1) ds ≡ take count ds ++ y ∷ [] = take-add count 1 ds ∙ ap (λ l. take count ds ++ l) one in
+        let one : take 1 (drop count ds) ≡ y ∷ [] = sym (take-take 1 (n - count) (drop count ds) (omega arith))
+        ∙ ap (take 1) e in
+        let next : take (count + 1) ds ≡ take count ds ++ y ∷ [] = take-add count 1 ds
+        ∙ ap (λ l. take count ds ++ l) one in
         is.no_more less (subst (IsGroup Two) (sym next) (group_from (take count ds ++ y ∷ []) group))
 
-    further : (count rest : ℕ) → IsLongestGroup ds count → ((m : ℕ) → m ≤ length (drop count ds) → HasDivision IsSteim2Group words (take m (drop count ds)) → m ≤ rest) → reach ≡ count + rest → count < n → n ≤ reach
-    further zero rest is most e more = absurd (is.no_more (omega arith) (group_from (take 1 ds) (alone (suc words) n ds more within h)))
+    further : (count rest : ℕ) → IsLongestGroup ds count
+        → ((m : ℕ) → m ≤ length (drop count ds) → HasDivision IsSteim2Group words (take m (drop count ds))
+        → m ≤ rest) → reach ≡ count + rest → count < n → n ≤ reach
+    further zero rest is most e more = absurd (is.no_more (omega arith)
+        (group_from (take 1 ds) (alone (suc words) n ds more within h)))
     further (suc count) rest is most e more =
         let l = length-drop (suc count) ds in
-        let behind = division_rest IsSteim2Group steim2_parts words (take (suc count) ds) (take (n - suc count) (drop (suc count) ds)) (group_to (take (suc count) ds) (is.group (omega arith)))
+        let behind = division_rest IsSteim2Group steim2_parts words (take (suc count) ds)
+        (take (n - suc count) (drop (suc count) ds)) (group_to (take (suc count) ds) (is.group (omega arith)))
         (λ y ys f group. no_more (suc count) is (omega arith) y ys f more group)
         (subst (HasDivision IsSteim2Group (suc words)) (take_two (suc count) n ds (omega arith)) h) in
         let m = most (n - suc count) (omega arith) behind in
@@ -87,19 +101,27 @@ reach_most (suc words) ds reach n is within h = elim (cases_lt is.0 n) [
 
 -- ---- the runs of a segment
 
-pub differences_to : (samples : List ℤ) (g n end : ℕ) → g + n ≤ end → end ≤ length samples → map (λ p. p.1) (run_points samples g (g + n)) ≡ take n (map (λ p. p.1) (run_points samples g end))
+pub differences_to : (samples : List ℤ) (g n end : ℕ) → g + n ≤ end → end ≤ length samples
+    → map (λ p. p.1) (run_points samples g (g + n)) ≡ take n (map (λ p. p.1) (run_points samples g end))
 differences_to samples g n end within inside =
-    let long : length (map (λ (p : ℤ × ℤ). p.1) (run_points samples g (g + n))) ≡ n = length-map (run_points samples g (g + n)) (λ (p : ℤ × ℤ). p.1) ∙ length_run_points samples g (g + n) (omega arith) (omega arith) ∙ omega arith in
-    let whole : map (λ (p : ℤ × ℤ). p.1) (run_points samples g end) ≡ map (λ p. p.1) (run_points samples g (g + n)) ++ map (λ p. p.1) (run_points samples (g + n) end) =
-    ap (map (λ (p : ℤ × ℤ). p.1)) (sym (run_points_cut samples g (g + n) end (omega arith) within)) ∙ map-append (λ (p : ℤ × ℤ). p.1) (run_points samples g (g + n)) (run_points samples (g + n) end) in
-    sym (ap (take n) whole ∙ take_at (map (λ p. p.1) (run_points samples g (g + n))) (map (λ p. p.1) (run_points samples (g + n) end)) n long)
+    let long : length (map (λ (p : ℤ × ℤ). p.1) (run_points samples g (g + n))) ≡ n =
+    length-map (run_points samples g (g + n)) (λ (p : ℤ × ℤ). p.1)
+    ∙ length_run_points samples g (g + n) (omega arith) (omega arith) ∙ omega arith in
+    let whole : map (λ (p : ℤ × ℤ). p.1) (run_points samples g end) ≡ map (λ p. p.1) (run_points samples g (g + n))
+    ++ map (λ p. p.1) (run_points samples (g + n) end) =
+    ap (map (λ (p : ℤ × ℤ). p.1)) (sym (run_points_cut samples g (g + n) end (omega arith) within))
+    ∙ map-append (λ (p : ℤ × ℤ). p.1) (run_points samples g (g + n)) (run_points samples (g + n) end) in
+    sym (ap (take n) whole ∙ take_at (map (λ p. p.1) (run_points samples g (g + n)))
+    (map (λ p. p.1) (run_points samples (g + n) end)) n long)
 
 -- the differences from g up to an end
 abbrev between : List ℤ → ℕ → ℕ → List ℤ
 between samples g end = map (λ p. p.1) (run_points samples g end)
 
-length_between : (samples : List ℤ) (g end : ℕ) → g ≤ end → end ≤ length samples → length (between samples g end) ≡ end - g
-length_between samples g end order within = length-map (run_points samples g end) (λ (p : ℤ × ℤ). p.1) ∙ length_run_points samples g end order within
+length_between : (samples : List ℤ) (g end : ℕ) → g ≤ end → end ≤ length samples
+    → length (between samples g end) ≡ end - g
+length_between samples g end order within = length-map (run_points samples g end) (λ (p : ℤ × ℤ). p.1)
+    ∙ length_run_points samples g end order within
 
 pub greedy_law : GreedyLaw
 greedy_law bytes samples g reach le is =
@@ -114,7 +136,8 @@ greedy_law bytes samples g reach le is =
         omega arith,
         (
           omega arith,
-          subst (CanDivide Two (words_of bytes)) (sym (differences_to samples g reach end inside (omega arith))) (division_from (words_of bytes) (take reach ds) (reach_fits (words_of bytes) ds reach is)),
+          subst (CanDivide Two (words_of bytes)) (sym (differences_to samples g reach end inside (omega arith)))
+              (division_from (words_of bytes) (take reach ds) (reach_fits (words_of bytes) ds reach is)),
         ),
       ),
       λ s b before run. elim (cases_lt g b) [
@@ -125,20 +148,26 @@ greedy_law bytes samples g reach le is =
   where
     furthest : (s b : ℕ) → s ≤ g → IsRun (Fits Steim2 bytes) samples s b → g < b → b ≤ g + reach
     furthest s b before run past =
-        let cut = back_step_run (Fits Steim2 bytes) 0 (back_step_kind Steim2 bytes) samples s g b before (omega arith) run in
+        let cut = back_step_run (Fits Steim2 bytes) 0 (back_step_kind Steim2 bytes) samples s g b before
+        (omega arith) run in
         let high = cut.3 in
         let low = cut.2 in
         let same : cut.0 ≡ g = omega arith in
-        let here : IsRun (Fits Steim2 bytes) samples g b = subst (λ x. IsRun (Fits Steim2 bytes) samples x b) same cut.4 in
+        let here : IsRun (Fits Steim2 bytes) samples g b =
+        subst (λ x. IsRun (Fits Steim2 bytes) samples x b) same cut.4 in
         let in' = here.1 in
         let long = length_run_points samples g b here.0 here.1 in
         let few = size_kind Steim2 bytes (run_points samples g b) here.2 in
         let ds = between samples g (latest_end Steim2 bytes samples g) in
         let l = length_between samples g (latest_end Steim2 bytes samples g) (omega arith) (omega arith) in
         let e : b ≡ g + (b - g) = omega arith in
-        let can : CanDivide Two (words_of bytes) (take (b - g) (between samples g (latest_end Steim2 bytes samples g))) =
-        subst (CanDivide Two (words_of bytes)) (differences_to samples g (b - g) (latest_end Steim2 bytes samples g) (omega arith) (omega arith)) (subst (λ x. Fits Steim2 bytes (run_points samples g x)) e here.2).1 in
-        let most = reach_most (words_of bytes) ds reach (b - g) is (omega arith) (division_to (words_of bytes) (take (b - g) ds) can) in
+        let can : CanDivide Two (words_of bytes) (take (b - g)
+        (between samples g (latest_end Steim2 bytes samples g))) =
+        subst (CanDivide Two (words_of bytes)) (differences_to samples g (b - g)
+        (latest_end Steim2 bytes samples g) (omega arith) (omega arith)) (subst
+        (λ x. Fits Steim2 bytes (run_points samples g x)) e here.2).1 in
+        let most = reach_most (words_of bytes) ds reach (b - g) is (omega arith)
+        (division_to (words_of bytes) (take (b - g) ds) can) in
         omega arith
 
 -- ---- word after word
@@ -149,11 +178,14 @@ none_reached zero ds is = refl
 none_reached (suc words) ds is = (0, 0, is, none_reached words ds is, refl)
 
 -- the differences from g on, of the runs and of the whole segment
-pub differences_from : (samples : List ℤ) (g : ℕ) → g ≤ length samples → map (λ p. p.1) (run_points samples g (length samples)) ≡ drop g (differences None samples)
+pub differences_from : (samples : List ℤ) (g : ℕ) → g ≤ length samples
+    → map (λ p. p.1) (run_points samples g (length samples)) ≡ drop g (differences None samples)
 differences_from samples g le =
     let rest = drop g (points None samples) in
-    let size : length (drop g (points None samples)) ≤ length samples - g = simp (length-drop, length_points) (omega arith) in
-    ap (map (λ (p : ℤ × ℤ). p.1)) (take_all (length samples - g) rest size) ∙ sym (drop-map (λ (p : ℤ × ℤ). p.1) g (points None samples))
+    let size : length (drop g (points None samples)) ≤ length samples - g =
+    simp (length-drop, length_points) (omega arith) in
+    ap (map (λ (p : ℤ × ℤ). p.1)) (take_all (length samples - g) rest size)
+    ∙ sym (drop-map (λ (p : ℤ × ℤ). p.1) g (points None samples))
 
 -- ---- a word of more than one difference
 
@@ -167,7 +199,8 @@ pair_small (a ∷ b ∷ c ∷ d ∷ []) some is = all_more 8 15 (a ∷ b ∷ c �
 pair_small (a ∷ b ∷ c ∷ d ∷ e ∷ []) some is = all_more 6 15 (a ∷ b ∷ c ∷ d ∷ e ∷ []) (lit≤ tt) is
 pair_small (a ∷ b ∷ c ∷ d ∷ e ∷ f ∷ []) some is = all_more 5 15 (a ∷ b ∷ c ∷ d ∷ e ∷ f ∷ []) (lit≤ tt) is
 pair_small (a ∷ b ∷ c ∷ d ∷ e ∷ f ∷ g ∷ []) some is = all_more 4 15 (a ∷ b ∷ c ∷ d ∷ e ∷ f ∷ g ∷ []) (lit≤ tt) is
-pair_small (a ∷ b ∷ c ∷ d ∷ e ∷ f ∷ g ∷ h ∷ zs) some is = let few = (a_group_has_few Two true (a ∷ b ∷ c ∷ d ∷ e ∷ f ∷ g ∷ h ∷ zs) is).1 in absurd (omega arith)
+pair_small (a ∷ b ∷ c ∷ d ∷ e ∷ f ∷ g ∷ h ∷ zs) some is = let few =
+    (a_group_has_few Two true (a ∷ b ∷ c ∷ d ∷ e ∷ f ∷ g ∷ h ∷ zs) is).1 in absurd (omega arith)
 
 each_small : (ds : List ℤ) (k : ℕ) → AllByRecursion (FitsBits 15) ds → k < length ds → FitsBits 15 (get_or ds k (pos 0))
 each_small [] k all less = absurd (omega arith)
@@ -178,7 +211,8 @@ fifteen_narrow : (d : ℤ) → FitsBits 15 d → IsNarrow d
 fifteen_narrow (pos n) fits = (λ more. fits, omega arith)
 fifteen_narrow (negsuc n) fits = (λ more. fits, omega arith)
 
-pub narrow_in_group : (samples : List ℤ) (at size k : ℕ) → IsLongestGroup (drop at (differences None samples)) size → 1 < size → k < size → IsNarrow (difference_at samples (at + k))
+pub narrow_in_group : (samples : List ℤ) (at size k : ℕ) → IsLongestGroup (drop at (differences None samples)) size
+    → 1 < size → k < size → IsNarrow (difference_at samples (at + k))
 narrow_in_group samples at size k longest some less =
     let ds = differences None samples in
     let xs = drop at (differences None samples) in
@@ -186,7 +220,9 @@ narrow_in_group samples at size k longest some less =
     let n = length_differences None samples in
     let w = longest.within in
     let m = length-take size (drop at (differences None samples)) in
-    let small = each_small (take size xs) k (pair_small (take size xs) (omega arith) (longest.group (omega arith))) (omega arith) in
+    let small = each_small (take size xs) k (pair_small (take size xs) (omega arith) (longest.group (omega arith)))
+    (omega arith) in
     let here : get_or (take size xs) k (pos 0) ≡ difference_at samples (at + k) =
-    get_or-take size xs k (pos 0) less ∙ get_or-drop at ds k (pos 0) ∙ difference_of None samples (at + k) (omega arith) in
+    get_or-take size xs k (pos 0) less ∙ get_or-drop at ds k (pos 0)
+    ∙ difference_of None samples (at + k) (omega arith) in
     fifteen_narrow (difference_at samples (at + k)) (subst (FitsBits 15) here small)

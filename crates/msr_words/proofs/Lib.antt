@@ -1,8 +1,8 @@
 pub mod Certificate
-pub mod Choosing
-pub mod Decided
+pub mod WrittenDivision
+pub mod DecidedStatements
 pub mod Dominance
-pub mod Exist
+pub mod DivisionsExist
 pub mod Fill
 pub mod FillFields
 pub mod FillSizes

@@ -13,17 +13,21 @@ use Rattle.msr_words.specs.Lemmas.KindLaws.{int16_by_bits, int24_by_bits, of_int
 
 -- one integer more fits after a run that fits, where the record has room; and what fits is such an integer
 pub record TakesIntegers (kind : Kind) (bytes : ℕ) : Type 0 where
-  pub takes : (run : List (ℤ × ℤ)) (x d : ℤ) → Fits kind bytes run → length run + 1 ≤ most_of kind bytes → IsInteger kind x → Fits kind bytes (run ++ (x, d) ∷ [])
+  pub takes : (run : List (ℤ × ℤ)) (x d : ℤ) → Fits kind bytes run → length run + 1 ≤ most_of kind bytes
+      → IsInteger kind x → Fits kind bytes (run ++ (x, d) ∷ [])
   pub needs : (run : List (ℤ × ℤ)) (x d : ℤ) → Fits kind bytes (run ++ (x, d) ∷ []) → IsInteger kind x
 
 module _ (kind : Kind) (bits bytes : ℕ) (are : AreIntegers kind bits bytes) (run : List (ℤ × ℤ)) (x d : ℤ) where
-  one_more : Fits kind bytes run → length run + 1 ≤ most_of kind bytes → FitsBits bits x → Fits kind bytes (run ++ (x, d) ∷ [])
+  one_more : Fits kind bytes run → length run + 1 ≤ most_of kind bytes → FitsBits bits x
+      → Fits kind bytes (run ++ (x, d) ∷ [])
   one_more h room one =
       let p : ℤ × ℤ = (x, d) in
-      are.takes (run ++ p ∷ []) (All-push (λ p. FitsBits bits p.0) run p (are.needs run h) one) (omega (arith, length-append run (p ∷ []), room))
+      are.takes (run ++ p ∷ []) (All-push (λ p. FitsBits bits p.0) run p (are.needs run h) one)
+      (omega (arith, length-append run (p ∷ []), room))
 
   last_one : Fits kind bytes (run ++ (x, d) ∷ []) → FitsBits bits x
-  last_one h = let p : ℤ × ℤ = (x, d) in All-contains (λ p. FitsBits bits p.0) (run ++ p ∷ []) p (are.needs (run ++ p ∷ []) h) (Contains-push run p)
+  last_one h = let p : ℤ × ℤ = (x, d) in All-contains (λ p. FitsBits bits p.0) (run ++ p ∷ []) p
+      (are.needs (run ++ p ∷ []) h) (Contains-push run p)
 
 takes_int16 : (bytes : ℕ) → TakesIntegers Int16 bytes
 takes_int16 bytes = record {
@@ -39,43 +43,58 @@ takes_int24 bytes = record {
 
 takes_int32 : (bytes : ℕ) → TakesIntegers Int32 bytes
 takes_int32 bytes = record {
-  takes = λ run x d h room one. let more = length-append run ((x, d) ∷ []) in (omega (arith, more, room), omega (arith, more, room, h.1));
+  takes = λ run x d h room one. let more = length-append run ((x, d) ∷ []) in
+      (omega (arith, more, room), omega (arith, more, room, h.1));
   needs = λ run x d h. tt;
 }
 
 pub takes_integers : (bits bytes : ℕ) → TakesIntegers (integers_of bits) bytes
-takes_integers bits bytes = of_integers (λ kind. TakesIntegers kind bytes) (takes_int16 bytes) (takes_int24 bytes) (takes_int32 bytes) bits
+takes_integers bits bytes = of_integers (λ kind. TakesIntegers kind bytes) (takes_int16 bytes) (takes_int24 bytes)
+    (takes_int32 bytes) bits
 
 -- What one more sample does to whether a run of integers fits.
 module _ (kind : Kind) (bytes : ℕ) (are : TakesIntegers kind bytes) (run : List (ℤ × ℤ)) (x d : ℤ) where
-  not_taken : (left : ℕ) (fits : Bool) → FollowsIntegers kind bytes run left fits → (IsTrue fits × 0 < left × IsInteger kind x → ⊥) → Fits kind bytes (run ++ (x, d) ∷ []) → ⊥
+  not_taken : (left : ℕ) (fits : Bool) → FollowsIntegers kind bytes run left fits
+      → (IsTrue fits × 0 < left × IsInteger kind x → ⊥) → Fits kind bytes (run ++ (x, d) ∷ []) → ⊥
   not_taken left false state refused h = state.past refl (prefix_kind kind bytes run ((x, d) ∷ []) h)
   not_taken left true state refused h =
       let r = state.room refl in
       let few = size_kind kind bytes (run ++ (x, d) ∷ []) h in
       refused (refl, omega (arith, length-append run ((x, d) ∷ []), r, few), are.needs run x d h)
 
-  pub push_no : (left : ℕ) (fits : Bool) → FollowsIntegers kind bytes run left fits → (IsTrue fits × 0 < left × IsInteger kind x → ⊥) →
+  pub push_no : (left : ℕ) (fits : Bool) → FollowsIntegers kind bytes run left fits
+      → (IsTrue fits × 0 < left × IsInteger kind x → ⊥) →
       FollowsIntegers kind bytes (run ++ (x, d) ∷ []) left false × (IsTrue false ↔ Fits kind bytes (run ++ (x, d) ∷ []))
   push_no left fits state refused =
       let not = not_taken left fits state refused in
       (record { so_far = λ t. cc; room = λ t. cc; past = λ _. not }, (λ t. cc, λ h. absurd (not h)))
 
-  pub push_yes : (left : ℕ) (fits : Bool) → FollowsIntegers kind bytes run left fits → IsTrue fits × 0 < left × IsInteger kind x →
-      FollowsIntegers kind bytes (run ++ (x, d) ∷ []) (left - 1) fits × (IsTrue true ↔ Fits kind bytes (run ++ (x, d) ∷ []))
+  pub push_yes : (left : ℕ) (fits : Bool) → FollowsIntegers kind bytes run left fits
+      → IsTrue fits × 0 < left × IsInteger kind x →
+      FollowsIntegers kind bytes (run ++ (x, d) ∷ []) (left - 1) fits
+      × (IsTrue true ↔ Fits kind bytes (run ++ (x, d) ∷ []))
   push_yes left fits state accepted =
       let r = state.room accepted.0 in
       let more = are.takes run x d (state.so_far accepted.0) (omega (arith, r, accepted.1)) accepted.2 in (
-        record { so_far = λ _. more; room = λ _. omega (arith, length-append run ((x, d) ∷ []), r, accepted.1); past = λ f. cc },
+        record {
+          so_far = λ _. more;
+          room = λ _. omega (arith, length-append run ((x, d) ∷ []), r, accepted.1);
+          past = λ f. cc;
+        },
         (λ _. more, λ _. refl),
       )
 
 -- the run fits a record of some kind exactly where one of the trackers says so
-pub any_of : (bytes : ℕ) (run : List (ℤ × ℤ)) (int16 int24 int32 steim1 steim2 : Bool) → (IsTrue int16 ↔ Fits Int16 bytes run) → (IsTrue int24 ↔ Fits Int24 bytes run) → (IsTrue int32 ↔ Fits Int32 bytes run) →
-    (IsTrue steim1 ↔ Fits Steim1 bytes run) → (IsTrue steim2 ↔ Fits Steim2 bytes run) → (IsTrue ((((int16 || int24) || int32) || steim1) || steim2) ↔ FitsAny bytes run)
-any_of bytes run int16 int24 int32 steim1 steim2 a b c d e = (say int16 int24 int32 steim1 steim2 a.0 b.0 c.0 d.0 e.0, hear)
+pub any_of : (bytes : ℕ) (run : List (ℤ × ℤ)) (int16 int24 int32 steim1 steim2 : Bool)
+    → (IsTrue int16 ↔ Fits Int16 bytes run) → (IsTrue int24 ↔ Fits Int24 bytes run)
+    → (IsTrue int32 ↔ Fits Int32 bytes run) →
+    (IsTrue steim1 ↔ Fits Steim1 bytes run) → (IsTrue steim2 ↔ Fits Steim2 bytes run)
+    → (IsTrue ((((int16 || int24) || int32) || steim1) || steim2) ↔ FitsAny bytes run)
+any_of bytes run int16 int24 int32 steim1 steim2 a b c d e =
+    (say int16 int24 int32 steim1 steim2 a.0 b.0 c.0 d.0 e.0, hear)
   where
-    say : (x y z v w : Bool) → (IsTrue x → Fits Int16 bytes run) → (IsTrue y → Fits Int24 bytes run) → (IsTrue z → Fits Int32 bytes run) → (IsTrue v → Fits Steim1 bytes run) → (IsTrue w → Fits Steim2 bytes run) →
+    say : (x y z v w : Bool) → (IsTrue x → Fits Int16 bytes run) → (IsTrue y → Fits Int24 bytes run)
+        → (IsTrue z → Fits Int32 bytes run) → (IsTrue v → Fits Steim1 bytes run) → (IsTrue w → Fits Steim2 bytes run) →
         IsTrue ((((x || y) || z) || v) || w) → FitsAny bytes run
     say true y z v w p q r s u t = (Int16, p refl)
     say false true z v w p q r s u t = (Int24, q refl)
@@ -85,11 +104,17 @@ any_of bytes run int16 int24 int32 steim1 steim2 a b c d e = (say int16 int24 in
 
     hear : FitsAny bytes run → IsTrue ((((int16 || int24) || int32) || steim1) || steim2)
     hear (Int16, f) = rw (a.1 f) refl
-    hear (Int24, f) = elim int16 as (λ x. IsTrue ((((x || int24) || int32) || steim1) || steim2)) [ true ↦ refl | false ↦ rw (b.1 f) refl ]
-    hear (Int32, f) = elim (int16 || int24) as (λ x. IsTrue (((x || int32) || steim1) || steim2)) [ true ↦ refl | false ↦ rw (c.1 f) refl ]
-    hear (Steim1, f) = elim ((int16 || int24) || int32) as (λ x. IsTrue ((x || steim1) || steim2)) [ true ↦ refl | false ↦ rw (d.1 f) refl ]
-    hear (Steim2, f) = elim (((int16 || int24) || int32) || steim1) as (λ x. IsTrue (x || steim2)) [ true ↦ refl | false ↦ e.1 f ]
+    hear (Int24, f) = elim int16 as (λ x. IsTrue ((((x || int24) || int32) || steim1) || steim2))
+        [ true ↦ refl | false ↦ rw (b.1 f) refl ]
+    hear (Int32, f) = elim (int16 || int24) as (λ x. IsTrue (((x || int32) || steim1) || steim2))
+        [ true ↦ refl | false ↦ rw (c.1 f) refl ]
+    hear (Steim1, f) = elim ((int16 || int24) || int32) as (λ x. IsTrue ((x || steim1) || steim2))
+        [ true ↦ refl | false ↦ rw (d.1 f) refl ]
+    hear (Steim2, f) = elim (((int16 || int24) || int32) || steim1) as (λ x. IsTrue (x || steim2))
+        [ true ↦ refl | false ↦ e.1 f ]
 
-pub difference_at_later : (samples : List ℤ) (i : ℕ) → 0 < i → difference_at samples i ≡ slice_index_or samples i (pos 0) -ℤ slice_index_or samples (i - 1) (pos 0)
+pub difference_at_later : (samples : List ℤ) (i : ℕ) → 0 < i
+    → difference_at samples i ≡ slice_index_or samples i (pos 0) -ℤ slice_index_or samples (i - 1) (pos 0)
 difference_at_later samples zero h = absurd (omega arith)
-difference_at_later samples (suc i) h = ap (λ n. slice_index_or samples (suc i) (pos 0) -ℤ slice_index_or samples n (pos 0)) (omega arith)
+difference_at_later samples (suc i) h = ap (λ n. slice_index_or samples (suc i) (pos 0) -ℤ slice_index_or samples n
+    (pos 0)) (omega arith)

@@ -21,7 +21,11 @@ length_points_before None samples = length_points samples
 length_points_before (Some before) samples = length_points_after before samples
 
 points_after_at : (before : ℤ) (samples : List ℤ) (i : ℕ) (d : ℤ × ℤ) → i < length samples →
-    get_or (points_after before samples) i d ≡ (get_or samples i (pos 0), get_or samples i (pos 0) -ℤ get_or (before ∷ samples) i (pos 0))
+    get_or (points_after before samples) i d ≡ (
+      get_or samples i (pos 0),
+      get_or samples i (pos 0) -ℤ get_or
+          (before ∷ samples) i (pos 0),
+    )
 points_after_at before [] i d h = absurd (omega arith)
 points_after_at before (x ∷ xs) zero d h = refl
 points_after_at before (x ∷ xs) (suc i) d h = points_after_at x xs i d (omega arith)
@@ -33,10 +37,12 @@ points_at (x ∷ xs) zero d h = refl
 points_at (x ∷ xs) (suc i) d h = points_after_at x xs i d (omega arith)
 
 take_add : {X : Type 0} (m n : ℕ) (xs : List X) → take m xs ++ take n (drop m xs) ≡ take (m + n) xs
-take_add m n xs = let le : m ≤ m + n = omega arith in rw (← take-take m (m + n) xs le, ← drop-take m n xs) (take-append-drop m (take (m + n) xs))
+take_add m n xs = let le : m ≤ m + n = omega arith in
+    rw (← take-take m (m + n) xs le, ← drop-take m n xs) (take-append-drop m (take (m + n) xs))
 
 -- a run that is cut at c
-pub run_points_cut : (samples : List ℤ) (a c b : ℕ) → a ≤ c → c ≤ b → run_points samples a c ++ run_points samples c b ≡ run_points samples a b
+pub run_points_cut : (samples : List ℤ) (a c b : ℕ) → a ≤ c → c ≤ b
+    → run_points samples a c ++ run_points samples c b ≡ run_points samples a b
 run_points_cut samples a c b h k =
     let seam : drop c (points None samples) ≡ drop (c - a) (drop a (points None samples)) =
     sym (drop-drop (c - a) a (points None samples) ∙ ap (λ n. drop n (points None samples)) (omega arith)) in
@@ -47,49 +53,67 @@ pub run_points_none : (samples : List ℤ) (a : ℕ) → run_points samples a a 
 run_points_none samples a = let e : a - a ≡ 0 = omega arith in rw e refl
 
 pub run_points_more : (samples : List ℤ) (a i : ℕ) → a ≤ i → i < length samples →
-    run_points samples a (i + 1) ≡ run_points samples a i ++ (slice_index_or samples i (pos 0), difference_at samples i) ∷ []
+    run_points samples a (i + 1) ≡ run_points samples a i
+    ++ (slice_index_or samples i (pos 0), difference_at samples i) ∷ []
 run_points_more samples a i h k =
     let width : i + 1 - a ≡ (i - a) + 1 = omega arith in
     let d : ℤ × ℤ = (pos 0, pos 0) in
     let there : i - a < length (drop a (points None samples)) = simp (length-drop, length_points) (omega arith) in
     let last : get_or (drop a (points None samples)) (i - a) d ≡ (get_or samples i (pos 0), difference_at samples i) =
-    get_or-drop a (points None samples) (i - a) d ∙ ap (λ n. get_or (points None samples) n d) (omega arith) ∙ points_at samples i d k in
-    rw width (take_more (drop a (points None samples)) (i - a) d there ∙ ap (λ p. run_points samples a i ++ p ∷ []) last)
+    get_or-drop a (points None samples) (i - a) d ∙ ap (λ n. get_or (points None samples) n d) (omega arith)
+    ∙ points_at samples i d k in
+    rw width (take_more (drop a (points None samples)) (i - a) d there
+    ∙ ap (λ p. run_points samples a i ++ p ∷ []) last)
 
-pub length_run_points : (samples : List ℤ) (a b : ℕ) → a ≤ b → b ≤ length samples → length (run_points samples a b) ≡ b - a
+pub length_run_points : (samples : List ℤ) (a b : ℕ) → a ≤ b → b ≤ length samples
+    → length (run_points samples a b) ≡ b - a
 length_run_points samples a b h k = simp (length-take, length-drop, length_points) (omega arith)
 
-run_points_drop : (samples : List ℤ) (a n g : ℕ) → a + n ≤ g → g ≤ length samples → drop n (run_points samples a g) ≡ run_points samples (a + n) g
+run_points_drop : (samples : List ℤ) (a n g : ℕ) → a + n ≤ g → g ≤ length samples
+    → drop n (run_points samples a g) ≡ run_points samples (a + n) g
 run_points_drop samples a n g h k =
-    let front : length (run_points samples a (a + n)) ≡ n = length_run_points samples a (a + n) (omega arith) (omega arith) ∙ omega arith in
-    rw (← run_points_cut samples a (a + n) g (omega arith) h) (drop_at (run_points samples a (a + n)) (run_points samples (a + n) g) n front)
+    let front : length (run_points samples a (a + n)) ≡ n =
+    length_run_points samples a (a + n) (omega arith) (omega arith) ∙ omega arith in
+    rw (← run_points_cut samples a (a + n) g (omega arith) h)
+    (drop_at (run_points samples a (a + n)) (run_points samples (a + n) g) n front)
 
 -- the two laws, for the runs of a segment
-pub prefix_run : (fits : List (ℤ × ℤ) → Type 0) → PrefixLaw fits → (samples : List ℤ) (a c b : ℕ) → a ≤ c → c ≤ b → IsRun fits samples a b → IsRun fits samples a c
-prefix_run fits law samples a c b h k run =
-    (h, omega arith, law (run_points samples a c) (run_points samples c b) (subst fits (sym (run_points_cut samples a c b h k)) run.2))
+pub prefix_run : (fits : List (ℤ × ℤ) → Type 0) → PrefixLaw fits → (samples : List ℤ) (a c b : ℕ) → a ≤ c → c ≤ b
+    → IsRun fits samples a b → IsRun fits samples a c
+prefix_run fits law samples a c b h k run = (
+  h,
+  omega arith,
+  law (run_points samples a c) (run_points samples c b)
+      (subst fits (sym (run_points_cut samples a c b h k)) run.2),
+)
 
-pub back_step_run : (fits : List (ℤ × ℤ) → Type 0) (places : ℕ) → BackStepLaw places fits → (samples : List ℤ) (a g b : ℕ) → a ≤ g → g ≤ b → IsRun fits samples a b →
+pub back_step_run : (fits : List (ℤ × ℤ) → Type 0) (places : ℕ) → BackStepLaw places fits
+    → (samples : List ℤ) (a g b : ℕ) → a ≤ g → g ≤ b → IsRun fits samples a b →
     (s : ℕ) × (a ≤ s) × (s ≤ g) × (g ≤ s + places) × IsRun fits samples s b
 back_step_run fits places law samples a g b h k run =
-    let step = law (run_points samples a g) (run_points samples g b) (subst fits (sym (run_points_cut samples a g b h k)) run.2) in
+    let step = law (run_points samples a g) (run_points samples g b)
+    (subst fits (sym (run_points_cut samples a g b h k)) run.2) in
     let wide : length (run_points samples a g) ≡ g - a = length_run_points samples a g h (omega arith) in
     let joined : drop step.0 (run_points samples a g) ++ run_points samples g b ≡ run_points samples (a + step.0) b =
-    ap (λ p. p ++ run_points samples g b) (run_points_drop samples a step.0 g (omega arith) (omega arith)) ∙ run_points_cut samples (a + step.0) g b (omega arith) k in
+    ap (λ p. p ++ run_points samples g b) (run_points_drop samples a step.0 g (omega arith) (omega arith))
+    ∙ run_points_cut samples (a + step.0) g b (omega arith) k in
     (a + step.0, omega arith, omega arith, omega arith, (omega arith, run.1, subst fits joined step.3))
 
 -- the samples of a run with the sample before it have the differences that they have in the segment
-points_after_drop : (before : ℤ) (samples : List ℤ) (a : ℕ) → drop a (points_after before samples) ≡ points_after (get_or (before ∷ samples) a (pos 0)) (drop a samples)
+points_after_drop : (before : ℤ) (samples : List ℤ) (a : ℕ)
+    → drop a (points_after before samples) ≡ points_after (get_or (before ∷ samples) a (pos 0)) (drop a samples)
 points_after_drop before samples zero = refl
 points_after_drop before [] (suc a) = refl
 points_after_drop before (x ∷ xs) (suc a) = points_after_drop x xs a
 
-points_after_take : (before : ℤ) (samples : List ℤ) (n : ℕ) → take n (points_after before samples) ≡ points_after before (take n samples)
+points_after_take : (before : ℤ) (samples : List ℤ) (n : ℕ)
+    → take n (points_after before samples) ≡ points_after before (take n samples)
 points_after_take before samples zero = refl
 points_after_take before [] (suc n) = refl
 points_after_take before (x ∷ xs) (suc n) = ap (λ r. (x, x -ℤ before) ∷ r) (points_after_take x xs n)
 
-pub points_drop : (samples : List ℤ) (a : ℕ) → drop (suc a) (points None samples) ≡ points_after (get_or samples a (pos 0)) (drop (suc a) samples)
+pub points_drop : (samples : List ℤ) (a : ℕ)
+    → drop (suc a) (points None samples) ≡ points_after (get_or samples a (pos 0)) (drop (suc a) samples)
 points_drop [] a = refl
 points_drop (x ∷ xs) a = points_after_drop x xs a
 
@@ -101,7 +125,8 @@ points_take (x ∷ xs) (suc b) = ap (λ r. (x, pos 0) ∷ r) (points_after_take 
 pub run_from_start : (samples : List ℤ) (b : ℕ) → points None (take b samples) ≡ run_points samples 0 b
 run_from_start samples b = let e : b - 0 ≡ b = omega arith in rw e (sym (points_take samples b))
 
-pub run_from : (samples : List ℤ) (a b : ℕ) → 0 < a → points (Some (slice_index_or samples (a - 1) (pos 0))) (slice_range samples a b) ≡ run_points samples a b
+pub run_from : (samples : List ℤ) (a b : ℕ) → 0 < a
+    → points (Some (slice_index_or samples (a - 1) (pos 0))) (slice_range samples a b) ≡ run_points samples a b
 run_from samples zero b h = absurd (omega arith)
 run_from samples (suc a) b h =
     let e : suc a - 1 ≡ a = omega arith in
@@ -123,20 +148,32 @@ get_or_first [] k d = refl
 get_or_first (p ∷ run) zero d = refl
 get_or_first (p ∷ run) (suc k) d = get_or_first run k d
 
-all_unmap : (bits : ℕ) (run : List (ℤ × ℤ)) → All (FitsBits bits) (map (λ p. p.0) run) → All (λ p. FitsBits bits p.0) run
+all_unmap : (bits : ℕ) (run : List (ℤ × ℤ)) → All (FitsBits bits) (map (λ p. p.0) run)
+    → All (λ p. FitsBits bits p.0) run
 all_unmap bits run h k d in' =
     let e : get_or (map (λ (p : ℤ × ℤ). p.0) run) k d.0 ≡ (get_or run k d).0 = get_or_first run k d in
     subst (FitsBits bits) e (h k d.0 (rw length-map in'))
 
 -- so it depends on the samples alone whether integers fit
-pub fits_integers_points : (bits size bytes : ℕ) (before : Option ℤ) (run : List ℤ) → (All (FitsBits bits) run × (size * length run + 64 ≤ bytes)) ↔ FitsIntegers bits size bytes (points before run)
+pub fits_integers_points : (bits size bytes : ℕ) (before : Option ℤ) (run : List ℤ)
+    → (All (FitsBits bits) run × (size * length run + 64 ≤ bytes)) ↔ FitsIntegers bits size bytes (points before run)
 fits_integers_points bits size bytes before run =
-    let long : size * length (points before run) ≡ size * length run = ap (λ n. size * n) (length_points_before before run) in (
-      λ h. (all_unmap bits (points before run) (subst (All (FitsBits bits)) (sym (samples_of_points before run)) h.0), omega (arith, h.1)),
-      λ h. (subst (All (FitsBits bits)) (samples_of_points before run) (All-map (FitsBits bits) (λ (p : ℤ × ℤ). p.0) (points before run) h.0), omega (arith, h.1)),
+    let long : size * length (points before run) ≡ size * length run =
+    ap (λ n. size * n) (length_points_before before run) in (
+      λ h. (
+        all_unmap bits (points before run) (subst (All (FitsBits bits))
+            (sym (samples_of_points before run)) h.0),
+        omega (arith, h.1),
+      ),
+      λ h. (
+        subst (All (FitsBits bits)) (samples_of_points before run)
+            (All-map (FitsBits bits) (λ (p : ℤ × ℤ). p.0) (points before run) h.0),
+        omega (arith, h.1),
+      ),
     )
 
-pub fits_int32_points : (bytes : ℕ) (before : Option ℤ) (run : List ℤ) → (4 * length run + 64 ≤ bytes) ↔ FitsInt32 bytes (points before run)
+pub fits_int32_points : (bytes : ℕ) (before : Option ℤ) (run : List ℤ) → (4 * length run + 64 ≤ bytes)
+    ↔ FitsInt32 bytes (points before run)
 fits_int32_points bytes before run = let long = length_points_before before run in (λ h. omega arith, λ h. omega arith)
 
 pub points_from_at : (before : Option ℤ) (samples : List ℤ) (i : ℕ) (d : ℤ × ℤ) → i < length samples →

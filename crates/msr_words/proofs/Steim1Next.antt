@@ -19,7 +19,8 @@ pub record IsSizeThere (before : Option ℤ) (run : List ℤ) (at size : ℕ) : 
   pub within : size ≤ length (drop at (differences before run))
   pub group : IsGroup One (take size (drop at (differences before run)))
 
-pub size_there : (before : Option ℤ) (run : List ℤ) (at size : ℕ) → at < length run → IsCanonicalFirst (drop at (differences before run)) size → IsSizeThere before run at size
+pub size_there : (before : Option ℤ) (run : List ℤ) (at size : ℕ) → at < length run
+    → IsCanonicalFirst (drop at (differences before run)) size → IsSizeThere before run at size
 size_there before run at size less first =
     let m = length_differences before run in
     let ds = drop at (differences before run) in
@@ -34,13 +35,17 @@ size_there before run at size less first =
     }
 
 -- the word of that group
-pub word_there : (before : Option ℤ) (run : List ℤ) (at size : ℕ) (next : NextWord) → at < length run → IsSizeThere before run at size → next.size ≡ size → next.empty ≡ 0
-    → next.code ≡ group_code One size → next.code < 4 → next.word ≡ group_word One (take size (drop at (differences before run))) → IsNextWord One (drop at (differences before run)) next
+pub word_there : (before : Option ℤ) (run : List ℤ) (at size : ℕ) (next : NextWord) → at < length run
+    → IsSizeThere before run at size → next.size ≡ size → next.empty ≡ 0
+    → next.code ≡ group_code One size → next.code < 4
+    → next.word ≡ group_word One (take size (drop at (differences before run)))
+    → IsNextWord One (drop at (differences before run)) next
 word_there before run at size next less is size_is empty code_is small word_is =
     let ds = drop at (differences before run) in
     let m = length_differences before run in
     let l = length-drop at (differences before run) in
-    let first : IsCanonicalFirst (drop at (differences before run)) next.size = subst (IsCanonicalFirst (drop at (differences before run))) (sym size_is) is.first in
+    let first : IsCanonicalFirst (drop at (differences before run)) next.size =
+    subst (IsCanonicalFirst (drop at (differences before run))) (sym size_is) is.first in
     record {
       within = omega (arith, is.within);
       follows = λ gs chosen. next_first ds next.size first.0 first.1 gs chosen;
@@ -52,7 +57,8 @@ word_there before run at size next less is size_is empty code_is small word_is =
     }
 
 -- where no difference is left
-pub word_none : (before : Option ℤ) (run : List ℤ) (at : ℕ) → at ≡ length run → IsNextWord One (drop at (differences before run)) (record { size = 0; code = 0; word = 0; empty = 1 })
+pub word_none : (before : Option ℤ) (run : List ℤ) (at : ℕ) → at ≡ length run
+    → IsNextWord One (drop at (differences before run)) (record { size = 0; code = 0; word = 0; empty = 1 })
 word_none before run at end =
     let ds = drop at (differences before run) in
     let m = length_differences before run in

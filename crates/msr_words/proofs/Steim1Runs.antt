@@ -19,7 +19,8 @@ abbrev pub behind : List ℤ → ℕ → List ℤ
 behind samples start = drop start (differences None samples)
 
 pub length_behind : (samples : List ℤ) (start : ℕ) → length (behind samples start) ≡ length samples - start
-length_behind samples start = length-drop start (differences None samples) ∙ ap (λ n. n - start) (length_differences None samples)
+length_behind samples start = length-drop start (differences None samples)
+    ∙ ap (λ n. n - start) (length_differences None samples)
 
 -- no words hold nothing
 pub none_reached : (samples : List ℤ) (start : ℕ) → IsSteim1Reach 0 (behind samples start) (start - start) false
@@ -28,14 +29,20 @@ none_reached samples start =
     subst (λ m. IsSteim1Reach 0 (behind samples start) m false) zero_is (nothing_reached (behind samples start))
 
 -- the differences that are left
-pub left_behind : (samples : List ℤ) (start at : ℕ) → start ≤ at → drop at (differences None samples) ≡ drop (at - start) (behind samples start)
+pub left_behind : (samples : List ℤ) (start at : ℕ) → start ≤ at
+    → drop at (differences None samples) ≡ drop (at - start) (behind samples start)
 left_behind samples start at le =
     let e : start + (at - start) ≡ at = omega arith in
-    sym (drop-drop (at - start) start (differences None samples) ∙ ap (λ n. drop n (differences None samples)) (omega arith))
+    sym (drop-drop (at - start) start (differences None samples)
+    ∙ ap (λ n. drop n (differences None samples)) (omega arith))
 
-module _ (bytes : ℕ) (few : 4 * words_of bytes ≤ most_counted) (samples : List ℤ) (start reach end : ℕ) (le : start ≤ length samples) (is : IsSteim1End (words_of bytes) (behind samples start) reach) (same : end ≡ start + reach) where
-  taken : (n : ℕ) → start + n ≤ length samples → map (λ p. p.1) (run_points samples start (start + n)) ≡ take n (behind samples start)
-  taken n within = differences_to samples start n (length samples) within (omega arith) ∙ ap (take n) (differences_from samples start le)
+module _ (bytes : ℕ) (few : 4 * words_of bytes ≤ most_counted) (samples : List ℤ) (start reach end : ℕ)
+    (le : start ≤ length samples) (is : IsSteim1End (words_of bytes) (behind samples start) reach)
+    (same : end ≡ start + reach) where
+  taken : (n : ℕ) → start + n ≤ length samples
+      → map (λ p. p.1) (run_points samples start (start + n)) ≡ take n (behind samples start)
+  taken n within = differences_to samples start n (length samples) within (omega arith)
+      ∙ ap (take n) (differences_from samples start le)
 
   -- the end of the walk is the end of the run
   pub walk_ends : IsEnd Steim1 bytes samples start end
@@ -54,7 +61,8 @@ module _ (bytes : ℕ) (few : 4 * words_of bytes ≤ most_counted) (samples : Li
             let e : b ≡ start + (b - start) = omega arith in
             let within : start + (b - start) ≤ length samples = omega arith in
             let can : CanDivide One (words_of bytes) (take (b - start) (behind samples start)) =
-            subst (CanDivide One (words_of bytes)) (taken (b - start) within) (subst (λ x. Fits Steim1 bytes (run_points samples start x)) e run.2).1 in
+            subst (CanDivide One (words_of bytes)) (taken (b - start) within)
+            (subst (λ x. Fits Steim1 bytes (run_points samples start x)) e run.2).1 in
             let most = is.furthest (b - start) (omega arith) can in
             omega arith;
       }

@@ -51,18 +51,30 @@ all_to w (z ∷ zs) all = All-cons (IsOfBits w) z zs (bits_to w z all.0) (all_to
 
 pub all_from : (w : ℕ) (zs : List ℤ) → All (IsOfBits w) zs → AllByRecursion (FitsBits w) zs
 all_from w [] all = tt
-all_from w (z ∷ zs) all = (bits_from w z (All-head (IsOfBits w) z zs all), all_from w zs (All-tail (IsOfBits w) z zs all))
+all_from w (z ∷ zs) all = (
+  bits_from w z (All-head (IsOfBits w) z zs all),
+  all_from w zs
+      (All-tail (IsOfBits w) z zs all),
+)
 
 pub group_to : (g : List ℤ) → IsGroup Two g → IsSteim2Group g
 group_to [] is = absurd is
 group_to (a ∷ []) is = record { some = omega arith; most = omega arith; bits = all_to 30 (a ∷ []) is }
 group_to (a ∷ b ∷ []) is = record { some = omega arith; most = omega arith; bits = all_to 15 (a ∷ b ∷ []) is }
 group_to (a ∷ b ∷ c ∷ []) is = record { some = omega arith; most = omega arith; bits = all_to 10 (a ∷ b ∷ c ∷ []) is }
-group_to (a ∷ b ∷ c ∷ d ∷ []) is = record { some = omega arith; most = omega arith; bits = all_to 8 (a ∷ b ∷ c ∷ d ∷ []) is }
-group_to (a ∷ b ∷ c ∷ d ∷ e ∷ []) is = record { some = omega arith; most = omega arith; bits = all_to 6 (a ∷ b ∷ c ∷ d ∷ e ∷ []) is }
-group_to (a ∷ b ∷ c ∷ d ∷ e ∷ f ∷ []) is = record { some = omega arith; most = omega arith; bits = all_to 5 (a ∷ b ∷ c ∷ d ∷ e ∷ f ∷ []) is }
-group_to (a ∷ b ∷ c ∷ d ∷ e ∷ f ∷ g ∷ []) is = record { some = omega arith; most = omega arith; bits = all_to 4 (a ∷ b ∷ c ∷ d ∷ e ∷ f ∷ g ∷ []) is }
-group_to (a ∷ b ∷ c ∷ d ∷ e ∷ f ∷ g ∷ h ∷ zs) is = let few = (a_group_has_few Two true (a ∷ b ∷ c ∷ d ∷ e ∷ f ∷ g ∷ h ∷ zs) is).1 in absurd (omega arith)
+group_to (a ∷ b ∷ c ∷ d ∷ []) is = record {
+  some = omega arith;
+  most = omega arith;
+  bits = all_to 8 (a ∷ b ∷ c ∷ d ∷ []) is;
+}
+group_to (a ∷ b ∷ c ∷ d ∷ e ∷ []) is = record
+    { some = omega arith; most = omega arith; bits = all_to 6 (a ∷ b ∷ c ∷ d ∷ e ∷ []) is }
+group_to (a ∷ b ∷ c ∷ d ∷ e ∷ f ∷ []) is = record
+    { some = omega arith; most = omega arith; bits = all_to 5 (a ∷ b ∷ c ∷ d ∷ e ∷ f ∷ []) is }
+group_to (a ∷ b ∷ c ∷ d ∷ e ∷ f ∷ g ∷ []) is =
+    record { some = omega arith; most = omega arith; bits = all_to 4 (a ∷ b ∷ c ∷ d ∷ e ∷ f ∷ g ∷ []) is }
+group_to (a ∷ b ∷ c ∷ d ∷ e ∷ f ∷ g ∷ h ∷ zs) is = let few =
+    (a_group_has_few Two true (a ∷ b ∷ c ∷ d ∷ e ∷ f ∷ g ∷ h ∷ zs) is).1 in absurd (omega arith)
 
 pub group_from : (g : List ℤ) → IsSteim2Group g → IsGroup Two g
 group_from [] is = let s = is.some in absurd (omega arith)
@@ -83,14 +95,30 @@ groups_to (g ∷ h ∷ gs) are = All-cons IsSteim2Group g (h ∷ gs) (group_to g
 groups_from : (gs : List (List ℤ)) → All IsSteim2Group gs → AreGroups Two gs
 groups_from [] all = tt
 groups_from (g ∷ []) all = group_from g (All-head IsSteim2Group g [] all)
-groups_from (g ∷ h ∷ gs) all = (group_from g (All-head IsSteim2Group g (h ∷ gs) all), groups_from (h ∷ gs) (All-tail IsSteim2Group g (h ∷ gs) all))
+groups_from (g ∷ h ∷ gs) all = (
+  group_from g (All-head IsSteim2Group g (h ∷ gs) all),
+  groups_from (h ∷ gs)
+      (All-tail IsSteim2Group g (h ∷ gs) all),
+)
 
 -- a division without an order of its groups is a division
 pub division_to : (n : ℕ) (ds : List ℤ) → CanDivide Two n ds → HasDivision IsSteim2Group n ds
-division_to n ds can = (can.groups, record { all_groups = groups_to can.groups can.are_groups; joined = can.join; few = can.few })
+division_to n ds can = (
+  can.groups,
+  record {
+    all_groups = groups_to can.groups can.are_groups;
+    joined = can.join;
+    few = can.few;
+  },
+)
 
 pub division_from : (n : ℕ) (ds : List ℤ) → HasDivision IsSteim2Group n ds → CanDivide Two n ds
-division_from n ds (groups, d) = record { groups = groups; are_groups = groups_from groups d.all_groups; join = d.joined; few = d.few }
+division_from n ds (groups, d) = record {
+  groups = groups;
+  are_groups = groups_from groups d.all_groups;
+  join = d.joined;
+  few = d.few;
+}
 
 -- ---- parts
 
@@ -119,14 +147,16 @@ steim2_parts = record {
     most = (let m = group.most in let l = length-append xs ys in omega arith);
     bits = All-weaker (IsOfBits (steim2_bits (length (xs ++ ys)))) (IsOfBits (steim2_bits (length xs)))
         (λ d. fewer_wider d (length xs) (length (xs ++ ys)) some (let l = length-append xs ys in omega arith)) xs
-        (subst (All (IsOfBits (steim2_bits (length (xs ++ ys))))) (take_at xs ys (length xs) refl) (All-take (IsOfBits (steim2_bits (length (xs ++ ys)))) (length xs) (xs ++ ys) group.bits));
+        (subst (All (IsOfBits (steim2_bits (length (xs ++ ys))))) (take_at xs ys (length xs) refl)
+        (All-take (IsOfBits (steim2_bits (length (xs ++ ys)))) (length xs) (xs ++ ys) group.bits));
   };
   back = λ xs ys some group. record {
     some = some;
     most = (let m = group.most in let l = length-append xs ys in omega arith);
     bits = All-weaker (IsOfBits (steim2_bits (length (xs ++ ys)))) (IsOfBits (steim2_bits (length ys)))
         (λ d. fewer_wider d (length ys) (length (xs ++ ys)) some (let l = length-append xs ys in omega arith)) ys
-        (subst (All (IsOfBits (steim2_bits (length (xs ++ ys))))) (drop_at xs ys (length xs) refl) (All-drop (IsOfBits (steim2_bits (length (xs ++ ys)))) (length xs) (xs ++ ys) group.bits));
+        (subst (All (IsOfBits (steim2_bits (length (xs ++ ys))))) (drop_at xs ys (length xs) refl)
+        (All-drop (IsOfBits (steim2_bits (length (xs ++ ys)))) (length xs) (xs ++ ys) group.bits));
   };
   some = λ group. (let s = group.some in absurd (omega arith));
 }
@@ -156,12 +186,14 @@ row_of (suc (suc (suc (suc (suc (suc (suc zero))))))) width e = (omega arith, om
 row_of (suc (suc (suc (suc (suc (suc (suc (suc n)))))))) width e =
     let none = too_many Two (suc (suc (suc (suc (suc (suc (suc (suc n)))))))) (omega arith) in absurd (cc)
 
-pub capacity_at : (d : ℤ) (capacity n : ℕ) → IsCapacity d capacity → 1 ≤ n → n ≤ 7 → (IsOfBits (steim2_bits n) d ↔ n ≤ capacity)
+pub capacity_at : (d : ℤ) (capacity n : ℕ) → IsCapacity d capacity → 1 ≤ n → n ≤ 7
+    → (IsOfBits (steim2_bits n) d ↔ n ≤ capacity)
 capacity_at d capacity n is l h =
     let e = is.exact n (steim2_bits n) (row n l h) in
     (λ bits. e.0 (bits_from (steim2_bits n) d bits), λ le. bits_to (steim2_bits n) d (e.1 le))
 
-module _ (size a b c e f g h : ℕ) (a_is : IsOneBelow size 536870912 a) (b_is : IsOneBelow size 16384 b) (c_is : IsOneBelow size 512 c) (e_is : IsOneBelow size 128 e)
+module _ (size a b c e f g h : ℕ) (a_is : IsOneBelow size 536870912 a) (b_is : IsOneBelow size 16384 b)
+    (c_is : IsOneBelow size 512 c) (e_is : IsOneBelow size 128 e)
     (f_is : IsOneBelow size 32 f) (g_is : IsOneBelow size 16 g) (h_is : IsOneBelow size 8 h) where
   one_below : size < 536870912 ↔ 1 ≤ ((a + b + c) + e) + (f + g + h)
   one_below = (λ s. grind (arith), λ n. grind (arith))
@@ -185,14 +217,17 @@ module _ (size a b c e f g h : ℕ) (a_is : IsOneBelow size 536870912 a) (b_is :
   seven_below = (λ s. grind (arith), λ n. grind (arith))
 
 pub capacity_is : (d : ℤ) (size a b c e f g h : ℕ) → ((width : ℕ) → (FitsBits width d ↔ size < 2 ^ (width - 1))) →
-    IsOneBelow size 536870912 a → IsOneBelow size 16384 b → IsOneBelow size 512 c → IsOneBelow size 128 e → IsOneBelow size 32 f → IsOneBelow size 16 g → IsOneBelow size 8 h →
+    IsOneBelow size 536870912 a → IsOneBelow size 16384 b → IsOneBelow size 512 c → IsOneBelow size 128 e
+    → IsOneBelow size 32 f → IsOneBelow size 16 g → IsOneBelow size 8 h →
     IsCapacity d (((a + b + c) + e) + (f + g + h))
 capacity_is d size a b c e f g h size_is ai bi ci ei fi gi hi = record {
-  most = (let p = ai.most in let q = bi.most in let r = ci.most in let s = ei.most in let t = fi.most in let u = gi.most in let v = hi.most in omega arith);
+  most = (let p = ai.most in let q = bi.most in let r = ci.most in let s = ei.most in let t = fi.most in
+      let u = gi.most in let v = hi.most in omega arith);
   exact = exact;
 }
   where
-    through : (width n : ℕ) → (size < 2 ^ (width - 1) ↔ n ≤ ((a + b + c) + e) + (f + g + h)) → (FitsBits width d ↔ n ≤ ((a + b + c) + e) + (f + g + h))
+    through : (width n : ℕ) → (size < 2 ^ (width - 1) ↔ n ≤ ((a + b + c) + e) + (f + g + h))
+        → (FitsBits width d ↔ n ≤ ((a + b + c) + e) + (f + g + h))
     through width n is = (λ fits. is.0 ((size_is width).0 fits), λ le. (size_is width).1 (is.1 le))
 
     here : (n : ℕ) → 1 ≤ n → n ≤ 7 → (FitsBits (steim2_bits n) d ↔ n ≤ ((a + b + c) + e) + (f + g + h))
@@ -203,7 +238,8 @@ capacity_is d size a b c e f g h size_is ai bi ci ei fi gi hi = record {
     here (suc (suc (suc (suc zero)))) l m = through 8 4 (four_below size a b c e f g h ai bi ci ei fi gi hi)
     here (suc (suc (suc (suc (suc zero))))) l m = through 6 5 (five_below size a b c e f g h ai bi ci ei fi gi hi)
     here (suc (suc (suc (suc (suc (suc zero)))))) l m = through 5 6 (six_below size a b c e f g h ai bi ci ei fi gi hi)
-    here (suc (suc (suc (suc (suc (suc (suc zero))))))) l m = through 4 7 (seven_below size a b c e f g h ai bi ci ei fi gi hi)
+    here (suc (suc (suc (suc (suc (suc (suc zero))))))) l m =
+        through 4 7 (seven_below size a b c e f g h ai bi ci ei fi gi hi)
     here (suc (suc (suc (suc (suc (suc (suc (suc n)))))))) l m = absurd (omega arith)
 
     exact : (n width : ℕ) → group_width Two n ≡ Some width → (FitsBits width d ↔ n ≤ ((a + b + c) + e) + (f + g + h))

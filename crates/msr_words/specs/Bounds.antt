@@ -33,7 +33,8 @@ pub record BeginsWithFour (ds : List ℤ) : Type 0 where
 
 -- the first difference of a Steim-1 record can be left out, but where it shares a word with three others
 abbrev pub LookBackLaw : Type 0
-LookBackLaw = (words : ℕ) (d : ℤ) (ds : List ℤ) → (BeginsWithFour (d ∷ ds) → ⊥) → CanDivide One words (d ∷ ds) → CanDivide One words ds
+LookBackLaw = (words : ℕ) (d : ℤ) (ds : List ℤ) → (BeginsWithFour (d ∷ ds) → ⊥) → CanDivide One words (d ∷ ds)
+    → CanDivide One words ds
 
 -- the greatest end of a run of that kind from a
 pub record IsEnd (kind : Kind) (bytes : ℕ) (samples : List ℤ) (a end : ℕ) : Type 0 where
@@ -42,12 +43,14 @@ pub record IsEnd (kind : Kind) (bytes : ℕ) (samples : List ℤ) (a end : ℕ) 
 
 -- each shorter run fits too, and no other does
 abbrev pub EndLaw : Type 0
-EndLaw = (kind : Kind) (bytes : ℕ) (samples : List ℤ) (a end : ℕ) → IsEnd kind bytes samples a end → (c : ℕ) → a ≤ c → (IsRun (Fits kind bytes) samples a c ↔ c ≤ end)
+EndLaw = (kind : Kind) (bytes : ℕ) (samples : List ℤ) (a end : ℕ) → IsEnd kind bytes samples a end → (c : ℕ)
+    → a ≤ c → (IsRun (Fits kind bytes) samples a c ↔ c ≤ end)
 
 -- so many differences stand in as many words as there are, each with the longest group from where the one before it ended
 abbrev pub IsGreedyReach : ℕ → List ℤ → ℕ → Type 0
 IsGreedyReach zero ds reach = reach ≡ 0
-IsGreedyReach (suc words) ds reach = (count : ℕ) × (rest : ℕ) × IsLongestGroup ds count × IsGreedyReach words (drop count ds) rest × (reach ≡ count + rest)
+IsGreedyReach (suc words) ds reach = (count : ℕ) × (rest : ℕ) × IsLongestGroup ds count
+    × IsGreedyReach words (drop count ds) rest × (reach ≡ count + rest)
 
 -- where a record ends at the latest that starts at g
 abbrev pub latest_end : Kind → ℕ → List ℤ → ℕ → ℕ
@@ -56,8 +59,10 @@ latest_end kind bytes samples g = min (length samples) (g + most_of kind bytes)
 -- no Steim-2 record that starts at or before g reaches further than the longest groups from g on, of no more differences
 -- than a record has
 abbrev pub GreedyLaw : Type 0
-GreedyLaw = (bytes : ℕ) (samples : List ℤ) (g reach : ℕ) → g ≤ length samples → IsGreedyReach (words_of bytes) (map (λ p. p.1) (run_points samples g (latest_end Steim2 bytes samples g))) reach →
-    IsRun (Fits Steim2 bytes) samples g (g + reach) × ((s b : ℕ) → s ≤ g → IsRun (Fits Steim2 bytes) samples s b → b ≤ g + reach)
+GreedyLaw = (bytes : ℕ) (samples : List ℤ) (g reach : ℕ) → g ≤ length samples
+    → IsGreedyReach (words_of bytes) (map (λ p. p.1) (run_points samples g (latest_end Steim2 bytes samples g))) reach →
+    IsRun (Fits Steim2 bytes) samples g (g + reach)
+    × ((s b : ℕ) → s ≤ g → IsRun (Fits Steim2 bytes) samples s b → b ≤ g + reach)
 
 -- a sample of that many bits
 abbrev pub IsOfBits : ℕ → ℤ → Type 0
@@ -65,5 +70,6 @@ IsOfBits bits sample = FitsBits bits sample
 
 -- The runs that fit this kind are those of numbers of that many bits that are no longer than its longest.
 pub record AreIntegers (kind : Kind) (bits bytes : ℕ) : Type 0 where
-  pub takes : (run : List (ℤ × ℤ)) → All (λ p. IsOfBits bits p.0) run → length run ≤ most_of kind bytes → Fits kind bytes run
+  pub takes : (run : List (ℤ × ℤ)) → All (λ p. IsOfBits bits p.0) run → length run ≤ most_of kind bytes
+      → Fits kind bytes run
   pub needs : (run : List (ℤ × ℤ)) → Fits kind bytes run → All (λ p. IsOfBits bits p.0) run

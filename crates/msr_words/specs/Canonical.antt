@@ -9,14 +9,17 @@ use Rattle.msr_words.specs.Division.{CanDivide}
 abbrev pub BeginLongest : Version → List (List ℤ) → Type 0
 BeginLongest version [] = ⊤
 BeginLongest version (group ∷ groups) =
-    ((other : List ℤ) (others : List (List ℤ)) → AreGroups version (other ∷ others) → differences (other ∷ others) ≡ differences (group ∷ groups) → length others ≤ length groups → length other ≤ length group)
+    ((other : List ℤ) (others : List (List ℤ)) → AreGroups version (other ∷ others)
+    → differences (other ∷ others) ≡ differences (group ∷ groups) → length others ≤ length groups
+    → length other ≤ length group)
     × BeginLongest version groups
 
 -- these groups divide the differences, no division has fewer, and each group in turn is the longest with which there are no more
 pub record IsCanonicalDivision (version : Version) (groups : List (List ℤ)) (ds : List ℤ) : Type 0 where
   pub are_groups : AreGroups version groups
   pub join : differences groups ≡ ds
-  pub fewest : (others : List (List ℤ)) → AreGroups version others → differences others ≡ ds → length groups ≤ length others
+  pub fewest : (others : List (List ℤ)) → AreGroups version others → differences others ≡ ds
+      → length groups ≤ length others
   pub longest : BeginLongest version groups
 
 -- ---- by the size of the first group

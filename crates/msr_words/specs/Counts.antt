@@ -6,7 +6,8 @@ use Rattle.msr_steim.specs.Word.{IsGroupAt, IsInnerGroup}
 -- The newest first: these differences are divided into exactly so many groups that others may follow.
 abbrev pub Parts : Version → ℕ → List ℤ → Type 0
 Parts version zero past = past ≡ []
-Parts version (suc n) past = (group : List ℤ) × (rest : List ℤ) × IsInnerGroup version group × Parts version n rest × (past ≡ group ++ rest)
+Parts version (suc n) past = (group : List ℤ) × (rest : List ℤ) × IsInnerGroup version group × Parts version n rest
+    × (past ≡ group ++ rest)
 
 -- into at most so many
 pub record AtMost (version : Version) (n : ℕ) (past : List ℤ) : Type 0 where

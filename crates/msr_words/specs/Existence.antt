@@ -20,4 +20,5 @@ FirstKindExists = (bytes : ℕ) (run : List (ℤ × ℤ)) → FitsAny bytes run 
 
 -- differences that can be divided have a canonical division
 abbrev pub DivisionExists : Type 0
-DivisionExists = (version : Version) (words : ℕ) (ds : List ℤ) → CanDivide version words ds → (groups : List (List ℤ)) × IsCanonicalDivision version groups ds
+DivisionExists = (version : Version) (words : ℕ) (ds : List ℤ) → CanDivide version words ds
+    → (groups : List (List ℤ)) × IsCanonicalDivision version groups ds

@@ -6,8 +6,10 @@ use Rattle.msr_words.specs.Canonical.{IsCanonicalDivision}
 use Rattle.msr_words.specs.Segment.{differences}
 
 -- the area is frames of the canonical groups, so many, of the run's differences; the constants are the first and the last sample
-pub record IsFilledArea (version : Version) (before : Option ℤ) (run : List ℤ) (frames : ℕ) (area : List ℕ) (number : ℕ) : Type 0 where
+pub record IsFilledArea (version : Version) (before : Option ℤ) (run : List ℤ) (frames : ℕ) (area : List ℕ)
+    (number : ℕ) : Type 0 where
   pub groups : List (List ℤ)
   pub canonical : IsCanonicalDivision version groups (differences before run)
-  pub bytes_are : area ≡ frame_bytes version (slice_index_or run 0 (pos 0)) (slice_index_or run (length run - 1) (pos 0)) groups frames
+  pub bytes_are : area ≡ frame_bytes version (slice_index_or run 0 (pos 0))
+      (slice_index_or run (length run - 1) (pos 0)) groups frames
   pub number_is : number ≡ length groups

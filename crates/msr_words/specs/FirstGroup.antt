@@ -15,7 +15,8 @@ pub record IsFirstGroup (ds : List ℤ) (size after : ℕ) : Type 0 where
   pub within : size ≤ length ds
   pub group : IsGroupAt One (size == length ds) (take size ds)
   pub left : IsLeast (drop size ds) after
-  pub best : (other n : ℕ) → other ≤ length ds → IsGroupAt One (other == length ds) (take other ds) → CanDivide One n (drop other ds) → (after ≤ n) × (n ≤ after → other ≤ size)
+  pub best : (other n : ℕ) → other ≤ length ds → IsGroupAt One (other == length ds) (take other ds)
+      → CanDivide One n (drop other ds) → (after ≤ n) × (n ≤ after → other ≤ size)
 
 -- the canonical division of these differences begins with a group of this size, and has so many groups
 abbrev pub IsCanonicalFirst : List ℤ → ℕ → Type 0
@@ -29,7 +30,8 @@ pub record AreSizes (ds : List ℤ) (from : ℕ) (sizes : List ℕ) : Type 0 whe
 -- how large the difference at this place is, from 0: a number of `width` bits is below half the power; where there
 -- is none, the size is above all of these
 abbrev pub IsSizeAt : List ℤ → ℕ → ℕ → Type 0
-IsSizeAt ds at size = (width : ℕ) → width ≤ 32 → (size < 2 ^ (width - 1) ↔ (at < length ds) × FitsBits width (slice_index_or ds at (pos 0)))
+IsSizeAt ds at size = (width : ℕ) → width ≤ 32
+    → (size < 2 ^ (width - 1) ↔ (at < length ds) × FitsBits width (slice_index_or ds at (pos 0)))
 
 -- Of the groups that can come first (one difference, two of this size, four of this size, or three of this size that
 -- leave none) the one that leaves the fewest groups, and of these the longest.
@@ -38,7 +40,8 @@ pub record IsBest (all one two three pair triple four size after : ℕ) : Type 0
   pub of_two : pair < 32768 → (after ≤ one) × (one ≤ after → 2 ≤ size)
   pub of_three : triple < 128 → two ≡ 0 → (after ≡ 0) × (3 ≤ size)
   pub of_four : four < 128 → (after ≤ three) × (three ≤ after → 4 ≤ size)
-  pub which : ((size ≡ 1) × (after ≡ all)) ⊎ (((size ≡ 2) × (pair < 32768) × (after ≡ one)) ⊎ (((size ≡ 3) × (triple < 128) × (two ≡ 0) × (after ≡ 0)) ⊎ ((size ≡ 4) × (four < 128) × (after ≡ three))))
+  pub which : ((size ≡ 1) × (after ≡ all)) ⊎ (((size ≡ 2) × (pair < 32768) × (after ≡ one))
+      ⊎ (((size ≡ 3) × (triple < 128) × (two ≡ 0) × (after ≡ 0)) ⊎ ((size ≡ 4) × (four < 128) × (after ≡ three))))
 
 -- The least number of groups before the newest, which is one difference, two of this size, or four of this size; where
 -- there is none, so many as there are words.
@@ -46,4 +49,5 @@ pub record AreFewest (now one three size pair four words fewest : ℕ) : Type 0 
   pub of_one : size < 2147483648 → fewest ≤ now
   pub of_two : pair < 32768 → fewest ≤ one
   pub of_four : four < 128 → fewest ≤ three
-  pub which : ((size < 2147483648) × (fewest ≡ now)) ⊎ (((pair < 32768) × (fewest ≡ one)) ⊎ (((four < 128) × (fewest ≡ three)) ⊎ (fewest ≡ words)))
+  pub which : ((size < 2147483648) × (fewest ≡ now))
+      ⊎ (((pair < 32768) × (fewest ≡ one)) ⊎ (((four < 128) × (fewest ≡ three)) ⊎ (fewest ≡ words)))

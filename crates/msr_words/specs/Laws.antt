@@ -71,4 +71,5 @@ most_of kind bytes = min (room_of kind bytes) most_counted
 
 -- as many as a record of some kind has at most
 abbrev pub most_any : ℕ → ℕ
-most_any bytes = max (max (most_of Steim2 bytes) (most_of Steim1 bytes)) (max (most_of Int16 bytes) (max (most_of Int24 bytes) (most_of Int32 bytes)))
+most_any bytes = max (max (most_of Steim2 bytes) (most_of Steim1 bytes))
+    (max (most_of Int16 bytes) (max (most_of Int24 bytes) (most_of Int32 bytes)))

@@ -31,7 +31,8 @@ pub record NoneHolds (bytes : ℕ) (samples : List ℤ) (p q : ℕ) : Type 0 whe
 pub record IsSeparating (bytes : ℕ) (samples : List ℤ) (separators : List ℕ) : Type 0 where
   pub rising : (i j : ℕ) → i < j → j < length separators → slice_index separators i < slice_index separators j
   pub within : All (λ s. s < length samples) separators
-  pub apart : (i j : ℕ) → i < j → j < length separators → NoneHolds bytes samples (slice_index separators i) (slice_index separators j)
+  pub apart : (i j : ℕ) → i < j → j < length separators
+      → NoneHolds bytes samples (slice_index separators i) (slice_index separators j)
 
 -- from the frontier g one record more reaches h, and no run that starts at or before g reaches further; a is the last start from which h is reached
 pub record IsStep (fits : List (ℤ × ℤ) → Type 0) (samples : List ℤ) (g h a : ℕ) : Type 0 where
@@ -51,4 +52,5 @@ CanonicalTo bytes samples g (run ∷ runs) (s ∷ separators) end =
 
 -- the one packing, with its separators, that is written
 abbrev pub IsCanonical : ℕ → List ℤ → List Run → List ℕ → Type 0
-IsCanonical bytes samples runs separators = CanonicalTo bytes samples 0 runs separators (length samples) × Joins 0 runs (length samples)
+IsCanonical bytes samples runs separators = CanonicalTo bytes samples 0 runs separators (length samples)
+    × Joins 0 runs (length samples)

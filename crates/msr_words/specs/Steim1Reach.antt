@@ -31,8 +31,10 @@ pub record IsSteim1Word (ds : List ℤ) (spare : Bool) (size : ℕ) (after : Boo
   pub which :
       ((size ≡ 4) × BeginsWithThree ds × IsOfBitsAt ds 3 8 × (after ≡ spare))
       ⊎ (((size ≡ 3) × BeginsWithThree ds × (IsOfBitsAt ds 3 8 → ⊥) × IsTrue spare × IsTrue after)
-      ⊎ (((size ≡ 2) × IsOfBitsAt ds 0 16 × IsOfBitsAt ds 1 16 × (BeginsWithThree ds → (IsOfBitsAt ds 3 8 → ⊥) × (IsTrue spare → ⊥)) × (IsTrue after ↔ IsOfBitsAt ds 1 8))
-      ⊎ (((size ≡ 1) × IsOfBitsAt ds 0 32 × (IsOfBitsAt ds 0 16 → IsOfBitsAt ds 1 16 → ⊥) × (IsTrue after ↔ IsOfBitsAt ds 0 8))
+      ⊎ (((size ≡ 2) × IsOfBitsAt ds 0 16 × IsOfBitsAt ds 1 16
+      × (BeginsWithThree ds → (IsOfBitsAt ds 3 8 → ⊥) × (IsTrue spare → ⊥)) × (IsTrue after ↔ IsOfBitsAt ds 1 8))
+      ⊎ (((size ≡ 1) × IsOfBitsAt ds 0 32 × (IsOfBitsAt ds 0 16 → IsOfBitsAt ds 1 16 → ⊥)
+      × (IsTrue after ↔ IsOfBitsAt ds 0 8))
       ⊎ ((size ≡ 0) × (IsOfBitsAt ds 0 32 → ⊥)))))
 
 -- one word more

@@ -35,7 +35,8 @@ pub record FollowsSteim2 (bytes : ℕ) (run : List (ℤ × ℤ)) (left count mos
   pub room : count ≤ most
   pub limit : most ≤ 7
   pub bits : (n width : ℕ) → group_width Two n ≡ Some width → (All (FitsBits width) group ↔ n ≤ most)
-  pub so_far : IsTrue fits → (tail : List ℤ) → (CanDivide Two (words_of bytes) (map (λ p. p.1) run ++ tail) ↔ CanDivide Two (suc left) (group ++ tail))
+  pub so_far : IsTrue fits → (tail : List ℤ) →
+      (CanDivide Two (words_of bytes) (map (λ p. p.1) run ++ tail) ↔ CanDivide Two (suc left) (group ++ tail))
   pub number : IsTrue fits → length run + more ≡ most_of Steim2 bytes
   pub past : IsFalse fits → Fits Steim2 bytes run → ⊥
 

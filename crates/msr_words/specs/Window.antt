@@ -16,12 +16,14 @@ pub record IsTaken (d : ℤ) (size : ℕ) (kept : ℤ) : Type 0 where
 
 -- the first so many places have the differences of the samples from `first` on
 pub record AreTaken (samples : List ℤ) (first count : ℕ) (sizes : List ℕ) (kept : List ℤ) : Type 0 where
-  pub each : (k : ℕ) → k < count → IsTaken (difference_at samples (first + k)) (get_or sizes k 0) (get_or kept k (pos 0))
+  pub each : (k : ℕ) → k < count → IsTaken (difference_at samples (first + k)) (get_or sizes k 0)
+      (get_or kept k (pos 0))
 
 -- from a place on there are the first seven of these differences
 pub record AreSeen (ds : List ℤ) (sizes : List ℕ) (kept : List ℤ) (place : ℕ) : Type 0 where
   pub long : 7 ≤ length ds
-  pub each : (k : ℕ) → k < 7 → IsTaken (get_or ds k (pos 0)) (get_or sizes (place + k) 0) (get_or kept (place + k) (pos 0))
+  pub each : (k : ℕ) → k < 7 → IsTaken (get_or ds k (pos 0)) (get_or sizes (place + k) 0)
+      (get_or kept (place + k) (pos 0))
 
 -- a window of these samples that begins at the sample `at` or before it
 pub record IsWindow (samples : List ℤ) (at : ℕ) (window : Window) : Type 0 where

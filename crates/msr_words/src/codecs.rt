@@ -44,7 +44,9 @@ pub trait Tracker {
 
     /// Whether all that was pushed, with this sample and its difference, fits. After a false it answers false.
     fn push(&mut self, sample: i32, diff: i64) -> bool
-        ensures { (bytes : ℕ) (run : List (ℤ × ℤ)) → follows bytes run self.old → follows bytes (run ++ (sample, diff) ∷ []) self.new × (IsTrue result ↔ fits bytes (run ++ (sample, diff) ∷ [])) };
+        ensures { (bytes : ℕ) (run : List (ℤ × ℤ)) → follows bytes run self.old
+            → follows bytes (run ++ (sample, diff) ∷ []) self.new × (IsTrue result
+            ↔ fits bytes (run ++ (sample, diff) ∷ [])) };
 
     /// A prefix of what fits fits, and the part after a cut with at most `LOOK_BACK` samples before it, three at most;
     /// no samples fit, and no more than `most`.

@@ -115,7 +115,8 @@ impl LeastCounts {
 
     /// Whether the words hold the run, which may end in a group of three.
     pub fn within(self, words: u32) -> bool
-        ensures { (past : List ℤ) → 0 < length past → AreCounts words past self → (IsTrue result ↔ EndsIn One true words past) }
+        ensures { (past : List ℤ) → 0 < length past → AreCounts words past self
+            → (IsTrue result ↔ EndsIn One true words past) }
     {
         if self.now <= words {
             return true;

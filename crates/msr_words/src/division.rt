@@ -65,7 +65,8 @@ fn steim1_groups(
     words: u32,
     differences: &[i64],
 ) -> Result<Option<Vec<Group>>, AllocError>
-    ensures chosen { IfOk result (λ o. IfSome o (λ groups. IsCanonicalDivision One (map (λ g. g.items) groups.items) differences.now)) }
+    ensures chosen { IfOk result (λ o. IfSome o (λ groups. IsCanonicalDivision One
+        (map (λ g. g.items) groups.items) differences.now)) }
     ensures few { IfOk result (λ o. IfSome o (λ groups. length groups.items ≤ words)) }
     ensures none { IfOk result (λ o. IsNone o → CanDivide One words differences.now → ⊥) }
 {
@@ -104,7 +105,8 @@ fn steim2_groups(
     differences: &[i64],
 ) -> Result<Option<Vec<Group>>, AllocError>
     requires { 0 < words }
-    ensures chosen { IfOk result (λ o. IfSome o (λ groups. IsCanonicalDivision Two (map (λ g. g.items) groups.items) differences.now)) }
+    ensures chosen { IfOk result (λ o. IfSome o (λ groups. IsCanonicalDivision Two
+        (map (λ g. g.items) groups.items) differences.now)) }
     ensures few { IfOk result (λ o. IfSome o (λ groups. length groups.items ≤ words)) }
     ensures none { IfOk result (λ o. IsNone o → CanDivide Two words differences.now → ⊥) }
 {
@@ -142,10 +144,12 @@ pub fn groups(
     differences: &[i64],
     record_length: Length,
 ) -> Result<Option<Vec<Group>>, AllocError>
-    ensures chosen { IfOk result (λ o. IfSome o (λ groups. IsCanonicalDivision version (map (λ g. g.items) groups.items) differences.now)) }
+    ensures chosen { IfOk result (λ o. IfSome o (λ groups. IsCanonicalDivision version
+        (map (λ g. g.items) groups.items) differences.now)) }
     ensures few { IfOk result (λ o. IfSome o (λ groups. length groups.items ≤ words_of (bytes_of record_length))) }
     ensures counted { IfOk result (λ o. IfSome o (λ _. length differences.now ≤ most_counted)) }
-    ensures none { IfOk result (λ o. IsNone o → length differences.now ≤ most_counted → CanDivide version (words_of (bytes_of record_length)) differences.now → ⊥) }
+    ensures none { IfOk result (λ o. IsNone o → length differences.now ≤ most_counted
+        → CanDivide version (words_of (bytes_of record_length)) differences.now → ⊥) }
 {
     let words = record_length.data_words();
     if differences.len() > MOST_COUNTED {
@@ -159,5 +163,6 @@ pub fn groups(
 
 /// One division of some differences is chosen.
 pub fn one_division()
-    ensures { (version : Version) (groups others : List (List ℤ)) (ds : List ℤ) → IsCanonicalDivision version groups ds → IsCanonicalDivision version others ds → groups ≡ others }
+    ensures { (version : Version) (groups others : List (List ℤ)) (ds : List ℤ)
+        → IsCanonicalDivision version groups ds → IsCanonicalDivision version others ds → groups ≡ others }
 {}

@@ -101,7 +101,8 @@ pub(crate) fn fields_seen(window: &Window, place: usize, size: usize, width: u32
     requires within { size * width ≤ 32 }
     requires room { place + size ≤ 64 }
     requires most { size ≤ 7 }
-    ensures same { (ds : List ℤ) → AreSeen ds window.now.sizes window.now.kept place → AllByRecursion (FitsBits width) (take size ds) → result ≡ joined_fields width (take size ds) }
+    ensures same { (ds : List ℤ) → AreSeen ds window.now.sizes window.now.kept place
+        → AllByRecursion (FitsBits width) (take size ds) → result ≡ joined_fields width (take size ds) }
 {
     let mut fields: u64 = 0;
     let mut halves: u64 = 0;
@@ -130,7 +131,8 @@ fn formed(window: &Window, place: usize, size: usize, form: Form) -> NextWord
     ensures some { result.empty ≡ 0 }
     ensures code { result.code ≡ group_code Two result.size }
     ensures small { result.code < 4 }
-    ensures word { (ds : List ℤ) → AreSeen ds window.now.sizes window.now.kept place → IsLongestGroup ds result.size → result.word ≡ group_word Two (take result.size ds) }
+    ensures word { (ds : List ℤ) → AreSeen ds window.now.sizes window.now.kept place
+        → IsLongestGroup ds result.size → result.word ≡ group_word Two (take result.size ds) }
 {
     let fields = fields_seen(window, place, size, form.width);
     NextWord {
@@ -145,11 +147,13 @@ fn formed(window: &Window, place: usize, size: usize, form: Form) -> NextWord
 #[inline(always)]
 fn word_seen(window: &Window, place: usize) -> NextWord
     requires { place + 7 ≤ 64 }
-    ensures longest { (ds : List ℤ) → AreSeen ds window.now.sizes window.now.kept place → IsLongestGroup ds result.size }
+    ensures longest { (ds : List ℤ) → AreSeen ds window.now.sizes window.now.kept place
+        → IsLongestGroup ds result.size }
     ensures some { result.empty ≡ 0 }
     ensures code { result.code ≡ group_code Two result.size }
     ensures small { result.code < 4 }
-    ensures word { (ds : List ℤ) → AreSeen ds window.now.sizes window.now.kept place → IsLongestGroup ds result.size → result.word ≡ group_word Two (take result.size ds) }
+    ensures word { (ds : List ℤ) → AreSeen ds window.now.sizes window.now.kept place
+        → IsLongestGroup ds result.size → result.word ≡ group_word Two (take result.size ds) }
 {
     match window.longest_from(place) {
         1 => formed(window, place, 1, form_of(1)),

@@ -88,7 +88,8 @@ impl Following {
         requires room { self.all < 2 ^ 64 - 1 }
         ensures few { result.all ≤ self.all + 1 }
         ensures following { (ds : List ℤ) → IsFollowing ds self → IsFollowing (difference ∷ ds) result }
-        ensures group { (ds : List ℤ) → IsFollowing ds self → IsFirstGroup (difference ∷ ds) result.group (result.all - 1) }
+        ensures group { (ds : List ℤ) → IsFollowing ds self
+            → IsFirstGroup (difference ∷ ds) result.group (result.all - 1) }
     {
         let size = magnitude(difference);
         let pair = size | self.first;

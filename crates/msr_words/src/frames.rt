@@ -40,7 +40,8 @@ pub(crate) fn put_word(area: &mut [u8], number: usize, word: u32)
 fn put_constants(area: &mut [u8], frame: usize, first: u32, last: u32) -> usize
     requires { 64 * frame + 64 ≤ length area.old }
     ensures most { result ≤ 2 }
-    ensures first { frame ≡ 0 → let one = take (4 * (16 * frame + 1)) area.old ++ (big_bytes 4 first ++ drop (4 * (16 * frame + 1) + 4) area.old) in
+    ensures first { frame ≡ 0 → let one = take (4 * (16 * frame + 1)) area.old
+        ++ (big_bytes 4 first ++ drop (4 * (16 * frame + 1) + 4) area.old) in
         (result ≡ 2) × (area.new ≡ take (4 * (16 * frame + 2)) one ++ (big_bytes 4 last ++ drop (4 * (16 * frame + 2) + 4) one)) }
     ensures others { 0 < frame → (result ≡ 0) × (area.new ≡ area.old) }
 {
@@ -93,8 +94,12 @@ pub(crate) fn fill_frames(
     requires frames { length area.old % 64 ≡ 0 }
     requires sizes { sizing ≡ Sizing.Given → AreSizes (differences before run.now) 0 sizes.now }
     requires fits { sizing ≡ Sizing.Ahead → AllByRecursion (FitsBits 32) (differences before run.now) }
-    ensures filled { IfSome result (λ used. (groups : List (List ℤ)) → IsCanonicalDivision (version_of sizing) groups (differences before run.now) → length groups + 2 ≤ 15 * (length area.old / 64)
-        → (area.new ≡ frame_bytes (version_of sizing) (slice_index_or run.now 0 (pos 0)) (slice_index_or run.now (length run.now - 1) (pos 0)) groups (length area.old / 64)) × (used ≡ length groups)) }
+    ensures filled { IfSome result (λ used. (groups : List (List ℤ))
+        → IsCanonicalDivision (version_of sizing) groups (differences before
+        run.now) → length groups + 2 ≤ 15 * (length area.old / 64)
+        → (area.new ≡ frame_bytes (version_of sizing) (slice_index_or run.now 0 (pos 0))
+        (slice_index_or run.now (length run.now - 1) (pos 0)) groups (length area.old / 64)) × (used
+        ≡ length groups)) }
     ensures untold { IsNone result → IsUntold sizing (differences before run.now) }
 {
     let first = run[0].cast_unsigned();

@@ -90,7 +90,8 @@ fn formed(window: &Window, place: usize, size: usize, form: Form) -> NextWord
     ensures some { result.empty ≡ 0 }
     ensures code { result.code ≡ group_code One size }
     ensures small { result.code < 4 }
-    ensures word { (ds : List ℤ) → AreSeen ds window.now.sizes window.now.kept place → IsGroup One (take size ds) → result.word ≡ group_word One (take size ds) }
+    ensures word { (ds : List ℤ) → AreSeen ds window.now.sizes window.now.kept place → IsGroup One (take size ds)
+        → result.word ≡ group_word One (take size ds) }
 {
     let fields = fields_seen(window, place, size, form.width);
     NextWord {
@@ -111,7 +112,8 @@ fn word_seen(window: &Window, place: usize, size: usize) -> NextWord
     ensures some { result.empty ≡ 0 }
     ensures code { result.code ≡ group_code One size }
     ensures small { result.code < 4 }
-    ensures word { (ds : List ℤ) → AreSeen ds window.now.sizes window.now.kept place → IsGroup One (take size ds) → result.word ≡ group_word One (take size ds) }
+    ensures word { (ds : List ℤ) → AreSeen ds window.now.sizes window.now.kept place → IsGroup One (take size ds)
+        → result.word ≡ group_word One (take size ds) }
 {
     match size {
         1 => formed(window, place, 1, form_of(1)),

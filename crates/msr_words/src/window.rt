@@ -158,8 +158,10 @@ impl Window {
     #[inline(always)]
     pub(crate) fn first_steim1_group(&self, place: usize) -> Option<usize>
         requires { place + 7 ≤ 64 }
-        ensures first { (ds : List ℤ) → AreSeen ds self.now.sizes self.now.kept place → AllByRecursion (FitsBits 32) ds → IfSome result (IsCanonicalFirst ds) }
-        ensures none { (ds : List ℤ) → AreSeen ds self.now.sizes self.now.kept place → IsNone result → BeginsWithFour (drop 1 ds) }
+        ensures first { (ds : List ℤ) → AreSeen ds self.now.sizes self.now.kept place
+            → AllByRecursion (FitsBits 32) ds → IfSome result (IsCanonicalFirst ds) }
+        ensures none { (ds : List ℤ) → AreSeen ds self.now.sizes self.now.kept place → IsNone result
+            → BeginsWithFour (drop 1 ds) }
     {
         let one = self.sizes[place];
         let two = self.sizes[place + 1];

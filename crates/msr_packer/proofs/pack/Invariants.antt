@@ -5,7 +5,8 @@ use Rattle.msr_packer.proofs.pack.Given as goal
 
 abbrev pub invariant-loop-record_length : goal.invariant-loop-record_length
 invariant-loop-record_length l = record {
-  window : IsWindow l.fn.record_length.bytes l.samples l.packing.runs.items l.packing.separators.items l.samples 0 l.current;
+  window : IsWindow l.fn.record_length.bytes l.samples l.packing.runs.items l.packing.separators.items l.samples 0
+      l.current;
   inside : InsideIfAny l.fn.record_length.bytes (length l.samples) l.current;
 }
 

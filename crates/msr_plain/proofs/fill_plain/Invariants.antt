@@ -4,4 +4,5 @@ use Rattle.msr_plain.specs.Plain.{bytes_of_all, size_of}
 use Rattle.msr_plain.proofs.fill_plain.Given as goal
 
 abbrev pub invariant-loop-place : goal.invariant-loop-place
-invariant-loop-place l = l.area ≡ bytes_of_all l.width (take l.place l.samples) ++ drop (size_of l.width * l.place) l.fn.area
+invariant-loop-place l = l.area ≡ bytes_of_all l.width (take l.place l.samples)
+    ++ drop (size_of l.width * l.place) l.fn.area

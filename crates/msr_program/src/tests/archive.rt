@@ -21,7 +21,7 @@ const DAY_2: &str = "2020/XX/TEST/BHZ.D/XX.TEST.00.BHZ.D.2020.002";
 
 const DAY_3: &str = "2020/XX/TEST/BHZ.D/XX.TEST.00.BHZ.D.2020.003";
 
-// The folders of a walk.
+/// The folders of a walk.
 #[derive(Drop)]
 struct Tree {
     alloc: Global,
@@ -32,7 +32,7 @@ struct Tree {
 }
 
 impl Tree {
-    // An archive without entries; the other two folders are missing.
+    /// An archive without entries; the other two folders are missing.
     fn new(rt: &HostRuntime) -> Result<Tree, Fail> {
         let folder = Folder::new(rt)?;
         let root = folder.path("sds")?;
@@ -64,7 +64,7 @@ impl Tree {
         Ok(self.folder.path(below.as_str())?)
     }
 
-    // Writes a file and the folders that it needs.
+    /// Writes a file and the folders that it needs.
     fn write(&self, rt: &HostRuntime, top: &str, path: &str, bytes: &[u8]) -> Result<(), Fail> {
         let path = self.path(top, path)?;
         if let Some((folder, _)) = path.as_str().rsplit_once('/') {
@@ -95,7 +95,7 @@ fn shows(rt: &impl Abort, ran: &Ran, status: u8, printed: &str) {
     assert_eq!(rt; ran.status, status);
 }
 
-// A walk over the tree ends so, and complains of nothing.
+/// A walk over the tree ends so, and complains of nothing.
 fn walks<R: Files + AllocGlobal + Abort>(
     rt: &R,
     tree: &Tree,
@@ -107,7 +107,7 @@ fn walks<R: Files + AllocGlobal + Abort>(
     Ok(())
 }
 
-// A day that is done, one that is refused, and one of another type.
+/// A day that is done, one that is refused, and one of another type.
 const LINES_OF_THREE: &str = "done 2020/XX/TEST/BHZ.D/XX.TEST.00.BHZ.D.2020.001 read 1 written 2
 refused 2020/XX/TEST/BHZ.D/XX.TEST.00.BHZ.D.2020.002: offset 0: 1 Truncated
 skipped 2020/XX/TEST/BHZ.L/XX.TEST.00.BHZ.L.2020.001: not waveform data
@@ -126,7 +126,7 @@ fn tree_of_three(rt: &HostRuntime) -> Result<Tree, Fail> {
     Ok(tree)
 }
 
-// What an earlier run left of the refused day goes, and so does what a run that was killed left of the other.
+/// What an earlier run left of the refused day goes, and so does what a run that was killed left of the other.
 #[test]
 fn three_files(rt: HostRuntime) -> Result<(), Fail> {
     let tree = tree_of_three(&rt)?;
@@ -159,7 +159,7 @@ fn three_files(rt: HostRuntime) -> Result<(), Fail> {
     tree.remove(&rt)
 }
 
-// An archive without entries, one that is a file, one that is missing.
+/// An archive without entries, one that is a file, one that is missing.
 #[test]
 fn archives_without_a_file(rt: HostRuntime) -> Result<(), Fail> {
     let tree = Tree::new(&rt)?;
@@ -173,8 +173,8 @@ fn archives_without_a_file(rt: HostRuntime) -> Result<(), Fail> {
     tree.remove(&rt)
 }
 
-// Names stand in the order of their bytes. What has no path of a day is skipped at each level, and no folder is walked
-// that is deeper than such a path.
+/// Names stand in the order of their bytes. What has no path of a day is skipped at each level, and no folder is walked
+/// that is deeper than such a path.
 #[test]
 fn entries_of_all_kinds(rt: HostRuntime) -> Result<(), Fail> {
     let tree = Tree::new(&rt)?;
@@ -224,8 +224,8 @@ files 1 skipped 12 refused 2
     tree.remove(&rt)
 }
 
-// Only the folders that are asked for, in the order in which they are: of any depth, one that is missing, one that is a
-// file. Paths are those of the whole walk.
+/// Only the folders that are asked for, in the order in which they are: of any depth, one that is missing, one that is a
+/// file. Paths are those of the whole walk.
 #[test]
 fn folders_that_are_asked_for(rt: HostRuntime) -> Result<(), Fail> {
     let tree = Tree::new(&rt)?;
@@ -266,13 +266,13 @@ files 2 skipped 1 refused 2
     tree.remove(&rt)
 }
 
-// The words of the tree with an option more.
+/// The words of the tree with an option more.
 fn words_of<'a>(tree: &'a Tree, option: &'static str) -> [&'a str; 7] {
     let [archive, length, bytes, root, out, reports] = tree.words();
     [archive, length, bytes, option, root, out, reports]
 }
 
-// The words of a walk that leaves alone what was done, with another length or tolerance.
+/// The words of a walk that leaves alone what was done, with another length or tolerance.
 fn resumed_with<'a>(tree: &'a Tree, option: &'static str) -> [&'a str; 6] {
     let [archive, _, _, root, out, reports] = tree.words();
     [archive, option, "--resume", root, out, reports]
@@ -294,8 +294,8 @@ channel XX.TEST.00.BHZ files 1 read 1 written 2
 files 1 skipped 0 refused 0
 ";
 
-// A day is left alone exactly where an earlier walk with that option did it, and input, records and report are as it
-// left them.
+/// A day is left alone exactly where an earlier walk with that option did it, and input, records and report are as it
+/// left them.
 #[test]
 fn days_that_are_left_alone(rt: HostRuntime) -> Result<(), Fail> {
     let tree = Tree::new(&rt)?;
@@ -334,7 +334,7 @@ fn days_that_are_left_alone(rt: HostRuntime) -> Result<(), Fail> {
     tree.remove(&rt)
 }
 
-// Other options, and a walk without that option, which leaves no stamp: what it made is made again.
+/// Other options, and a walk without that option, which leaves no stamp: what it made is made again.
 #[test]
 fn days_that_are_done_otherwise(rt: HostRuntime) -> Result<(), Fail> {
     let tree = Tree::new(&rt)?;
@@ -358,7 +358,7 @@ fn days_that_are_done_otherwise(rt: HostRuntime) -> Result<(), Fail> {
     tree.remove(&rt)
 }
 
-// The words of a strict walk with an option more.
+/// The words of a strict walk with an option more.
 fn strict_words<'a>(tree: &'a Tree, option: &'static str) -> [&'a str; 8] {
     let [archive, length, bytes, root, out, reports] = tree.words();
     [
@@ -366,7 +366,7 @@ fn strict_words<'a>(tree: &'a Tree, option: &'static str) -> [&'a str; 8] {
     ]
 }
 
-// A day that agrees, and one whose reverse constant does not.
+/// A day that agrees, and one whose reverse constant does not.
 const STRICT_LINES: &str = " 2020/XX/TEST/BHZ.D/XX.TEST.00.BHZ.D.2020.001 read 1 written 2
 refused 2020/XX/TEST/BHZ.D/XX.TEST.00.BHZ.D.2020.002: offset 0: 18 ReverseMismatch
 channel XX.TEST.00.BHZ files 1 read 1 written 2
@@ -379,7 +379,7 @@ channel XX.TEST.00.BHZ files 2 read 2 written 3
 files 2 skipped 0 refused 0
 ";
 
-// A day that is done is left alone, strictly or not, where each reverse constant in it agreed, and only then strictly.
+/// A day that is done is left alone, strictly or not, where each reverse constant in it agreed, and only then strictly.
 #[test]
 fn days_that_are_read_strictly(rt: HostRuntime) -> Result<(), Fail> {
     let alloc = rt.alloc();
@@ -417,7 +417,7 @@ fn days_that_are_read_strictly(rt: HostRuntime) -> Result<(), Fail> {
     tree.remove(&rt)
 }
 
-// What is held against its report is kept as without that.
+/// What is held against its report is kept as without that.
 #[test]
 fn days_that_are_held_against_their_reports(rt: HostRuntime) -> Result<(), Fail> {
     let tree = tree_of_three(&rt)?;
@@ -427,8 +427,8 @@ fn days_that_are_held_against_their_reports(rt: HostRuntime) -> Result<(), Fail>
     tree.remove(&rt)
 }
 
-// Where other records are read than those that were written, the report does not show them: neither is kept, nor what an
-// earlier walk left.
+/// Where other records are read than those that were written, the report does not show them: neither is kept, nor what an
+/// earlier walk left.
 #[test]
 fn a_day_that_is_not_shown(rt: HostRuntime) -> Result<(), Fail> {
     let tree = Tree::new(&rt)?;
@@ -457,7 +457,7 @@ files 0 skipped 0 refused 1
     tree.remove(&rt)
 }
 
-// Channels in the order of their first days that were done, each with its sums.
+/// Channels in the order of their first days that were done, each with its sums.
 #[test]
 fn totals_of_channels(rt: HostRuntime) -> Result<(), Fail> {
     let tree = Tree::new(&rt)?;
@@ -486,7 +486,7 @@ files 3 skipped 0 refused 0
     tree.remove(&rt)
 }
 
-// The old records and report of a day with a fault in its middle go, and the walk goes on.
+/// The old records and report of a day with a fault in its middle go, and the walk goes on.
 #[test]
 fn a_fault_in_the_middle(rt: HostRuntime) -> Result<(), Fail> {
     let tree = Tree::new(&rt)?;
@@ -508,7 +508,7 @@ files 1 skipped 0 refused 1
     tree.remove(&rt)
 }
 
-// Where records, a report or their folder cannot be made, neither is left.
+/// Where records, a report or their folder cannot be made, neither is left.
 #[test]
 fn outputs_that_cannot_be_made(rt: HostRuntime) -> Result<(), Fail> {
     let lines = "refused 2020/XX/TEST/BHZ.D/XX.TEST.00.BHZ.D.2020.001: cannot open
@@ -545,8 +545,8 @@ files 0 skipped 0 refused 1
     Ok(())
 }
 
-// The archive by another name is no place for its records or its reports: nothing of it is touched, not even a link that
-// leads nowhere, nor what has the name of a report.
+/// The archive by another name is no place for its records or its reports: nothing of it is touched, not even a link that
+/// leads nowhere, nor what has the name of a report.
 #[test]
 fn the_archive_is_kept(rt: HostRuntime) -> Result<(), Fail> {
     let lines = "refused 2020/XX/TEST/BHZ.D/XX.TEST.00.BHZ.D.2020.001: cannot open
@@ -590,7 +590,7 @@ files 0 skipped 2 refused 3
     Ok(())
 }
 
-// A day that is a link to its own records, report or stamp is no input for them: nothing of it is touched.
+/// A day that is a link to its own records, report or stamp is no input for them: nothing of it is touched.
 #[test]
 fn a_day_that_is_its_own_output(rt: HostRuntime) -> Result<(), Fail> {
     let lines = "refused 2020/XX/TEST/BHZ.D/XX.TEST.00.BHZ.D.2020.001: cannot open
@@ -616,8 +616,8 @@ files 0 skipped 0 refused 1
     Ok(())
 }
 
-// A folder that cannot be opened, one that cannot be read to its end, and one that has a name that is not UTF-8: its
-// other entry is not handled.
+/// A folder that cannot be opened, one that cannot be read to its end, and one that has a name that is not UTF-8: its
+/// other entry is not handled.
 #[test]
 fn folders_without_a_list(rt: HostRuntime) -> Result<(), Fail> {
     let lines = "refused 2020/XX/TEST/BHN.D: listing
@@ -649,7 +649,7 @@ files 1 skipped 0 refused 1
     Ok(())
 }
 
-// Records that have their name have a report, and no report stands beside the records of an earlier walk.
+/// Records that have their name have a report, and no report stands beside the records of an earlier walk.
 #[test]
 fn the_report_gets_its_name_first(rt: HostRuntime) -> Result<(), Fail> {
     let tree = Tree::new(&rt)?;
@@ -685,8 +685,8 @@ fn the_report_gets_its_name_first(rt: HostRuntime) -> Result<(), Fail> {
     tree.remove(&rt)
 }
 
-// Where another walk makes its own file in the place of the records or the report of this one, what it makes is left to
-// it, and so is what an earlier walk made.
+/// Where another walk makes its own file in the place of the records or the report of this one, what it makes is left to
+/// it, and so is what an earlier walk made.
 #[test]
 fn a_day_that_another_walk_takes_over(rt: HostRuntime) -> Result<(), Fail> {
     let lines = "refused 2020/XX/TEST/BHZ.D/XX.TEST.00.BHZ.D.2020.001: another walk is at work
@@ -723,7 +723,7 @@ files 0 skipped 0 refused 1
     Ok(())
 }
 
-// Each line is printed at once. Where one is not, the walk ends there: the first call only tries the output.
+/// Each line is printed at once. Where one is not, the walk ends there: the first call only tries the output.
 #[test]
 fn output_that_fails_on_the_way(rt: HostRuntime) -> Result<(), Fail> {
     let mut whole = String::new(rt.alloc());
@@ -750,7 +750,7 @@ fn output_that_fails_on_the_way(rt: HostRuntime) -> Result<(), Fail> {
     Ok(())
 }
 
-// As many as would take minutes if the time grew with their square.
+/// As many as would take minutes if the time grew with their square.
 #[test]
 fn many_entries(rt: HostRuntime) -> Result<(), Fail> {
     let tree = Tree::new(&rt)?;

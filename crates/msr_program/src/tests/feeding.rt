@@ -39,7 +39,7 @@ fn the_records_are_printed_and_the_report_goes_to_a_file(rt: HostRuntime) -> Res
     folder.remove(&rt)
 }
 
-// A refusal, a source that fails, and standard output that fails at its second call, after the one that tries it.
+/// A refusal, a source that fails, and standard output that fails at its second call, after the one that tries it.
 #[test]
 fn after_a_fault_the_report_stands_empty(rt: HostRuntime) -> Result<(), Fail> {
     let folder = Folder::new(&rt)?;
@@ -70,7 +70,7 @@ fn after_a_fault_the_report_stands_empty(rt: HostRuntime) -> Result<(), Fail> {
     folder.remove(&rt)
 }
 
-// Where the report cannot be made nothing is read: a source that fails at its first call is not asked.
+/// Where the report cannot be made nothing is read: a source that fails at its first call is not asked.
 #[test]
 fn a_report_that_cannot_be_made(rt: HostRuntime) -> Result<(), Fail> {
     let alloc = rt.alloc();

@@ -89,7 +89,7 @@ impl Folder {
     }
 }
 
-// 302 samples of 32 bits from 2020-01-01 00:00:00 on, 20 a second, in a record of 4096 bytes.
+/// 302 samples of 32 bits from 2020-01-01 00:00:00 on, 20 a second, in a record of 4096 bytes.
 pub const HEADER: [u8; 64] = [
     0x30, 0x30, 0x30, 0x30, 0x30, 0x31, 0x44, 0x20, 0x54, 0x45, 0x53, 0x54, 0x20, 0x30, 0x30, 0x42,
     0x48, 0x5a, 0x58, 0x58, 0x07, 0xe4, 0x00, 0x01, 0x00, 0x00, 0x00, 0x00, 0x00, 0x00, 0x01, 0x2e,
@@ -118,7 +118,7 @@ pub fn mismatched(alloc: Global) -> Result<Vec<u8>, AllocError> {
     Ok(record)
 }
 
-// A wave that dies down, as the samples of each record of the second sample file.
+/// A wave that dies down, as the samples of each record of the second sample file.
 const WAVE: [i16; 100] = [
     0, 957, 1765, 2342, 2638, 2635, 2348, 1821, 1123, 338, -445, -1142, -1682, -2014, -2112, -1977,
     -1636, -1134, -534, 94, 681, 1166, 1502, 1659, 1629, 1425, 1077, 629, 136, -348, -771, -1090,
@@ -128,8 +128,8 @@ const WAVE: [i16; 100] = [
     100, -21, -134, -226, -290, -319, -312, -272, -205, -119, -24, 69, 150, 211, 246, 252,
 ];
 
-// Where a header has other bytes in a record of that file: its number, the second, the number of samples, the
-// encoding and the length.
+/// Where a header has other bytes in a record of that file: its number, the second, the number of samples, the
+/// encoding and the length.
 fn short_record(number: u8, second: u8) -> [u8; 512] {
     let mut record = [0; 512];
     record[..64].copy_from_slice(&HEADER);

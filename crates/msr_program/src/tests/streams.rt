@@ -6,7 +6,7 @@ use msr_tool::Behavior;
 use std::process::Abort;
 use std::test::Fail;
 
-// Moves so many bytes in a call, and fails at one.
+/// Moves so many bytes in a call, and fails at one.
 fn failing(most: usize, at: u64) -> Behavior {
     Behavior {
         most,
@@ -43,7 +43,7 @@ fn complains(rt: &impl Abort, ran: &Ran, want: &str) {
     assert_eq!(rt; ran.complaint.as_slice(), want.as_bytes());
 }
 
-// The input fails at its first calls: there is a list of no segment, or no text of a report.
+/// The input fails at its first calls: there is a list of no segment, or no text of a report.
 #[test]
 fn input_that_fails(rt: HostRuntime) -> Result<(), Fail> {
     let input = zeros(rt.alloc())?;
@@ -59,7 +59,7 @@ fn input_that_fails(rt: HostRuntime) -> Result<(), Fail> {
     Ok(())
 }
 
-// The first call tries whether standard output is open.
+/// The first call tries whether standard output is open.
 #[test]
 fn output_that_fails(rt: HostRuntime) -> Result<(), Fail> {
     let input = zeros(rt.alloc())?;
@@ -87,7 +87,7 @@ fn output_that_fails(rt: HostRuntime) -> Result<(), Fail> {
     Ok(())
 }
 
-// A fault of the input says where; a text of help that is not printed is a fault of the output.
+/// A fault of the input says where; a text of help that is not printed is a fault of the output.
 #[test]
 fn other_endings(rt: HostRuntime) -> Result<(), Fail> {
     let mut input = zeros(rt.alloc())?;

@@ -9,7 +9,7 @@ use std::process::Abort;
 use std::rt::Files;
 use std::test::Fail;
 
-// A run with these words has this status, and prints and complains so.
+/// A run with these words has this status, and prints and complains so.
 fn ends<R: Files + AllocGlobal + Abort>(
     rt: &R,
     words: &[&str],
@@ -106,7 +106,7 @@ fn repacks_and_checks_two_segments(rt: HostRuntime) -> Result<(), Fail> {
     folder.remove(&rt)
 }
 
-// What is missing, a folder, or empty.
+/// What is missing, a folder, or empty.
 #[test]
 fn files_that_cannot_be_used(rt: HostRuntime) -> Result<(), Fail> {
     let alloc = rt.alloc();
@@ -120,73 +120,50 @@ fn files_that_cannot_be_used(rt: HostRuntime) -> Result<(), Fail> {
     let no_input = format!(in alloc; "msrepack: cannot open {missing}\n")?;
     let no_folder = format!(in alloc; "msrepack: cannot open {below}\n")?;
     let no_output = format!(in alloc; "msrepack: cannot open {inner}\n")?;
-    let read_fault = "msrepack: read fault\n";
+    let (missing, below) = (missing.as_str(), below.as_str());
+    let (empty, inner) = (empty.as_str(), inner.as_str());
+    let (no_input, read_fault) = (no_input.as_str(), "msrepack: read fault\n");
+    let rows: [(&[&str], u8, &str, &str); 11] = [
+        (&["repack", missing], 1, "", no_input),
+        (&["list", missing], 1, "", no_input),
+        (&["check", missing, empty], 1, "", no_input),
+        (&["check", empty, missing], 1, "", no_input),
+        (&["repack", inner], 1, "", read_fault),
+        (&["list", inner], 1, "", read_fault),
+        (&["check", empty, inner], 1, "", read_fault),
+        (&["repack", empty], 0, REPORT_OF_NOTHING, ""),
+        (&["check", empty, empty], 1, "", "msrepack: report line 1\n"),
+        (&["repack", empty, inner], 1, "", no_output.as_str()),
+        (&["repack", empty, below], 1, "", no_folder.as_str()),
+    ];
+    for (words, status, printed, complaint) in rows {
+        ends(&rt, words, status, printed, complaint)?;
+    }
+    folder.remove(&rt)
+}
 
-    ends(&rt, &["repack", missing.as_str()], 1, "", no_input.as_str())?;
-    ends(&rt, &["list", missing.as_str()], 1, "", no_input.as_str())?;
+#[test]
+fn a_wrong_input_leaves_an_old_output_as_it_is(rt: HostRuntime) -> Result<(), Fail> {
+    let folder = Folder::new(&rt)?;
+    let missing = folder.path("missing")?;
+    let output = folder.path("output")?;
+    fs::write(&rt, output.as_str(), "old")?;
+    let complaint = format!(in rt.alloc(); "msrepack: cannot open {missing}\n")?;
     ends(
         &rt,
-        &["check", missing.as_str(), empty.as_str()],
+        &["repack", missing.as_str(), output.as_str()],
         1,
         "",
-        no_input.as_str(),
-    )?;
-    ends(
-        &rt,
-        &["check", empty.as_str(), missing.as_str()],
-        1,
-        "",
-        no_input.as_str(),
-    )?;
-    ends(&rt, &["repack", inner.as_str()], 1, "", read_fault)?;
-    ends(&rt, &["list", inner.as_str()], 1, "", read_fault)?;
-    ends(
-        &rt,
-        &["check", empty.as_str(), inner.as_str()],
-        1,
-        "",
-        read_fault,
-    )?;
-    ends(&rt, &["repack", empty.as_str()], 0, REPORT_OF_NOTHING, "")?;
-    ends(
-        &rt,
-        &["check", empty.as_str(), empty.as_str()],
-        1,
-        "",
-        "msrepack: report line 1\n",
-    )?;
-    ends(
-        &rt,
-        &["repack", empty.as_str(), inner.as_str()],
-        1,
-        "",
-        no_output.as_str(),
-    )?;
-    ends(
-        &rt,
-        &["repack", empty.as_str(), below.as_str()],
-        1,
-        "",
-        no_folder.as_str(),
-    )?;
-
-    // A wrong input leaves an old output as it is.
-    fs::write(&rt, empty.as_str(), "old")?;
-    ends(
-        &rt,
-        &["repack", missing.as_str(), empty.as_str()],
-        1,
-        "",
-        no_input.as_str(),
+        complaint.as_str(),
     )?;
     assert_eq!(&rt;
-        fs::read(&rt, empty.as_str())?.as_slice(),
+        fs::read(&rt, output.as_str())?.as_slice(),
         b"old".as_slice()
     );
     folder.remove(&rt)
 }
 
-// By another path, a hard link and a symbolic link.
+/// By another path, a hard link and a symbolic link.
 #[test]
 fn the_output_is_never_the_input(rt: HostRuntime) -> Result<(), Fail> {
     let folder = Folder::new(&rt)?;
@@ -222,8 +199,8 @@ fn the_output_is_never_the_input(rt: HostRuntime) -> Result<(), Fail> {
     folder.remove(&rt)
 }
 
-// A record whose reverse constant does not agree is refused where that is asked for, and counted where it is not; one
-// that agrees is read.
+/// A record whose reverse constant does not agree is refused where that is asked for, and counted where it is not; one
+/// that agrees is read.
 #[test]
 fn strict_tasks(rt: HostRuntime) -> Result<(), Fail> {
     let folder = Folder::new(&rt)?;

@@ -1,13 +1,15 @@
 //! What command lines are read as, and the text and status that the others end with.
 use crate::words::{
     Archiving, Checking, Ending, Feeding, Folders, Listing, NoTask, Repacking, Task, Walking,
-    default_length, read_words,
+    read_words,
 };
+use msr_tool::Options;
 use msr_words::Length;
 use std::alloc::{AllocError, Global};
+use std::process::Abort;
 use std::test::Fail;
 
-// The text and status of a line that asks for no task; status 255 where it asks for one.
+/// The text and status of a line that asks for no task; status 255 where it asks for one.
 fn ending(alloc: Global, words: &'static [&'static str]) -> Result<Ending, AllocError> {
     match read_words(alloc, words) {
         Ok(_) => Ok(Ending {
@@ -19,17 +21,19 @@ fn ending(alloc: Global, words: &'static [&'static str]) -> Result<Ending, Alloc
     }
 }
 
+/// The options of a task that is not strict.
+fn options(bytes: u32, tolerance: u32) -> Option<Options> {
+    Options::new(Length::new(bytes)?, tolerance)
+}
+
 fn repacking(
     bytes: u32,
     tolerance: u32,
     input: &'static str,
     output: Option<&'static str>,
 ) -> Option<Task<'static>> {
-    let length = Length::new(bytes)?;
     Some(Task::Repack(Repacking {
-        length,
-        tolerance,
-        strict: false,
+        options: options(bytes, tolerance)?,
         input,
         output,
     }))
@@ -79,17 +83,14 @@ fn reads_list(rt: HostRuntime) -> Result<(), Fail> {
         (&["msrepack", "list", "--tolerance", "7", "a"], 7, "a"),
     ];
     for (words, tolerance, input) in rows {
-        let want = Some(Task::List(Listing {
-            tolerance,
-            strict: false,
-            input,
-        }));
+        let options = options(512, tolerance).ok_or("no options")?;
+        let want = Some(Task::List(Listing { options, input }));
         assert_eq!(&rt; read_words(rt.alloc(), words).ok(), want, "at {words:?}");
     }
     Ok(())
 }
 
-// The report is a file, also where its name is `-`.
+/// The report is a file, also where its name is `-`.
 #[test]
 fn reads_feed(rt: HostRuntime) -> Result<(), Fail> {
     let rows: [(&'static [&'static str], u32, u32, &'static str); 3] = [
@@ -103,19 +104,14 @@ fn reads_feed(rt: HostRuntime) -> Result<(), Fail> {
         ),
     ];
     for (words, bytes, tolerance, report) in rows {
-        let length = Length::new(bytes).ok_or("no length")?;
-        let want = Some(Task::Feed(Feeding {
-            length,
-            tolerance,
-            strict: false,
-            report,
-        }));
+        let options = options(bytes, tolerance).ok_or("no options")?;
+        let want = Some(Task::Feed(Feeding { options, report }));
         assert_eq!(&rt; read_words(rt.alloc(), words).ok(), want, "at {words:?}");
     }
     Ok(())
 }
 
-// Both are names of files, also where they are `-`, and may be one name.
+/// Both are names of files, also where they are `-`, and may be one name.
 #[test]
 fn reads_check(rt: HostRuntime) -> Result<(), Fail> {
     let rows: [(&'static [&'static str], &'static str, &'static str); 4] = [
@@ -131,102 +127,104 @@ fn reads_check(rt: HostRuntime) -> Result<(), Fail> {
     Ok(())
 }
 
+fn archiving(
+    tolerance: u32,
+    [root, out, reports]: [&'static str; 3],
+    walking: Walking<'static>,
+) -> Option<Task<'static>> {
+    Some(Task::Archive(Archiving {
+        options: options(512, tolerance)?,
+        folders: Folders { root, out, reports },
+        walking,
+    }))
+}
+
+/// Names are compared as they are written.
 #[test]
 fn reads_archive(rt: HostRuntime) -> Result<(), Fail> {
-    let rows: [(
-        &'static [&'static str],
-        u32,
-        [&'static str; 3],
-        &'static [&'static str],
-        (bool, bool),
-    ); 7] = [
+    let rows: [(&'static [&'static str], u32, [&'static str; 3]); 4] = [
         (
             &["msrepack", "archive", "a", "b", "c"],
             1000,
             ["a", "b", "c"],
-            &[],
-            (false, false),
         ),
         (
             &["msrepack", "archive", "--tolerance=7", "a/b", "a/c", "a/bb"],
             7,
             ["a/b", "a/c", "a/bb"],
-            &[],
-            (false, false),
         ),
-        // Names are compared as they are written.
         (
             &["msrepack", "archive", "a/", "a/b", "a/./b"],
             1000,
             ["a/", "a/b", "a/./b"],
-            &[],
-            (false, false),
         ),
         (
             &["msrepack", "archive", "-", "--", "-a", "b"],
             1000,
             ["-", "-a", "b"],
-            &[],
-            (false, false),
-        ),
-        (
-            &["msrepack", "archive", "--below", "2020", "a", "b", "c"],
-            1000,
-            ["a", "b", "c"],
-            &["2020"],
-            (false, false),
-        ),
-        (
-            &["msrepack", "archive", "a", "b", "c", "--resume"],
-            1000,
-            ["a", "b", "c"],
-            &[],
-            (true, false),
-        ),
-        // One that begins as another does is beside it.
-        (
-            &[
-                "msrepack",
-                "archive",
-                "--below=2021/XX/S/Z.D",
-                "--below=2020/a..b",
-                "--below=2020/a",
-                "--check",
-                "--resume",
-                "a",
-                "b",
-                "c",
-            ],
-            1000,
-            ["a", "b", "c"],
-            &["2021/XX/S/Z.D", "2020/a..b", "2020/a"],
-            (true, true),
         ),
     ];
-    for (words, tolerance, [root, out, reports], below, (resume, check)) in rows {
-        let want = Some(Task::Archive(Archiving {
-            length: default_length(),
-            tolerance,
-            strict: false,
-            folders: Folders { root, out, reports },
-            walking: Walking {
-                below: below.to_vec(rt.alloc())?,
-                resume,
-                check,
-            },
-        }));
+    for (words, tolerance, folders) in rows {
+        let walking = Walking {
+            below: Vec::new(rt.alloc()),
+            resume: false,
+            check: false,
+        };
+        let want = archiving(tolerance, folders, walking);
         assert_eq!(&rt; read_words(rt.alloc(), words).ok(), want, "at {words:?}");
     }
     Ok(())
 }
 
-// Whether a task is strict; none where it cannot be.
+/// A folder whose name begins as another's does is beside it.
+#[test]
+fn reads_how_an_archive_is_walked(rt: HostRuntime) -> Result<(), Fail> {
+    let rows: [(
+        &'static [&'static str],
+        &'static [&'static str],
+        (bool, bool),
+    ); 4] = [
+        (&["--below", "2020"], &["2020"], (false, false)),
+        (&["--resume"], &[], (true, false)),
+        (&["--check"], &[], (false, true)),
+        (
+            &[
+                "--below=2021/XX/S/Z.D",
+                "--below=2020/a..b",
+                "--below=2020/a",
+                "--check",
+                "--resume",
+            ],
+            &["2021/XX/S/Z.D", "2020/a..b", "2020/a"],
+            (true, true),
+        ),
+    ];
+    for (options, below, (resume, check)) in rows {
+        let mut words = vec![in rt.alloc(); "msrepack", "archive"]?;
+        words.extend_from_slice(options)?;
+        words.extend_from_slice(["a", "b", "c"].as_slice())?;
+        let walking = Walking {
+            below: below.to_vec(rt.alloc())?,
+            resume,
+            check,
+        };
+        let want = archiving(1000, ["a", "b", "c"], walking);
+        assert_eq!(&rt;
+            read_words(rt.alloc(), words.as_slice()).ok(),
+            want,
+            "at {options:?}"
+        );
+    }
+    Ok(())
+}
+
+/// Whether a task is strict; none where it cannot be.
 fn strictness(task: Task<'_>) -> Option<bool> {
     match task {
-        Task::Repack(asked) => Some(asked.strict),
-        Task::List(asked) => Some(asked.strict),
-        Task::Archive(asked) => Some(asked.strict),
-        Task::Feed(asked) => Some(asked.strict),
+        Task::Repack(asked) => Some(asked.options.is_strict()),
+        Task::List(asked) => Some(asked.options.is_strict()),
+        Task::Archive(asked) => Some(asked.options.is_strict()),
+        Task::Feed(asked) => Some(asked.options.is_strict()),
         Task::Check(_) => None,
     }
 }
@@ -257,7 +255,7 @@ fn reads_strict(rt: HostRuntime) {
     }
 }
 
-// Faults that clap finds come first, then a wrong length, then an output that is the input or folders that overlap.
+/// Faults that clap finds come first, then a wrong length, then an output that is the input or folders that overlap.
 #[test]
 fn refuses_with_a_text_of_its_own(rt: HostRuntime) -> Result<(), Fail> {
     let length = "msrepack: not a record length\n";
@@ -296,7 +294,7 @@ fn refuses_with_a_text_of_its_own(rt: HostRuntime) -> Result<(), Fail> {
     Ok(())
 }
 
-// Folders of an archive are paths of one to four names, of which none is another or stands below it.
+/// Folders of an archive are paths of one to four names, of which none is another or stands below it.
 #[test]
 fn refuses_folders(rt: HostRuntime) -> Result<(), Fail> {
     let not_below = "msrepack: not a folder of an archive\n";
@@ -335,9 +333,25 @@ fn refuses_folders(rt: HostRuntime) -> Result<(), Fail> {
     Ok(())
 }
 
+/// The text of clap for these words begins so, and the status is 2.
+fn refuses<R: Abort + AllocGlobal>(
+    rt: &R,
+    words: &'static [&'static str],
+    want: &str,
+) -> Result<(), AllocError> {
+    let ending = ending(rt.alloc(), words)?;
+    assert_eq!(rt; ending.status, 2, "at {words:?}");
+    assert!(rt;
+        ending.text.starts_with(want),
+        "at {words:?}: {}",
+        ending.text.as_str()
+    );
+    Ok(())
+}
+
 #[test]
-fn refuses_with_the_text_of_clap(rt: HostRuntime) -> Result<(), Fail> {
-    let rows: [(&'static [&'static str], &'static str); 20] = [
+fn refuses_words_that_are_missing_or_unknown(rt: HostRuntime) -> Result<(), Fail> {
+    let rows: [(&'static [&'static str], &'static str); 7] = [
         (
             &["msrepack", "--"],
             "error: 'msrepack' requires a subcommand but one was not provided\n",
@@ -352,24 +366,8 @@ fn refuses_with_the_text_of_clap(rt: HostRuntime) -> Result<(), Fail> {
             "error: unrecognized subcommand 'split'\n",
         ),
         (
-            &["msrepack", "--strict"],
-            "error: unexpected argument '--strict' found\n",
-        ),
-        (
             &["msrepack", "list"],
             "error: the following required arguments were not provided:\n  <IN>\n",
-        ),
-        (
-            &["msrepack", "list", "a", "b"],
-            "error: unexpected argument 'b' found\n",
-        ),
-        (
-            &["msrepack", "list", "--length", "512", "a"],
-            "error: unexpected argument '--length' found\n",
-        ),
-        (
-            &["msrepack", "list", "--tolerance", "0", "a"],
-            "error: invalid value '0' for '--tolerance <T>': 0 is not in 1..=1000000\n",
         ),
         (
             &["msrepack", "check"],
@@ -378,6 +376,28 @@ fn refuses_with_the_text_of_clap(rt: HostRuntime) -> Result<(), Fail> {
         (
             &["msrepack", "check", "a"],
             "error: the following required arguments were not provided:\n  <REPORT>\n",
+        ),
+    ];
+    for (words, want) in rows {
+        refuses(&rt, words, want)?;
+    }
+    Ok(())
+}
+
+#[test]
+fn refuses_arguments_that_are_too_many(rt: HostRuntime) -> Result<(), Fail> {
+    let rows: [(&'static [&'static str], &'static str); 9] = [
+        (
+            &["msrepack", "--strict"],
+            "error: unexpected argument '--strict' found\n",
+        ),
+        (
+            &["msrepack", "list", "a", "b"],
+            "error: unexpected argument 'b' found\n",
+        ),
+        (
+            &["msrepack", "list", "--length", "512", "a"],
+            "error: unexpected argument '--length' found\n",
         ),
         (
             &["msrepack", "check", "a", "b", "c"],
@@ -400,6 +420,26 @@ fn refuses_with_the_text_of_clap(rt: HostRuntime) -> Result<(), Fail> {
             "error: the argument '--strict' cannot be used multiple times\n",
         ),
         (
+            &[
+                "msrepack", "repack", "--length", "512", "--length", "512", "a",
+            ],
+            "error: the argument '--length <L>' cannot be used multiple times\n",
+        ),
+    ];
+    for (words, want) in rows {
+        refuses(&rt, words, want)?;
+    }
+    Ok(())
+}
+
+#[test]
+fn refuses_values_out_of_range(rt: HostRuntime) -> Result<(), Fail> {
+    let rows: [(&'static [&'static str], &'static str); 4] = [
+        (
+            &["msrepack", "list", "--tolerance", "0", "a"],
+            "error: invalid value '0' for '--tolerance <T>': 0 is not in 1..=1000000\n",
+        ),
+        (
             &["msrepack", "repack", "--tolerance", "1000001", "a"],
             "error: invalid value '1000001' for '--tolerance <T>': 1000001 is not in 1..=1000000\n",
         ),
@@ -411,30 +451,33 @@ fn refuses_with_the_text_of_clap(rt: HostRuntime) -> Result<(), Fail> {
             &["msrepack", "repack", "--length", "4294967296", "a"],
             "error: invalid value '4294967296' for '--length <L>': 4294967296 is not in 0..=4294967295\n",
         ),
-        (
-            &[
-                "msrepack", "repack", "--length", "512", "--length", "512", "a",
-            ],
-            "error: the argument '--length <L>' cannot be used multiple times\n",
-        ),
     ];
     for (words, want) in rows {
-        let ending = ending(rt.alloc(), words)?;
-        assert_eq!(&rt; ending.status, 2, "at {words:?}");
-        assert!(&rt;
-            ending.text.starts_with(want),
-            "at {words:?}: {}",
-            ending.text.as_str()
-        );
+        refuses(&rt, words, want)?;
     }
     Ok(())
 }
 
+/// The text for these words has this part, and the status is 0.
+fn shows<R: Abort + AllocGlobal>(
+    rt: &R,
+    words: &'static [&'static str],
+    part: &str,
+) -> Result<(), AllocError> {
+    let ending = ending(rt.alloc(), words)?;
+    assert_eq!(rt; ending.status, 0, "at {words:?}");
+    assert!(rt;
+        ending.text.contains(part),
+        "at {words:?}: {}",
+        ending.text.as_str()
+    );
+    Ok(())
+}
+
 #[test]
-fn helps(rt: HostRuntime) -> Result<(), Fail> {
-    let rows: [(&'static [&'static str], &'static str); 16] = [
+fn helps_with_the_usage(rt: HostRuntime) -> Result<(), Fail> {
+    let rows: [(&'static [&'static str], &'static str); 8] = [
         (&["msrepack", "--help"], "Usage: msrepack <COMMAND>\n"),
-        (&["msrepack", "--help"], "\nStatuses:\n  0  done\n"),
         (
             &["msrepack", "help", "list"],
             "Usage: msrepack list [OPTIONS] <IN>\n",
@@ -448,13 +491,32 @@ fn helps(rt: HostRuntime) -> Result<(), Fail> {
             "Usage: msrepack repack [OPTIONS] <IN> [OUT]\n",
         ),
         (
-            &["msrepack", "repack", "--help"],
-            "256, 512, 1024, 2048, 4096, 8192, 16384, 32768 or 65536\n          \n          [default: 512]\n",
+            &["msrepack", "check", "--help"],
+            "Usage: msrepack check <PACKED> <REPORT>\n",
         ),
         (
-            &["msrepack", "repack", "-h"],
-            "1 to 1000000 [default: 1000]\n",
+            &["msrepack", "check", "-h"],
+            "Usage: msrepack check <PACKED> <REPORT>\n",
         ),
+        (
+            &["msrepack", "archive", "--help"],
+            "Usage: msrepack archive [OPTIONS] <ROOT> <OUT> <REPORTS>\n",
+        ),
+        (
+            &["msrepack", "feed", "--help"],
+            "Usage: msrepack feed [OPTIONS] <REPORT>\n",
+        ),
+    ];
+    for (words, part) in rows {
+        shows(&rt, words, part)?;
+    }
+    Ok(())
+}
+
+#[test]
+fn helps_with_what_is_done(rt: HostRuntime) -> Result<(), Fail> {
+    let rows: [(&'static [&'static str], &'static str); 8] = [
+        (&["msrepack", "--help"], "\nStatuses:\n  0  done\n"),
         (
             &["msrepack", "--help"],
             "\n  check    Says whether a report shows that packed records are the fewest\n",
@@ -464,39 +526,25 @@ fn helps(rt: HostRuntime) -> Result<(), Fail> {
             "\n  3  the report does not show that the records are the fewest\n",
         ),
         (
-            &["msrepack", "check", "--help"],
-            "Usage: msrepack check <PACKED> <REPORT>\n",
+            &["msrepack", "repack", "--help"],
+            "256, 512, 1024, 2048, 4096, 8192, 16384, 32768 or 65536\n          \n          [default: 512]\n",
         ),
         (
-            &["msrepack", "check", "-h"],
-            "Usage: msrepack check <PACKED> <REPORT>\n",
+            &["msrepack", "repack", "-h"],
+            "1 to 1000000 [default: 1000]\n",
         ),
         (
             &["msrepack", "help", "check"],
             "\nnot shown  The report does not show that: ",
         ),
         (
-            &["msrepack", "archive", "--help"],
-            "Usage: msrepack archive [OPTIONS] <ROOT> <OUT> <REPORTS>\n",
-        ),
-        (
             &["msrepack", "help", "archive"],
             "\nfiles N skipped N refused N\n",
-        ),
-        (
-            &["msrepack", "feed", "--help"],
-            "Usage: msrepack feed [OPTIONS] <REPORT>\n",
         ),
         (&["msrepack", "--version"], "msrepack 0.1.0\n"),
     ];
     for (words, part) in rows {
-        let ending = ending(rt.alloc(), words)?;
-        assert_eq!(&rt; ending.status, 0, "at {words:?}");
-        assert!(&rt;
-            ending.text.contains(part),
-            "at {words:?}: {}",
-            ending.text.as_str()
-        );
+        shows(&rt, words, part)?;
     }
     Ok(())
 }

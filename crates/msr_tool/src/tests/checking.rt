@@ -1,8 +1,9 @@
 //! Packed records that are checked with reports typed by hand: each answer but those of sources that fail.
-use crate::tests::fixtures::{Outcome, PLAIN, choice, input_of, joined, plain, repacked, steim};
+use crate::tests::fixtures::{Outcome, PLAIN, choice, input_of, joined, repacked};
 use crate::tests::texts::{NO_SEGMENTS, ONE_SEGMENT};
 use crate::{TestSink, TestSource, ToolFault, Verdict, check_packed};
 use msr_devices::Behavior;
+use msr_fixtures::{Edit, record, steim_record};
 use msr_time::Rate;
 use std::alloc::{AllocError, Global};
 use std::process::Abort;
@@ -10,21 +11,18 @@ use std::test::Fail;
 
 /// 302 samples of 0 in two records, as `ONE_SEGMENT` tells of them.
 pub fn two_records(rt: &impl Abort, alloc: Global) -> Result<Vec<u8>, AllocError> {
-    let second = plain(
-        rt,
-        &[
-            (5, &[0x32]),
-            (26, &[0x0f, 0x00, 0x01, 0xf4]),
-            (30, &[0x00, 0x01]),
-            (63, &[0x01]),
-            (64, &[0x02, 0x00, 0x00, 0x00]),
-            (76, &[0x40, 0x00, 0x00, 0x00]),
-        ],
-    );
-    joined(alloc, &[steim(rt, &[]), second])
+    let second = record(&[
+        Edit::Sequence(*b"000002"),
+        Edit::Clock(0, 0, 15, 500),
+        Edit::Samples(1),
+        Edit::Frames(1),
+        Edit::Bytes(64, &[0x02, 0x00, 0x00, 0x00]),
+        Edit::Bytes(76, &[0x40, 0x00, 0x00, 0x00]),
+    ]);
+    joined(alloc, &[steim_record(&[]), second])
 }
 
-// The report of one segment with that length, those numbers of samples and records, and those separators.
+/// The report of one segment with that length, those numbers of samples and records, and those separators.
 fn report_of(
     alloc: Global,
     length: &str,
@@ -37,7 +35,7 @@ fn report_of(
     )
 }
 
-// The answer where the records and the report come from sources that behave so.
+/// The answer where the records and the report come from sources that behave so.
 fn checked_through(
     alloc: Global,
     packed: &[u8],
@@ -63,7 +61,7 @@ fn judged(rt: &impl Abort, alloc: Global, packed: &[u8], text: &str, verdict: Ve
 fn verdicts(rt: HostRuntime) -> Result<(), Fail> {
     let alloc = rt.alloc();
     let two = two_records(&rt, alloc)?;
-    let one = steim(&rt, &[]);
+    let one = steim_record(&[]);
     let none: &[u8] = &[];
     for (packed, text, verdict) in [
         (none, NO_SEGMENTS, Verdict::Least),
@@ -91,7 +89,7 @@ fn verdicts(rt: HostRuntime) -> Result<(), Fail> {
     Ok(())
 }
 
-// What is repacked is checked with the report that was printed, of the longest records and of shorter ones.
+/// What is repacked is checked with the report that was printed, of the longest records and of shorter ones.
 #[test]
 fn what_was_repacked_is_least(rt: HostRuntime) -> Result<(), Fail> {
     let alloc = rt.alloc();
@@ -112,29 +110,26 @@ fn what_was_repacked_is_least(rt: HostRuntime) -> Result<(), Fail> {
     Ok(())
 }
 
-// 65 samples, 8388607 and -8388608 in turn, of which the first record has 48 as 32-bit integers. As 24-bit integers one
-// record holds 64 of them.
+/// 65 samples, 8388607 and -8388608 in turn, of which the first record has 48 as 32-bit integers. As 24-bit integers one
+/// record holds 64 of them.
 #[test]
 fn records_from_before_24_bits(rt: HostRuntime) -> Result<(), Fail> {
     let alloc = rt.alloc();
-    let mut first = plain(&rt, &[(30, &[0x00, 0x30]), (52, &[0x03]), (63, &[0x00])]);
+    let mut first = record(&[Edit::Samples(48), Edit::Encoding(3), Edit::Frames(0)]);
     for pair in 0..24 {
         first[8 * pair + 64..8 * pair + 72].copy_from_slice(&[
             0x00, 0x7f, 0xff, 0xff, 0xff, 0x80, 0x00, 0x00,
         ]);
     }
-    let mut second = plain(
-        &rt,
-        &[
-            (5, &[0x32]),
-            (26, &[0x02, 0x00, 0x0f, 0xa0]),
-            (30, &[0x00, 0x11]),
-            (63, &[0x02]),
-            (64, &[0x02, 0xaa, 0xaa, 0xaa, 0x00, 0x7f, 0xff, 0xff]),
-            (72, &[0x00, 0x7f, 0xff, 0xff]),
-            (128, &[0x2a, 0x80, 0x00, 0x00]),
-        ],
-    );
+    let mut second = record(&[
+        Edit::Sequence(*b"000002"),
+        Edit::Clock(0, 0, 2, 4000),
+        Edit::Samples(17),
+        Edit::Frames(2),
+        Edit::Bytes(64, &[0x02, 0xaa, 0xaa, 0xaa, 0x00, 0x7f, 0xff, 0xff]),
+        Edit::Bytes(72, &[0x00, 0x7f, 0xff, 0xff]),
+        Edit::Bytes(128, &[0x2a, 0x80, 0x00, 0x00]),
+    ]);
     for place in 0..17 {
         let at = if place < 13 {
             76 + 4 * place
@@ -157,7 +152,7 @@ fn records_from_before_24_bits(rt: HostRuntime) -> Result<(), Fail> {
     Ok(())
 }
 
-// The records come from a source that fails at its first call, so that none is read.
+/// The records come from a source that fails at its first call, so that none is read.
 #[test]
 fn texts_that_are_no_reports(rt: HostRuntime) -> Result<(), Fail> {
     let alloc = rt.alloc();
@@ -224,7 +219,7 @@ fn packed_records_that_are_refused(rt: HostRuntime) -> Result<(), Fail> {
     let mut cut = two_records(&rt, alloc)?;
     let end: &[u8] = &[0; 47];
     cut.extend_from_slice(end)?;
-    let of_no_encoding = steim(&rt, &[(52, &[0x04])]);
+    let of_no_encoding = steim_record(&[Edit::Encoding(4)]);
     for (packed, text, want) in [
         (end, NO_SEGMENTS, "offset 0: 1 Truncated"),
         (cut.as_slice(), ONE_SEGMENT, "offset 512: 1 Truncated"),

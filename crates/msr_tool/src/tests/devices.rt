@@ -4,15 +4,14 @@ ghost use Rattle.std.specs.Prelude.{◌≡◌, [], Some};
 ghost use Rattle.msr_devices.specs.Device.{unused};
 
 use crate::tests::checking::two_records;
-use crate::tests::fixtures::{
-    Edits, PLAIN, choice, edited, input_of, repacked, repacked_through, steim,
-};
+use crate::tests::fixtures::{Edits, PLAIN, choice, edited, input_of, repacked, repacked_through};
 use crate::tests::texts::{LIST, LISTED, NO_SEGMENTS, ONE_SEGMENT};
 use crate::{
     FromRead, FromWrite, Sink, TestSink, TestSource, ToolFault, check_and_tell, check_packed,
     feed_and_report, list_segments, repack, repack_and_report,
 };
 use msr_devices::Behavior;
+use msr_fixtures::steim_record;
 use msr_time::Rate;
 use std::alloc::Global;
 use std::process::Abort;
@@ -28,7 +27,7 @@ enum Call {
     CheckAndTell,
 }
 
-// A call, what its sources have, and what its sinks are to hold: nothing where it has no such device.
+/// A call, what its sources have, and what its sinks are to hold: nothing where it has no such device.
 #[derive(Clone, Copy)]
 struct Worked<'a> {
     call: Call,
@@ -38,7 +37,7 @@ struct Worked<'a> {
     told: &'a str,
 }
 
-// The device of a call that is no plain one.
+/// The device of a call that is no plain one.
 #[derive(Clone, Copy, Debug, PartialEq, Eq)]
 enum Place {
     Records,
@@ -52,7 +51,7 @@ impl Place {
         matches!(self, Place::Records | Place::Report)
     }
 
-    // What the call answers where it fails.
+    /// What the call answers where it fails.
     fn fault(self) -> ToolFault {
         if self.is_source() {
             ToolFault::Read
@@ -62,7 +61,7 @@ impl Place {
     }
 }
 
-// How that device behaves. A sink that fails accepts nothing, or answers an error.
+/// How that device behaves. A sink that fails accepts nothing, or answers an error.
 #[derive(Clone, Copy, Debug)]
 struct Odd {
     place: Place,
@@ -92,7 +91,7 @@ impl Odd {
 }
 
 impl Worked<'_> {
-    // How many bytes go through the device at that place.
+    /// How many bytes go through the device at that place.
     fn size_at(self, place: Place) -> u64 {
         let size = match place {
             Place::Records => self.records.len(),
@@ -104,7 +103,7 @@ impl Worked<'_> {
     }
 }
 
-// What a call answered, and the sinks that it wrote to.
+/// What a call answered, and the sinks that it wrote to.
 #[derive(Drop)]
 struct Left {
     fault: Option<ToolFault>,
@@ -137,8 +136,8 @@ fn ended(rt: &impl Abort, alloc: Global, worked: Worked<'_>, odd: Odd) -> Left {
     }
 }
 
-// The call ends well, and wrote all; or it answers the fault of the device, each sink holds a prefix of what it is to
-// hold, and the text is not begun unless the fault is its own.
+/// The call ends well, and wrote all; or it answers the fault of the device, each sink holds a prefix of what it is to
+/// hold, and the text is not begun unless the fault is its own.
 fn ends(rt: &impl Abort, alloc: Global, worked: Worked<'_>, odd: Odd, well: bool) -> Left {
     let call = worked.call;
     let found = ended(rt, alloc, worked, odd);
@@ -164,8 +163,8 @@ fn ends(rt: &impl Abort, alloc: Global, worked: Worked<'_>, odd: Odd, well: bool
 
 const PLACES: [Place; 4] = [Place::Records, Place::Report, Place::Written, Place::Told];
 
-// Fails at each of its calls in turn, in each of which it moves an eighth of its bytes; a source finds its end in one
-// call more.
+/// Fails at each of its calls in turn, in each of which it moves an eighth of its bytes; a source finds its end in one
+/// call more.
 fn fails_in_turn(rt: &impl Abort, alloc: Global, worked: Worked<'_>, place: Place) {
     let most = worked.size_at(place).div_ceil(8).max(1);
     let calls = worked.size_at(place).div_ceil(most);
@@ -198,7 +197,7 @@ fn fails_in_turn(rt: &impl Abort, alloc: Global, worked: Worked<'_>, place: Plac
     }
 }
 
-// Moves a byte in a call, after no, 63 and 64 interruptions: the last are a failure, before anything is moved.
+/// Moves a byte in a call, after no, 63 and 64 interruptions: the last are a failure, before anything is moved.
 fn moves_single_bytes(rt: &impl Abort, alloc: Global, worked: Worked<'_>, place: Place) {
     for (interruptions, well) in [(0u32, true), (63, true), (64, false)] {
         let behavior = Behavior {
@@ -227,7 +226,7 @@ fn each_call_in_turn(rt: HostRuntime) -> Result<(), Fail> {
     let alloc = rt.alloc();
     let input = input_of(&rt, alloc, Rate::new(20, 1).ok_or("no rate")?, &[0; 302])?;
     let packed = two_records(&rt, alloc)?;
-    let listed = edited(&rt, alloc, &LISTED)?;
+    let listed = edited(alloc, &LISTED)?;
     let (input, packed, listed) = (input.as_slice(), packed.as_slice(), listed.as_slice());
     let none: &[u8] = &[];
     // The call, the records and the report that it reads, the bytes and the text that it writes.
@@ -258,13 +257,13 @@ fn each_call_in_turn(rt: HostRuntime) -> Result<(), Fail> {
     Ok(())
 }
 
-// So many segments that their records are written in two pieces.
+/// So many segments that their records are written in two pieces.
 #[test]
 fn a_long_output_fails_in_its_midst(rt: HostRuntime) -> Result<(), Fail> {
     let alloc = rt.alloc();
     let options = choice(&rt, 256, 1000);
     let unchanged: Edits = &[];
-    let input = edited(&rt, alloc, &[unchanged; 300])?;
+    let input = edited(alloc, &[unchanged; 300])?;
     let usual = repacked(alloc, &input, options);
     let bytes = usual.sink.bytes();
     assert!(rt; usual.answer.is_ok());
@@ -295,7 +294,7 @@ fn a_long_output_fails_in_its_midst(rt: HostRuntime) -> Result<(), Fail> {
 #[test]
 fn readers_and_writers_of_std(rt: HostRuntime) -> Result<(), Fail> {
     let alloc = rt.alloc();
-    let input = steim(&rt, &[]);
+    let input = steim_record(&[]);
     let mut source = FromRead::new(input.as_slice());
     let mut held = Vec::new(alloc);
     let mut sink = FromWrite::new(&mut held);

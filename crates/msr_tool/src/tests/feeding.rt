@@ -2,23 +2,24 @@
 use crate::tests::fixtures::{Edits, choice, edited};
 use crate::{TestSink, TestSource, ToolFault, feed, repack};
 use msr_devices::Behavior;
+use msr_fixtures::Edit;
 use std::test::Fail;
 
-// Full records of 301 samples of 0, each after the one before it, and one without samples before the last.
+/// Full records of 301 samples of 0, each after the one before it, and one without samples before the last.
 const RECORDS: [Edits<'static>; 5] = [
     &[],
-    &[(5, &[0x32]), (26, &[0x0f, 0x00, 0x01, 0xf4])],
-    &[(5, &[0x33]), (26, &[0x1e, 0x00, 0x03, 0xe8])],
-    &[(5, &[0x34]), (30, &[0x00, 0x00])],
-    &[(5, &[0x35]), (26, &[0x2d, 0x00, 0x05, 0xdc])],
+    &[Edit::Sequence(*b"000002"), Edit::Clock(0, 0, 15, 500)],
+    &[Edit::Sequence(*b"000003"), Edit::Clock(0, 0, 30, 1000)],
+    &[Edit::Sequence(*b"000004"), Edit::Samples(0)],
+    &[Edit::Sequence(*b"000005"), Edit::Clock(0, 0, 45, 1500)],
 ];
 
-// A read gives one record. The first record that is written ends where the second can begin at the latest, and where
-// that one ends is known once a sample after it is there: with the third record, and so on.
+/// A read gives one record. The first record that is written ends where the second can begin at the latest, and where
+/// that one ends is known once a sample after it is there: with the third record, and so on.
 #[test]
 fn decided_records_are_written_before_each_read(rt: HostRuntime) -> Result<(), Fail> {
     let alloc = rt.alloc();
-    let input = edited(&rt, alloc, &RECORDS)?;
+    let input = edited(alloc, &RECORDS)?;
     let options = choice(&rt, 256, 1000);
     for (reads, records) in [(0, 0), (1, 0), (2, 0), (3, 1), (4, 1), (5, 2)] {
         let behavior = Behavior {
@@ -43,11 +44,11 @@ fn decided_records_are_written_before_each_read(rt: HostRuntime) -> Result<(), F
     Ok(())
 }
 
-// In the end the output is that of a repack, also where nothing is decided before.
+/// In the end the output is that of a repack, also where nothing is decided before.
 #[test]
 fn the_output_is_that_of_a_repack(rt: HostRuntime) -> Result<(), Fail> {
     let alloc = rt.alloc();
-    let input = edited(&rt, alloc, &RECORDS)?;
+    let input = edited(alloc, &RECORDS)?;
     let options = choice(&rt, 256, 1000);
     for most in [1, 100, 256, 2000] {
         let behavior = Behavior {

@@ -4,25 +4,15 @@ ghost use Rattle.msr_report.specs.Proper.{IsProper};
 
 use crate::{Counts, Options, Report, TestSink, TestSource, ToolFault, repack};
 use msr_devices::Behavior;
+use msr_fixtures::{Edit, START, steim_record};
 use msr_record::{Key, encode_record};
 use msr_time::{Rate, is_instant};
 use msr_words::{Kind, Length};
 use std::alloc::{AllocError, Global};
 use std::process::Abort;
 
-// 301 samples of 0 from 2020-01-01 00:00:00 at 20 per second, Steim-2, in a record of 256 bytes.
-const HEADER: [u8; 64] = [
-    0x30, 0x30, 0x30, 0x30, 0x30, 0x31, 0x44, 0x20, 0x54, 0x45, 0x53, 0x54, 0x20, 0x30, 0x30, 0x42,
-    0x48, 0x5a, 0x58, 0x58, 0x07, 0xe4, 0x00, 0x01, 0x00, 0x00, 0x00, 0x00, 0x00, 0x00, 0x01, 0x2d,
-    0x00, 0x14, 0x00, 0x01, 0x00, 0x00, 0x00, 0x02, 0x00, 0x00, 0x00, 0x00, 0x00, 0x40, 0x00, 0x30,
-    0x03, 0xe8, 0x00, 0x38, 0x0b, 0x01, 0x08, 0x00, 0x03, 0xe9, 0x00, 0x00, 0x00, 0x00, 0x00, 0x03,
-];
-
-/// The instant of 2020-01-01 00:00:00.
-pub const START: i64 = 1_577_836_800_000_000;
-
-/// Where bytes of a record are others, and which.
-pub type Edits<'a> = &'a [(usize, &'a [u8])];
+/// Edits of a record.
+pub type Edits<'a> = &'a [Edit<'a>];
 
 /// A device that moves all that it is given, and never fails.
 pub const PLAIN: Behavior = Behavior {
@@ -30,54 +20,6 @@ pub const PLAIN: Behavior = Behavior {
     interruptions: 0,
     fails_at: None,
 };
-
-/// Changes bytes of the record.
-pub fn edit(rt: &impl Abort, bytes: &mut [u8; 256], edits: Edits) {
-    for (at, values) in edits {
-        for (place, value) in values.iter().enumerate() {
-            match bytes.get_mut(at.saturating_add(place)) {
-                Some(byte) => *byte = *value,
-                None => panic!(rt; "no byte {at}"),
-            }
-        }
-    }
-}
-
-/// The record of 301 samples of 0, after some edits.
-pub fn steim(rt: &impl Abort, edits: Edits) -> [u8; 256] {
-    let mut bytes = [0; 256];
-    bytes[..64].copy_from_slice(&HEADER);
-    for word in 19..64 {
-        bytes[4 * word] = 0x80;
-    }
-    let codes: Edits = &[
-        (64, &[0x03, 0xff, 0xff, 0xff]),
-        (128, &[0x3f, 0xff, 0xff, 0xff]),
-        (192, &[0x3f, 0xff, 0xff, 0xff]),
-    ];
-    edit(rt, &mut bytes, codes);
-    edit(rt, &mut bytes, edits);
-    bytes
-}
-
-/// The header of that record before bytes of 0, after some edits.
-pub fn plain(rt: &impl Abort, edits: Edits) -> [u8; 256] {
-    let mut bytes = [0; 256];
-    bytes[..64].copy_from_slice(&HEADER);
-    edit(rt, &mut bytes, edits);
-    bytes
-}
-
-/// That header before three frames in which each data word is the same, after some edits.
-pub fn of_words(rt: &impl Abort, word: [u8; 4], edits: Edits) -> [u8; 256] {
-    let mut bytes = [0; 256];
-    bytes[..64].copy_from_slice(&HEADER);
-    for place in 19..64 {
-        bytes[4 * place..4 * place + 4].copy_from_slice(&word);
-    }
-    edit(rt, &mut bytes, edits);
-    bytes
-}
 
 /// The records, one after another.
 pub fn joined(alloc: Global, records: &[[u8; 256]]) -> Result<Vec<u8>, AllocError> {
@@ -89,10 +31,10 @@ pub fn joined(alloc: Global, records: &[[u8; 256]]) -> Result<Vec<u8>, AllocErro
 }
 
 /// The records of 301 samples of 0, each after its edits.
-pub fn edited(rt: &impl Abort, alloc: Global, records: &[Edits]) -> Result<Vec<u8>, AllocError> {
+pub fn edited(alloc: Global, records: &[Edits]) -> Result<Vec<u8>, AllocError> {
     let mut bytes = Vec::new(alloc);
     for edits in records {
-        bytes.extend_from_slice(&steim(rt, edits))?;
+        bytes.extend_from_slice(&steim_record(edits))?;
     }
     Ok(bytes)
 }

@@ -1,13 +1,14 @@
 //! Records that join or do not, and what a written header takes over from the ones that were read.
 use crate::tests::fixtures::{
-    Edits, Outcome, START, choice, edited, repacked, same_bytes, same_counts, same_number,
+    Edits, Outcome, choice, edited, repacked, same_bytes, same_counts, same_number,
 };
 use crate::{Counts, SegmentLine};
+use msr_fixtures::{Edit, START};
 use std::process::Abort;
 use std::test::Fail;
 
-// 100 samples in place of 301.
-const SHORT: (usize, &[u8]) = (30, &[0x00, 0x64]);
+/// 100 samples in place of 301.
+const SHORT: Edit<'static> = Edit::Samples(100);
 
 const THREE_READ: Counts = Counts {
     read: 3,
@@ -25,8 +26,8 @@ const ONE_READ: Counts = Counts {
     ..THREE_READ
 };
 
-// Records of 100 samples of 0 in 5 seconds, and the segments that they are joined into: how many microseconds each
-// begins after the first record, and how many samples it has.
+/// Records of 100 samples of 0 in 5 seconds, and the segments that they are joined into: how many microseconds each
+/// begins after the first record, and how many samples it has.
 #[derive(Clone, Copy)]
 struct Joined {
     name: &'static str,
@@ -41,8 +42,8 @@ const LATE: Joined = Joined {
     tolerance: 1000,
     records: &[
         &[SHORT],
-        &[SHORT, (26, &[0x05, 0x00, 0x00, 0x07])],
-        &[SHORT, (26, &[0x0a, 0x00, 0x00, 0x0e])],
+        &[SHORT, Edit::Clock(0, 0, 5, 7)],
+        &[SHORT, Edit::Clock(0, 0, 10, 14)],
     ],
     counts: THREE_READ,
     segments: &[(0, 200), (10_001_400, 100)],
@@ -50,7 +51,7 @@ const LATE: Joined = Joined {
 
 const TWO: Joined = Joined {
     name: "late by as much as is tolerated",
-    records: &[&[SHORT], &[SHORT, (26, &[0x05, 0x00, 0x00, 0x0a])]],
+    records: &[&[SHORT], &[SHORT, Edit::Clock(0, 0, 5, 10)]],
     counts: TWO_READ,
     segments: &[(0, 200)],
     ..LATE
@@ -63,21 +64,21 @@ const JOINED: [Joined; 9] = [
         name: "late by a microsecond more",
         records: &[
             &[SHORT],
-            &[SHORT, (26, &[0x05, 0x00, 0x00, 0x0a]), (61, &[0x01])],
+            &[SHORT, Edit::Clock(0, 0, 5, 10), Edit::Micros(1)],
         ],
         segments: &[(0, 100), (5_001_001, 100)],
         ..TWO
     },
     Joined {
         name: "early by as much as is tolerated",
-        records: &[&[SHORT], &[SHORT, (26, &[0x04, 0x00, 0x27, 0x06])]],
+        records: &[&[SHORT], &[SHORT, Edit::Clock(0, 0, 4, 9990)]],
         ..TWO
     },
     Joined {
         name: "early by a microsecond more",
         records: &[
             &[SHORT],
-            &[SHORT, (26, &[0x04, 0x00, 0x27, 0x05]), (61, &[0x63])],
+            &[SHORT, Edit::Clock(0, 0, 4, 9989), Edit::Micros(99)],
         ],
         segments: &[(0, 100), (4_998_999, 100)],
         ..TWO
@@ -85,24 +86,21 @@ const JOINED: [Joined; 9] = [
     Joined {
         name: "late by the least tolerance",
         tolerance: 1,
-        records: &[
-            &[SHORT],
-            &[SHORT, (26, &[0x05, 0x00, 0x00, 0x00]), (61, &[0x01])],
-        ],
+        records: &[&[SHORT], &[SHORT, Edit::Clock(0, 0, 5, 0), Edit::Micros(1)]],
         ..TWO
     },
     Joined {
         name: "late by the greatest tolerance",
         tolerance: 1_000_000,
-        records: &[&[SHORT], &[SHORT, (26, &[0x06, 0x00, 0x00, 0x00])]],
+        records: &[&[SHORT], &[SHORT, Edit::Clock(0, 0, 6, 0)]],
         ..TWO
     },
     Joined {
         name: "an empty record of another encoding between",
         records: &[
             &[SHORT],
-            &[(30, &[0x00, 0x00]), (52, &[0x00])],
-            &[SHORT, (26, &[0x05, 0x00, 0x00, 0x00])],
+            &[Edit::Samples(0), Edit::Encoding(0)],
+            &[SHORT, Edit::Clock(0, 0, 5, 0)],
         ],
         counts: Counts {
             empty: 1,
@@ -114,11 +112,7 @@ const JOINED: [Joined; 9] = [
         name: "the same rate as another factor and multiplier",
         records: &[
             &[SHORT],
-            &[
-                SHORT,
-                (26, &[0x05, 0x00, 0x00, 0x00]),
-                (32, &[0x00, 0xc8, 0xff, 0xf6]),
-            ],
+            &[SHORT, Edit::Clock(0, 0, 5, 0), Edit::Rate(200, -10)],
         ],
         segments: &[(0, 100), (5_000_000, 100)],
         ..TWO
@@ -139,7 +133,7 @@ fn joins(rt: HostRuntime) -> Result<(), Fail> {
         counts,
         segments,
     } in JOINED {
-        let input = edited(&rt, alloc, records)?;
+        let input = edited(alloc, records)?;
         let Outcome { answer, sink } = repacked(alloc, &input, choice(&rt, 256, tolerance));
         let Ok(report) = answer else {
             panic!(rt; "{name}: refused")
@@ -157,7 +151,7 @@ fn joins(rt: HostRuntime) -> Result<(), Fail> {
     Ok(())
 }
 
-// Records, and those that are written for them.
+/// Records, and those that are written for them.
 #[derive(Clone, Copy)]
 struct TakenOver {
     name: &'static str,
@@ -170,8 +164,12 @@ struct TakenOver {
 
 const CORRECTED: TakenOver = TakenOver {
     name: "a correction that is not made yet",
-    read: &[&[(36, &[0x00]), (43, &[0x0c])]],
-    written: &[&[(28, &[0x00, 0x0c]), (36, &[0x02]), (43, &[0x0c])]],
+    read: &[&[Edit::Activity(0), Edit::Correction(12)]],
+    written: &[&[
+        Edit::Clock(0, 0, 0, 12),
+        Edit::Activity(2),
+        Edit::Correction(12),
+    ]],
     counts: ONE_READ,
     segments: &[301],
 };
@@ -179,7 +177,7 @@ const CORRECTED: TakenOver = TakenOver {
 const TWICE: TakenOver = TakenOver {
     name: "the same record twice",
     read: &[&[], &[]],
-    written: &[&[], &[(5, &[0x32])]],
+    written: &[&[], &[Edit::Sequence(*b"000002")]],
     counts: TWO_READ,
     segments: &[301, 301],
 };
@@ -188,54 +186,56 @@ const TAKEN_OVER: [TakenOver; 10] = [
     CORRECTED,
     TakenOver {
         name: "a correction that was made",
-        read: &[&[(36, &[0x02]), (43, &[0x0c])]],
-        written: &[&[(36, &[0x02]), (43, &[0x0c])]],
+        read: &[&[Edit::Activity(2), Edit::Correction(12)]],
+        written: &[&[Edit::Activity(2), Edit::Correction(12)]],
         ..CORRECTED
     },
     TakenOver {
         name: "a year that is one in both byte orders",
-        read: &[&[(20, &[0x08, 0x08, 0x00, 0x01])]],
-        written: &[&[(20, &[0x08, 0x08, 0x00, 0x01])]],
+        read: &[&[Edit::Day(2056, 1)]],
+        written: &[&[Edit::Day(2056, 1)]],
         ..CORRECTED
     },
     TakenOver {
         name: "a header in little-endian order",
         read: &[&[
-            (20, &[0xe4, 0x07, 0x01, 0x00]),
-            (30, &[0x2d, 0x01, 0x14, 0x00, 0x01, 0x00]),
-            (44, &[0x40, 0x00, 0x30, 0x00, 0xe8, 0x03, 0x38, 0x00]),
-            (56, &[0xe9, 0x03]),
+            Edit::Bytes(20, &[0xe4, 0x07, 0x01, 0x00]),
+            Edit::Bytes(30, &[0x2d, 0x01, 0x14, 0x00, 0x01, 0x00]),
+            Edit::Bytes(44, &[0x40, 0x00, 0x30, 0x00, 0xe8, 0x03, 0x38, 0x00]),
+            Edit::Bytes(56, &[0xe9, 0x03]),
         ]],
         written: &[&[]],
         ..CORRECTED
     },
     TakenOver {
         name: "microseconds below 0",
-        read: &[&[(61, &[0xce])]],
+        read: &[&[Edit::Micros(-50)]],
         written: &[&[
-            (
-                20,
-                &[0x07, 0xe3, 0x01, 0x6d, 0x17, 0x3b, 0x3b, 0x00, 0x27, 0x0f],
-            ),
-            (61, &[0x32]),
+            Edit::Day(2019, 365),
+            Edit::Clock(23, 59, 59, 9999),
+            Edit::Micros(50),
         ]],
         ..CORRECTED
     },
     TakenOver {
         name: "second 60",
-        read: &[&[(20, &[0x07, 0xe3, 0x01, 0x6d, 0x17, 0x3b, 0x3c])]],
+        read: &[&[Edit::Day(2019, 365), Edit::Clock(23, 59, 60, 0)]],
         written: &[&[]],
         ..CORRECTED
     },
     TakenOver {
         name: "no blockette 1001",
-        read: &[&[(50, &[0x00, 0x00]), (60, &[0x63, 0x63])]],
+        read: &[&[
+            Edit::After1000(0),
+            Edit::TimingQuality(99),
+            Edit::Micros(99),
+        ]],
         written: &[&[]],
         ..CORRECTED
     },
     TakenOver {
         name: "another reverse constant",
-        read: &[&[(72, &[0x00, 0x00, 0x00, 0x01])]],
+        read: &[&[Edit::Bytes(72, &[0x00, 0x00, 0x00, 0x01])]],
         written: &[&[]],
         counts: Counts {
             mismatched: 1,
@@ -247,29 +247,19 @@ const TAKEN_OVER: [TakenOver; 10] = [
     TakenOver {
         name: "the last seconds of the last year, the second record late by a microsecond",
         read: &[
-            &[(
-                20,
-                &[0x08, 0x34, 0x01, 0x6d, 0x17, 0x3b, 0x1d, 0x00, 0x23, 0x28],
-            )],
+            &[Edit::Day(2100, 365), Edit::Clock(23, 59, 29, 9000)],
             &[
-                (
-                    20,
-                    &[0x08, 0x34, 0x01, 0x6d, 0x17, 0x3b, 0x2c, 0x00, 0x25, 0x1c],
-                ),
-                (61, &[0x01]),
+                Edit::Day(2100, 365),
+                Edit::Clock(23, 59, 44, 9500),
+                Edit::Micros(1),
             ],
         ],
         written: &[
-            &[(
-                20,
-                &[0x08, 0x34, 0x01, 0x6d, 0x17, 0x3b, 0x1d, 0x00, 0x23, 0x28],
-            )],
+            &[Edit::Day(2100, 365), Edit::Clock(23, 59, 29, 9000)],
             &[
-                (5, &[0x32]),
-                (
-                    20,
-                    &[0x08, 0x34, 0x01, 0x6d, 0x17, 0x3b, 0x2c, 0x00, 0x25, 0x1c],
-                ),
+                Edit::Sequence(*b"000002"),
+                Edit::Day(2100, 365),
+                Edit::Clock(23, 59, 44, 9500),
             ],
         ],
         segments: &[602],
@@ -287,7 +277,7 @@ fn written_headers(rt: HostRuntime) -> Result<(), Fail> {
         counts,
         segments,
     } in TAKEN_OVER {
-        let input = edited(&rt, alloc, read)?;
+        let input = edited(alloc, read)?;
         let Outcome { answer, sink } = repacked(alloc, &input, choice(&rt, 256, 1000));
         let Ok(report) = answer else {
             panic!(rt; "{name}: refused")
@@ -298,7 +288,7 @@ fn written_headers(rt: HostRuntime) -> Result<(), Fail> {
         for (line, samples) in lines.iter().zip(segments) {
             same_number(&rt, line.samples, *samples, name);
         }
-        let want = edited(&rt, alloc, written)?;
+        let want = edited(alloc, written)?;
         same_bytes(&rt, sink.bytes(), &want, name);
     }
     Ok(())

@@ -1,9 +1,9 @@
 //! Samples in the fewest records: how many samples each has, and as what it stores them.
 use crate::tests::fixtures::{
-    Outcome, START, choice, edit, input_of, joined, of_words, plain, repacked, same_bytes,
-    same_counts, same_number, shapes, steim,
+    Outcome, choice, input_of, joined, repacked, same_bytes, same_counts, same_number, shapes,
 };
 use crate::{Counts, SegmentLine};
+use msr_fixtures::{Edit, START, record, record_of_words, steim_record};
 use msr_time::Rate;
 use std::alloc::{AllocError, Global};
 use std::process::Abort;
@@ -19,7 +19,7 @@ const STEIM1: u8 = 10;
 
 const STEIM2: u8 = 11;
 
-// What is written for samples.
+/// What is written for samples.
 #[derive(Clone, Copy)]
 struct Worked {
     name: &'static str,
@@ -34,7 +34,7 @@ struct Worked {
     separators: &'static [u64],
 }
 
-// The line of a segment with so many samples.
+/// The line of a segment with so many samples.
 fn is_line_of(rt: &impl Abort, line: &SegmentLine, worked: Worked, rate: Rate, samples: u64) {
     let name = worked.name;
     assert_eq!(rt; (line.key.rate, line.start), (rate, START), "{name}");
@@ -57,7 +57,7 @@ fn have_shapes(
     Ok(())
 }
 
-// Repacks the samples, compares all but the bytes, and gives these.
+/// Repacks the samples, compares all but the bytes, and gives these.
 fn packed(
     rt: &impl Abort,
     alloc: Global,
@@ -98,7 +98,7 @@ fn packed(
     Ok(written.to_vec(alloc)?)
 }
 
-// 97 samples, in turn -20000 and 20000.
+/// 97 samples, in turn -20000 and 20000.
 fn swinging() -> [i32; 97] {
     let mut samples = [-20_000; 97];
     for pair in 0..48 {
@@ -107,7 +107,7 @@ fn swinging() -> [i32; 97] {
     samples
 }
 
-// 87 samples that end with a word of three differences.
+/// 87 samples that end with a word of three differences.
 fn ending_in_three() -> [i32; 87] {
     let mut samples = [1_020_000; 87];
     for pair in 0..42 {
@@ -116,8 +116,8 @@ fn ending_in_three() -> [i32; 87] {
     samples
 }
 
-// 173 samples of which two records hold all only where the second begins one sample before the end that the first
-// can reach.
+/// 173 samples of which two records hold all only where the second begins one sample before the end that the first
+/// can reach.
 fn with_a_pause() -> [i32; 173] {
     let mut samples = [1_000_000; 173];
     for pair in 0..86 {
@@ -128,29 +128,26 @@ fn with_a_pause() -> [i32; 173] {
     samples
 }
 
-// 96 of the swinging samples as numbers, and the last one with its difference of -40000 from the one before.
+/// 96 of the swinging samples as numbers, and the last one with its difference of -40000 from the one before.
 fn swinging_written(rt: &impl Abort, alloc: Global) -> Result<Vec<u8>, AllocError> {
-    let numbers = of_words(
-        rt,
+    let numbers = record_of_words(
         [0xb1, 0xe0, 0x4e, 0x20],
         &[
-            (30, &[0x00, 0x60]),
-            (52, &[0x01]),
-            (63, &[0x00]),
-            (64, &[0xb1, 0xe0, 0x4e, 0x20, 0xb1, 0xe0, 0x4e, 0x20]),
-            (72, &[0xb1, 0xe0, 0x4e, 0x20]),
+            Edit::Samples(96),
+            Edit::Encoding(1),
+            Edit::Frames(0),
+            Edit::Bytes(64, &[0xb1, 0xe0, 0x4e, 0x20, 0xb1, 0xe0, 0x4e, 0x20]),
+            Edit::Bytes(72, &[0xb1, 0xe0, 0x4e, 0x20]),
         ],
     );
-    let difference = plain(
-        rt,
-        &[
-            (5, &[0x32]),
-            (26, &[0x04, 0x00, 0x1f, 0x40, 0x00, 0x01]),
-            (63, &[0x01]),
-            (64, &[0x02, 0x00, 0x00, 0x00, 0xff, 0xff, 0xb1, 0xe0]),
-            (72, &[0xff, 0xff, 0xb1, 0xe0, 0x7f, 0xff, 0x63, 0xc0]),
-        ],
-    );
+    let difference = record(&[
+        Edit::Sequence(*b"000002"),
+        Edit::Clock(0, 0, 4, 8000),
+        Edit::Samples(1),
+        Edit::Frames(1),
+        Edit::Bytes(64, &[0x02, 0x00, 0x00, 0x00, 0xff, 0xff, 0xb1, 0xe0]),
+        Edit::Bytes(72, &[0xff, 0xff, 0xb1, 0xe0, 0x7f, 0xff, 0x63, 0xc0]),
+    ]);
     joined(alloc, &[numbers, difference])
 }
 
@@ -195,7 +192,7 @@ fn fewest_records(rt: HostRuntime) -> Result<(), Fail> {
     Ok(())
 }
 
-// 16369 samples, in turn the least and the greatest.
+/// 16369 samples, in turn the least and the greatest.
 fn extremes() -> [i32; 16_369] {
     let mut samples = [i32::MIN; 16_369];
     for pair in 0..8184 {
@@ -204,8 +201,8 @@ fn extremes() -> [i32; 16_369] {
     samples
 }
 
-// The data area of 65535 samples of 0, of 65472 bytes: 9362 words of seven differences and one of one, in 625 frames,
-// of which the first has thirteen and the last has five.
+/// The data area of 65535 samples of 0, of 65472 bytes: 9362 words of seven differences and one of one, in 625 frames,
+/// of which the first has thirteen and the last has five.
 fn area_of_zeros(alloc: Global) -> Result<Vec<u8>, AllocError> {
     let seven = 0x8000_0000u32;
     let mut words = Vec::new(alloc);
@@ -232,7 +229,7 @@ fn area_of_zeros(alloc: Global) -> Result<Vec<u8>, AllocError> {
     Ok(area)
 }
 
-// The longest record has room for 107401 differences of Steim-2, and its header counts 65535 samples.
+/// The longest record has room for 107401 differences of Steim-2, and its header counts 65535 samples.
 #[test]
 fn as_many_as_are_counted(rt: HostRuntime) -> Result<(), Fail> {
     let alloc = rt.alloc();
@@ -279,7 +276,7 @@ fn as_many_as_are_counted(rt: HostRuntime) -> Result<(), Fail> {
     Ok(())
 }
 
-// 301 samples of 0, and one more.
+/// 301 samples of 0, and one more.
 const FULL: Worked = Worked {
     name: "one full record",
     factor: 20,
@@ -297,38 +294,32 @@ const ONE_MORE: Worked = Worked {
     ..FULL
 };
 
-// What differs in a record of one sample after that of 301.
-const ONE_SAMPLE: [(usize, &[u8]); 5] = [
-    (5, &[0x32]),
-    (30, &[0x00, 0x01]),
-    (63, &[0x01]),
-    (64, &[0x02, 0x00, 0x00, 0x00]),
-    (76, &[0x40, 0x00, 0x00, 0x00]),
+/// What differs in a record of one sample after that of 301.
+const ONE_SAMPLE: [Edit<'static>; 5] = [
+    Edit::Sequence(*b"000002"),
+    Edit::Samples(1),
+    Edit::Frames(1),
+    Edit::Bytes(64, &[0x02, 0x00, 0x00, 0x00]),
+    Edit::Bytes(76, &[0x40, 0x00, 0x00, 0x00]),
 ];
 
-// 301 samples of 0 and then one: the rate in both records, and the time and the microseconds of the second.
+/// 301 samples of 0 and then one: the time and the microseconds of the second record.
 #[test]
 fn times_of_records(rt: HostRuntime) -> Result<(), Fail> {
     let alloc = rt.alloc();
     let zeros = [0; 302];
     let alone = packed(&rt, alloc, FULL, &zeros[..301])?;
-    assert!(rt; alone.as_slice() == steim(&rt, &[]).as_slice());
-    for (worked, rate, time, micros) in [
-        (
-            ONE_MORE,
-            [0x00, 0x14, 0x00, 0x01],
-            [0x00, 0x00, 0x0f, 0x00, 0x01, 0xf4],
-            0x00,
-        ),
+    assert!(rt; alone.as_slice() == steim_record(&[]).as_slice());
+    for (worked, clock, micros) in [
+        (ONE_MORE, Edit::Clock(0, 0, 15, 500), 0),
         (
             Worked {
                 name: "a period of a third of a second",
                 factor: 3,
                 ..ONE_MORE
             },
-            [0x00, 0x03, 0x00, 0x01],
-            [0x00, 0x01, 0x28, 0x00, 0x0d, 0x05],
-            0x21,
+            Edit::Clock(0, 1, 40, 3333),
+            33,
         ),
         (
             Worked {
@@ -337,19 +328,24 @@ fn times_of_records(rt: HostRuntime) -> Result<(), Fail> {
                 multiplier: 4,
                 ..ONE_MORE
             },
-            [0x4e, 0x20, 0x00, 0x04],
-            [0x00, 0x00, 0x00, 0x00, 0x00, 0x25],
-            0x3f,
+            Edit::Clock(0, 0, 0, 37),
+            63,
         ),
     ] {
         let written = packed(&rt, alloc, worked, &zeros)?;
-        let first = steim(&rt, &[(32, &rate)]);
-        let mut second = plain(&rt, &ONE_SAMPLE);
-        edit(
-            &rt,
-            &mut second,
-            &[(24, &time), (32, &rate), (61, &[micros])],
-        );
+        let rate = Edit::Rate(worked.factor, worked.multiplier);
+        let [number, count, frames, codes, word] = ONE_SAMPLE;
+        let first = steim_record(&[rate]);
+        let second = record(&[
+            number,
+            count,
+            frames,
+            codes,
+            word,
+            clock,
+            rate,
+            Edit::Micros(micros),
+        ]);
         let want = joined(alloc, &[first, second])?;
         let name = worked.name;
         assert!(rt; written.as_slice() == want.as_slice(), "{name}");
@@ -365,17 +361,16 @@ fn three_differences_and_whole_numbers(rt: HostRuntime) -> Result<(), Fail> {
         records: &[(87, STEIM1)],
         ..FULL
     };
-    let want = of_words(
-        &rt,
+    let want = record_of_words(
         [0xb1, 0xe0, 0x4e, 0x20],
         &[
-            (30, &[0x00, 0x57]),
-            (52, &[0x0a]),
-            (64, &[0x02, 0xaa, 0xaa, 0xaa, 0x00, 0x0f, 0x42, 0x40]),
-            (72, &[0x00, 0x0f, 0x90, 0x60, 0x00, 0x00, 0x4e, 0x20]),
-            (128, &[0x2a, 0xaa, 0xaa, 0xaa]),
-            (192, &[0x2a, 0xaa, 0xaa, 0xa9]),
-            (252, &[0x00, 0x00, 0x00, 0x00]),
+            Edit::Samples(87),
+            Edit::Encoding(10),
+            Edit::Bytes(64, &[0x02, 0xaa, 0xaa, 0xaa, 0x00, 0x0f, 0x42, 0x40]),
+            Edit::Bytes(72, &[0x00, 0x0f, 0x90, 0x60, 0x00, 0x00, 0x4e, 0x20]),
+            Edit::Bytes(128, &[0x2a, 0xaa, 0xaa, 0xaa]),
+            Edit::Bytes(192, &[0x2a, 0xaa, 0xaa, 0xa9]),
+            Edit::Bytes(252, &[0x00, 0x00, 0x00, 0x00]),
         ],
     );
     let written = packed(&rt, alloc, three, &ending_in_three())?;
@@ -385,21 +380,18 @@ fn three_differences_and_whole_numbers(rt: HostRuntime) -> Result<(), Fail> {
         records: &[(2, INT32)],
         ..FULL
     };
-    let want = plain(
-        &rt,
-        &[
-            (30, &[0x00, 0x02]),
-            (52, &[0x03]),
-            (63, &[0x00]),
-            (64, &[0x80, 0x00, 0x00, 0x00, 0x7f, 0xff, 0xff, 0xff]),
-        ],
-    );
+    let want = record(&[
+        Edit::Samples(2),
+        Edit::Encoding(3),
+        Edit::Frames(0),
+        Edit::Bytes(64, &[0x80, 0x00, 0x00, 0x00, 0x7f, 0xff, 0xff, 0xff]),
+    ]);
     let written = packed(&rt, alloc, whole, &[i32::MIN, i32::MAX])?;
     assert!(rt; written.as_slice() == want.as_slice());
     Ok(())
 }
 
-// 65 samples, 8388607 and -8388608 in turn: 64 of them stand in the first record, three bytes for each.
+/// 65 samples, 8388607 and -8388608 in turn: 64 of them stand in the first record, three bytes for each.
 #[test]
 fn numbers_of_24_bits(rt: HostRuntime) -> Result<(), Fail> {
     let mut samples = [8_388_607; 65];
@@ -413,7 +405,7 @@ fn numbers_of_24_bits(rt: HostRuntime) -> Result<(), Fail> {
         ..FULL
     };
     let written = packed(&rt, rt.alloc(), bounds, &samples)?;
-    let mut first = plain(&rt, &[(30, &[0x00, 0x40]), (52, &[0x02]), (63, &[0x00])]);
+    let mut first = record(&[Edit::Samples(64), Edit::Encoding(2), Edit::Frames(0)]);
     for pair in 0..32 {
         first[6 * pair + 64..6 * pair + 70].copy_from_slice(&[0x7f, 0xff, 0xff, 0x80, 0x00, 0x00]);
     }
@@ -435,7 +427,7 @@ fn rising_line(rt: &impl Abort, line: &SegmentLine, samples: u64, written: u64) 
     }
 }
 
-// Samples at 100 a second, each 1 above the one before: 103 words with seven differences in each record.
+/// Samples at 100 a second, each 1 above the one before: 103 words with seven differences in each record.
 fn rising(
     rt: &impl Abort,
     alloc: Global,

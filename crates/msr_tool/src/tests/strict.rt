@@ -1,15 +1,16 @@
 //! Strict reading, and inputs that are cut anywhere: what a repack and a list answer.
-use crate::tests::fixtures::{Edits, Outcome, PLAIN, choice, input_of, repacked, steim};
+use crate::tests::fixtures::{Edits, Outcome, PLAIN, choice, input_of, repacked};
 use crate::{
     Options, TestSink, TestSource, ToolFault, Verdict, check_packed, list_segments,
     repack_and_report,
 };
+use msr_fixtures::{Edit, steim_record};
 use msr_time::Rate;
 use std::alloc::Global;
 use std::process::Abort;
 use std::test::Fail;
 
-// A repack and a list of the input both refuse the record at that offset so, or both succeed where the kind is empty.
+/// A repack and a list of the input both refuse the record at that offset so, or both succeed where the kind is empty.
 fn both_tell(
     rt: &impl Abort,
     alloc: Global,
@@ -39,40 +40,43 @@ fn both_tell(
     Ok(())
 }
 
-// The reverse constant of the record is not its last sample,
-const DIFFERS: (usize, &[u8]) = (72, &[0x00, 0x00, 0x00, 0x01]);
+/// The reverse constant of the record is not its last sample,
+const DIFFERS: Edit<'static> = Edit::Bytes(72, &[0x00, 0x00, 0x00, 0x01]);
 
-// and the record ends in the year after the last one.
-const LATE: (usize, &[u8]) = (
-    20,
-    &[0x08, 0x34, 0x01, 0x6d, 0x17, 0x3b, 0x3b, 0x00, 0x00, 0x00],
-);
+/// and the record ends in the year after the last one.
+const LAST_DAY: Edit<'static> = Edit::Day(2100, 365);
 
-// Edits of the one record, and why it is refused by a reading that is not strict and by one that is.
+const LAST_SECOND: Edit<'static> = Edit::Clock(23, 59, 59, 0);
+
+/// Edits of the one record, and why it is refused by a reading that is not strict and by one that is.
 #[test]
 fn reverse_constants(rt: HostRuntime) -> Result<(), Fail> {
     let alloc = rt.alloc();
     let options = choice(&rt, 256, 1000);
-    let good = steim(&rt, &[]);
+    let good = steim_record(&[]);
     let rows: [(Edits, &str, &str); 7] = [
         (&[], "", ""),
         (&[DIFFERS], "", "18 ReverseMismatch"),
-        (&[LATE], "17 TimeRange", "17 TimeRange"),
-        (&[DIFFERS, LATE], "17 TimeRange", "18 ReverseMismatch"),
+        (&[LAST_DAY, LAST_SECOND], "17 TimeRange", "17 TimeRange"),
         (
-            &[DIFFERS, (30, &[0x01, 0x2e])],
+            &[DIFFERS, LAST_DAY, LAST_SECOND],
+            "17 TimeRange",
+            "18 ReverseMismatch",
+        ),
+        (
+            &[DIFFERS, Edit::Samples(302)],
             "12 DataShort",
             "12 DataShort",
         ),
         (
-            &[DIFFERS, LATE, (32, &[0x00, 0x00])],
+            &[DIFFERS, LAST_DAY, LAST_SECOND, Edit::Rate(0, 1)],
             "14 NoRate",
             "14 NoRate",
         ),
-        (&[DIFFERS, (30, &[0x00, 0x00])], "", ""),
+        (&[DIFFERS, Edit::Samples(0)], "", ""),
     ];
     for (edits, lenient, strict) in rows {
-        let first = steim(&rt, edits);
+        let first = steim_record(edits);
         let mut second = good.to_vec(alloc)?;
         second.extend_from_slice(&first)?;
         for (is_strict, kind) in [(false, lenient), (true, strict)] {
@@ -84,12 +88,12 @@ fn reverse_constants(rt: HostRuntime) -> Result<(), Fail> {
     Ok(())
 }
 
-// What a reading that is not strict says of the record, and that its check is never strict.
+/// What a reading that is not strict says of the record, and that its check is never strict.
 #[test]
 fn mismatches_are_counted_and_checked(rt: HostRuntime) -> Result<(), Fail> {
     let alloc = rt.alloc();
     let options = choice(&rt, 256, 1000);
-    let differs = steim(&rt, &[DIFFERS]);
+    let differs = steim_record(&[DIFFERS]);
     let Outcome { answer, sink: _ } = repacked(alloc, &differs, options);
     let Ok(report) = answer else {
         panic!(rt; "refused")
@@ -97,7 +101,7 @@ fn mismatches_are_counted_and_checked(rt: HostRuntime) -> Result<(), Fail> {
     assert_eq!(rt; (report.counts.read, report.counts.mismatched), (1, 1));
     let mut records = TestSink::new(Vec::new(alloc), PLAIN);
     let mut text = TestSink::new(Vec::new(alloc), PLAIN);
-    let agrees = steim(&rt, &[]);
+    let agrees = steim_record(&[]);
     let mut source = TestSource::new(&agrees, PLAIN);
     let asked = options.strict(true);
     assert!(rt; repack_and_report(alloc, &mut source, &mut records, &mut text, asked).is_ok());
@@ -110,7 +114,7 @@ fn mismatches_are_counted_and_checked(rt: HostRuntime) -> Result<(), Fail> {
     Ok(())
 }
 
-// A flag that is set alone.
+/// A flag that is set alone.
 #[test]
 fn strict_options(rt: HostRuntime) {
     let options = choice(&rt, 4096, 77);
@@ -121,7 +125,7 @@ fn strict_options(rt: HostRuntime) {
     assert_eq!(rt; strict.strict(false), options);
 }
 
-// From how many to how many bytes of two records are there, and why they are refused.
+/// From how many to how many bytes of two records are there, and why they are refused.
 #[test]
 fn inputs_that_are_cut(rt: HostRuntime) -> Result<(), Fail> {
     let alloc = rt.alloc();

@@ -5,6 +5,7 @@ use crate::{
     one_repacking, read_report, readable_is_listed, readable_is_repacked, repacked_is_least,
     repacked_is_shown, strict_writes_the_same,
 };
+use msr_fixtures::Edit;
 use msr_header::HeaderFault;
 use msr_record::FaultKind;
 use msr_time::Rate;
@@ -64,15 +65,15 @@ read 3 empty 0 mismatched 0
 
 /// 100 samples at 0, 5.0007 and 10.0014 seconds.
 pub const LISTED: [Edits<'static>; 3] = [
-    &[(30, &[0x00, 0x64])],
-    &[(26, &[0x05, 0x00, 0x00, 0x07, 0x00, 0x64])],
-    &[(26, &[0x0a, 0x00, 0x00, 0x0e, 0x00, 0x64])],
+    &[Edit::Samples(100)],
+    &[Edit::Clock(0, 0, 5, 7), Edit::Samples(100)],
+    &[Edit::Clock(0, 0, 10, 14), Edit::Samples(100)],
 ];
 
 #[test]
 fn lists(rt: HostRuntime) -> Result<(), Fail> {
     let alloc = rt.alloc();
-    let mut input = edited(&rt, alloc, &LISTED)?;
+    let mut input = edited(alloc, &LISTED)?;
     let options = choice(&rt, 256, 1000);
     let mut sink = TestSink::new(Vec::new(alloc), PLAIN);
     let answer = list_segments(

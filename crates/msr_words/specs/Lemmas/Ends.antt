@@ -12,15 +12,25 @@ use Rattle.msr_words.specs.Counts.{AtMost, EndsIn, IsLeastUpTo, Parts}
 -- ---- one more difference
 
 -- the least number of groups that end in one that others may follow is the least number of groups
-pub least_of_ends : (version : Version) (words c : ℕ) (d : ℤ) (past : List ℤ) → IsLeastUpTo (EndsIn version false) words c (d ∷ past) → IsLeastUpTo (AtMost version) words c (d ∷ past)
-least_of_ends version words c d past least n few = (λ le. at_most ((least n few).0 le), λ a. (least n few).1 (ends a.number a.few a.parts))
+pub least_of_ends : (version : Version) (words c : ℕ) (d : ℤ) (past : List ℤ)
+    → IsLeastUpTo (EndsIn version false) words c (d ∷ past) → IsLeastUpTo (AtMost version) words c (d ∷ past)
+least_of_ends version words c d past least n few =
+    (λ le. at_most ((least n few).0 le), λ a. (least n few).1 (ends a.number a.few a.parts))
   where
     at_most : EndsIn version false n (d ∷ past) → AtMost version n (d ∷ past)
     at_most e = record { number = suc e.number; few = e.few; parts = (e.group, e.rest, e.newest, e.parts, e.join) }
 
     ends : (m : ℕ) → m ≤ n → Parts version m (d ∷ past) → EndsIn version false n (d ∷ past)
     ends zero le parts = absurd (cc)
-    ends (suc m) le parts = record { group = parts.0; rest = parts.1; number = m; few = le; newest = parts.2; parts = parts.3; join = parts.4 }
+    ends (suc m) le parts = record {
+      group = parts.0;
+      rest = parts.1;
+      number = m;
+      few = le;
+      newest = parts.2;
+      parts = parts.3;
+      join = parts.4;
+    }
 
 -- no difference yet
 pub none_least : (version : Version) (words : ℕ) → IsLeastUpTo (AtMost version) words 0 []
@@ -28,13 +38,15 @@ none_least version words n few = (λ le. record { number = 0; few = le; parts = 
 
 -- ---- turned round
 
-all_append : {X : Type 0} (P : X → Type 0) (xs : List X) (x : X) → AllByRecursion P xs → P x → AllByRecursion P (xs ++ x ∷ [])
+all_append : {X : Type 0} (P : X → Type 0) (xs : List X) (x : X) → AllByRecursion P xs → P x
+    → AllByRecursion P (xs ++ x ∷ [])
 all_append P [] x all here = (here, tt)
 all_append P (y ∷ xs) x all here = (all.0, all_append P xs x all.1 here)
 
 all_reverse : {X : Type 0} (P : X → Type 0) (xs : List X) → AllByRecursion P xs → AllByRecursion P (reverse xs)
 all_reverse P [] all = tt
-all_reverse P (x ∷ xs) all = subst (AllByRecursion P) (sym (reverse-append (x ∷ []) xs)) (all_append P (reverse xs) x (all_reverse P xs all.1) all.0)
+all_reverse P (x ∷ xs) all = subst (AllByRecursion P) (sym (reverse-append (x ∷ []) xs))
+    (all_append P (reverse xs) x (all_reverse P xs all.1) all.0)
 
 some_and : {X : Type 0} (o : Option X) (P Q : X → Type 0) → ((x : X) → P x → Q x) → IsSomeAnd o P → IsSomeAnd o Q
 some_and None P Q f h = h
@@ -42,21 +54,33 @@ some_and (Some x) P Q f h = f x h
 
 pub turned_group : (version : Version) (group : List ℤ) → IsGroup version group → IsGroup version (reverse group)
 turned_group version group is =
-    subst (λ n. IsSomeAnd (group_width version n) (λ width. AllByRecursion (FitsBits width) (reverse group))) (sym (length-reverse group))
-    (some_and (group_width version (length group)) (λ width. AllByRecursion (FitsBits width) group) (λ width. AllByRecursion (FitsBits width) (reverse group)) (λ width h. all_reverse (FitsBits width) group h) is)
+    subst (λ n. IsSomeAnd (group_width version n) (λ width. AllByRecursion (FitsBits width) (reverse group)))
+    (sym (length-reverse group))
+    (some_and (group_width version (length group)) (λ width. AllByRecursion (FitsBits width) group)
+    (λ width. AllByRecursion (FitsBits width) (reverse group)) (λ width h. all_reverse (FitsBits width) group h) is)
 
-pub turned_inner : (version : Version) (group : List ℤ) → IsInnerGroup version group → IsInnerGroup version (reverse group)
+pub turned_inner : (version : Version) (group : List ℤ) → IsInnerGroup version group
+    → IsInnerGroup version (reverse group)
 turned_inner One group is = (turned_group One group is.0, λ three. is.1 (sym (length-reverse group) ∙ three))
 turned_inner Two group is = turned_group Two group is
 
 -- ---- a group more at the old end
 
-parts_older : (version : Version) (n : ℕ) (past group : List ℤ) → Parts version n past → IsInnerGroup version group → Parts version (suc n) (past ++ group)
-parts_older version zero past group parts is = (group, [], is, refl, ap (λ p. p ++ group) parts ∙ sym (append-nil group))
-parts_older version (suc n) past group parts is =
-    (parts.0, parts.1 ++ group, parts.2, parts_older version n parts.1 group parts.3 is, ap (λ p. p ++ group) parts.4 ∙ append_assoc parts.0 parts.1 group)
+parts_older : (version : Version) (n : ℕ) (past group : List ℤ) → Parts version n past → IsInnerGroup version group
+    → Parts version (suc n) (past ++ group)
+parts_older version zero past group parts is =
+    (group, [], is, refl, ap (λ p. p ++ group) parts ∙ sym (append-nil group))
+parts_older version (suc n) past group parts is = (
+  parts.0,
+  parts.1 ++ group,
+  parts.2,
+  parts_older version n parts.1 group parts.3 is,
+  ap
+      (λ p. p ++ group) parts.4 ∙ append_assoc parts.0 parts.1 group,
+)
 
-ends_older : (version : Version) (last : Bool) (n : ℕ) (past group : List ℤ) → EndsIn version last n past → IsInnerGroup version group → EndsIn version last (suc n) (past ++ group)
+ends_older : (version : Version) (last : Bool) (n : ℕ) (past group : List ℤ) → EndsIn version last n past
+    → IsInnerGroup version group → EndsIn version last (suc n) (past ++ group)
 ends_older version last n past group e is = record {
   group = e.group;
   rest = e.rest ++ group;
@@ -67,7 +91,8 @@ ends_older version last n past group e is = record {
   join = ap (λ p. p ++ group) e.join ∙ append_assoc e.group e.rest group;
 }
 
-ends_of_groups : (version : Version) (groups : List (List ℤ)) (n : ℕ) → AreGroups version groups → 0 < length groups → length groups ≤ n → EndsIn version true n (reverse (flat_map (λ group. group) groups))
+ends_of_groups : (version : Version) (groups : List (List ℤ)) (n : ℕ) → AreGroups version groups
+    → 0 < length groups → length groups ≤ n → EndsIn version true n (reverse (flat_map (λ group. group) groups))
 ends_of_groups version [] n are some few = absurd (omega arith)
 ends_of_groups version (g ∷ []) n are some few = record {
   group = reverse g;
@@ -81,7 +106,8 @@ ends_of_groups version (g ∷ []) n are some few = record {
 ends_of_groups version (g ∷ h ∷ gs) zero are some few = absurd (omega arith)
 ends_of_groups version (g ∷ h ∷ gs) (suc n) are some few =
     subst (EndsIn version true (suc n)) (sym (reverse-append g (flat_map (λ group. group) (h ∷ gs))))
-    (ends_older version true n (reverse (flat_map (λ group. group) (h ∷ gs))) (reverse g) (ends_of_groups version (h ∷ gs) n are.1 (omega arith) (omega arith)) (turned_inner version g are.0))
+    (ends_older version true n (reverse (flat_map (λ group. group) (h ∷ gs))) (reverse g)
+    (ends_of_groups version (h ∷ gs) n are.1 (omega arith) (omega arith)) (turned_inner version g are.0))
 
 -- ---- the groups in order
 
@@ -91,7 +117,8 @@ pub record Gathered (version : Version) (number : ℕ) (differences : List ℤ) 
   pub join : flat_map (λ group. group) groups ≡ differences
   pub number_is : length groups ≡ number
 
-gather : (version : Version) (n : ℕ) (past next : List ℤ) (tail : List (List ℤ)) → Parts version n past → AreGroups version (next ∷ tail)
+gather : (version : Version) (n : ℕ) (past next : List ℤ) (tail : List (List ℤ)) → Parts version n past
+    → AreGroups version (next ∷ tail)
     → Gathered version (n + length (next ∷ tail)) (reverse past ++ flat_map (λ group. group) (next ∷ tail))
 gather version zero past next tail parts are = record {
   groups = next ∷ tail;
@@ -100,16 +127,21 @@ gather version zero past next tail parts are = record {
   number_is = omega arith;
 }
 gather version (suc n) past next tail parts are =
-    let g = gather version n parts.1 (reverse parts.0) (next ∷ tail) parts.3 (turned_inner version parts.0 parts.2, are) in
+    let g = gather version n parts.1 (reverse parts.0) (next ∷ tail) parts.3
+    (turned_inner version parts.0 parts.2, are) in
     record {
       groups = g.groups;
       are = g.are;
-      join = g.join ∙ sym (append_assoc (reverse parts.1) (reverse parts.0) (flat_map (λ group. group) (next ∷ tail))) ∙ ap (λ p. p ++ flat_map (λ group. group) (next ∷ tail)) (sym (reverse-append parts.0 parts.1) ∙ ap reverse (sym parts.4));
+      join = g.join ∙ sym (append_assoc (reverse parts.1) (reverse parts.0)
+          (flat_map (λ group. group) (next ∷ tail))) ∙ ap (λ p. p
+          ++ flat_map (λ group. group) (next ∷ tail)) (sym (reverse-append parts.0 parts.1) ∙ ap reverse (sym parts.4));
       number_is = g.number_is ∙ omega arith;
     }
 
 -- a run ends in a last group exactly where it can be divided
-pub ends_is_division : (version : Version) (words : ℕ) (d : ℤ) (ds : List ℤ) → (EndsIn version true words (reverse (ds ++ d ∷ [])) → CanDivide version words (ds ++ d ∷ [])) × (CanDivide version words (ds ++ d ∷ []) → EndsIn version true words (reverse (ds ++ d ∷ [])))
+pub ends_is_division : (version : Version) (words : ℕ) (d : ℤ) (ds : List ℤ)
+    → (EndsIn version true words (reverse (ds ++ d ∷ [])) → CanDivide version words (ds ++ d ∷ []))
+    × (CanDivide version words (ds ++ d ∷ []) → EndsIn version true words (reverse (ds ++ d ∷ [])))
 ends_is_division version words d ds = (divide, ends)
   where
     divide : EndsIn version true words (reverse (ds ++ d ∷ [])) → CanDivide version words (ds ++ d ∷ [])
@@ -118,7 +150,8 @@ ends_is_division version words d ds = (divide, ends)
         record {
           groups = g.groups;
           are_groups = g.are;
-          join = g.join ∙ ap (λ p. reverse e.rest ++ p) (append-nil (reverse e.group)) ∙ sym (reverse-append e.group e.rest) ∙ ap reverse (sym e.join) ∙ reverse-reverse (ds ++ d ∷ []);
+          join = g.join ∙ ap (λ p. reverse e.rest ++ p) (append-nil (reverse e.group))
+              ∙ sym (reverse-append e.group e.rest) ∙ ap reverse (sym e.join) ∙ reverse-reverse (ds ++ d ∷ []);
           few = omega (arith, g.number_is, e.few);
         }
 
@@ -127,7 +160,8 @@ ends_is_division version words d ds = (divide, ends)
     some (g ∷ gs) join = omega arith
 
     ends : CanDivide version words (ds ++ d ∷ []) → EndsIn version true words (reverse (ds ++ d ∷ []))
-    ends c = subst (λ p. EndsIn version true words (reverse p)) c.join (ends_of_groups version c.groups words c.are_groups (some c.groups c.join) c.few)
+    ends c = subst (λ p. EndsIn version true words (reverse p)) c.join
+        (ends_of_groups version c.groups words c.are_groups (some c.groups c.join) c.few)
 
 pub reverse_push : (d : ℤ) (ds : List ℤ) → reverse (ds ++ d ∷ []) ≡ d ∷ reverse ds
 reverse_push d ds = reverse-append ds (d ∷ [])

@@ -31,7 +31,8 @@ suffix_by_back_step fits law front back h =
     subst (λ part. fits (part ++ back)) (drop_all r.0 front (omega arith)) r.3
 
 -- a look-back of more places serves too
-pub back_step_more : (fits : List (ℤ × ℤ) → Type 0) (places more : ℕ) → places ≤ more → BackStepLaw places fits → BackStepLaw more fits
+pub back_step_more : (fits : List (ℤ × ℤ) → Type 0) (places more : ℕ) → places ≤ more → BackStepLaw places fits
+    → BackStepLaw more fits
 back_step_more fits places more le law front back h =
     let r = law front back h in
     let high = r.2 in
@@ -49,13 +50,15 @@ fewer_have_room size bytes few many less room = let bytes_less = mul-le-mul_left
 
 prefix_integers : (bits size bytes : ℕ) → PrefixLaw (FitsIntegers bits size bytes)
 prefix_integers bits size bytes front back h = (
-  subst (All (λ p. FitsBits bits p.0)) (take_at front back (length front) refl) (All-take (λ p. FitsBits bits p.0) (length front) (front ++ back) h.0),
+  subst (All (λ p. FitsBits bits p.0)) (take_at front back (length front) refl)
+      (All-take (λ p. FitsBits bits p.0) (length front) (front ++ back) h.0),
   fewer_have_room size bytes (length front) (length (front ++ back)) (omega (arith, length-append front back)) h.1,
 )
 
 back_step_integers : (bits size bytes : ℕ) → BackStepLaw 0 (FitsIntegers bits size bytes)
 back_step_integers bits size bytes = back_step_by_suffix (FitsIntegers bits size bytes) (λ front back h. (
-  subst (All (λ p. FitsBits bits p.0)) (drop_at front back (length front) refl) (All-drop (λ p. FitsBits bits p.0) (length front) (front ++ back) h.0),
+  subst (All (λ p. FitsBits bits p.0)) (drop_at front back (length front) refl)
+      (All-drop (λ p. FitsBits bits p.0) (length front) (front ++ back) h.0),
   fewer_have_room size bytes (length back) (length (front ++ back)) (omega (arith, length-append front back)) h.1,
 ))
 
@@ -70,25 +73,36 @@ last_of (x ∷ xs) = elim (last_of xs) [
   | inr e ↦ inr (x ∷ e.0, e.1, ap (λ r. x ∷ r) e.2)
 ]
 
-pub front_divides : (version : Version) (n : ℕ) (front back : List ℤ) → CanDivide version n (front ++ back) → CanDivide version n front
+pub front_divides : (version : Version) (n : ℕ) (front back : List ℤ) → CanDivide version n (front ++ back)
+    → CanDivide version n front
 front_divides version n front back can = elim (last_of front) [
   | inl e ↦ subst (CanDivide version n) (sym e) (none_divides version n)
-  | inr e ↦ subst (CanDivide version n) (sym e.2) (prefix_law version n e.0 back e.1 (subst (λ f. CanDivide version n (f ++ back)) e.2 can))
+  | inr e ↦ subst (CanDivide version n) (sym e.2)
+      (prefix_law version n e.0 back e.1 (subst (λ f. CanDivide version n (f ++ back)) e.2 can))
 ]
 
 -- the two laws of divisions, by how many differences are left
 BackPart : Version → ℕ → List ℤ → List ℤ → Type 0
-BackPart version n front back = (k : ℕ) × (k ≤ length front) × (length front ≤ k + places_of version) × CanDivide version n (drop k front ++ back)
+BackPart version n front back = (k : ℕ) × (k ≤ length front) × (length front ≤ k + places_of version)
+    × CanDivide version n (drop k front ++ back)
 
-back_part : (version : Version) (n : ℕ) (front back : List ℤ) → CanDivide version n (front ++ back) → BackPart version n front back
+back_part : (version : Version) (n : ℕ) (front back : List ℤ) → CanDivide version n (front ++ back)
+    → BackPart version n front back
 unfolding BackPart
 back_part version n front [] can =
-    let none : drop (length front) front ≡ [] = drop_all (length front) front (omega arith) in
-    (length front, omega arith, omega arith, subst (λ r. CanDivide version n (r ++ [])) (sym none) (none_divides version n))
+    let none : drop (length front) front ≡ [] = drop_all (length front) front (omega arith) in (
+      length front,
+      omega arith,
+      omega arith,
+      subst (λ r. CanDivide version n (r ++ [])) (sym none)
+          (none_divides version n),
+    )
 back_part version n front (x ∷ xs) can =
     let step = back_step_law version n front (x ∷ xs) can (omega arith) in
-    let long : length front ≡ length step.before + length step.near = ap length step.join ∙ length-append step.before step.near in
-    let near : drop (length step.before) front ≡ step.near = ap (drop (length step.before)) step.join ∙ drop_at step.before step.near (length step.before) refl in
+    let long : length front ≡ length step.before + length step.near = ap length step.join
+    ∙ length-append step.before step.near in
+    let near : drop (length step.before) front ≡ step.near = ap (drop (length step.before)) step.join
+    ∙ drop_at step.before step.near (length step.before) refl in
     let few = step.few in
     (length step.before, omega arith, omega arith, subst (λ r. CanDivide version n (r ++ x ∷ xs)) (sym near) step.can)
 
@@ -104,16 +118,19 @@ back_step_steim version bytes front back h =
     (subst (CanDivide version (words_of bytes)) (map-append (λ (p : ℤ × ℤ). p.1) front back) h) in
     let long = length-map front (λ (p : ℤ × ℤ). p.1) in
     let same : drop r.0 (map (λ p. p.1) front) ++ map (λ p. p.1) back ≡ map (λ p. p.1) (drop r.0 front ++ back) =
-    ap (λ l. l ++ map (λ (p : ℤ × ℤ). p.1) back) (drop-map (λ (p : ℤ × ℤ). p.1) r.0 front) ∙ sym (map-append (λ (p : ℤ × ℤ). p.1) (drop r.0 front) back) in
+    ap (λ l. l ++ map (λ (p : ℤ × ℤ). p.1) back) (drop-map (λ (p : ℤ × ℤ). p.1) r.0 front)
+    ∙ sym (map-append (λ (p : ℤ × ℤ). p.1) (drop r.0 front) back) in
     let low = r.1 in
     let high = r.2 in
     (r.0, omega arith, omega arith, subst (CanDivide version (words_of bytes)) same r.3)
 
 -- as many samples of so many bytes as have room
 size_integers : (size bytes count : ℕ) → 0 < size → size * count + 64 ≤ bytes → count ≤ (bytes - 64) / size
-size_integers size bytes count some room = le-div count (bytes - 64) size some (omega (arith, mul_comm count size, room))
+size_integers size bytes count some room = le-div count (bytes - 64) size some
+    (omega (arith, mul_comm count size, room))
 
-pub size_steim : (version : Version) (bytes : ℕ) → SizeLaw (largest_of version * words_of bytes) (FitsSteim version bytes)
+pub size_steim : (version : Version) (bytes : ℕ)
+    → SizeLaw (largest_of version * words_of bytes) (FitsSteim version bytes)
 size_steim version bytes run h =
     let size = size_law version (words_of bytes) (map (λ p. p.1) run) h in
     let same = length-map run (λ (p : ℤ × ℤ). p.1) in
@@ -159,7 +176,11 @@ empty_room Steim2 = empty_steim Two
 
 -- the laws, for each kind: where a run is cut, each part has no more samples to count
 pub prefix_kind : (kind : Kind) (bytes : ℕ) → PrefixLaw (Fits kind bytes)
-prefix_kind kind bytes front back h = (omega (arith, length-append front back, h.0), prefix_room kind bytes front back h.1)
+prefix_kind kind bytes front back h = (
+  omega
+      (arith, length-append front back, h.0),
+  prefix_room kind bytes front back h.1,
+)
 
 pub back_step_kind : (kind : Kind) (bytes : ℕ) → BackStepLaw (look_back_of kind) (Fits kind bytes)
 back_step_kind kind bytes front back h =
@@ -174,17 +195,26 @@ pub empty_kind : (kind : Kind) → EmptyLaw (Fits kind)
 empty_kind kind bytes header = (omega arith, empty_room kind bytes header)
 
 -- integers of fewer bits than a sample has room by their bits and their number
-by_bits : (bits size bytes : ℕ) → 64 ≤ bytes → (run : List (ℤ × ℤ)) → All (λ p. FitsBits bits p.0) run → length run ≤ (bytes - 64) / size → FitsIntegers bits size bytes run
+by_bits : (bits size bytes : ℕ) → 64 ≤ bytes → (run : List (ℤ × ℤ)) → All (λ p. FitsBits bits p.0) run
+    → length run ≤ (bytes - 64) / size → FitsIntegers bits size bytes run
 by_bits bits size bytes header run all few =
     let room = mul-le-mul_left size few in
     let most = mul-div-le (bytes - 64) size in
     (all, omega arith)
 
 pub int16_by_bits : (bytes : ℕ) → 64 ≤ bytes → AreIntegers Int16 16 bytes
-int16_by_bits bytes header = record { takes = λ run all few. (omega (arith, few), by_bits 16 2 bytes header run all (omega (arith, few))); needs = λ run h. h.1.0 }
+int16_by_bits bytes header = record {
+  takes =
+      λ run all few. (omega (arith, few), by_bits 16 2 bytes header run all (omega (arith, few)));
+  needs = λ run h. h.1.0;
+}
 
 pub int24_by_bits : (bytes : ℕ) → 64 ≤ bytes → AreIntegers Int24 24 bytes
-int24_by_bits bytes header = record { takes = λ run all few. (omega (arith, few), by_bits 24 3 bytes header run all (omega (arith, few))); needs = λ run h. h.1.0 }
+int24_by_bits bytes header = record {
+  takes =
+      λ run all few. (omega (arith, few), by_bits 24 3 bytes header run all (omega (arith, few)));
+  needs = λ run h. h.1.0;
+}
 
 few_places : (kind : Kind) → look_back_of kind ≤ 1
 few_places Int16 = omega arith
@@ -199,7 +229,8 @@ prefix_any bytes front back h = (h.0, prefix_kind h.0 bytes front back h.1)
 
 pub back_step_any : (bytes : ℕ) → BackStepLaw 1 (FitsAny bytes)
 back_step_any bytes front back h =
-    let r = back_step_more (Fits h.0 bytes) (look_back_of h.0) 1 (few_places h.0) (back_step_kind h.0 bytes) front back h.1 in
+    let r = back_step_more (Fits h.0 bytes) (look_back_of h.0) 1 (few_places h.0)
+    (back_step_kind h.0 bytes) front back h.1 in
     (r.0, r.1, r.2, (h.0, r.3))
 
 pub empty_any : EmptyLaw FitsAny
@@ -240,7 +271,14 @@ of_integers P a b c bits = elim (bits == 16) as (λ one. P (cond one Int16 (cond
 ]
 
 pub integers_laws : (bits : ℕ) → TrackerLaws 0 (most_of (integers_of bits)) (Fits (integers_of bits))
-integers_laws = of_integers (λ kind. TrackerLaws 0 (most_of kind) (Fits kind)) (kind_laws Int16) (kind_laws Int24) (kind_laws Int32)
+integers_laws = of_integers (λ kind. TrackerLaws 0 (most_of kind) (Fits kind)) (kind_laws Int16) (kind_laws Int24)
+    (kind_laws Int32)
 
 pub any_laws : TrackerLaws 1 most_any FitsAny
-any_laws = record { prefix = prefix_any; back_step = back_step_any; near = omega arith; empty = empty_any; size = size_any }
+any_laws = record {
+  prefix = prefix_any;
+  back_step = back_step_any;
+  near = omega arith;
+  empty = empty_any;
+  size = size_any;
+}

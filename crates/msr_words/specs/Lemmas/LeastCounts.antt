@@ -31,21 +31,34 @@ no_width One = refl
 no_width Two = refl
 
 group_has_few : (version : Version) (group : List ℤ) → IsGroup version group → (0 < length group) × (length group ≤ 7)
-group_has_few version group is = (⊎_elim (λ (h : 0 < length group). h) (λ (h : length group ≤ 0). absurd (empty h)) (cases_lt 0 (length group)), ⊎_elim (λ (h : 7 < length group). absurd (long h)) (λ (h : length group ≤ 7). h) (cases_lt 7 (length group)))
+group_has_few version group is = (
+  ⊎_elim (λ (h : 0 < length group). h) (λ (h : length group ≤ 0). absurd (empty h))
+      (cases_lt 0 (length group)),
+  ⊎_elim (λ (h : 7 < length group). absurd (long h)) (λ (h : length group ≤ 7). h)
+      (cases_lt 7 (length group)),
+)
   where
     empty : length group ≤ 0 → ⊥
     empty h = let e : length group ≡ 0 = omega arith in
-        subst (λ w. IsSomeAnd w (λ width. AllByRecursion (FitsBits width) group)) (ap (group_width version) e ∙ no_width version) is
+        subst (λ w. IsSomeAnd w (λ width. AllByRecursion (FitsBits width) group))
+        (ap (group_width version) e ∙ no_width version) is
 
     long : 7 < length group → ⊥
-    long h = subst (λ w. IsSomeAnd w (λ width. AllByRecursion (FitsBits width) group)) (too_many version (length group) h) is
+    long h = subst (λ w. IsSomeAnd w (λ width. AllByRecursion (FitsBits width) group))
+        (too_many version (length group) h) is
 
-pub a_group_has_few : (version : Version) (last : Bool) (group : List ℤ) → IsGroupAt version last group → (0 < length group) × (length group ≤ 7)
+pub a_group_has_few : (version : Version) (last : Bool) (group : List ℤ) → IsGroupAt version last group
+    → (0 < length group) × (length group ≤ 7)
 a_group_has_few version true group is = group_has_few version group is
 a_group_has_few One false group is = group_has_few One group is.0
 a_group_has_few Two false group is = group_has_few Two group is
 
 -- the newest group and the rest, by the group's length
-pub front_is : (group rest past : List ℤ) (i : ℕ) → past ≡ group ++ rest → length group ≡ i → (take i past ≡ group) × (drop i past ≡ rest)
-front_is group rest past i join size =
-    (ap (λ n. take n past) (sym size) ∙ ap (take (length group)) join ∙ take-append_seam group rest, ap (λ n. drop n past) (sym size) ∙ ap (drop (length group)) join ∙ drop-append_seam group rest)
+pub front_is : (group rest past : List ℤ) (i : ℕ) → past ≡ group ++ rest → length group ≡ i
+    → (take i past ≡ group) × (drop i past ≡ rest)
+front_is group rest past i join size = (
+  ap (λ n. take n past) (sym size) ∙ ap (take (length group)) join
+      ∙ take-append_seam group rest,
+  ap (λ n. drop n past) (sym size) ∙ ap (drop (length group)) join
+      ∙ drop-append_seam group rest,
+)

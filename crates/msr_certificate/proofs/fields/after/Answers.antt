@@ -5,8 +5,11 @@ use Rattle.msr_certificate.proofs.fields.after.Goals as goal
 
 pub returns-clause-found : goal.returns-clause-found
 returns-clause-found c =
-    after_found c.args.text.now c.args.word.now c.strip_prefix.result (strip_prefix_is Decides-eqb c.args.text.now c.args.word.now c.strip_prefix.result c.strip_prefix.ensures.cases)
+    after_found c.args.text.now c.args.word.now c.strip_prefix.result
+    (strip_prefix_is Decides-eqb c.args.text.now c.args.word.now c.strip_prefix.result c.strip_prefix.ensures.cases)
 
 pub returns-clause-only : goal.returns-clause-only
 returns-clause-only c rest is =
-    after_only c.args.text.now c.args.word.now c.strip_prefix.result (strip_prefix_is Decides-eqb c.args.text.now c.args.word.now c.strip_prefix.result c.strip_prefix.ensures.cases) rest is
+    after_only c.args.text.now c.args.word.now c.strip_prefix.result
+    (strip_prefix_is Decides-eqb c.args.text.now c.args.word.now c.strip_prefix.result
+    c.strip_prefix.ensures.cases) rest is

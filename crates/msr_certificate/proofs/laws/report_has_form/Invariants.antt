@@ -6,4 +6,5 @@ use Rattle.msr_certificate.proofs.laws.report_has_form.Given as goal
 
 -- so many lines were looked at
 abbrev pub invariant-loop-line : goal.invariant-loop-line
-invariant-loop-line l = (k : ℕ) → k < l.line-index → (d : SegmentLine) → IsProperLine (get_or l.report.segments.items k d) → IsFormLine (form_line (get_or l.report.segments.items k d))
+invariant-loop-line l = (k : ℕ) → k < l.line-index → (d : SegmentLine)
+    → IsProperLine (get_or l.report.segments.items k d) → IsFormLine (form_line (get_or l.report.segments.items k d))

@@ -54,6 +54,8 @@ returns-clause-found c =
     record {
       word = word.0;
       time = rw (to_z-of_z fits) word.1.0;
-      is = c.in-Some.ensures.found ∙ ap (key_then c.in-Some.key) (word.1.1 ∙ ap (λ (l : List ℕ). codes " start " ++ (word.0 ++ l))
-          (c.in_ok-samples.ensures.found ∙ ap (λ (l : List ℕ). codes " samples " ++ (decimal c.in_ok-samples.samples ++ l)) c.in_ok-records.ensures.found));
+      is = c.in-Some.ensures.found ∙ ap (key_then c.in-Some.key)
+          (word.1.1 ∙ ap (λ (l : List ℕ). codes " start " ++ (word.0 ++ l))
+          (c.in_ok-samples.ensures.found ∙ ap (λ (l : List ℕ). codes " samples "
+          ++ (decimal c.in_ok-samples.samples ++ l)) c.in_ok-records.ensures.found));
     }

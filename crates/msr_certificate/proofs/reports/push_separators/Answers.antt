@@ -3,7 +3,8 @@ use Rattle.msr_certificate.proofs.reports.push_separators.Goals as goal
 
 pub loop-number-preserved : goal.loop-number-preserved
 loop-number-preserved c =
-    read_more c.args.text.now c.loop-number.numbers.items c.push.new.self.items c.loop-number.rest.now c.in-Some-counted.more.now c.in-Some-counted.number
+    read_more c.args.text.now c.loop-number.numbers.items c.push.new.self.items c.loop-number.rest.now
+    c.in-Some-counted.more.now c.in-Some-counted.number
     c.loop-number.invariant c.in_ok-push.ensures.items c.in-Some-counted.ensures.found c.in-Some-counted.ensures.only
 
 pub returns-clause-only : goal.returns-clause-only

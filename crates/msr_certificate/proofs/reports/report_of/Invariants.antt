@@ -1,6 +1,6 @@
 use Rattle.std.proofs.Common.{length}
 use Rattle.msr_words.specs.Lengths.{bytes_of}
-use Rattle.msr_certificate.proofs.Going.{Going}
+use Rattle.msr_certificate.proofs.SegmentsRead.{Going}
 use Rattle.msr_certificate.proofs.reports.report_of.Given as goal
 
 abbrev pub invariant-loop-line : goal.invariant-loop-line

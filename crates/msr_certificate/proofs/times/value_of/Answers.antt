@@ -12,4 +12,5 @@ returns-then-not-is_ascii_digit c all =
 
 pub loop-digit-preserved : goal.loop-digit-preserved
 loop-digit-preserved c =
-    reads_more c.args.digits.now c.loop-digit.digit-index c.loop-digit.value _ c.loop-digit.invariant (omega arith) (omega arith) refl (sym c.is_ascii_digit.ensures.value ∙ c.if-not-is_ascii_digit.false)
+    reads_more c.args.digits.now c.loop-digit.digit-index c.loop-digit.value _ c.loop-digit.invariant (omega arith)
+    (omega arith) refl (sym c.is_ascii_digit.ensures.value ∙ c.if-not-is_ascii_digit.false)

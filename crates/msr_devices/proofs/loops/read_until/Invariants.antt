@@ -8,7 +8,8 @@ invariant-loop-filled g l = record {
   within : l.filled ≤ length l.room;
   calm : IsCalm (g.R.Source.device l.fn.source) (g.R.Source.device l.source);
   short : l.fn.filled < l.filled → (g.R.Source.device l.source).moved < 2 ^ 64;
-  onto : GivesOnto (g.R.Source.device l.fn.source) (g.R.Source.device l.source) (take l.fn.filled l.fn.room) (take l.filled l.room);
+  onto : GivesOnto (g.R.Source.device l.fn.source) (g.R.Source.device l.source) (take l.fn.filled l.fn.room)
+      (take l.filled l.room);
 }
 
 abbrev pub decreases-loop-filled : goal.decreases-loop-filled

@@ -18,5 +18,9 @@ loop-at-preserved c =
 pub returns : goal.returns
 returns c =
     let i = c.loop-at.invariant.streams in
-    let all = take_all c.loop-at.at c.args.samples.now (omega arith) in
-    (i.0, i.1, rw all at (c.end.ensures (bytes_of c.args.record_length) (take c.loop-at.at c.args.samples.now) i.0 i.1 i.2))
+    let all = take_all c.loop-at.at c.args.samples.now (omega arith) in (
+      i.0,
+      i.1,
+      rw all at (c.end.ensures (bytes_of c.args.record_length)
+          (take c.loop-at.at c.args.samples.now) i.0 i.1 i.2),
+    )

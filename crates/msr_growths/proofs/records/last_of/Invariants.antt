@@ -9,5 +9,6 @@ use Rattle.msr_growths.proofs.records.last_of.Given as goal
 abbrev pub invariant-loop-at : goal.invariant-loop-at
 invariant-loop-at l = record {
   count : pushed l.packer ≡ l.at;
-  streams : (runs : List Run) × (separators : List ℕ) × Streams (bytes_of l.fn.record_length) (take l.at l.samples) runs separators l.packer;
+  streams : (runs : List Run) × (separators : List ℕ)
+      × Streams (bytes_of l.fn.record_length) (take l.at l.samples) runs separators l.packer;
 }

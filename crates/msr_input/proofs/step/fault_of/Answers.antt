@@ -1,18 +1,19 @@
-use Rattle.msr_input.proofs.Strict.{alone-agreed, alone-before, alone-lenient, alone-unsaid}
+use Rattle.msr_input.proofs.Strict.{alone_agreed, alone_before, alone_lenient, alone_unsaid}
 use Rattle.msr_input.proofs.step.fault_of.Goals as goal
 
 pub returns-in_default-clause-refused : goal.returns-in_default-clause-refused
 returns-in_default-clause-refused c = λ other.
-    alone-before c.args.strict c.args.bytes.now c.args.kind (c.requires other) (λ e. c.in_default.not-TimeRange e)
+    alone_before c.args.strict c.args.bytes.now c.args.kind (c.requires other) (λ e. c.in_default.not-TimeRange e)
 
 pub returns-then-not-strict-clause-refused : goal.returns-then-not-strict-clause-refused
-returns-then-not-strict-clause-refused c = λ other. rw c.if-not-strict.true (alone-lenient c.args.bytes.now c.args.kind (c.requires other))
+returns-then-not-strict-clause-refused c = λ other. rw c.if-not-strict.true
+    (alone_lenient c.args.bytes.now c.args.kind (c.requires other))
 
 pub returns-in_default-reverse_in-clause-refused : goal.returns-in_default-reverse_in-clause-refused
 returns-in_default-reverse_in-clause-refused c = λ other.
-    alone-agreed c.args.strict c.args.bytes.now c.args.kind _ c.in_default-reverse_in.ensures.some
+    alone_agreed c.args.strict c.args.bytes.now c.args.kind _ c.in_default-reverse_in.ensures.some
     (λ e. let t = c.in_default-reverse_in.field-0-test in cc) (c.requires other)
 
 pub returns-in_default-reverse_in-2-clause-refused : goal.returns-in_default-reverse_in-2-clause-refused
 returns-in_default-reverse_in-2-clause-refused c = λ other.
-    alone-unsaid c.args.strict c.args.bytes.now c.args.kind c.in_default-reverse_in.ensures.none (c.requires other)
+    alone_unsaid c.args.strict c.args.bytes.now c.args.kind c.in_default-reverse_in.ensures.none (c.requires other)

@@ -6,8 +6,8 @@ use Rattle.msr_record.specs.declared.row.Record.{Record}
 use Rattle.msr_record.specs.declared.fault.FaultKind.{FaultKind}
 use Rattle.msr_record.specs.declared.fault.FaultKind.TheVariants.{Memory}
 use Rattle.msr_input.specs.Steps.{may_change}
-use Rattle.msr_input.proofs.Ahead.{came-short, filled-none, filled-more, refused-short, room-none, room-more, room-found}
-use Rattle.msr_input.proofs.Seen.{decoding-stops, none-held}
+use Rattle.msr_input.proofs.BytesAhead.{came_short, filled_none, filled_more, refused_short, room_none, room_more, room_found}
+use Rattle.msr_input.proofs.SettledRefusals.{decoding_stops, none_held}
 use Rattle.msr_input.proofs.step.read_record.Goals.{else-is_empty-via-then-is_empty+else-has_ended, else-is_empty-via-else-is_empty, then-has_ended-2-via-then-has_ended-2, then-has_ended-2-via-else-has_ended-2+then-not-may_change}
 use Rattle.msr_input.proofs.step.read_record.Goals as goal
 
@@ -20,38 +20,54 @@ returns-then-has_ended-2-clause-refused g c =
     let window = c.bytes.buffer in
     let are_now : AreBytes c.bytes-bytes.result.now = search rules in
     let are : AreBytes window.bytes = rw c.bytes-bytes.ensures at are_now in
-    let wraps : c.in-Err.kind ≡ Memory → ◌≡◌ {A = Result Record FaultKind} (Err c.in-Err.kind) (Err Memory) = λ e. ap (λ (kind : FaultKind). Err kind) e in
+    let wraps : c.in-Err.kind ≡ Memory → ◌≡◌ {A = Result g.row.F.Denot FaultKind} (Err c.in-Err.kind)
+    (Err Memory) = λ e. ap (λ (kind : FaultKind). Err kind) e in
     let refused = rw c.bytes-bytes.ensures at c.in-Err.ensures.refused in
     let memory = rw c.bytes-bytes.ensures at c.in-Err.ensures.memory in
     let some : window.ended ≡ true → 0 < length window.bytes = λ ended. elim c.else-is_empty.branch [
       | else-is_empty-via-then-is_empty+else-has_ended w ↦ absurd cc
-      | else-is_empty-via-else-is_empty w ↦ not-empty window.bytes c.is_empty.result (rw c.bytes-bytes.ensures at c.is_empty.ensures) w.if-is_empty.false
+      | else-is_empty-via-else-is_empty w ↦ not-empty window.bytes c.is_empty.result
+          (rw c.bytes-bytes.ensures at c.is_empty.ensures) w.if-is_empty.false
     ] in
-    let decided : window.ended ≡ false → may_change c.in-Err.kind (length window.bytes) ≡ false = λ unended. elim c.then-has_ended-2.branch [
+    let decided : window.ended ≡ false → may_change c.in-Err.kind (length window.bytes) ≡ false =
+    λ unended. elim c.then-has_ended-2.branch [
       | then-has_ended-2-via-then-has_ended-2 w ↦ absurd cc
-      | then-has_ended-2-via-else-has_ended-2+then-not-may_change w ↦ rw c.bytes-bytes.ensures at (sym w.may_change.ensures ∙ w.if-not-may_change.true)
+      | then-has_ended-2-via-else-has_ended-2+then-not-may_change w ↦ rw c.bytes-bytes.ensures at
+          (sym w.may_change.ensures ∙ w.if-not-may_change.true)
     ] in
-    rw c.fault_at.ensures (decoding-stops c.args.strict window c.args.offset c.in-Err.kind are refused (λ e. memory (wraps e)) some decided)
+    rw c.fault_at.ensures (decoding_stops g.F.FromRecord.takes c.args.strict window c.args.offset c.in-Err.kind are
+    refused (λ e. memory (wraps e)) some decided)
 
 pub bytes-init : goal.bytes-init
 bytes-init g c = record {
-  filled = filled-none (g.R.Source.device c.args.source.now) c.args.buffer.now;
-  room = room-none c.args.buffer.now;
+  filled = filled_none (g.R.Source.device c.args.source.now) c.args.buffer.now;
+  room = room_none c.args.buffer.now;
   unread = λ holds. record { source = refl; bytes = refl };
 }
 
-pub returns-in-Ok-clause-room : goal.returns-in-Ok-clause-room
-returns-in-Ok-clause-room g c = room-found c.args.buffer.now.room c.bytes.buffer c.in-Ok.found c.bytes.invariant.room (rw c.bytes-bytes.ensures at c.in-Ok.ensures.found)
+pub returns-in-Ok-clause-next : goal.returns-in-Ok-clause-next
+returns-in-Ok-clause-next g c =
+    let judged = rw c.bytes-bytes.ensures at c.in-Ok.ensures.found in
+    record {
+      judged = judged;
+      room_is = room_found c.args.buffer.now.room c.bytes.buffer judged.found c.bytes.invariant.room
+          judged.is_record;
+    }
 
 pub bytes-preserved : goal.bytes-preserved
 bytes-preserved g c =
     let unended : c.bytes.buffer.ended ≡ false = cc in
     let more = c.in_ok-fill.ensures.filled in
     let at_hand = rw c.bytes-bytes.ensures at more in
-    let none = none-held c.args.strict c.bytes.buffer.bytes c.in-Err.kind (length c.bytes-bytes.result.now) (sym c.may_change.ensures ∙ c.if-not-may_change.false) (rw c.bytes-bytes.ensures at c.in-Err.ensures.refused) in
+    let none = none_held c.args.strict c.bytes.buffer.bytes c.in-Err.kind (length c.bytes-bytes.result.now)
+    (sym c.may_change.ensures ∙ c.if-not-may_change.false) (rw c.bytes-bytes.ensures at c.in-Err.ensures.refused) in
     record {
-      filled = filled-more (g.R.Source.device c.args.source.now) (g.R.Source.device c.bytes.source) (g.R.Source.device c.fill.new.source) c.args.buffer.now c.bytes.buffer c.fill.new.self 0 (length c.bytes-bytes.result.now + 1) c.bytes.invariant.filled unended more;
-      room = room-more c.args.buffer.now.room (g.R.Source.device c.bytes.source) (g.R.Source.device c.fill.new.source) c.bytes.buffer c.fill.new.self c.bytes.invariant.room none at_hand (rw c.bytes-bytes.ensures at c.fill.ensures.room);
+      filled = filled_more (g.R.Source.device c.args.source.now) (g.R.Source.device c.bytes.source)
+          (g.R.Source.device c.fill.new.source) c.args.buffer.now c.bytes.buffer c.fill.new.self 0
+          (length c.bytes-bytes.result.now + 1) c.bytes.invariant.filled unended more;
+      room = room_more c.args.buffer.now.room (g.R.Source.device c.bytes.source)
+          (g.R.Source.device c.fill.new.source) c.bytes.buffer c.fill.new.self c.bytes.invariant.room none at_hand
+          (rw c.bytes-bytes.ensures at c.fill.ensures.room);
       unread = λ holds. let same = c.bytes.invariant.unread holds in absurd (none (rw same.bytes holds));
     }
 
@@ -59,11 +75,17 @@ pub returns-in_err-fill-clause-came : goal.returns-in_err-fill-clause-came
 returns-in_err-fill-clause-came g c =
     let p = err_from_is_err_and c.from_residual.result c.from_residual.ensures.1 in
     let unended : c.bytes.buffer.ended ≡ false = cc in
-    rw (p.1, p.2) (came-short (g.R.Source.device c.args.source.now) (g.R.Source.device c.bytes.source) (g.R.Source.device c.fill.new.source) c.args.buffer.now c.bytes.buffer c.fill.new.self (length c.bytes-bytes.result.now + 1) c.in_err-fill.field-0.0 c.bytes.invariant.filled unended c.in_err-fill.ensures.filled)
+    rw (p.1, p.2) (came_short (g.R.Source.device c.args.source.now) (g.R.Source.device c.bytes.source)
+    (g.R.Source.device c.fill.new.source) c.args.buffer.now c.bytes.buffer c.fill.new.self
+    (length c.bytes-bytes.result.now
+    + 1) c.in_err-fill.field-0.0 c.bytes.invariant.filled unended c.in_err-fill.ensures.filled)
 
 pub returns-in_err-fill-clause-refused : goal.returns-in_err-fill-clause-refused
 returns-in_err-fill-clause-refused g c =
     let p = err_from_is_err_and c.from_residual.result c.from_residual.ensures.1 in
     let at_hand = rw c.bytes-bytes.ensures at c.in_err-fill.ensures.filled in
-    let none = none-held c.args.strict c.bytes.buffer.bytes c.in-Err.kind (length c.bytes-bytes.result.now) (sym c.may_change.ensures ∙ c.if-not-may_change.false) (rw c.bytes-bytes.ensures at c.in-Err.ensures.refused) in
-    rw (p.1, p.2) (refused-short c.args.strict (g.R.Source.device c.bytes.source) (g.R.Source.device c.fill.new.source) c.bytes.buffer c.fill.new.self c.args.offset c.in_err-fill.field-0.0 none at_hand)
+    let none = none_held c.args.strict c.bytes.buffer.bytes c.in-Err.kind (length c.bytes-bytes.result.now)
+    (sym c.may_change.ensures ∙ c.if-not-may_change.false) (rw c.bytes-bytes.ensures at c.in-Err.ensures.refused) in
+    rw (p.1, p.2) (refused_short g.F.FromRecord.takes c.args.strict (g.R.Source.device c.bytes.source)
+    (g.R.Source.device c.fill.new.source) c.bytes.buffer c.fill.new.self c.args.offset c.in_err-fill.field-0.0
+    none at_hand)

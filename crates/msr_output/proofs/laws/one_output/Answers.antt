@@ -1,5 +1,5 @@
-use Rattle.msr_output.proofs.Once.{output-once}
+use Rattle.msr_output.proofs.OneOutput.{output_once}
 use Rattle.msr_output.proofs.laws.one_output.Goals as goal
 
 pub returns : goal.returns
-returns c = output-once
+returns c = output_once

@@ -1,7 +1,7 @@
 use Rattle.std.proofs.Common.{rules, ◌≡◌, ◌+◌, ap, arith, length}
 use Rattle.msr_packer.specs.Blocks.{pushed}
 use Rattle.msr_segments.specs.Segments.{SegmentIsInTime}
-use Rattle.msr_output.proofs.Begun.{can_longer}
+use Rattle.msr_output.proofs.OpenSegments.{can_longer}
 use Rattle.msr_output.proofs.tests.numbers_behind.Goals as goal
 
 pub encode_runs-requires-clause-can : goal.encode_runs-requires-clause-can
@@ -14,4 +14,6 @@ encode_runs-requires-clause-can g c =
     let all = ap length c.as_slice.ensures in
     let none = c.begin-opened.ensures.count in
     let count : pushed opened.packer + length c.as_slice.result.now ≡ length segment.samples = omega arith in
-    can_longer opened c.push.new.self can c.as_slice.result.now (c.in_ok-push.ensures.taken can.segment can.runs can.is_open) c.push.ensures.key c.push.ensures.size (rw (c.begin-opened.ensures.key, start, count) in_time)
+    can_longer opened c.push.new.self can c.as_slice.result.now
+    (c.in_ok-push.ensures.taken can.segment can.runs can.is_open) c.push.ensures.key c.push.ensures.size
+    (rw (c.begin-opened.ensures.key, start, count) in_time)

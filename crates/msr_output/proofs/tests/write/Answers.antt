@@ -13,7 +13,11 @@ push-requires-clause-in_time g c =
     rw (c.begin-opened.ensures.key, start, count) c.requires.in_time
 
 pub end-requires-clause-count : goal.end-requires-clause-count
-end-requires-clause-count g c = (omega (arith, c.push.ensures.few.failures, c.requires.failures), omega (arith, c.push.ensures.few.interruptions, c.requires.interruptions))
+end-requires-clause-count g c = (
+  omega (arith, c.push.ensures.few.failures, c.requires.failures),
+  omega
+      (arith, c.push.ensures.few.interruptions, c.requires.interruptions),
+)
 
 pub returns-clause-failures : goal.returns-clause-failures
 returns-clause-failures g c = omega (arith, c.push.ensures.few.failures, c.end.ensures.few.failures)

@@ -1,5 +1,5 @@
 -- Step by step from the first frontier.
-use Rattle.msr_packer.proofs.Exist.{has_packing}
+use Rattle.msr_packer.proofs.PackingsExist.{has_packing}
 use Rattle.msr_packer.proofs.existence.packing_exists.Goals as goal
 
 pub returns : goal.returns

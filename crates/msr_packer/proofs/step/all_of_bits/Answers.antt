@@ -13,10 +13,14 @@ pub loop-at-preserved : goal.loop-at-preserved
 loop-at-preserved c small =
     let sample : SFits w32 (slice_index_or c.args.samples.now c.loop-at.at (pos 0)) = search rules in
     let is = simp to_z-of_z at c.size_of-sizes.ensures in
-    let before : c.loop-at.sizes ≤ bit_or c.loop-at.sizes c.size_of-sizes.result = le_or_l c.loop-at.sizes c.size_of-sizes.result in
-    let new : c.size_of-sizes.result ≤ bit_or c.loop-at.sizes c.size_of-sizes.result = le_or_r c.loop-at.sizes c.size_of-sizes.result in
-    let here : IsOfBits c.args.bits (slice_index_or c.args.samples.now c.loop-at.at (pos 0)) = (is c.args.bits).1 (omega arith) in
-    one_of_bits c.args.bits c.args.samples.now c.args.start c.loop-at.at (omega arith) (omega arith) here (c.loop-at.invariant (omega arith))
+    let before : c.loop-at.sizes ≤ bit_or c.loop-at.sizes c.size_of-sizes.result =
+    le_or_l c.loop-at.sizes c.size_of-sizes.result in
+    let new : c.size_of-sizes.result ≤ bit_or c.loop-at.sizes c.size_of-sizes.result =
+    le_or_r c.loop-at.sizes c.size_of-sizes.result in
+    let here : IsOfBits c.args.bits (slice_index_or c.args.samples.now c.loop-at.at (pos 0)) =
+    (is c.args.bits).1 (omega arith) in
+    one_of_bits c.args.bits c.args.samples.now c.args.start c.loop-at.at (omega arith) (omega arith) here
+    (c.loop-at.invariant (omega arith))
 
 pub returns : goal.returns
 returns c t =

@@ -10,7 +10,8 @@ pub returns-then-not-fits_bits : goal.returns-then-not-fits_bits
 returns-then-not-fits_bits c f b order within four =
     let size : SFits w64 c.difference.result = search rules in
     let is = simp to_z-of_z at c.fits_bits.ensures in
-    let small = four_begin c.args.samples.now c.args.start b c.loop-at.at (omega arith) (omega arith) order within four in
+    let small = four_begin c.args.samples.now c.args.start b c.loop-at.at (omega arith)
+    (omega arith) order within four in
     let fits = is.1 (rw c.difference.ensures small) in
     let not = c.if-not-fits_bits.true in
     cc

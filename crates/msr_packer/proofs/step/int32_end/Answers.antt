@@ -1,5 +1,5 @@
 use Rattle.std.proofs.Common.{arith}
-use Rattle.msr_packer.proofs.Ends.{int32_is_end}
+use Rattle.msr_packer.proofs.EndsByKind.{int32_is_end}
 use Rattle.msr_packer.proofs.step.int32_end.Goals as goal
 
 pub returns : goal.returns

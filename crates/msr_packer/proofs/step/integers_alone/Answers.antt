@@ -4,8 +4,8 @@ use Rattle.msr_words.specs.Lemmas.KindLaws.{int16_by_bits}
 use Rattle.msr_words.proofs.WordRoom.{wide_of_steim1, wide_of_steim2}
 use Rattle.msr_packer.specs.declared.step.Step.{Step}
 use Rattle.msr_packer.specs.Steps.{longer_kinds}
-use Rattle.msr_packer.proofs.Better.{reordered, skipped}
-use Rattle.msr_packer.proofs.Ends.{empty_run, longer_ends, longest_step, none_with_wide}
+use Rattle.msr_packer.proofs.StepsByKinds.{reordered, skipped}
+use Rattle.msr_packer.proofs.EndsByKind.{empty_run, longer_ends, longest_step, none_with_wide}
 use Rattle.msr_packer.proofs.step.integers_alone.Goals as goal
 
 pub furthest_integers-int16-requires-clause-are : goal.furthest_integers-int16-requires-clause-are
@@ -22,11 +22,15 @@ with_wide_integers-requires c =
     let up = is.fits.0 in
     let same = c.data_words-words.ensures.same in
     let wide = rw same at c.has_more_wide.ensures c.if-not-has_more_wide.false in
-    let none2 = none_with_wide bytes samples g Steim2 (wide_of_steim2 bytes) (c.furthest_integers-int16.result - 1) (omega arith) wide in
-    let none1 = none_with_wide bytes samples g Steim1 (wide_of_steim1 bytes) (c.furthest_integers-int16.result - 1) (omega arith) wide in
+    let none2 = none_with_wide bytes samples g Steim2 (wide_of_steim2 bytes) (c.furthest_integers-int16.result - 1)
+    (omega arith) wide in
+    let none1 = none_with_wide bytes samples g Steim1 (wide_of_steim1 bytes) (c.furthest_integers-int16.result - 1)
+    (omega arith) wide in
     let one = longest_step bytes samples g Int16 e16 refl is in
-    let two = skipped bytes samples g Steim2 (Int16 ∷ []) by_int16 refl one (λ s b le run. let less = none2 s b le run in omega arith) in
-    let three = skipped bytes samples g Steim1 (Steim2 ∷ Int16 ∷ []) by_int16 refl two (λ s b le run. let less = none1 s b le run in omega arith) in
+    let two = skipped bytes samples g Steim2 (Int16 ∷ []) by_int16 refl one
+    (λ s b le run. let less = none2 s b le run in omega arith) in
+    let three = skipped bytes samples g Steim1 (Steim2 ∷ Int16 ∷ []) by_int16 refl two
+    (λ s b le run. let less = none1 s b le run in omega arith) in
     record {
       within = c.requires;
       step = reordered bytes samples g longer_kinds (Steim1 ∷ Steim2 ∷ Int16 ∷ []) (λ kind among. elim among [
@@ -39,6 +43,9 @@ with_wide_integers-requires c =
           ]
         ]
       ]) by_int16 three;
-      ends = longer_ends bytes samples g e16 g g e16 (empty_run bytes samples g Steim2 (omega arith) c.requires) (empty_run bytes samples g Steim1 (omega arith) c.requires) is.fits
-          (λ c near run. let less = none2 g c (omega arith) run in absurd (omega arith)) (λ c near run. let less = none1 g c (omega arith) run in absurd (omega arith)) (λ c near run. inl (is.furthest c run)) _ refl refl refl;
+      ends = longer_ends bytes samples g e16 g g e16 (empty_run bytes samples g Steim2 (omega arith) c.requires)
+          (empty_run bytes samples g Steim1 (omega arith) c.requires) is.fits
+          (λ c near run. let less = none2 g c (omega arith) run in absurd (omega arith))
+          (λ c near run. let less = none1 g c (omega arith) run in absurd (omega arith))
+          (λ c near run. inl (is.furthest c run)) _ refl refl refl;
     }

@@ -17,9 +17,12 @@ loop-word-init c =
     let all : c.data_words-words.result ≡ c.data_words-words.result - 0 = omega arith in
     let latest = c.args.start + c.min.result in
     let seen = take (c.args.start + c.min.result) c.args.samples.now in
-    let long : length (take (c.args.start + c.min.result) c.args.samples.now) ≡ c.args.start + c.min.result = length-take-le latest c.args.samples.now (omega arith) in
+    let long : length (take (c.args.start + c.min.result) c.args.samples.now) ≡ c.args.start + c.min.result =
+    length-take-le latest c.args.samples.now (omega arith) in
     record {
-      walked = subst (λ n. IsWalked c.data_words-words.result n (take (c.args.start + c.min.result) c.args.samples.now) c.args.start c.args.start) all (walk_begins c.data_words-words.result seen c.args.start (omega arith));
+      walked = subst (λ n. IsWalked c.data_words-words.result n
+          (take (c.args.start + c.min.result) c.args.samples.now) c.args.start c.args.start) all (walk_begins
+          c.data_words-words.result seen c.args.start (omega arith));
       window = c.new-window.ensures seen c.args.start;
       small = λ some. none_narrow seen c.args.start;
     }
@@ -31,10 +34,14 @@ loop-word-preserved c =
     let left : words - c.loop-word._word ≡ suc (words - (c.loop-word._word + 1)) = omega arith in
     let walked = c.loop-word.invariant.walked in
     record {
-      walked = walk_more words (words - (c.loop-word._word + 1)) seen c.args.start c.loop-word.at c.longest_steim2_group-size.result c.longest_steim2_group-size.ensures.longest
+      walked = walk_more words (words - (c.loop-word._word
+          + 1)) seen c.args.start c.loop-word.at c.longest_steim2_group-size.result c.longest_steim2_group-size.ensures.longest
           (subst (λ n. IsWalked words n seen c.args.start c.loop-word.at) left walked);
-      window = window_on seen c.loop-word.at (c.loop-word.at + c.longest_steim2_group-size.result) c.longest_steim2_group-size.new.self (omega arith) c.longest_steim2_group-size.ensures.window;
-      small = λ some. group_narrow seen c.args.start c.loop-word.at c.longest_steim2_group-size.result walked.from walked.within c.longest_steim2_group-size.ensures.longest
+      window = window_on seen c.loop-word.at (c.loop-word.at
+          + c.longest_steim2_group-size.result) c.longest_steim2_group-size.new.self (omega
+          arith) c.longest_steim2_group-size.ensures.window;
+      small = λ some. group_narrow seen c.args.start c.loop-word.at c.longest_steim2_group-size.result walked.from
+          walked.within c.longest_steim2_group-size.ensures.longest
           (omega (arith, c.min-least.ensures)) (c.loop-word.invariant.small (omega (arith, c.min-least.ensures)));
     }
 
@@ -49,12 +56,18 @@ returns-then-size-eq0 c =
     let words = c.data_words-words.result in
     let latest = c.args.start + c.min.result in
     let most : c.most.result ≡ most_of Steim2 c.args.record_length.bytes = c.most.ensures in
-    let latest_is : c.args.start + c.min.result ≡ latest_end Steim2 c.args.record_length.bytes c.args.samples.now c.args.start = omega arith in
+    let latest_is : c.args.start + c.min.result
+    ≡ latest_end Steim2 c.args.record_length.bytes c.args.samples.now c.args.start = omega arith in
     let xs = drop c.loop-word.at (differences None (take latest c.args.samples.now)) in
-    let none : IsLongestGroup xs 0 = subst (IsLongestGroup xs) c.if-size-eq0.true c.longest_steim2_group-size.ensures.longest in
-    let out = walked_out c.args.record_length.bytes words (words - c.loop-word._word) c.args.samples.now c.args.start latest c.loop-word.at c.requires c.steim2_greedy_reach.ensures
-    c.data_words-words.ensures.same latest_is c.loop-word.invariant.walked (none_reached (words - c.loop-word._word) xs none)
-    c.reach_to.result.end c.reach_to.result.narrow c.reach_to.ensures.end (λ t. c.loop-word.invariant.small (c.reach_to.ensures.groups t)) c.reach_to.ensures.behind in
+    let none : IsLongestGroup xs 0 =
+    subst (IsLongestGroup xs) c.if-size-eq0.true c.longest_steim2_group-size.ensures.longest in
+    let out = walked_out c.args.record_length.bytes words
+    (words - c.loop-word._word) c.args.samples.now c.args.start latest c.loop-word.at c.requires
+    c.steim2_greedy_reach.ensures
+    c.data_words-words.ensures.same latest_is c.loop-word.invariant.walked
+    (none_reached (words - c.loop-word._word) xs none)
+    c.reach_to.result.end c.reach_to.result.narrow c.reach_to.ensures.end
+    (λ t. c.loop-word.invariant.small (c.reach_to.ensures.groups t)) c.reach_to.ensures.behind in
     record { fits = out.fits; furthest = out.furthest; narrow = out.narrow }
 
 pub returns : goal.returns
@@ -62,11 +75,15 @@ returns c =
     let words = c.data_words-words.result in
     let latest = c.args.start + c.min.result in
     let most : c.most.result ≡ most_of Steim2 c.args.record_length.bytes = c.most.ensures in
-    let latest_is : c.args.start + c.min.result ≡ latest_end Steim2 c.args.record_length.bytes c.args.samples.now c.args.start = omega arith in
+    let latest_is : c.args.start + c.min.result
+    ≡ latest_end Steim2 c.args.record_length.bytes c.args.samples.now c.args.start = omega arith in
     let over : 0 ≡ words - c.loop-word._word = omega arith in
     let xs = drop c.loop-word.at (differences None (take latest c.args.samples.now)) in
     let stuck : IsGreedyReach (words - c.loop-word._word) xs 0 = subst (λ n. IsGreedyReach n xs 0) over refl in
-    let out = walked_out c.args.record_length.bytes words (words - c.loop-word._word) c.args.samples.now c.args.start latest c.loop-word.at c.requires c.steim2_greedy_reach.ensures
+    let out = walked_out c.args.record_length.bytes words
+    (words - c.loop-word._word) c.args.samples.now c.args.start latest c.loop-word.at c.requires
+    c.steim2_greedy_reach.ensures
     c.data_words-words.ensures.same latest_is c.loop-word.invariant.walked stuck
-    c.reach_to-2.result.end c.reach_to-2.result.narrow c.reach_to-2.ensures.end (λ t. c.loop-word.invariant.small (c.reach_to-2.ensures.groups t)) c.reach_to-2.ensures.behind in
+    c.reach_to-2.result.end c.reach_to-2.result.narrow c.reach_to-2.ensures.end
+    (λ t. c.loop-word.invariant.small (c.reach_to-2.ensures.groups t)) c.reach_to-2.ensures.behind in
     record { fits = out.fits; furthest = out.furthest; narrow = out.narrow }

@@ -4,13 +4,14 @@ use Rattle.msr_words.specs.declared.kinds.Kind.TheVariants.{Int24, Int32}
 use Rattle.msr_words.specs.Lemmas.KindLaws.{int24_by_bits}
 use Rattle.msr_packer.specs.declared.step.Step.{Step}
 use Rattle.msr_packer.specs.Steps.{longer_kinds}
-use Rattle.msr_packer.proofs.Better.{all_kinds, not_shorter, one_covered, one_more}
-use Rattle.msr_packer.proofs.Ends.{all_ends, longest_step, reached_by}
+use Rattle.msr_packer.proofs.StepsByKinds.{all_kinds, not_shorter, one_covered, one_more}
+use Rattle.msr_packer.proofs.EndsByKind.{all_ends, longest_step, reached_by}
 use Rattle.msr_packer.proofs.step.with_wide_integers.Goals as goal
 
 pub integers_end-int24-requires : goal.integers_end-int24-requires
 integers_end-int24-requires c =
-    let r = reached_by c.args.record_length.bytes c.args.samples.now c.args.frontier c.args.step.end c.max-reached.result c.args.ends (omega (arith, c.max.ensures, c.max-reached.ensures)) c.requires.ends in
+    let r = reached_by c.args.record_length.bytes c.args.samples.now c.args.frontier c.args.step.end
+    c.max-reached.result c.args.ends (omega (arith, c.max.ensures, c.max-reached.ensures)) c.requires.ends in
     record {
       order = r.2.0;
       within = r.2.1;
@@ -27,16 +28,29 @@ returns c =
     let g = c.args.frontier in
     let by_int24 : Step = record { start = c.args.frontier; end = c.integers_end-int24.result; kind = Int24 } in
     let by_int32 : Step = record { start = c.args.frontier; end = c.int32_end-int32.result; kind = Int32 } in
-    let greatest : c.max-reached.result ≡ max (max c.args.ends.steim2 c.args.ends.steim1) c.args.ends.int16 = omega (arith, c.max.ensures, c.max-reached.ensures) in
+    let greatest : c.max-reached.result ≡ max (max c.args.ends.steim2 c.args.ends.steim1) c.args.ends.int16 =
+    omega (arith, c.max.ensures, c.max-reached.ensures) in
     let r = reached_by bytes samples g c.args.step.end c.max-reached.result c.args.ends greatest c.requires.ends in
-    let four = one_covered bytes samples g Int24 longer_kinds c.args.step by_int24 c.or.result r.0 c.max-reached.result refl c.requires.step c.integers_end-int24.ensures.fits r.1 r.2 c.integers_end-int24.ensures.past
+    let four = one_covered bytes samples g Int24 longer_kinds c.args.step by_int24 c.or.result r.0
+    c.max-reached.result refl c.requires.step c.integers_end-int24.ensures.fits r.1 r.2
+    c.integers_end-int24.ensures.past
     c.or.ensures.one c.or.ensures.first c.or.ensures.second in
-    let five = one_more bytes samples g Int32 (Int24 ∷ longer_kinds) c.or.result by_int32 c.or-2.result four (longest_step bytes samples g Int32 c.int32_end-int32.result refl c.int32_end-int32.ensures) c.or-2.ensures.one c.or-2.ensures.first c.or-2.ensures.second in
+    let five = one_more bytes samples g Int32 (Int24 ∷ longer_kinds) c.or.result by_int32 c.or-2.result four
+    (longest_step bytes samples g Int32 c.int32_end-int32.result refl c.int32_end-int32.ensures)
+    c.or-2.ensures.one c.or-2.ensures.first c.or-2.ensures.second in
     let over = not_shorter c.or.result c.args.step c.or.ensures.first in
     let past = not_shorter c.or-2.result c.or.result c.or-2.ensures.first in
     record {
       step = all_kinds bytes samples g c.or-2.result five;
       kind = five.reached;
-      ends = all_ends bytes samples g c.args.step.end c.or-2.result.end c.max-reached.result c.args.ends (record { steim2 = c.args.ends.steim2; steim1 = c.args.ends.steim1; int16 = c.args.ends.int16; int24 = c.integers_end-int24.result; int32 = c.int32_end-int32.result }) greatest (omega arith) c.requires.ends refl refl refl
+      ends = all_ends bytes samples g c.args.step.end c.or-2.result.end c.max-reached.result c.args.ends
+          (record {
+            steim2 = c.args.ends.steim2;
+            steim1 = c.args.ends.steim1;
+            int16 = c.args.ends.int16;
+            int24 = c.integers_end-int24.result;
+            int32 =
+                c.int32_end-int32.result;
+          }) greatest (omega arith) c.requires.ends refl refl refl
           c.integers_end-int24.ensures.fits c.integers_end-int24.ensures.past c.int32_end-int32.ensures;
     }

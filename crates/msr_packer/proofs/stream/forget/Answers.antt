@@ -10,14 +10,17 @@ returns-clause-streaming c =
     let count = start_of held.current - 1 in
     let value = c.unneeded.ensures in
     let f = c.forget.ensures in
-    let may = may_forget held.record_length.bytes (length held.samples.items) held.current c.args.live.now.start s.sound.inside s.is_live.near in
+    let may = may_forget held.record_length.bytes
+    (length held.samples.items) held.current c.args.live.now.start s.sound.inside s.is_live.near in
     let long = ap length f.samples ∙ length-drop count held.samples.items in
     let few = s.few in
     record {
       sound = f.sound;
       stays = f.stays s.stays;
       is_live = rw (f.size, f.samples)
-          (live_forgets held.record_length.bytes held.samples.items (frontier_of held.current) (frontier_of c.forget.new.self.current) count c.args.live.now _ s.is_live may f.frontier (omega arith) refl);
+          (live_forgets held.record_length.bytes held.samples.items (frontier_of held.current)
+          (frontier_of c.forget.new.self.current) count c.args.live.now _ s.is_live may f.frontier
+          (omega arith) refl);
       few = rw f.size (omega arith);
     }
 
@@ -27,6 +30,7 @@ returns-clause-behind c =
     let count = start_of held.current - 1 in
     let f = c.forget.ensures in
     let long = ap length f.samples ∙ length-drop count held.samples.items in
-    let few = live_few held.record_length.bytes held.samples.items (frontier_of held.current) c.args.live.now c.requires.is_live in
+    let few = live_few held.record_length.bytes held.samples.items
+    (frontier_of held.current) c.args.live.now c.requires.is_live in
     let frontier = f.frontier in
     rw f.size (omega arith)

@@ -8,4 +8,5 @@ returns c =
     let range = rw (to_z-of_z fits) at c.is_instant.ensures in
     let last = rw (to_z-of_z fits) at c.nominal-last.ensures.found in
     let only = rw (to_z-of_z fits) at c.nominal-last.ensures.only in
-    rw c.is_some.ensures (in_time_from c.args.rate.now c.args.start c.args.count c.nominal-last.result (range.0 c.if-not-is_instant.false) last only)
+    rw c.is_some.ensures (in_time_from c.args.rate.now c.args.start c.args.count c.nominal-last.result
+    (range.0 c.if-not-is_instant.false) last only)

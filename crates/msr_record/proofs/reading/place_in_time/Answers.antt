@@ -9,11 +9,15 @@ returns-then-not-is_in_time-clause-out c =
     let h = c.args.header.now in
     let fits : FitsSigned w64 c.start_of-start.result = search rules in
     let start : to_z w64 (of_z w64 c.start_of-start.result) ≡ start_of h = to_z-of_z fits ∙ c.start_of-start.ensures in
-    rw start at (out_of_time h c.args.rate (key_of h) (to_z w64 (of_z w64 c.start_of-start.result)) h.samples c.is_in_time.result c.requires.factor c.requires.multiplier refl refl c.is_in_time.ensures c.if-not-is_in_time.true)
+    rw start at (out_of_time h c.args.rate (key_of h)
+    (to_z w64 (of_z w64 c.start_of-start.result)) h.samples c.is_in_time.result c.requires.factor
+    c.requires.multiplier refl refl c.is_in_time.ensures c.if-not-is_in_time.true)
 
 pub returns-clause-in_time : goal.returns-clause-in_time
 returns-clause-in_time c =
     let h = c.args.header.now in
     let fits : FitsSigned w64 c.start_of-start.result = search rules in
     let start : to_z w64 (of_z w64 c.start_of-start.result) ≡ start_of h = to_z-of_z fits ∙ c.start_of-start.ensures in
-    rw start at (in_time_of h c.args.rate (key_of h) (to_z w64 (of_z w64 c.start_of-start.result)) h.samples c.is_in_time.result c.requires.factor c.requires.multiplier refl refl c.is_in_time.ensures c.if-not-is_in_time.false)
+    rw start at (in_time_of h c.args.rate (key_of h)
+    (to_z w64 (of_z w64 c.start_of-start.result)) h.samples c.is_in_time.result c.requires.factor
+    c.requires.multiplier refl refl c.is_in_time.ensures c.if-not-is_in_time.false)

@@ -18,6 +18,13 @@ returns-in-Ok-view_area-clause-some c =
       read = c.in-Ok.ensures.opened.read;
       row = Some row;
       empty = tt;
-      is_row = record { header = header; has_area = fields.has_area; key_is = refl; start_is = refl; count = c.in-Ok-view_area.ensures.count; carried = carried };
+      is_row = record {
+        header = header;
+        has_area = fields.has_area;
+        key_is = refl;
+        start_is = refl;
+        count = c.in-Ok-view_area.ensures.count;
+        carried = carried;
+      };
       agrees_at_end = agrees_from c.args.rest.now header row c.reverse_agrees.result c.in-Ok.ensures.opened.read agree;
     }

@@ -7,7 +7,8 @@ use Rattle.msr_record.proofs.view.view_record.Goals as goal
 pub returns-clause-found_in_first : goal.returns-clause-found_in_first
 returns-clause-found_in_first c =
     let same = first_same c.args.rest.now c.view.ensures.first_bytes in
-    IfOk-weaker c.view.result (λ view. IsRecordOf c.args.rest.now view.found) (λ view. IsRecordOf (first_bytes c.args.rest.now) view.found)
+    IfOk-weaker c.view.result (λ view. IsRecordOf c.args.rest.now view.found)
+    (λ view. IsRecordOf (first_bytes c.args.rest.now) view.found)
     (λ view p. record_same c.args.rest.now (first_bytes c.args.rest.now) view.found same p) c.view.ensures.found
 
 pub returns-clause-refused_in_first : goal.returns-clause-refused_in_first

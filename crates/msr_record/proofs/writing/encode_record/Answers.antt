@@ -14,11 +14,20 @@ returns-else-is_err-clause-appended c =
     let n = c.len-end.result + c.bytes.result in
     let fits : FitsSigned w64 c.args.start = search rules in
     let zeros : List ℕ = replicate (c.len-end.result + c.bytes.result - c.args.out.now.len) 0 in
-    let kept : take (c.len-end.result + c.bytes.result) c.args.out.now.items ≡ c.args.out.now.items = take_all (c.len-end.result + c.bytes.result) c.args.out.now.items (omega arith) in
-    let items : c.resize.new.self.items ≡ c.args.out.now.items ++ replicate (c.len-end.result + c.bytes.result - c.args.out.now.len) 0 = c.in_ok-resize.ensures.items ∙ ap (λ (x : List ℕ). x ++ replicate (c.len-end.result + c.bytes.result - c.args.out.now.len) 0) kept in
-    let many : length zeros ≡ c.len-end.result + c.bytes.result - c.args.out.now.len = length-replicate (c.len-end.result + c.bytes.result - c.args.out.now.len) 0 in
+    let kept : take (c.len-end.result + c.bytes.result) c.args.out.now.items ≡ c.args.out.now.items =
+    take_all (c.len-end.result + c.bytes.result) c.args.out.now.items (omega arith) in
+    let items : c.resize.new.self.items ≡ c.args.out.now.items
+    ++ replicate (c.len-end.result + c.bytes.result - c.args.out.now.len) 0 = c.in_ok-resize.ensures.items
+    ∙ ap (λ (x : List ℕ). x ++ replicate (c.len-end.result + c.bytes.result - c.args.out.now.len) 0) kept in
+    let many : length zeros ≡ c.len-end.result + c.bytes.result - c.args.out.now.len =
+    length-replicate (c.len-end.result + c.bytes.result - c.args.out.now.len) 0 in
     let part : length c.fill_record-filled.new.bytes ≡ c.bytes.result = search rules in
-    let whole = new_part c.args.out.now.items zeros c.resize.new.self.items c.deref_mut.result.now c.fill_record-filled.new.bytes c.len-end.result c.resize.new.self.len items c.deref_mut.ensures.value (sym end) (part ∙ (let same = c.len-end.ensures in let back : c.bytes.result ≡ c.len-end.result + c.bytes.result - c.args.out.now.len = omega arith in back) ∙ sym many) c.resize.new.self.ok.0 in
+    let whole = new_part c.args.out.now.items zeros c.resize.new.self.items c.deref_mut.result.now
+    c.fill_record-filled.new.bytes c.len-end.result c.resize.new.self.len items c.deref_mut.ensures.value
+    (sym end) (part ∙ (let same = c.len-end.ensures in
+    let back : c.bytes.result ≡ c.len-end.result + c.bytes.result - c.args.out.now.len = omega arith in
+    back) ∙ sym many) c.resize.new.self.ok.0 in
     on_ok_weaker c.fill_record-filled.result
-    (λ alone. appended_behind c.args.out.now.items _ c.fill_record-filled.new.bytes c.args.key.now c.args.start c.args.sequence c.args.before c.args.run.now c.args.kind size whole alone)
+    (λ alone. appended_behind c.args.out.now.items _ c.fill_record-filled.new.bytes c.args.key.now c.args.start
+    c.args.sequence c.args.before c.args.run.now c.args.kind size whole alone)
     (simp (to_z-of_z) at c.fill_record-filled.ensures)

@@ -6,8 +6,10 @@ use Rattle.msr_record.proofs.written_area.are_32_bit.Goals as goal
 pub loop-sample-preserved : goal.loop-sample-preserved
 loop-sample-preserved c =
     let fits : SFits w32 (slice_index_or c.args.run.now c.loop-sample.sample-index (pos 0)) = search rules in
-    All-more (FitsSigned w32) c.args.run.now c.loop-sample.sample-index (pos 0) (omega arith) c.loop-sample.invariant fits
+    All-more (FitsSigned w32) c.args.run.now c.loop-sample.sample-index (pos 0)
+    (omega arith) c.loop-sample.invariant fits
 
 pub returns : goal.returns
 returns c =
-    All-same (FitsSigned w32) c.args.run.now (take c.loop-sample.sample-index c.args.run.now) (sym (take_all c.loop-sample.sample-index c.args.run.now (omega arith))) c.loop-sample.invariant
+    All-same (FitsSigned w32) c.args.run.now (take c.loop-sample.sample-index c.args.run.now)
+    (sym (take_all c.loop-sample.sample-index c.args.run.now (omega arith))) c.loop-sample.invariant

@@ -10,25 +10,31 @@ pub fill_steim1-requires-clause-frames : goal.fill_steim1-requires-clause-frames
 fill_steim1-requires-clause-frames c = whole_area c.args.record_length (length c.args.area.now) c.requires.size
 
 pub fill_steim1-requires-clause-fits : goal.fill_steim1-requires-clause-fits
-fill_steim1-requires-clause-fits c = can_fill c.args.record_length (length c.args.area.now) c.requires.size One c.args.before c.args.run.now c.requires.fits
+fill_steim1-requires-clause-fits c = can_fill c.args.record_length
+    (length c.args.area.now) c.requires.size One c.args.before c.args.run.now c.requires.fits
 
 pub frame_count-requires : goal.frame_count-requires
 frame_count-requires c =
-    few_groups c.args.record_length (length c.args.area.now) c.requires.size One c.args.before c.args.run.now c.requires.fits
+    few_groups c.args.record_length
+    (length c.args.area.now) c.requires.size One c.args.before c.args.run.now c.requires.fits
     c.fill_steim1.new.area c.in_ok-groups.groups c.in_ok-groups.ensures
 
 pub returns-clause-written : goal.returns-clause-written
 returns-clause-written c =
-    subst (λ frames. AreFrames One c.args.before c.args.run.now (bytes_of c.args.record_length - 64) frames c.fill_steim1.new.area) (sym c.frame_count.ensures)
-    (frames_written c.args.record_length (length c.args.area.now) c.requires.size One c.args.before c.args.run.now c.requires.fits
+    subst (λ frames. AreFrames One c.args.before c.args.run.now
+    (bytes_of c.args.record_length - 64) frames c.fill_steim1.new.area) (sym c.frame_count.ensures)
+    (frames_written c.args.record_length
+    (length c.args.area.now) c.requires.size One c.args.before c.args.run.now c.requires.fits
     c.fill_steim1.new.area c.in_ok-groups.groups c.in_ok-groups.ensures)
 
 pub returns-clause-carried : goal.returns-clause-carried
 returns-clause-carried c =
-    frames_carried c.args.record_length (length c.args.area.now) c.requires.size One c.args.before c.args.run.now c.requires.fits
+    frames_carried c.args.record_length
+    (length c.args.area.now) c.requires.size One c.args.before c.args.run.now c.requires.fits
     c.fill_steim1.new.area c.in_ok-groups.groups c.in_ok-groups.ensures c.requires.some c.requires.range
 
 pub returns-clause-reverse : goal.returns-clause-reverse
 returns-clause-reverse c =
-    frames_agree c.args.record_length (length c.args.area.now) c.requires.size One c.args.before c.args.run.now c.requires.fits
+    frames_agree c.args.record_length
+    (length c.args.area.now) c.requires.size One c.args.before c.args.run.now c.requires.fits
     c.fill_steim1.new.area c.in_ok-groups.groups c.in_ok-groups.ensures c.requires.some c.requires.range

@@ -11,21 +11,36 @@ fill_steim2-groups-requires-clause-frames c = whole_area c.args.record_length (l
 
 pub frame_count-requires : goal.frame_count-requires
 frame_count-requires c =
-    few_groups c.args.record_length (length c.args.area.now) c.requires.size Two c.args.before c.args.run.now c.requires.fits
-    c.fill_steim2-groups.new.area c.fill_steim2-groups.result (c.fill_steim2-groups.ensures.filled (can_fill c.args.record_length (length c.args.area.now) c.requires.size Two c.args.before c.args.run.now c.requires.fits))
+    few_groups c.args.record_length
+    (length c.args.area.now) c.requires.size Two c.args.before c.args.run.now c.requires.fits
+    c.fill_steim2-groups.new.area c.fill_steim2-groups.result
+    (c.fill_steim2-groups.ensures.filled (can_fill c.args.record_length
+    (length c.args.area.now) c.requires.size Two c.args.before c.args.run.now c.requires.fits))
 
 pub returns-clause-written : goal.returns-clause-written
 returns-clause-written c =
-    subst (λ frames. AreFrames Two c.args.before c.args.run.now (bytes_of c.args.record_length - 64) frames c.fill_steim2-groups.new.area) (sym c.frame_count.ensures)
-    (frames_written c.args.record_length (length c.args.area.now) c.requires.size Two c.args.before c.args.run.now c.requires.fits
-    c.fill_steim2-groups.new.area c.fill_steim2-groups.result (c.fill_steim2-groups.ensures.filled (can_fill c.args.record_length (length c.args.area.now) c.requires.size Two c.args.before c.args.run.now c.requires.fits)))
+    subst (λ frames. AreFrames Two c.args.before c.args.run.now
+    (bytes_of c.args.record_length - 64) frames c.fill_steim2-groups.new.area) (sym c.frame_count.ensures)
+    (frames_written c.args.record_length
+    (length c.args.area.now) c.requires.size Two c.args.before c.args.run.now c.requires.fits
+    c.fill_steim2-groups.new.area c.fill_steim2-groups.result
+    (c.fill_steim2-groups.ensures.filled (can_fill c.args.record_length
+    (length c.args.area.now) c.requires.size Two c.args.before c.args.run.now c.requires.fits)))
 
 pub returns-clause-carried : goal.returns-clause-carried
 returns-clause-carried c =
-    frames_carried c.args.record_length (length c.args.area.now) c.requires.size Two c.args.before c.args.run.now c.requires.fits
-    c.fill_steim2-groups.new.area c.fill_steim2-groups.result (c.fill_steim2-groups.ensures.filled (can_fill c.args.record_length (length c.args.area.now) c.requires.size Two c.args.before c.args.run.now c.requires.fits)) c.requires.some c.requires.range
+    frames_carried c.args.record_length
+    (length c.args.area.now) c.requires.size Two c.args.before c.args.run.now c.requires.fits
+    c.fill_steim2-groups.new.area c.fill_steim2-groups.result
+    (c.fill_steim2-groups.ensures.filled (can_fill c.args.record_length
+    (length c.args.area.now) c.requires.size Two c.args.before c.args.run.now
+    c.requires.fits)) c.requires.some c.requires.range
 
 pub returns-clause-reverse : goal.returns-clause-reverse
 returns-clause-reverse c =
-    frames_agree c.args.record_length (length c.args.area.now) c.requires.size Two c.args.before c.args.run.now c.requires.fits
-    c.fill_steim2-groups.new.area c.fill_steim2-groups.result (c.fill_steim2-groups.ensures.filled (can_fill c.args.record_length (length c.args.area.now) c.requires.size Two c.args.before c.args.run.now c.requires.fits)) c.requires.some c.requires.range
+    frames_agree c.args.record_length
+    (length c.args.area.now) c.requires.size Two c.args.before c.args.run.now c.requires.fits
+    c.fill_steim2-groups.new.area c.fill_steim2-groups.result
+    (c.fill_steim2-groups.ensures.filled (can_fill c.args.record_length
+    (length c.args.area.now) c.requires.size Two c.args.before c.args.run.now
+    c.requires.fits)) c.requires.some c.requires.range

@@ -19,7 +19,8 @@ loop-slot-init c =
     let bounds = slot_bounds frame from zeroth others in
     record {
       reached = record {
-        read = skip_first c.args.version c.args.order area (length out) frame from (constant c.args.order area 1) (take at.place out) zeroth others held.reached.read (omega (arith, c.loop-frame-test.true));
+        read = skip_first c.args.version c.args.order area (length out) frame from (constant c.args.order area 1)
+            (take at.place out) zeroth others held.reached.read (omega (arith, c.loop-frame-test.true));
         room = held.reached.room;
         last = held.reached.last;
       };
@@ -43,12 +44,17 @@ returns-in-None-clause-bad c =
     let held = c.loop-slot.invariant in
     let small : slot < 16 = c.loop-slot-test.true in
     let within : number < length area / 64 * 16 = omega (arith, small, c.loop-frame-test.true) in
-    let code_is : code ≡ code_of order area number = code_here order area frame slot c.loop-slot.codes held.some small held.late held.codes in
+    let code_is : code ≡ code_of order area number =
+    code_here order area frame slot c.loop-slot.codes held.some small held.late held.codes in
     let word_is : word ≡ arranged_word c.args.version order code area number = c.arranged_word_at-word.ensures in
-    let undefined : IsUndefined c.args.version order area number = undefined_so c.args.version order area number code word code_is word_is (c.in-None.ensures.none refl) in
-    let here : IsUndefinedBefore c.args.version order area (length c.args.out.now) number = subst (λ n. IsUndefinedBefore c.args.version order area n number) (c.loop-slot.auto.out ∙ c.loop-frame.auto.out)
-    (undefined_before c.args.version order area (length c.loop-slot.out) number (constant order area 1) (take at.place c.loop-slot.out) held.reached.read within undefined) in
-    λ other e. subst (λ n. IsUndefinedBefore c.args.version order area (length c.args.out.now) n) (same_word number other e) here
+    let undefined : IsUndefined c.args.version order area number =
+    undefined_so c.args.version order area number code word code_is word_is (c.in-None.ensures.none refl) in
+    let here : IsUndefinedBefore c.args.version order area (length c.args.out.now) number =
+    subst (λ n. IsUndefinedBefore c.args.version order area n number) (c.loop-slot.auto.out ∙ c.loop-frame.auto.out)
+    (undefined_before c.args.version order area (length c.loop-slot.out) number (constant order area 1)
+    (take at.place c.loop-slot.out) held.reached.read within undefined) in
+    λ other e. subst (λ n. IsUndefinedBefore c.args.version order area (length c.args.out.now) n)
+    (same_word number other e) here
 
 pub returns-in-Some-write_last_word-clause-samples : goal.returns-in-Some-write_last_word-clause-samples
 returns-in-Some-write_last_word-clause-samples c =
@@ -63,17 +69,22 @@ returns-in-Some-write_last_word-clause-samples c =
     let held = c.loop-slot.invariant in
     let small : slot < 16 = c.loop-slot-test.true in
     let within : number < length area / 64 * 16 = omega (arith, small, c.loop-frame-test.true) in
-    let code_is : code ≡ code_of order area number = code_here order area frame slot c.loop-slot.codes held.some small held.late held.codes in
+    let code_is : code ≡ code_of order area number =
+    code_here order area frame slot c.loop-slot.codes held.some small held.late held.codes in
     let word_is : word ≡ arranged_word c.args.version order code area number = c.arranged_word_at-word.ensures in
-    let begin : IsStart c.args.version code word (constant order area 1) at at = starts_here c.args.version order area number code word at c.loop-slot.out held.reached held.begins within code_is word_is in
+    let begin : IsStart c.args.version code word (constant order area 1) at at =
+    starts_here c.args.version order area number code word at c.loop-slot.out held.reached held.begins within
+    code_is word_is in
     let old = c.loop-slot.out in
     let new = c.write_last_word.new.out in
     let next = c.in-Some-write_last_word.field-0 in
     let same : c.write_inner_word.new.out ≡ old = c.in_default.ensures.kept refl in
-    let written : IsWritten c.args.version code word at old new next = subst (λ out. IsWritten c.args.version code word at out new next) same c.in-Some-write_last_word.ensures.some in
+    let written : IsWritten c.args.version code word at old new next =
+    subst (λ out. IsWritten c.args.version code word at out new next) same c.in-Some-write_last_word.ensures.some in
     let ends : ReachesEnd c.args.version code word at.place (length old) = c.in_default.ensures.none refl in
     let size : length new ≡ length old = c.write_last_word.auto.out ∙ ap length same in
-    step_enough c.args.version order area number code word at at next old new held.reached begin written code_is word_is within size (end_reached c.args.version code word at next old new ends written held.reached.room size)
+    step_enough c.args.version order area number code word at at next old new held.reached begin written code_is
+    word_is within size (end_reached c.args.version code word at next old new ends written held.reached.room size)
 
 pub loop-slot-preserved : goal.loop-slot-preserved
 loop-slot-preserved c =
@@ -88,9 +99,12 @@ loop-slot-preserved c =
     let held = c.loop-slot.invariant in
     let small : slot < 16 = c.loop-slot-test.true in
     let within : number < length area / 64 * 16 = omega (arith, small, c.loop-frame-test.true) in
-    let code_is : code ≡ code_of order area number = code_here order area frame slot c.loop-slot.codes held.some small held.late held.codes in
+    let code_is : code ≡ code_of order area number =
+    code_here order area frame slot c.loop-slot.codes held.some small held.late held.codes in
     let word_is : word ≡ arranged_word c.args.version order code area number = c.arranged_word_at-word.ensures in
-    let begin : IsStart c.args.version code word (constant order area 1) at at = starts_here c.args.version order area number code word at c.loop-slot.out held.reached held.begins within code_is word_is in
+    let begin : IsStart c.args.version code word (constant order area 1) at at =
+    starts_here c.args.version order area number code word at c.loop-slot.out held.reached held.begins within
+    code_is word_is in
     let next = c.in-Some.next in
     let new = c.write_inner_word.new.out in
     let inner = c.in-Some.ensures.some in
@@ -98,7 +112,8 @@ loop-slot-preserved c =
     let next_number : number + 1 ≡ 16 * frame + (slot + 1) = omega arith in
     record {
       reached = subst (λ n. IsReached c.args.version order area n next new) next_number
-          (step_more c.args.version order area number code word at at next c.loop-slot.out new held.reached begin inner.written code_is word_is within c.write_inner_word.auto.out unlike);
+          (step_more c.args.version order area number code word at at next c.loop-slot.out new held.reached begin
+          inner.written code_is word_is within c.write_inner_word.auto.out unlike);
       begins = begins_on c.args.version order area at next inner.on held.begins;
       codes = codes_on c.loop-slot.codes _ slot held.codes;
       some = omega arith;

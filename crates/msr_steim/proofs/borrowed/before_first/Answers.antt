@@ -18,6 +18,11 @@ returns-in-Some c =
     let fits : SFits w32 first = search rules in
     let fits_too : SFits w32 difference = search rules in
     let apart : all ≡ (difference ∷ numbers_in fields.word fields.width (fields.count - 1)) ++ rest =
-    c.in-Some.ensures.some ∙ ap (λ numbers. numbers ++ rest) (first_of_numbers fields.word fields.width fields.count c.in-Some.ensures.fields ∙ ap (λ x. x ∷ numbers_in fields.word fields.width (fields.count - 1)) (sym c.difference_at.ensures)) in
+    c.in-Some.ensures.some ∙ ap (λ numbers. numbers ++ rest)
+    (first_of_numbers fields.word fields.width fields.count c.in-Some.ensures.fields
+    ∙ ap (λ x. x ∷ numbers_in fields.word fields.width (fields.count - 1)) (sym c.difference_at.ensures)) in
     let some : 1 ≤ length all = omega (arith, ap length apart) in
-    record { sums = begins_so first difference all (constant order area 1) c.constant_at-first.ensures some (ap (λ xs. get_or xs 0 (pos 0)) apart) fits fits_too }
+    record {
+      sums = begins_so first difference all (constant order area 1) c.constant_at-first.ensures some
+          (ap (λ xs. get_or xs 0 (pos 0)) apart) fits fits_too;
+    }

@@ -7,97 +7,127 @@ use Rattle.msr_steim.proofs.sums.write_inner_word.Goals as goal
 pub returns-in-1-clause-some : goal.returns-in-1-clause-some
 returns-in-1-clause-some c =
     let code_is : c.args.code ≡ 1 = omega arith in
-    inner_group_written c.args.version c.args.code c.args.word c.args.at c.args.out.now c.write_group.new.out 4 8 c.write_group.result
-    (divided c.args.version One c.args.code (c.args.word / 1073741824) 1 (c.args.word / 1073741824) c.in-One.is code_is refl) (lit< tt) (lit< tt) c.write_group.ensures.some
+    inner_group_written c.args.version c.args.code c.args.word c.args.at c.args.out.now c.write_group.new.out 4 8
+    c.write_group.result
+    (divided c.args.version One c.args.code (c.args.word / 1073741824) 1
+    (c.args.word / 1073741824) c.in-One.is code_is refl) (lit< tt) (lit< tt) c.write_group.ensures.some
 
 pub returns-in-2-clause-some : goal.returns-in-2-clause-some
 returns-in-2-clause-some c =
     let code_is : c.args.code ≡ 2 = omega arith in
-    inner_group_written c.args.version c.args.code c.args.word c.args.at c.args.out.now c.write_group-in-2.new.out 2 16 c.write_group-in-2.result
-    (divided c.args.version One c.args.code (c.args.word / 1073741824) 2 (c.args.word / 1073741824) c.in-One.is code_is refl) (lit< tt) (lit< tt) c.write_group-in-2.ensures.some
+    inner_group_written c.args.version c.args.code c.args.word c.args.at c.args.out.now c.write_group-in-2.new.out
+    2 16 c.write_group-in-2.result
+    (divided c.args.version One c.args.code (c.args.word / 1073741824) 2
+    (c.args.word / 1073741824) c.in-One.is code_is refl) (lit< tt) (lit< tt) c.write_group-in-2.ensures.some
 
 pub returns-in_default-clause-some : goal.returns-in_default-clause-some
 returns-in_default-clause-some c =
     let code_is : c.args.code ≡ 3 = omega arith in
-    inner_group_written c.args.version c.args.code c.args.word c.args.at c.args.out.now c.write_group-in_default.new.out 1 32 c.write_group-in_default.result
-    (divided c.args.version One c.args.code (c.args.word / 1073741824) 3 (c.args.word / 1073741824) c.in-One.is code_is refl) (lit< tt) (lit< tt) c.write_group-in_default.ensures.some
+    inner_group_written c.args.version c.args.code c.args.word c.args.at c.args.out.now
+    c.write_group-in_default.new.out 1 32 c.write_group-in_default.result
+    (divided c.args.version One c.args.code (c.args.word / 1073741824) 3
+    (c.args.word / 1073741824) c.in-One.is code_is refl) (lit< tt) (lit< tt) c.write_group-in_default.ensures.some
 
 pub returns-in-0-2-clause-some : goal.returns-in-0-2-clause-some
 returns-in-0-2-clause-some c =
     let key : 4 * c.args.code + c.args.word / 1073741824 ≡ 0 = omega (arith, c.from.ensures, c.in-0-2.is) in
-    inner_none_written c.args.version c.args.code c.args.word c.args.at c.args.out.now (divided_by c.args.version c.args.code c.args.word 0 c.in-Two.is c.ranges.word.fits key) c.requires.room
+    inner_none_written c.args.version c.args.code c.args.word c.args.at c.args.out.now
+    (divided_by c.args.version c.args.code c.args.word 0 c.in-Two.is c.ranges.word.fits key) c.requires.room
 
 pub returns-in-1-2-clause-some : goal.returns-in-1-2-clause-some
 returns-in-1-2-clause-some c =
     let key : 4 * c.args.code + c.args.word / 1073741824 ≡ 1 = omega (arith, c.from.ensures, c.in-1-2.is) in
-    inner_none_written c.args.version c.args.code c.args.word c.args.at c.args.out.now (divided_by c.args.version c.args.code c.args.word 1 c.in-Two.is c.ranges.word.fits key) c.requires.room
+    inner_none_written c.args.version c.args.code c.args.word c.args.at c.args.out.now
+    (divided_by c.args.version c.args.code c.args.word 1 c.in-Two.is c.ranges.word.fits key) c.requires.room
 
 pub returns-in-2-2-clause-some : goal.returns-in-2-2-clause-some
 returns-in-2-2-clause-some c =
     let key : 4 * c.args.code + c.args.word / 1073741824 ≡ 2 = omega (arith, c.from.ensures, c.in-2-2.is) in
-    inner_none_written c.args.version c.args.code c.args.word c.args.at c.args.out.now (divided_by c.args.version c.args.code c.args.word 2 c.in-Two.is c.ranges.word.fits key) c.requires.room
+    inner_none_written c.args.version c.args.code c.args.word c.args.at c.args.out.now
+    (divided_by c.args.version c.args.code c.args.word 2 c.in-Two.is c.ranges.word.fits key) c.requires.room
 
 pub returns-in-3-clause-some : goal.returns-in-3-clause-some
 returns-in-3-clause-some c =
     let key : 4 * c.args.code + c.args.word / 1073741824 ≡ 3 = omega (arith, c.from.ensures, c.in-3.is) in
-    inner_none_written c.args.version c.args.code c.args.word c.args.at c.args.out.now (divided_by c.args.version c.args.code c.args.word 3 c.in-Two.is c.ranges.word.fits key) c.requires.room
+    inner_none_written c.args.version c.args.code c.args.word c.args.at c.args.out.now
+    (divided_by c.args.version c.args.code c.args.word 3 c.in-Two.is c.ranges.word.fits key) c.requires.room
 
 pub returns-in-4-clause-some : goal.returns-in-4-clause-some
 returns-in-4-clause-some c =
     let key : 4 * c.args.code + c.args.word / 1073741824 ≡ 4 = omega (arith, c.from.ensures, c.in-4.is) in
-    inner_group_written c.args.version c.args.code c.args.word c.args.at c.args.out.now c.write_group-in-4.new.out 4 8 c.write_group-in-4.result
-    (divided_by c.args.version c.args.code c.args.word 4 c.in-Two.is c.ranges.word.fits key) (lit< tt) (lit< tt) c.write_group-in-4.ensures.some
+    inner_group_written c.args.version c.args.code c.args.word c.args.at c.args.out.now c.write_group-in-4.new.out
+    4 8 c.write_group-in-4.result
+    (divided_by c.args.version c.args.code c.args.word 4 c.in-Two.is c.ranges.word.fits key) (lit< tt)
+    (lit< tt) c.write_group-in-4.ensures.some
 
 pub returns-in-5-clause-some : goal.returns-in-5-clause-some
 returns-in-5-clause-some c =
     let key : 4 * c.args.code + c.args.word / 1073741824 ≡ 5 = omega (arith, c.from.ensures, c.in-5.is) in
-    inner_group_written c.args.version c.args.code c.args.word c.args.at c.args.out.now c.write_group-in-5.new.out 4 8 c.write_group-in-5.result
-    (divided_by c.args.version c.args.code c.args.word 5 c.in-Two.is c.ranges.word.fits key) (lit< tt) (lit< tt) c.write_group-in-5.ensures.some
+    inner_group_written c.args.version c.args.code c.args.word c.args.at c.args.out.now c.write_group-in-5.new.out
+    4 8 c.write_group-in-5.result
+    (divided_by c.args.version c.args.code c.args.word 5 c.in-Two.is c.ranges.word.fits key) (lit< tt)
+    (lit< tt) c.write_group-in-5.ensures.some
 
 pub returns-in-6-clause-some : goal.returns-in-6-clause-some
 returns-in-6-clause-some c =
     let key : 4 * c.args.code + c.args.word / 1073741824 ≡ 6 = omega (arith, c.from.ensures, c.in-6.is) in
-    inner_group_written c.args.version c.args.code c.args.word c.args.at c.args.out.now c.write_group-in-6.new.out 4 8 c.write_group-in-6.result
-    (divided_by c.args.version c.args.code c.args.word 6 c.in-Two.is c.ranges.word.fits key) (lit< tt) (lit< tt) c.write_group-in-6.ensures.some
+    inner_group_written c.args.version c.args.code c.args.word c.args.at c.args.out.now c.write_group-in-6.new.out
+    4 8 c.write_group-in-6.result
+    (divided_by c.args.version c.args.code c.args.word 6 c.in-Two.is c.ranges.word.fits key) (lit< tt)
+    (lit< tt) c.write_group-in-6.ensures.some
 
 pub returns-in-7-clause-some : goal.returns-in-7-clause-some
 returns-in-7-clause-some c =
     let key : 4 * c.args.code + c.args.word / 1073741824 ≡ 7 = omega (arith, c.from.ensures, c.in-7.is) in
-    inner_group_written c.args.version c.args.code c.args.word c.args.at c.args.out.now c.write_group-in-7.new.out 4 8 c.write_group-in-7.result
-    (divided_by c.args.version c.args.code c.args.word 7 c.in-Two.is c.ranges.word.fits key) (lit< tt) (lit< tt) c.write_group-in-7.ensures.some
+    inner_group_written c.args.version c.args.code c.args.word c.args.at c.args.out.now c.write_group-in-7.new.out
+    4 8 c.write_group-in-7.result
+    (divided_by c.args.version c.args.code c.args.word 7 c.in-Two.is c.ranges.word.fits key) (lit< tt)
+    (lit< tt) c.write_group-in-7.ensures.some
 
 pub returns-in-9-clause-some : goal.returns-in-9-clause-some
 returns-in-9-clause-some c =
     let key : 4 * c.args.code + c.args.word / 1073741824 ≡ 9 = omega (arith, c.from.ensures, c.in-9.is) in
-    inner_group_written c.args.version c.args.code c.args.word c.args.at c.args.out.now c.write_group-in-9.new.out 1 30 c.write_group-in-9.result
-    (divided_by c.args.version c.args.code c.args.word 9 c.in-Two.is c.ranges.word.fits key) (lit< tt) (lit< tt) c.write_group-in-9.ensures.some
+    inner_group_written c.args.version c.args.code c.args.word c.args.at c.args.out.now c.write_group-in-9.new.out
+    1 30 c.write_group-in-9.result
+    (divided_by c.args.version c.args.code c.args.word 9 c.in-Two.is c.ranges.word.fits key) (lit< tt)
+    (lit< tt) c.write_group-in-9.ensures.some
 
 pub returns-in-10-clause-some : goal.returns-in-10-clause-some
 returns-in-10-clause-some c =
     let key : 4 * c.args.code + c.args.word / 1073741824 ≡ 10 = omega (arith, c.from.ensures, c.in-10.is) in
-    inner_group_written c.args.version c.args.code c.args.word c.args.at c.args.out.now c.write_group-in-10.new.out 2 15 c.write_group-in-10.result
-    (divided_by c.args.version c.args.code c.args.word 10 c.in-Two.is c.ranges.word.fits key) (lit< tt) (lit< tt) c.write_group-in-10.ensures.some
+    inner_group_written c.args.version c.args.code c.args.word c.args.at c.args.out.now c.write_group-in-10.new.out
+    2 15 c.write_group-in-10.result
+    (divided_by c.args.version c.args.code c.args.word 10 c.in-Two.is c.ranges.word.fits key) (lit< tt)
+    (lit< tt) c.write_group-in-10.ensures.some
 
 pub returns-in-11-clause-some : goal.returns-in-11-clause-some
 returns-in-11-clause-some c =
     let key : 4 * c.args.code + c.args.word / 1073741824 ≡ 11 = omega (arith, c.from.ensures, c.in-11.is) in
-    inner_group_written c.args.version c.args.code c.args.word c.args.at c.args.out.now c.write_group-in-11.new.out 3 10 c.write_group-in-11.result
-    (divided_by c.args.version c.args.code c.args.word 11 c.in-Two.is c.ranges.word.fits key) (lit< tt) (lit< tt) c.write_group-in-11.ensures.some
+    inner_group_written c.args.version c.args.code c.args.word c.args.at c.args.out.now c.write_group-in-11.new.out
+    3 10 c.write_group-in-11.result
+    (divided_by c.args.version c.args.code c.args.word 11 c.in-Two.is c.ranges.word.fits key) (lit< tt)
+    (lit< tt) c.write_group-in-11.ensures.some
 
 pub returns-in-12-clause-some : goal.returns-in-12-clause-some
 returns-in-12-clause-some c =
     let key : 4 * c.args.code + c.args.word / 1073741824 ≡ 12 = omega (arith, c.from.ensures, c.in-12.is) in
-    inner_group_written c.args.version c.args.code c.args.word c.args.at c.args.out.now c.write_group-in-12.new.out 5 6 c.write_group-in-12.result
-    (divided_by c.args.version c.args.code c.args.word 12 c.in-Two.is c.ranges.word.fits key) (lit< tt) (lit< tt) c.write_group-in-12.ensures.some
+    inner_group_written c.args.version c.args.code c.args.word c.args.at c.args.out.now c.write_group-in-12.new.out
+    5 6 c.write_group-in-12.result
+    (divided_by c.args.version c.args.code c.args.word 12 c.in-Two.is c.ranges.word.fits key) (lit< tt)
+    (lit< tt) c.write_group-in-12.ensures.some
 
 pub returns-in-13-clause-some : goal.returns-in-13-clause-some
 returns-in-13-clause-some c =
     let key : 4 * c.args.code + c.args.word / 1073741824 ≡ 13 = omega (arith, c.from.ensures, c.in-13.is) in
-    inner_group_written c.args.version c.args.code c.args.word c.args.at c.args.out.now c.write_group-in-13.new.out 6 5 c.write_group-in-13.result
-    (divided_by c.args.version c.args.code c.args.word 13 c.in-Two.is c.ranges.word.fits key) (lit< tt) (lit< tt) c.write_group-in-13.ensures.some
+    inner_group_written c.args.version c.args.code c.args.word c.args.at c.args.out.now c.write_group-in-13.new.out
+    6 5 c.write_group-in-13.result
+    (divided_by c.args.version c.args.code c.args.word 13 c.in-Two.is c.ranges.word.fits key) (lit< tt)
+    (lit< tt) c.write_group-in-13.ensures.some
 
 pub returns-in-14-clause-some : goal.returns-in-14-clause-some
 returns-in-14-clause-some c =
     let key : 4 * c.args.code + c.args.word / 1073741824 ≡ 14 = omega (arith, c.from.ensures, c.in-14.is) in
-    inner_group_written c.args.version c.args.code c.args.word c.args.at c.args.out.now c.write_group-in-14.new.out 7 4 c.write_group-in-14.result
-    (divided_by c.args.version c.args.code c.args.word 14 c.in-Two.is c.ranges.word.fits key) (lit< tt) (lit< tt) c.write_group-in-14.ensures.some
+    inner_group_written c.args.version c.args.code c.args.word c.args.at c.args.out.now c.write_group-in-14.new.out
+    7 4 c.write_group-in-14.result
+    (divided_by c.args.version c.args.code c.args.word 14 c.in-Two.is c.ranges.word.fits key) (lit< tt)
+    (lit< tt) c.write_group-in-14.ensures.some

@@ -16,13 +16,20 @@ loop-below-preserved c =
     let positive : 0 < width = c.requires.width (omega arith) in
     let part = c.args.word / 2 ^ (below * width) % 2 ^ width in
     let small : part < 2 ^ width = mod-lt (c.args.word / 2 ^ (below * width)) (pow_pos width) in
-    let field : twos_complement width c.difference_at.result ≡ part = ap (twos_complement width) c.difference_at.ensures ∙ signed_same width part small in
-    let fitting : FitsBits width c.difference_at.result = subst (FitsBits width) (sym c.difference_at.ensures) (signed_fits width part positive small) in
-    let before : c.args.word % 2 ^ (c.args.division.count * width) ≡ joined_fields width c.loop-below.group.items * 2 ^ ((below + 1) * width) + c.args.word % 2 ^ ((below + 1) * width) = rw last c.loop-below.invariant.bits in
+    let field : twos_complement width c.difference_at.result ≡ part =
+    ap (twos_complement width) c.difference_at.ensures ∙ signed_same width part small in
+    let fitting : FitsBits width c.difference_at.result =
+    subst (FitsBits width) (sym c.difference_at.ensures) (signed_fits width part positive small) in
+    let before : c.args.word % 2 ^ (c.args.division.count * width)
+    ≡ joined_fields width c.loop-below.group.items * 2 ^ ((below + 1) * width) + c.args.word % 2 ^
+    ((below + 1) * width) = rw last c.loop-below.invariant.bits in
     let fits : SFits w32 c.difference_at.result = search rules in
     let items = rw (to_z-of_z w32 c.difference_at.result fits) at c.push.ensures.items in
     record {
       count = omega (arith, c.push.ensures.len);
-      fit = rw items (all_fit_push (FitsBits width) c.loop-below.group.items c.difference_at.result c.loop-below.invariant.fit fitting);
-      bits = rw items (next_field c.args.word below width (c.args.word % 2 ^ (c.args.division.count * width)) c.loop-below.group.items c.difference_at.result before field);
+      fit = rw items (all_fit_push
+          (FitsBits width) c.loop-below.group.items c.difference_at.result c.loop-below.invariant.fit fitting);
+      bits = rw items (next_field c.args.word below width
+          (c.args.word % 2 ^ (c.args.division.count * width)) c.loop-below.group.items c.difference_at.result
+          before field);
     }

@@ -18,11 +18,13 @@ record Parts (d : Date) (day year place : ℤ) : Type 0 where
   places : (1 ≤ ordinal d) × (ordinal d ≤ days_in_year (pos (unsigned_abs d.year)))
   number : day_number (unsigned_abs d.year) (ordinal d) ≡ day
 
-parts : (d : Date) (day year place : ℤ) → IsBetween (neg_ℤ (pos 25_567)) (pos 47_846) day → epoch_day d ≡ day → year ≡ d.year → place ≡ pos (ordinal d) → Parts d day year place
+parts : (d : Date) (day year place : ℤ) → IsBetween (neg_ℤ (pos 25_567)) (pos 47_846) day → epoch_day d ≡ day
+    → year ≡ d.year → place ≡ pos (ordinal d) → Parts d day year place
 parts d day year place h e y p =
     let s = supported_year d (rw e h) in
     let positive : d.year ≡ pos (unsigned_abs d.year) = omega (arith, signed_arith, one_part d.year) in
-    let last : ordinal d ≤ days_in_year (pos (unsigned_abs d.year)) = subst (λ (z : ℤ). ordinal d ≤ days_in_year z) positive (day_of_year_bound d.year d.month d.day (civil d)) in
+    let last : ordinal d ≤ days_in_year (pos (unsigned_abs d.year)) =
+    subst (λ (z : ℤ). ordinal d ≤ days_in_year z) positive (day_of_year_bound d.year d.month d.day (civil d)) in
     let most = (days_in_year_bounds (pos (unsigned_abs d.year))).0 in
     record {
       year_back = rw y (back_small w16 d.year (omega (arith, signed_arith, one_part d.year)) ∙ positive);
@@ -33,11 +35,13 @@ parts d day year place h e y p =
     }
 
 given : (c : goal.After-day_of_year) → Parts c.date_of-date.result c.args.day c.year.result c.day_of_year.result
-given c = parts c.date_of-date.result c.args.day c.year.result c.day_of_year.result c.requires (c.date_of-date.ensures ∙ to_z-of_z c.ranges.day) c.year.ensures c.day_of_year.ensures
+given c = parts c.date_of-date.result c.args.day c.year.result c.day_of_year.result c.requires
+    (c.date_of-date.ensures ∙ to_z-of_z c.ranges.day) c.year.ensures c.day_of_year.ensures
 
 pub overflow_cast-result : goal.overflow_cast-result
 overflow_cast-result c =
-    let p = parts c.date_of-date.result c.args.day c.year.result _ c.requires (c.date_of-date.ensures ∙ to_z-of_z c.ranges.day) c.year.ensures refl in
+    let p = parts c.date_of-date.result c.args.day c.year.result _ c.requires
+    (c.date_of-date.ensures ∙ to_z-of_z c.ranges.day) c.year.ensures refl in
     rw p.year_back (tt, omega (arith, p.years))
 
 pub overflow_cast-result-2 : goal.overflow_cast-result-2

@@ -7,7 +7,8 @@ use Rattle.msr_time.proofs.calendar.date_of.Goals as goal
 pub unwrap-requires : goal.unwrap-requires
 unwrap-requires c =
     let only = rw (to_z-of_z c.ranges.day) at c.days.ensures in
-    let within : IsEpochDay (epoch_day c.epoch.result +ℤ c.args.day) = rw c.epoch.ensures (omega (arith, signed_arith), omega (arith, signed_arith)) in
+    let within : IsEpochDay (epoch_day c.epoch.result +ℤ c.args.day) =
+    rw c.epoch.ensures (omega (arith, signed_arith), omega (arith, signed_arith)) in
     c.checked_add.ensures.succeeds.1 ((can_add-days c.epoch.result c.args.day c.days.result only).1 within)
 
 pub returns : goal.returns

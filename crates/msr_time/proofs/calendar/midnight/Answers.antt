@@ -9,11 +9,14 @@ use Rattle.msr_time.proofs.CalendarLemmas.{day_number-ordinal, day_number_bounds
 use Rattle.msr_time.proofs.calendar.midnight.Goals as goal
 
 -- the microseconds of the days since the epoch
-whole_days : (days start nanos micros : ℤ) → start ≡ pos 0 → nanos ≡ (days -ℤ start) *ℤ pos 86_400_000_000_000 → micros ≡ int_div nanos (pos 1_000) → micros ≡ pos 86_400_000_000 *ℤ days
+whole_days : (days start nanos micros : ℤ) → start ≡ pos 0 → nanos ≡ (days -ℤ start) *ℤ pos 86_400_000_000_000
+    → micros ≡ int_div nanos (pos 1_000) → micros ≡ pos 86_400_000_000 *ℤ days
 whole_days days start nanos micros s n m = rw (m, n, s) (omega (arith, signed_arith))
 
 -- they fit the code's integers
-days_back : (days micros : ℤ) → IsBetween (neg_ℤ (pos 25_567)) (pos 47_846) days → micros ≡ pos 86_400_000_000 *ℤ days → FitsSigned w64 (to_z w128 (of_z w128 micros)) × (to_z w64 (of_z w64 (to_z w128 (of_z w128 micros))) ≡ pos 86_400_000_000 *ℤ days)
+days_back : (days micros : ℤ) → IsBetween (neg_ℤ (pos 25_567)) (pos 47_846) days
+    → micros ≡ pos 86_400_000_000 *ℤ days → FitsSigned w64 (to_z w128 (of_z w128 micros))
+    × (to_z w64 (of_z w64 (to_z w128 (of_z w128 micros))) ≡ pos 86_400_000_000 *ℤ days)
 days_back days micros h e = rw e (omega (arith, ints), omega (arith, ints))
 
 -- the date that the builder gave is the one asked for

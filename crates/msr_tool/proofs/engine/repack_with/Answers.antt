@@ -5,17 +5,17 @@ use Rattle.msr_words.specs.Lengths.{bytes_of}
 use Rattle.msr_segments.specs.Spans.{Following}
 use Rattle.msr_certificate.specs.Form.{IsFirst}
 use Rattle.msr_certificate.proofs.Forms.{is_length}
-use Rattle.msr_devices.proofs.Chaining.{calm-same, steady-can_count, steady-then_few}
+use Rattle.msr_devices.proofs.Chaining.{calm_same, steady_can_count, steady_then_few}
 use Rattle.msr_input.specs.Reading.{StopsReading}
 use Rattle.msr_output.specs.Output.{segment_of_packed}
 use Rattle.msr_tool.specs.Choice.{settings_of}
 use Rattle.msr_tool.specs.Fault.{fault_of_reading}
 use Rattle.msr_tool.specs.Writing.{all_with}
 use Rattle.msr_tool.specs.declared.fault.ToolFault.TheVariants as fault
-use Rattle.msr_tool.proofs.Lines.{can-take-row, front-lined}
-use Rattle.msr_tool.proofs.RowsSoFar.{RecordMore, more-read, no-rows, record-more, rows-end, rows-read, rows-stop}
-use Rattle.msr_tool.proofs.Stops.{read-failed, write-failed, read-tells_source, lined-tells_source, lined-tells_sink, ok-tells, as-answer}
-use Rattle.msr_tool.proofs.UnderWay.{UnderWay, done, flush-stops, flushed, lining-unread, live, more}
+use Rattle.msr_tool.proofs.Lines.{can_take_row, front_lined}
+use Rattle.msr_tool.proofs.RowsSoFar.{RecordMore, more_read, no_rows, record_more, rows_end, rows_read, rows_stop}
+use Rattle.msr_tool.proofs.StoppedRepacks.{read_failed, write_failed, read_tells_source, lined_tells_source, lined_tells_sink, ok_tells, as_answer}
+use Rattle.msr_tool.proofs.RepackUnderWay.{UnderWay, done, flush_stops, flushed, lining_unread, live, more}
 use Rattle.msr_tool.proofs.engine.repack_with.Given as given
 use Rattle.msr_tool.proofs.engine.repack_with.Goals as goal
 use Rattle.msr_tool.proofs.engine.repack_with.Goals.{After-must_flush, After-take, In_err-next}
@@ -26,38 +26,66 @@ records-init g c =
       under = record {
         packed = [];
         joining = record { tolerance = c.args.options.tolerance; current = None };
-        rows = no-rows (settings_of c.args.options) (g.R.Source.device c.args.source.now) c.new-reader.result (c.new-reader.ensures.none (g.R.Source.device c.args.source.now)) (rw c.settings.ensures.same at c.new-reader.ensures.following) (rw c.settings.ensures.same at c.new-reader.ensures.strict);
+        rows = no_rows (settings_of c.args.options) (g.R.Source.device c.args.source.now) c.new-reader.result
+            (c.new-reader.ensures.none (g.R.Source.device c.args.source.now))
+            (rw c.settings.ensures.same at c.new-reader.ensures.following)
+            (rw c.settings.ensures.same at c.new-reader.ensures.strict);
         lined = c.new-writer.ensures.none (g.W.Sink.device c.args.sink.now);
         goes_on = rw c.new-writer.ensures.last tt;
         size = rw (c.new-writer.ensures.size, c.length.ensures.same) refl;
-        calm = calm-same (g.W.Sink.device c.args.sink.now);
+        calm = calm_same (g.W.Sink.device c.args.sink.now);
         encoded = rw c.new-writer.ensures.last tt;
       };
       ready = λ is_live. inr c.new-writer.ensures.none_wait;
     }
 
 -- why no record was read
-why-stopped : (g : given.Over) (c : In_err-next g) → StopsReading (settings_of c.args.options) (g.R.Source.device c.args.source.now) (g.R.Source.device c.next_record.new.source) (map segment_of_packed c.records.invariant.under.packed ++ option_to_list c.records.invariant.under.joining.current) c.in_err-next.field-0.0
+why-stopped : (g : given.Over) (c : In_err-next g)
+    → StopsReading (settings_of c.args.options) (g.R.Source.device c.args.source.now)
+    (g.R.Source.device c.next_record.new.source)
+    (map segment_of_packed c.records.invariant.under.packed
+    ++ option_to_list c.records.invariant.under.joining.current) c.in_err-next.field-0.0
 why-stopped g c =
     let u = c.records.invariant.under in
-    rows-stop (settings_of c.args.options) (g.R.Source.device c.args.source.now) (g.R.Source.device c.records.source) (g.R.Source.device c.next_record.new.source) c.records.reader (map segment_of_packed u.packed) u.joining c.in_err-next.field-0.0 u.rows (c.in_err-next.ensures.read (g.R.Source.device c.args.source.now) u.rows.records u.rows.answers u.rows.has_read)
+    rows_stop (settings_of c.args.options) (g.R.Source.device c.args.source.now)
+    (g.R.Source.device c.records.source) (g.R.Source.device c.next_record.new.source) c.records.reader
+    (map segment_of_packed u.packed) u.joining c.in_err-next.field-0.0 u.rows
+    (c.in_err-next.ensures.read (g.R.Source.device c.args.source.now) u.rows.records u.rows.answers u.rows.has_read)
 
 -- one more record is read
-one-read : (g : given.Over) (c : After-take g) → RecordMore (settings_of c.args.options) (g.R.Source.device c.args.source.now) (g.R.Source.device c.next_record.new.source) c.next_record.new.self (map segment_of_packed c.records.invariant.under.packed) c.records.invariant.under.joining c.in-Some.next.row
+one-read : (g : given.Over) (c : After-take g)
+    → RecordMore (settings_of c.args.options) (g.R.Source.device c.args.source.now)
+    (g.R.Source.device c.next_record.new.source) c.next_record.new.self
+    (map segment_of_packed c.records.invariant.under.packed) c.records.invariant.under.joining c.in-Some.next.row
 one-read g c =
     let u = c.records.invariant.under in
-    let reads = rw c.in-Some.is at (c.in_ok-next.ensures.read (g.R.Source.device c.args.source.now) u.rows.records u.rows.answers u.rows.has_read) in
+    let reads = rw c.in-Some.is at (c.in_ok-next.ensures.read
+    (g.R.Source.device c.args.source.now) u.rows.records u.rows.answers u.rows.has_read) in
     let step = rw c.in-Some.is at c.in_ok-next.ensures.step in
     let bounds = rw c.in-Some.is at c.in_ok-next.ensures.in_bounds in
     let row = rw c.in-Some.is at c.in_ok-next.ensures.row in
-    record-more (settings_of c.args.options) (g.R.Source.device c.args.source.now) (g.R.Source.device c.records.source) (g.R.Source.device c.next_record.new.source) c.records.reader c.next_record.new.self (map segment_of_packed u.packed) u.joining c.in-Some.next u.rows reads step c.next_record.ensures.settings bounds row
+    record_more (settings_of c.args.options) (g.R.Source.device c.args.source.now)
+    (g.R.Source.device c.records.source)
+    (g.R.Source.device c.next_record.new.source) c.records.reader c.next_record.new.self
+    (map segment_of_packed u.packed) u.joining c.in-Some.next u.rows reads step c.next_record.ensures.settings
+    bounds row
 
 -- and its samples are written
-one-taken : (g : given.Over) (c : After-must_flush g) → RecordMore (settings_of c.args.options) (g.R.Source.device c.args.source.now) (g.R.Source.device c.next_record.new.source) c.next_record.new.self (map segment_of_packed c.records.invariant.under.packed) c.records.invariant.under.joining c.in-Some.next.row
-    → UnderWay c.args.options (g.R.Source.device c.args.source.now) (g.R.Source.device c.next_record.new.source) (g.W.Sink.device c.args.sink.now) (g.W.Sink.device c.take.new.sink) c.next_record.new.self c.take.new.self
+one-taken : (g : given.Over) (c : After-must_flush g)
+    → RecordMore (settings_of c.args.options) (g.R.Source.device c.args.source.now)
+    (g.R.Source.device c.next_record.new.source) c.next_record.new.self
+    (map segment_of_packed c.records.invariant.under.packed) c.records.invariant.under.joining c.in-Some.next.row
+    → UnderWay c.args.options (g.R.Source.device c.args.source.now) (g.R.Source.device c.next_record.new.source)
+    (g.W.Sink.device c.args.sink.now) (g.W.Sink.device c.take.new.sink) c.next_record.new.self c.take.new.self
 one-taken g c m =
     let u = c.records.invariant.under in
-    more c.args.options (g.R.Source.device c.args.source.now) (g.R.Source.device c.next_record.new.source) (g.W.Sink.device c.args.sink.now) (g.W.Sink.device c.take.new.sink) c.next_record.new.self c.take.new.self u.packed u.joining c.in-Some.next.row m (c.in_ok-take.ensures.written (g.W.Sink.device c.args.sink.now) u.packed u.joining.current u.lined) c.in_ok-take.ensures.last (c.in_ok-take.ensures.encoded u.encoded) (rw c.in_ok-take.ensures.size u.size)
+    more c.args.options (g.R.Source.device c.args.source.now) (g.R.Source.device c.next_record.new.source)
+    (g.W.Sink.device c.args.sink.now)
+    (g.W.Sink.device c.take.new.sink) c.next_record.new.self c.take.new.self u.packed u.joining
+    c.in-Some.next.row m (c.in_ok-take.ensures.written
+    (g.W.Sink.device c.args.sink.now) u.packed u.joining.current
+    u.lined) c.in_ok-take.ensures.last (c.in_ok-take.ensures.encoded u.encoded) (rw c.in_ok-take.ensures.size
+    u.size)
 
 pub returns-in_err-next-clause-answer : goal.returns-in_err-next-clause-answer
 returns-in_err-next-clause-answer g c =
@@ -65,8 +93,12 @@ returns-in_err-next-clause-answer g c =
     let u = c.records.invariant.under in
     let why = c.in_err-next.field-0.0 in
     let stops = why-stopped g (goal.at.returns-in_err-next-clause-answer g c).In_err-next in
-    let front = rw u.size at (front-lined (g.W.Sink.device c.args.sink.now) (g.W.Sink.device c.records.sink) c.records.writer u.packed u.joining.current u.goes_on u.lined) in
-    rw (p.1, p.2) (as-answer _ _ _ _ _ (read-failed c.args.options (g.R.Source.device c.args.source.now) (g.R.Source.device c.next_record.new.source) (g.W.Sink.device c.args.sink.now) (g.W.Sink.device c.records.sink) (map segment_of_packed u.packed ++ option_to_list u.joining.current) why stops front))
+    let front = rw u.size at (front_lined (g.W.Sink.device c.args.sink.now)
+    (g.W.Sink.device c.records.sink) c.records.writer u.packed u.joining.current u.goes_on u.lined) in
+    rw (p.1, p.2) (as_answer _ _ _ _ _ (read_failed c.args.options (g.R.Source.device c.args.source.now)
+    (g.R.Source.device c.next_record.new.source) (g.W.Sink.device c.args.sink.now)
+    (g.W.Sink.device c.records.sink) (map segment_of_packed u.packed
+    ++ option_to_list u.joining.current) why stops front))
 
 pub returns-in_err-next-clause-read : goal.returns-in_err-next-clause-read
 returns-in_err-next-clause-read g c =
@@ -74,7 +106,8 @@ returns-in_err-next-clause-read g c =
     let u = c.records.invariant.under in
     let why = c.in_err-next.field-0.0 in
     let stops = why-stopped g (goal.at.returns-in_err-next-clause-read g c).In_err-next in
-    rw (p.1, p.2) (read-tells_source _ (g.R.Source.device c.args.source.now) (g.R.Source.device c.next_record.new.source) _ why stops)
+    rw (p.1, p.2) (read_tells_source _ (g.R.Source.device c.args.source.now)
+    (g.R.Source.device c.next_record.new.source) _ why stops)
 
 pub returns-in_err-next-clause-live : goal.returns-in_err-next-clause-live
 returns-in_err-next-clause-live g c =
@@ -84,8 +117,13 @@ returns-in_err-next-clause-live g c =
     let stops = why-stopped g (goal.at.returns-in_err-next-clause-live g c).In_err-next in
     rw (p.1, p.2) (λ is_live e.
     let same : fault_of_reading why ≡ fault.Read = cc in
-    live c.args.options (g.R.Source.device c.args.source.now) (g.R.Source.device c.records.source) (g.R.Source.device c.next_record.new.source) (g.W.Sink.device c.args.sink.now) (g.W.Sink.device c.records.sink) c.records.reader c.next_record.new.self c.records.writer why u (c.records.invariant.ready is_live) same stops c.in_err-next.ensures.unread
-    (λ read. c.in_err-next.ensures.failed (g.R.Source.device c.args.source.now) u.rows.records u.rows.answers u.rows.has_read (rw read refl)) (λ read. c.in_err-next.ensures.awaited (rw read refl)))
+    live c.args.options (g.R.Source.device c.args.source.now) (g.R.Source.device c.records.source)
+    (g.R.Source.device c.next_record.new.source) (g.W.Sink.device c.args.sink.now)
+    (g.W.Sink.device c.records.sink) c.records.reader c.next_record.new.self c.records.writer why u
+    (c.records.invariant.ready is_live) same stops c.in_err-next.ensures.unread
+    (λ read. c.in_err-next.ensures.failed
+    (g.R.Source.device c.args.source.now) u.rows.records u.rows.answers u.rows.has_read
+    (rw read refl)) (λ read. c.in_err-next.ensures.awaited (rw read refl)))
 
 pub take-requires-clause-row : goal.take-requires-clause-row
 take-requires-clause-row g c =
@@ -93,87 +131,129 @@ take-requires-clause-row g c =
     let next = c.in-Some.next in
     let step = rw c.in-Some.is at c.in_ok-next.ensures.step in
     let row = rw c.in-Some.is at c.in_ok-next.ensures.row in
-    can-take-row (g.W.Sink.device c.args.sink.now) (g.W.Sink.device c.records.sink) c.records.writer u.packed u.joining.current c.records.reader.following c.next_record.new.self.following next.row u.lined (ap (λ (f : Following). f.current) u.rows.stands) u.rows.in_bounds step row
+    can_take_row (g.W.Sink.device c.args.sink.now)
+    (g.W.Sink.device c.records.sink) c.records.writer u.packed u.joining.current c.records.reader.following
+    c.next_record.new.self.following next.row u.lined
+    (ap (λ (f : Following). f.current) u.rows.stands) u.rows.in_bounds step row
 
 pub returns-in_err-take-clause-answer : goal.returns-in_err-take-clause-answer
 returns-in_err-take-clause-answer g c =
     let p = err_from_is_err_and c.from_residual-in_err-take.result c.from_residual-in_err-take.ensures.1 in
     let u = c.records.invariant.under in
     let m = one-read g (goal.at.returns-in_err-take-clause-answer g c).After-take in
-    let stops = rw u.size at (c.in_err-take.ensures.written (g.W.Sink.device c.args.sink.now) u.packed u.joining.current u.lined) in
-    let after = more-read (settings_of c.args.options) (g.R.Source.device c.args.source.now) (g.R.Source.device c.next_record.new.source) c.next_record.new.self (map segment_of_packed u.packed) u.joining c.in-Some.next.row m in
-    rw (p.1, p.2) (as-answer _ _ _ _ _ (write-failed c.args.options (g.R.Source.device c.args.source.now) (g.W.Sink.device c.args.sink.now) (g.W.Sink.device c.take.new.sink) (map segment_of_packed u.packed ++ all_with c.in-Some.next.row u.joining.current) c.in_err-take.field-0.0 after stops))
+    let stops = rw u.size at (c.in_err-take.ensures.written
+    (g.W.Sink.device c.args.sink.now) u.packed u.joining.current u.lined) in
+    let after = more_read (settings_of c.args.options) (g.R.Source.device c.args.source.now)
+    (g.R.Source.device c.next_record.new.source) c.next_record.new.self
+    (map segment_of_packed u.packed) u.joining c.in-Some.next.row m in
+    rw (p.1, p.2) (as_answer _ _ _ _ _ (write_failed c.args.options (g.R.Source.device c.args.source.now)
+    (g.W.Sink.device c.args.sink.now) (g.W.Sink.device c.take.new.sink)
+    (map segment_of_packed u.packed
+    ++ all_with c.in-Some.next.row u.joining.current) c.in_err-take.field-0.0 after stops))
 
 pub returns-in_err-take-clause-read : goal.returns-in_err-take-clause-read
 returns-in_err-take-clause-read g c =
     let p = err_from_is_err_and c.from_residual-in_err-take.result c.from_residual-in_err-take.ensures.1 in
     let u = c.records.invariant.under in
     let m = one-read g (goal.at.returns-in_err-take-clause-read g c).After-take in
-    rw (p.1, p.2) (lined-tells_source _ (g.R.Source.device c.args.source.now) (g.R.Source.device c.next_record.new.source) (g.W.Sink.device c.args.sink.now) (g.W.Sink.device c.take.new.sink) _ c.in_err-take.field-0.0 m.rows.has_read.came.steady (c.in_err-take.ensures.written (g.W.Sink.device c.args.sink.now) u.packed u.joining.current u.lined))
+    rw (p.1, p.2) (lined_tells_source _ (g.R.Source.device c.args.source.now)
+    (g.R.Source.device c.next_record.new.source) (g.W.Sink.device c.args.sink.now)
+    (g.W.Sink.device c.take.new.sink) _ c.in_err-take.field-0.0 m.rows.has_read.came.steady
+    (c.in_err-take.ensures.written (g.W.Sink.device c.args.sink.now) u.packed u.joining.current u.lined))
 
 pub returns-in_err-take-clause-write : goal.returns-in_err-take-clause-write
 returns-in_err-take-clause-write g c =
     let p = err_from_is_err_and c.from_residual-in_err-take.result c.from_residual-in_err-take.ensures.1 in
     let u = c.records.invariant.under in
-    rw (p.1, p.2) (lined-tells_sink _ (g.W.Sink.device c.args.sink.now) (g.W.Sink.device c.take.new.sink) _ c.in_err-take.field-0.0 (c.in_err-take.ensures.written (g.W.Sink.device c.args.sink.now) u.packed u.joining.current u.lined))
+    rw (p.1, p.2) (lined_tells_sink _ (g.W.Sink.device c.args.sink.now)
+    (g.W.Sink.device c.take.new.sink) _ c.in_err-take.field-0.0
+    (c.in_err-take.ensures.written (g.W.Sink.device c.args.sink.now) u.packed u.joining.current u.lined))
 
 pub returns-in_err-take-clause-live : goal.returns-in_err-take-clause-live
 returns-in_err-take-clause-live g c =
     let p = err_from_is_err_and c.from_residual-in_err-take.result c.from_residual-in_err-take.ensures.1 in
     let u = c.records.invariant.under in
-    rw (p.1, p.2) (λ live e. let same : c.in_err-take.field-0.0 ≡ fault.Read = cc in absurd (lining-unread _ (g.W.Sink.device c.args.sink.now) (g.W.Sink.device c.take.new.sink) _ c.in_err-take.field-0.0 (c.in_err-take.ensures.written (g.W.Sink.device c.args.sink.now) u.packed u.joining.current u.lined) same))
+    rw (p.1, p.2) (λ live e. let same : c.in_err-take.field-0.0 ≡ fault.Read = cc in
+    absurd (lining_unread _ (g.W.Sink.device c.args.sink.now)
+    (g.W.Sink.device c.take.new.sink) _ c.in_err-take.field-0.0
+    (c.in_err-take.ensures.written (g.W.Sink.device c.args.sink.now) u.packed u.joining.current u.lined) same))
 
 pub returns-in_err-flush-clause-answer : goal.returns-in_err-flush-clause-answer
 returns-in_err-flush-clause-answer g c =
     let p = err_from_is_err_and c.from_residual-in_err-flush.result c.from_residual-in_err-flush.ensures.1 in
     let at = goal.at.returns-in_err-flush-clause-answer g c in
     let taken = one-taken g at.After-must_flush (one-read g at.After-take) in
-    rw (p.1, p.2) (as-answer _ _ _ _ _ (flush-stops c.args.options (g.R.Source.device c.args.source.now) (g.R.Source.device c.next_record.new.source) (g.W.Sink.device c.args.sink.now) (g.W.Sink.device c.take.new.sink) (g.W.Sink.device c.flush.new.sink) c.next_record.new.self c.take.new.self c.in_err-flush.field-0.0 taken (c.in_err-flush.ensures.written (g.W.Sink.device c.args.sink.now) taken.packed taken.joining.current taken.lined)))
+    rw (p.1, p.2) (as_answer _ _ _ _ _ (flush_stops c.args.options (g.R.Source.device c.args.source.now)
+    (g.R.Source.device c.next_record.new.source) (g.W.Sink.device c.args.sink.now)
+    (g.W.Sink.device c.take.new.sink)
+    (g.W.Sink.device c.flush.new.sink) c.next_record.new.self c.take.new.self c.in_err-flush.field-0.0 taken
+    (c.in_err-flush.ensures.written
+    (g.W.Sink.device c.args.sink.now) taken.packed taken.joining.current taken.lined)))
 
 pub returns-in_err-flush-clause-read : goal.returns-in_err-flush-clause-read
 returns-in_err-flush-clause-read g c =
     let p = err_from_is_err_and c.from_residual-in_err-flush.result c.from_residual-in_err-flush.ensures.1 in
     let at = goal.at.returns-in_err-flush-clause-read g c in
     let taken = one-taken g at.After-must_flush (one-read g at.After-take) in
-    rw (p.1, p.2) (lined-tells_source _ (g.R.Source.device c.args.source.now) (g.R.Source.device c.next_record.new.source) (g.W.Sink.device c.args.sink.now) (g.W.Sink.device c.flush.new.sink) _ c.in_err-flush.field-0.0 taken.rows.has_read.came.steady (c.in_err-flush.ensures.written (g.W.Sink.device c.args.sink.now) taken.packed taken.joining.current taken.lined))
+    rw (p.1, p.2) (lined_tells_source _ (g.R.Source.device c.args.source.now)
+    (g.R.Source.device c.next_record.new.source) (g.W.Sink.device c.args.sink.now)
+    (g.W.Sink.device c.flush.new.sink) _ c.in_err-flush.field-0.0 taken.rows.has_read.came.steady
+    (c.in_err-flush.ensures.written
+    (g.W.Sink.device c.args.sink.now) taken.packed taken.joining.current taken.lined))
 
 pub returns-in_err-flush-clause-write : goal.returns-in_err-flush-clause-write
 returns-in_err-flush-clause-write g c =
     let p = err_from_is_err_and c.from_residual-in_err-flush.result c.from_residual-in_err-flush.ensures.1 in
     let at = goal.at.returns-in_err-flush-clause-write g c in
     let taken = one-taken g at.After-must_flush (one-read g at.After-take) in
-    rw (p.1, p.2) (lined-tells_sink _ (g.W.Sink.device c.args.sink.now) (g.W.Sink.device c.flush.new.sink) _ c.in_err-flush.field-0.0 (c.in_err-flush.ensures.written (g.W.Sink.device c.args.sink.now) taken.packed taken.joining.current taken.lined))
+    rw (p.1, p.2) (lined_tells_sink _ (g.W.Sink.device c.args.sink.now)
+    (g.W.Sink.device c.flush.new.sink) _ c.in_err-flush.field-0.0
+    (c.in_err-flush.ensures.written
+    (g.W.Sink.device c.args.sink.now) taken.packed taken.joining.current taken.lined))
 
 pub returns-in_err-flush-clause-live : goal.returns-in_err-flush-clause-live
 returns-in_err-flush-clause-live g c =
     let p = err_from_is_err_and c.from_residual-in_err-flush.result c.from_residual-in_err-flush.ensures.1 in
     let at = goal.at.returns-in_err-flush-clause-live g c in
     let taken = one-taken g at.After-must_flush (one-read g at.After-take) in
-    rw (p.1, p.2) (λ live e. let same : c.in_err-flush.field-0.0 ≡ fault.Read = cc in absurd (lining-unread _ (g.W.Sink.device c.args.sink.now) (g.W.Sink.device c.flush.new.sink) _ c.in_err-flush.field-0.0 (c.in_err-flush.ensures.written (g.W.Sink.device c.args.sink.now) taken.packed taken.joining.current taken.lined) same))
+    rw (p.1, p.2) (λ live e. let same : c.in_err-flush.field-0.0 ≡ fault.Read = cc in
+    absurd (lining_unread _ (g.W.Sink.device c.args.sink.now)
+    (g.W.Sink.device c.flush.new.sink) _ c.in_err-flush.field-0.0
+    (c.in_err-flush.ensures.written
+    (g.W.Sink.device c.args.sink.now) taken.packed taken.joining.current taken.lined) same))
 
 pub flush-requires-clause-count : goal.flush-requires-clause-count
 flush-requires-clause-count g c =
     let at = goal.at.flush-requires-clause-count g c in
     let taken = one-taken g at.After-must_flush (one-read g at.After-take) in
-    steady-can_count (g.W.Sink.device c.args.sink.now) (g.W.Sink.device c.take.new.sink) taken.calm.steady c.requires.sink
+    steady_can_count (g.W.Sink.device c.args.sink.now)
+    (g.W.Sink.device c.take.new.sink) taken.calm.steady c.requires.sink
 
 pub returns-in_err-flush-clause-few_source : goal.returns-in_err-flush-clause-few_source
 returns-in_err-flush-clause-few_source g c =
     let u = c.records.invariant.under in
-    steady-then_few (g.R.Source.device c.args.source.now) (g.R.Source.device c.records.source) (g.R.Source.device c.next_record.new.source) u.rows.has_read.came.steady c.next_record.ensures.few
+    steady_then_few (g.R.Source.device c.args.source.now) (g.R.Source.device c.records.source)
+    (g.R.Source.device c.next_record.new.source) u.rows.has_read.came.steady c.next_record.ensures.few
 
 pub returns-in_err-flush-clause-few_sink : goal.returns-in_err-flush-clause-few_sink
 returns-in_err-flush-clause-few_sink g c =
     let at = goal.at.returns-in_err-flush-clause-few_sink g c in
     let taken = one-taken g at.After-must_flush (one-read g at.After-take) in
-    steady-then_few (g.W.Sink.device c.args.sink.now) (g.W.Sink.device c.take.new.sink) (g.W.Sink.device c.flush.new.sink) taken.calm.steady c.flush.ensures.few
+    steady_then_few (g.W.Sink.device c.args.sink.now) (g.W.Sink.device c.take.new.sink)
+    (g.W.Sink.device c.flush.new.sink) taken.calm.steady c.flush.ensures.few
 
 pub records-preserved-in-Continue-branch-4 : goal.records-preserved-in-Continue-branch-4
 records-preserved-in-Continue-branch-4 g c =
     let at = goal.at.records-preserved-in-Continue-branch-4 g c in
     let taken = one-taken g at.After-must_flush (one-read g at.After-take) in
     record {
-      under = flushed c.args.options (g.R.Source.device c.args.source.now) (g.R.Source.device c.next_record.new.source) (g.W.Sink.device c.args.sink.now) (g.W.Sink.device c.take.new.sink) (g.W.Sink.device c.flush.new.sink) c.next_record.new.self c.take.new.self c.flush.new.self taken (c.in_ok-flush.ensures.written (g.W.Sink.device c.args.sink.now) taken.packed taken.joining.current taken.lined) c.flush.ensures.last c.flush.ensures.size;
+      under = flushed c.args.options (g.R.Source.device c.args.source.now)
+          (g.R.Source.device c.next_record.new.source) (g.W.Sink.device c.args.sink.now)
+          (g.W.Sink.device c.take.new.sink)
+          (g.W.Sink.device c.flush.new.sink) c.next_record.new.self c.take.new.self c.flush.new.self taken
+          (c.in_ok-flush.ensures.written
+          (g.W.Sink.device c.args.sink.now) taken.packed taken.joining.current
+          taken.lined) c.flush.ensures.last c.flush.ensures.size;
       ready = λ is_live. inr c.in_ok-flush.ensures.none_wait;
     }
 
@@ -187,34 +267,54 @@ pub returns-in_err-segments-clause-answer : goal.returns-in_err-segments-clause-
 returns-in_err-segments-clause-answer g c =
     let p = err_from_is_err_and c.from_residual-in_err-segments.result c.from_residual-in_err-segments.ensures.1 in
     let u = c.records.invariant.under in
-    let stops = rw u.size at (c.in_err-segments.ensures.written (g.W.Sink.device c.args.sink.now) u.packed u.joining.current u.lined) in
-    rw (p.1, p.2) (as-answer _ _ _ _ _ (write-failed c.args.options (g.R.Source.device c.args.source.now) (g.W.Sink.device c.args.sink.now) (g.W.Sink.device c.finish.new.sink) (map segment_of_packed u.packed ++ option_to_list u.joining.current) c.in_err-segments.field-0.0 (rows-read (settings_of c.args.options) (g.R.Source.device c.args.source.now) (g.R.Source.device c.records.source) c.records.reader (map segment_of_packed u.packed) u.joining u.rows) stops))
+    let stops = rw u.size at (c.in_err-segments.ensures.written
+    (g.W.Sink.device c.args.sink.now) u.packed u.joining.current u.lined) in
+    rw (p.1, p.2) (as_answer _ _ _ _ _ (write_failed c.args.options (g.R.Source.device c.args.source.now)
+    (g.W.Sink.device c.args.sink.now) (g.W.Sink.device c.finish.new.sink)
+    (map segment_of_packed u.packed ++ option_to_list u.joining.current) c.in_err-segments.field-0.0
+    (rows_read (settings_of c.args.options) (g.R.Source.device c.args.source.now)
+    (g.R.Source.device c.records.source) c.records.reader (map segment_of_packed u.packed) u.joining u.rows) stops))
 
 pub returns-in_err-segments-clause-read : goal.returns-in_err-segments-clause-read
 returns-in_err-segments-clause-read g c =
     let p = err_from_is_err_and c.from_residual-in_err-segments.result c.from_residual-in_err-segments.ensures.1 in
     let u = c.records.invariant.under in
-    let end = rw c.in_default.is at (c.in_ok-next.ensures.read (g.R.Source.device c.args.source.now) u.rows.records u.rows.answers u.rows.has_read) in
-    rw (p.1, p.2) (lined-tells_source _ (g.R.Source.device c.args.source.now) (g.R.Source.device c.next_record.new.source) (g.W.Sink.device c.args.sink.now) (g.W.Sink.device c.finish.new.sink) _ c.in_err-segments.field-0.0 end.none.read.came.steady (c.in_err-segments.ensures.written (g.W.Sink.device c.args.sink.now) u.packed u.joining.current u.lined))
+    let end = rw c.in_default.is at (c.in_ok-next.ensures.read
+    (g.R.Source.device c.args.source.now) u.rows.records u.rows.answers u.rows.has_read) in
+    rw (p.1, p.2) (lined_tells_source _ (g.R.Source.device c.args.source.now)
+    (g.R.Source.device c.next_record.new.source) (g.W.Sink.device c.args.sink.now)
+    (g.W.Sink.device c.finish.new.sink) _ c.in_err-segments.field-0.0 end.none.read.came.steady
+    (c.in_err-segments.ensures.written (g.W.Sink.device c.args.sink.now) u.packed u.joining.current u.lined))
 
 pub returns-in_err-segments-clause-write : goal.returns-in_err-segments-clause-write
 returns-in_err-segments-clause-write g c =
     let p = err_from_is_err_and c.from_residual-in_err-segments.result c.from_residual-in_err-segments.ensures.1 in
     let u = c.records.invariant.under in
-    rw (p.1, p.2) (lined-tells_sink _ (g.W.Sink.device c.args.sink.now) (g.W.Sink.device c.finish.new.sink) _ c.in_err-segments.field-0.0 (c.in_err-segments.ensures.written (g.W.Sink.device c.args.sink.now) u.packed u.joining.current u.lined))
+    rw (p.1, p.2) (lined_tells_sink _ (g.W.Sink.device c.args.sink.now)
+    (g.W.Sink.device c.finish.new.sink) _ c.in_err-segments.field-0.0
+    (c.in_err-segments.ensures.written (g.W.Sink.device c.args.sink.now) u.packed u.joining.current u.lined))
 
 pub returns-in_err-segments-clause-live : goal.returns-in_err-segments-clause-live
 returns-in_err-segments-clause-live g c =
     let p = err_from_is_err_and c.from_residual-in_err-segments.result c.from_residual-in_err-segments.ensures.1 in
     let u = c.records.invariant.under in
-    rw (p.1, p.2) (λ live e. let same : c.in_err-segments.field-0.0 ≡ fault.Read = cc in absurd (lining-unread _ (g.W.Sink.device c.args.sink.now) (g.W.Sink.device c.finish.new.sink) _ c.in_err-segments.field-0.0 (c.in_err-segments.ensures.written (g.W.Sink.device c.args.sink.now) u.packed u.joining.current u.lined) same))
+    rw (p.1, p.2) (λ live e. let same : c.in_err-segments.field-0.0 ≡ fault.Read = cc in
+    absurd (lining_unread _ (g.W.Sink.device c.args.sink.now)
+    (g.W.Sink.device c.finish.new.sink) _ c.in_err-segments.field-0.0
+    (c.in_err-segments.ensures.written (g.W.Sink.device c.args.sink.now) u.packed u.joining.current u.lined) same))
 
 pub returns-clause-answer : goal.returns-clause-answer
 returns-clause-answer g c =
     let u = c.records.invariant.under in
-    let end = rw c.in_default.is at (c.in_ok-next.ensures.read (g.R.Source.device c.args.source.now) u.rows.records u.rows.answers u.rows.has_read) in
-    let gave = rows-end (settings_of c.args.options) (g.R.Source.device c.args.source.now) (g.R.Source.device c.records.source) (g.R.Source.device c.next_record.new.source) c.records.reader c.next_record.new.self (map segment_of_packed u.packed) u.joining c.counts-counts.result u.rows end c.next_record.ensures.settings c.counts-counts.ensures in
-    let wrote = rw u.size at (c.in_ok-segments.ensures.written (g.W.Sink.device c.args.sink.now) u.packed u.joining.current u.lined) in
+    let end = rw c.in_default.is at (c.in_ok-next.ensures.read
+    (g.R.Source.device c.args.source.now) u.rows.records u.rows.answers u.rows.has_read) in
+    let gave = rows_end (settings_of c.args.options) (g.R.Source.device c.args.source.now)
+    (g.R.Source.device c.records.source)
+    (g.R.Source.device c.next_record.new.source) c.records.reader c.next_record.new.self
+    (map segment_of_packed u.packed) u.joining c.counts-counts.result u.rows end c.next_record.ensures.settings
+    c.counts-counts.ensures in
+    let wrote = rw u.size at (c.in_ok-segments.ensures.written
+    (g.W.Sink.device c.args.sink.now) u.packed u.joining.current u.lined) in
     let is_first : IsFirst (bytes_of c.length-2.result) c.tolerance.result c.counts-counts.result = record {
       is_length = is_length c.length-2.result;
       least = c.tolerance.ensures.in_range.0;
@@ -223,19 +323,25 @@ returns-clause-answer g c =
       empty = search rules;
       mismatched = search rules;
     } in
-    as-answer _ _ _ _ _ (done c.args.options (g.R.Source.device c.args.source.now) (g.W.Sink.device c.args.sink.now) (g.W.Sink.device c.finish.new.sink) (map segment_of_packed u.packed ++ option_to_list u.joining.current) _ c.counts-counts.result _ gave u.rows.writable wrote
-    (rw c.tolerance.ensures.same at c.tolerance.ensures.in_range.0) (rw c.tolerance.ensures.same at c.tolerance.ensures.in_range.1) (omega arith)
+    as_answer _ _ _ _ _ (done c.args.options (g.R.Source.device c.args.source.now)
+    (g.W.Sink.device c.args.sink.now) (g.W.Sink.device c.finish.new.sink)
+    (map segment_of_packed u.packed
+    ++ option_to_list u.joining.current) _ c.counts-counts.result _ gave u.rows.writable wrote
+    (rw c.tolerance.ensures.same at c.tolerance.ensures.in_range.0)
+    (rw c.tolerance.ensures.same at c.tolerance.ensures.in_range.1) (omega arith)
     c.output_keeps_segments.ensures c.output_has_size.ensures
     c.length-2.ensures.same c.tolerance.ensures.same refl refl is_first)
 
 pub returns-clause-read : goal.returns-clause-read
 returns-clause-read g c =
     let u = c.records.invariant.under in
-    let end = rw c.in_default.is at (c.in_ok-next.ensures.read (g.R.Source.device c.args.source.now) u.rows.records u.rows.answers u.rows.has_read) in
-    ok-tells (g.R.Source.device c.args.source.now) (g.R.Source.device c.next_record.new.source) _ _ end.none.read.came.steady
+    let end = rw c.in_default.is at (c.in_ok-next.ensures.read
+    (g.R.Source.device c.args.source.now) u.rows.records u.rows.answers u.rows.has_read) in
+    ok_tells (g.R.Source.device c.args.source.now)
+    (g.R.Source.device c.next_record.new.source) _ _ end.none.read.came.steady
 
 pub returns-clause-write : goal.returns-clause-write
 returns-clause-write g c =
     let u = c.records.invariant.under in
     let wrote = c.in_ok-segments.ensures.written (g.W.Sink.device c.args.sink.now) u.packed u.joining.current u.lined in
-    ok-tells (g.W.Sink.device c.args.sink.now) (g.W.Sink.device c.finish.new.sink) _ _ wrote.written.calm.steady
+    ok_tells (g.W.Sink.device c.args.sink.now) (g.W.Sink.device c.finish.new.sink) _ _ wrote.written.calm.steady

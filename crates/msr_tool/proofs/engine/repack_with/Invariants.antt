@@ -1,12 +1,13 @@
 use Rattle.std.proofs.Common.{◌≡◌}
 use Rattle.msr_input.specs.Records.{left_with}
 use Rattle.msr_tool.specs.declared.engine.Flush.TheVariants.{Live}
-use Rattle.msr_tool.proofs.UnderWay.{IsReady, UnderWay}
+use Rattle.msr_tool.proofs.RepackUnderWay.{IsReady, UnderWay}
 use Rattle.msr_tool.proofs.engine.repack_with.Given as goal
 
 abbrev pub invariant-records : goal.invariant-records
 invariant-records g l = record {
-  under : UnderWay l.options (g.R.Source.device l.fn.source) (g.R.Source.device l.source) (g.W.Sink.device l.fn.sink) (g.W.Sink.device l.sink) l.reader l.writer;
+  under : UnderWay l.options (g.R.Source.device l.fn.source) (g.R.Source.device l.source)
+      (g.W.Sink.device l.fn.sink) (g.W.Sink.device l.sink) l.reader l.writer;
   ready : l.flush ≡ Live → IsReady l.reader l.writer;
 }
 

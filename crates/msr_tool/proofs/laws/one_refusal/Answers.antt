@@ -1,5 +1,5 @@
-use Rattle.msr_tool.proofs.Consequences.{one-refusal}
+use Rattle.msr_tool.proofs.Consequences.{refusal_alone}
 use Rattle.msr_tool.proofs.laws.one_refusal.Goals as goal
 
 pub returns : goal.returns
-returns c = one-refusal c.one_first_fault.ensures
+returns c = refusal_alone c.one_first_fault.ensures

@@ -1,5 +1,5 @@
-use Rattle.msr_tool.proofs.Consequences.{readable-repacked}
+use Rattle.msr_tool.proofs.Consequences.{readable_repacked}
 use Rattle.msr_tool.proofs.laws.readable_is_repacked.Goals as goal
 
 pub returns : goal.returns
-returns c = readable-repacked c.readable_has_no_fault.ensures
+returns c = readable_repacked c.readable_has_no_fault.ensures

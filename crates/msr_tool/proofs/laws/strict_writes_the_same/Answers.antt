@@ -1,5 +1,5 @@
-use Rattle.msr_tool.proofs.Consequences.{strict-writes}
+use Rattle.msr_tool.proofs.Consequences.{strict_writes}
 use Rattle.msr_tool.proofs.laws.strict_writes_the_same.Goals as goal
 
 pub returns : goal.returns
-returns c = strict-writes
+returns c = strict_writes

@@ -4,8 +4,8 @@ use Rattle.std.specs.Str.{bytes_eq}
 use Rattle.indexmap.specs.IndexMap.{insert_entry}
 use Rattle.msr_totals.specs.Entries.{named}
 use Rattle.msr_totals.specs.Totals.{Add, totals_of}
-use Rattle.msr_totals.proofs.AddLemmas.{none, IsPlus, insert_entry-totals}
-use Rattle.msr_totals.proofs.RowLemmas.{lookup-named, named-insert_entry}
+use Rattle.msr_totals.proofs.AddLemmas.{none, IsPlus, insert_entry_totals}
+use Rattle.msr_totals.proofs.RowLemmas.{lookup_named, named-insert_entry}
 use Rattle.msr_totals.proofs.Totals.add.Goals as goal
 
 pub returns-clause-added : goal.returns-clause-added
@@ -15,7 +15,7 @@ returns-clause-added c adds was =
     let old = c.self.inside.by_name.entries in
     let after = c.plus.result in
     let rows : named old ≡ totals_of adds = c.self.view_is ∙ was in
-    let in_map = c.copied.ensures ∙ c.get.ensures.value ∙ lookup-named name old in
+    let in_map = c.copied.ensures ∙ c.get.ensures.value ∙ lookup_named name old in
     let found = in_map ∙ ap (lookup (bytes_eq name)) rows in
     let before = c.unwrap_or-before.ensures ∙ ap (λ o. unwrap_or o none) found in
     let plus : IsPlus c.unwrap_or-before.result add after = record {
@@ -23,7 +23,7 @@ returns-clause-added c adds was =
       read = c.plus.ensures.read;
       written = c.plus.ensures.written;
     } in
-    let more = insert_entry-totals adds add after (rw before at plus) in
+    let more = insert_entry_totals adds add after (rw before at plus) in
     let key = c.in_ok-name.name in
     ap named c.in_ok-insert.ensures.entries ∙ named-insert_entry old key after
     ∙ (λ i. insert_entry bytes_eq (rows i) (c.in_ok-name.ensures.ok i) after) ∙ more

@@ -1,9 +1,10 @@
 use Rattle.std.proofs.Common.{◌+◌, ◌-◌, ◌^◌, length}
-use Rattle.msr_verdict.proofs.Endings.{UnderWay}
+use Rattle.msr_verdict.proofs.StoppedReading.{UnderWay}
 use Rattle.msr_verdict.proofs.verify.verify_packed.Given as goal
 
 abbrev pub invariant-records : goal.invariant-records
-invariant-records g l = UnderWay l.report (g.R.Source.device l.fn.source) (g.R.Source.device l.source) l.reader l.comparing
+invariant-records g l = UnderWay l.report (g.R.Source.device l.fn.source)
+    (g.R.Source.device l.source) l.reader l.comparing
 
 abbrev pub decreases-records : goal.decreases-records
 decreases-records g l = (2 ^ 64 - (g.R.Source.device l.source).moved) + length l.reader.waiting

@@ -7,4 +7,5 @@ decreases-walk_folder g l = l.levels
 
 -- some entries were told
 abbrev pub invariant-loop-name : goal.invariant-loop-name
-invariant-loop-name g l = Tells (asked_of l.archive) (g.O.Sink.device l.fn.out) (g.O.Sink.device l.out) l.fn.tally l.tally
+invariant-loop-name g l = Tells (asked_of l.walker.archive.now) (g.O.Sink.device l.fn.out)
+    (g.O.Sink.device l.out) l.fn.tally l.tally

@@ -1,30 +1,30 @@
 use Rattle.std.proofs.Common.{rules}
 use Rattle.std.proofs.lemmas.Result.{err_from_is_err_and}
-use Rattle.msr_devices.proofs.Chaining.{calm-same}
+use Rattle.msr_devices.proofs.Chaining.{calm_same}
 use Rattle.msr_walk.specs.Day.{asked_of}
 use Rattle.msr_walk.specs.Entries.{IsDayOf}
-use Rattle.msr_walk.proofs.Days.{outcome-of}
-use Rattle.msr_walk.proofs.Told.{part-none}
+use Rattle.msr_walk.proofs.Days.{outcome_of}
+use Rattle.msr_walk.proofs.EntriesTold.{part_none}
 use Rattle.msr_walk.proofs.folders.tell_day.Goals as goal
 
 pub returns-in_err-channel-clause-stops : goal.returns-in_err-channel-clause-stops
 returns-in_err-channel-clause-stops g c =
     let p = err_from_is_err_and c.from_residual.result c.from_residual.ensures.1 in
     let out = g.O.Sink.device c.args.out.now in
-    rw (p.1, p.2) (part-none (asked_of c.args.archive.now) out, (calm-same out).steady)
+    rw (p.1, p.2) (part_none (asked_of c.args.walker.now.archive.now) out, (calm_same out).steady)
 
 pub returns-in_err-day-clause-stops : goal.returns-in_err-day-clause-stops
 returns-in_err-day-clause-stops g c =
     let p = err_from_is_err_and c.from_residual-in_err-day.result c.from_residual-in_err-day.ensures.1 in
     let out = g.O.Sink.device c.args.out.now in
-    rw (p.1, p.2) (part-none (asked_of c.args.archive.now) out, (calm-same out).steady)
+    rw (p.1, p.2) (part_none (asked_of c.args.walker.now.archive.now) out, (calm_same out).steady)
 
 pub returns-clause-told : goal.returns-clause-told
 returns-clause-told g c =
     let day : IsDayOf c.args.path.now c.as_str.result.now = search rules in
-    c.tell.ensures.told (asked_of c.args.archive.now) (outcome-of _ _ _ _ day c.handle-outcome.ensures)
+    c.tell.ensures.told (asked_of c.args.walker.now.archive.now) (outcome_of _ _ _ _ day c.handle-outcome.ensures)
 
 pub returns-clause-stops : goal.returns-clause-stops
 returns-clause-stops g c =
     let day : IsDayOf c.args.path.now c.as_str.result.now = search rules in
-    c.tell.ensures.stops (asked_of c.args.archive.now) (outcome-of _ _ _ _ day c.handle-outcome.ensures)
+    c.tell.ensures.stops (asked_of c.args.walker.now.archive.now) (outcome_of _ _ _ _ day c.handle-outcome.ensures)

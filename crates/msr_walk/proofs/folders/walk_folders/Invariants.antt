@@ -4,4 +4,5 @@ use Rattle.msr_walk.proofs.folders.walk_folders.Given as goal
 
 -- some entries were told
 abbrev pub invariant-loop-folder : goal.invariant-loop-folder
-invariant-loop-folder g l = Tells (asked_of l.archive) (g.O.Sink.device l.fn.out) (g.O.Sink.device l.out) l.fn.tally l.tally
+invariant-loop-folder g l = Tells (asked_of l.walker.archive.now) (g.O.Sink.device l.fn.out)
+    (g.O.Sink.device l.out) l.fn.tally l.tally

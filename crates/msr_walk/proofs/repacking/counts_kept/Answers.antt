@@ -10,11 +10,13 @@ returns g c =
       text = read.0;
       report = c.in-Ok.report;
       reads = read.2;
-      record_length = sym c.bytes.ensures.same ∙ c.if-bytes.false ∙ c.bytes-2.ensures.same ∙ ap bytes_of c.length.ensures.same;
+      record_length = sym c.bytes.ensures.same ∙ c.if-bytes.false ∙ c.bytes-2.ensures.same
+          ∙ ap bytes_of c.length.ensures.same;
       tolerance = c.if-report-tolerance.false ∙ c.tolerance.ensures.same;
       agree = λ strict. elim c.else-is_strict.branch [
         | else-is_strict-via-then-is_strict+else-report-ne0 w ↦ w.if-report-ne0.false
-        | else-is_strict-via-else-is_strict w ↦ (let lenient = sym c.is_strict.ensures ∙ w.if-is_strict.false in absurd cc)
+        | else-is_strict-via-else-is_strict w ↦ (let lenient = sym c.is_strict.ensures ∙ w.if-is_strict.false in
+            absurd cc)
       ];
       read = refl;
       written = c.records_written-written.ensures;

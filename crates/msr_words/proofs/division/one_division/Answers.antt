@@ -1,5 +1,5 @@
 -- Group by group.
-use Rattle.msr_words.proofs.Choosing.{one_chosen}
+use Rattle.msr_words.proofs.WrittenDivision.{one_chosen}
 use Rattle.msr_words.proofs.division.one_division.Goals as goal
 
 pub returns : goal.returns

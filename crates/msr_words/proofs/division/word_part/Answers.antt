@@ -11,5 +11,6 @@ overflow_cast-result c =
 pub returns : goal.returns
 returns c =
     let fits = c.ranges.difference in
-    let small : SFits w32 c.args.difference = in_word c.args.difference c.args.capacity c.requires.size c.requires.some in
+    let small : SFits w32 c.args.difference =
+    in_word c.args.difference c.args.capacity c.requires.size c.requires.some in
     ap (λ z. to_z w32 (of_z w32 z)) (to_z-of_z w64 c.args.difference fits) ∙ to_z-of_z w32 c.args.difference small

@@ -1,5 +1,5 @@
 -- Group by group, the longest with which there are no more.
-use Rattle.msr_words.proofs.Exist.{has_division}
+use Rattle.msr_words.proofs.DivisionsExist.{has_division}
 use Rattle.msr_words.proofs.existence.division_exists.Goals as goal
 
 pub returns : goal.returns

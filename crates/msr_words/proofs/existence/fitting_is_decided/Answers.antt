@@ -1,5 +1,5 @@
 -- Kind by kind.
-use Rattle.msr_words.proofs.Exist.{any_decided, has_first_kind}
+use Rattle.msr_words.proofs.DivisionsExist.{any_decided, has_first_kind}
 use Rattle.msr_words.proofs.existence.fitting_is_decided.Goals as goal
 
 pub returns-clause-any : goal.returns-clause-any

@@ -15,22 +15,30 @@ loop-next-preserved c =
     let diff : SFits w64 c.difference_after-difference.result = search rules in
     let long = length_differences c.args.before c.args.run.now in
     let l = length-drop c.args.at (differences c.args.before c.args.run.now) in
-    let here : get_or (drop c.args.at (differences c.args.before c.args.run.now)) (c.loop-next.next - c.args.at) (pos 0) ≡ c.difference_after-difference.result =
-    difference_behind c.args.before c.args.run.now c.args.at c.loop-next.next (omega arith) (omega arith) ∙ sym c.difference_after-difference.ensures in
+    let here : get_or (drop c.args.at (differences c.args.before c.args.run.now)) (c.loop-next.next - c.args.at)
+    (pos 0) ≡ c.difference_after-difference.result =
+    difference_behind c.args.before c.args.run.now c.args.at c.loop-next.next (omega arith) (omega arith)
+    ∙ sym c.difference_after-difference.ensures in
     let fits : FitsBits c.args.width c.difference_after-difference.result = subst (FitsBits c.args.width) here
-    (fits_there c.args.width c.args.size xs c.requires.positive c.requires.within (omega (arith, c.requires.room)) c.requires.fit (c.loop-next.next - c.args.at) (omega arith)) in
+    (fits_there c.args.width c.args.size xs c.requires.positive c.requires.within
+    (omega (arith, c.requires.room)) c.requires.fit (c.loop-next.next - c.args.at) (omega arith)) in
     let same = simp to_z-of_z at c.field_of.ensures.same in
     let field : c.field_of.result ≡ twos_complement c.args.width c.difference_after-difference.result = same fits in
     let one : (c.loop-next.next - c.args.at) + 1 ≡ c.loop-next.next + 1 - c.args.at = omega arith in
-    let more = fields_more c.args.width c.args.size xs c.requires.positive c.requires.within (omega (arith, c.requires.room)) c.requires.fit i c.loop-next.fields c.field_of.result (omega arith) c.loop-next.invariant (rw here field) in
-    subst (λ n. bit_or ((c.loop-next.fields * 2 ^ c.args.width) % 2 ^ 64) c.field_of.result ≡ joined_fields c.args.width (take n (drop c.args.at (differences c.args.before c.args.run.now)))) one more
+    let more = fields_more c.args.width c.args.size xs c.requires.positive c.requires.within
+    (omega (arith, c.requires.room)) c.requires.fit i c.loop-next.fields c.field_of.result
+    (omega arith) c.loop-next.invariant (rw here field) in
+    subst (λ n. bit_or ((c.loop-next.fields * 2 ^ c.args.width) % 2 ^ 64) c.field_of.result
+    ≡ joined_fields c.args.width (take n (drop c.args.at (differences c.args.before c.args.run.now)))) one more
 
 pub overflow_cast-result : goal.overflow_cast-result
 overflow_cast-result c =
     let xs = drop c.args.at (differences c.args.before c.args.run.now) in
     let long = length_differences c.args.before c.args.run.now in
     let l = length-drop c.args.at (differences c.args.before c.args.run.now) in
-    let all = all_lt c.args.width c.args.size xs c.requires.positive c.requires.within (omega (arith, c.requires.room)) c.requires.fit (c.loop-next.next - c.args.at) c.loop-next.fields (omega arith) c.loop-next.invariant in
+    let all = all_lt c.args.width c.args.size xs c.requires.positive c.requires.within
+    (omega (arith, c.requires.room)) c.requires.fit (c.loop-next.next - c.args.at) c.loop-next.fields
+    (omega arith) c.loop-next.invariant in
     let bound : c.loop-next.fields < 4294967296 = all.2 in
     search (rules, bound)
 
@@ -39,7 +47,9 @@ returns-clause-same c =
     let xs = drop c.args.at (differences c.args.before c.args.run.now) in
     let long = length_differences c.args.before c.args.run.now in
     let l = length-drop c.args.at (differences c.args.before c.args.run.now) in
-    let all = all_lt c.args.width c.args.size xs c.requires.positive c.requires.within (omega (arith, c.requires.room)) c.requires.fit (c.loop-next.next - c.args.at) c.loop-next.fields (omega arith) c.loop-next.invariant in
+    let all = all_lt c.args.width c.args.size xs c.requires.positive c.requires.within
+    (omega (arith, c.requires.room)) c.requires.fit (c.loop-next.next - c.args.at) c.loop-next.fields
+    (omega arith) c.loop-next.invariant in
     all.0
 
 pub returns-clause-few : goal.returns-clause-few
@@ -47,5 +57,7 @@ returns-clause-few c =
     let xs = drop c.args.at (differences c.args.before c.args.run.now) in
     let long = length_differences c.args.before c.args.run.now in
     let l = length-drop c.args.at (differences c.args.before c.args.run.now) in
-    let all = all_lt c.args.width c.args.size xs c.requires.positive c.requires.within (omega (arith, c.requires.room)) c.requires.fit (c.loop-next.next - c.args.at) c.loop-next.fields (omega arith) c.loop-next.invariant in
+    let all = all_lt c.args.width c.args.size xs c.requires.positive c.requires.within
+    (omega (arith, c.requires.room)) c.requires.fit (c.loop-next.next - c.args.at) c.loop-next.fields
+    (omega arith) c.loop-next.invariant in
     all.1

@@ -9,6 +9,7 @@ use Rattle.msr_words.proofs.filling.fields_seen.Given as goal
 abbrev pub invariant-loop-next : goal.invariant-loop-next
 invariant-loop-next l = record {
   few : l.halves < 2 ^ (l.next * l.width);
-  same : (ds : List ℤ) → AreSeen ds l.window.sizes l.window.kept l.place → AllByRecursion (FitsBits l.width) (take l.size ds)
+  same : (ds : List ℤ) → AreSeen ds l.window.sizes l.window.kept l.place
+      → AllByRecursion (FitsBits l.width) (take l.size ds)
       → IsOffset l.width l.next l.fields l.halves (take l.next ds);
 }

@@ -7,6 +7,7 @@ use Rattle.msr_words.proofs.filling.fill_steim2.Goals as goal
 pub returns : goal.returns
 returns c = record {
   filled = λ can.
-      area_filled Two c.args.before c.args.run.now (length c.args.area.now / 64) c.fill_frames.new.area c.unwrap.result c.requires.some can
+      area_filled Two c.args.before c.args.run.now
+      (length c.args.area.now / 64) c.fill_frames.new.area c.unwrap.result c.requires.some can
       (rw c.unwrap.ensures at c.fill_frames.ensures.filled);
 }

@@ -10,5 +10,7 @@ returns-clause-word c ds seen longest =
     let ys = take c.args.size ds in
     let long = length-take-le c.args.size ds longest.within in
     let is = longest.group (omega (arith, c.requires.full)) in
-    let same = c.fields_seen-fields.ensures.same ds seen (group_bits Two ys c.args.size c.args.form.width long c.requires.width is) in
-    added_word_is ys c.args.size c.args.form.width c.args.form.top c.fields_seen-fields.result long c.requires.positive c.requires.width is c.requires.top same c.requires.space
+    let same = c.fields_seen-fields.ensures.same ds seen
+    (group_bits Two ys c.args.size c.args.form.width long c.requires.width is) in
+    added_word_is ys c.args.size c.args.form.width c.args.form.top c.fields_seen-fields.result long
+    c.requires.positive c.requires.width is c.requires.top same c.requires.space

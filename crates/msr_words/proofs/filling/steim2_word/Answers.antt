@@ -8,8 +8,11 @@ use Rattle.msr_words.proofs.Plain.{length_differences}
 use Rattle.msr_words.proofs.Windows.{window_seen}
 use Rattle.msr_words.proofs.filling.steim2_word.Goals as goal
 
-seen : (c : goal.After-word_seen) → AreSeen (drop c.args.at (differences c.args.before c.args.run.now)) c.reaches.new.self.sizes c.reaches.new.self.kept (c.args.at - c.reaches.new.self.first)
-seen c = window_seen c.args.run.now c.args.at c.reaches.new.self c.args.before c.reaches.ensures.window (c.reaches.ensures.seven c.if-reaches.true)
+seen : (c : goal.After-word_seen) → AreSeen (drop c.args.at
+    (differences c.args.before c.args.run.now)) c.reaches.new.self.sizes c.reaches.new.self.kept (c.args.at -
+    c.reaches.new.self.first)
+seen c = window_seen c.args.run.now c.args.at c.reaches.new.self c.args.before c.reaches.ensures.window
+    (c.reaches.ensures.seven c.if-reaches.true)
 
 pub returns-then-reaches-clause-next : goal.returns-then-reaches-clause-next
 returns-then-reaches-clause-next c =

@@ -14,7 +14,8 @@ invariant-loop-frame l = record {
   window : IsWindow l.run l.at l.window;
   few : l.used ≤ 15 * l.frame;
   framed : (gs : List (List ℤ)) → IsCanonicalDivision (version_of l.sizing) gs (differences l.before l.run)
-      → IsFramed (version_of l.sizing) gs (differences l.before l.run) (slice_index_or l.run 0 (pos 0)) (slice_index_or l.run (length l.run - 1) (pos 0)) l.frame l.at l.used l.fn.area l.area;
+      → IsFramed (version_of l.sizing) gs (differences l.before l.run) (slice_index_or l.run 0 (pos 0))
+      (slice_index_or l.run (length l.run - 1) (pos 0)) l.frame l.at l.used l.fn.area l.area;
 }
 
 abbrev pub invariant-loop-slot : goal.invariant-loop-slot
@@ -26,5 +27,7 @@ invariant-loop-slot l = record {
   small : l.codes < 4 ^ (l.slot + 1);
   high : 2 ≤ 16 * l.frame + l.slot;
   filled : (gs : List (List ℤ)) → IsCanonicalDivision (version_of l.sizing) gs (differences l.before l.run)
-      → IsFilled (version_of l.sizing) gs (differences l.before l.run) (slice_index_or l.run 0 (pos 0)) (slice_index_or l.run (length l.run - 1) (pos 0)) l.frame l.slot l.at (l.used + l.slot - 15) l.codes l.fn.area l.area;
+      → IsFilled (version_of l.sizing) gs (differences l.before l.run) (slice_index_or l.run 0 (pos 0))
+      (slice_index_or l.run (length l.run - 1) (pos 0)) l.frame l.slot l.at
+      (l.used + l.slot - 15) l.codes l.fn.area l.area;
 }

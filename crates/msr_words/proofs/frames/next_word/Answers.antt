@@ -8,5 +8,6 @@ pub returns-in-Ahead-clause-untold : goal.returns-in-Ahead-clause-untold
 returns-in-Ahead-clause-untold c none = record {
   ahead = c.in-Ahead.is;
   place = c.args.at + 1;
-  four = subst BeginsWithFour (drop-drop 1 c.args.at (differences c.args.before c.args.run.now)) (c.steim1_word_ahead.ensures.none none);
+  four = subst BeginsWithFour (drop-drop 1 c.args.at (differences c.args.before c.args.run.now))
+      (c.steim1_word_ahead.ensures.none none);
 }

@@ -7,9 +7,11 @@ use Rattle.msr_words.proofs.FilledAreas.{area_filled}
 use Rattle.msr_words.proofs.steim1_filling.fill_by_sizes.Goals as goal
 
 pub sizes_of-requires-clause-fits : goal.sizes_of-requires-clause-fits
-sizes_of-requires-clause-fits c = divided_fit (15 * (length c.args.area.now / 64) - 2) (differences c.args.before c.args.run.now) c.requires.fits
+sizes_of-requires-clause-fits c = divided_fit (15 * (length c.args.area.now / 64) - 2)
+    (differences c.args.before c.args.run.now) c.requires.fits
 
 pub returns : goal.returns
 returns c =
-    area_filled One c.args.before c.args.run.now (length c.args.area.now / 64) c.fill_frames.new.area c.unwrap.result c.requires.some c.requires.fits
+    area_filled One c.args.before c.args.run.now
+    (length c.args.area.now / 64) c.fill_frames.new.area c.unwrap.result c.requires.some c.requires.fits
     (rw c.unwrap.ensures at c.fill_frames.ensures.filled)

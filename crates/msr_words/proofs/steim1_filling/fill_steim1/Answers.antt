@@ -7,7 +7,10 @@ use Rattle.msr_words.proofs.FilledAreas.{area_filled}
 use Rattle.msr_words.proofs.steim1_filling.fill_steim1.Goals as goal
 
 pub fill_frames-requires-clause-fits : goal.fill_frames-requires-clause-fits
-fill_frames-requires-clause-fits c is = divided_fit (15 * (length c.args.area.now / 64) - 2) (differences c.args.before c.args.run.now) c.requires.fits
+fill_frames-requires-clause-fits c is = divided_fit (15 * (length c.args.area.now / 64) - 2)
+    (differences c.args.before c.args.run.now) c.requires.fits
 
 pub returns-in-Some : goal.returns-in-Some
-returns-in-Some c = area_filled One c.args.before c.args.run.now (length c.args.area.now / 64) c.fill_frames.new.area c.in-Some.used c.requires.some c.requires.fits c.in-Some.ensures.filled
+returns-in-Some c = area_filled One c.args.before c.args.run.now
+    (length c.args.area.now / 64) c.fill_frames.new.area c.in-Some.used c.requires.some c.requires.fits
+    c.in-Some.ensures.filled

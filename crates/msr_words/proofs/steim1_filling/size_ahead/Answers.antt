@@ -23,6 +23,10 @@ returns c width small =
     let n = length_differences c.args.before c.args.run.now in
     let fits : SFits w64 c.difference_after.result = search rules in
     let size : IsSize c.difference_after.result c.magnitude.result = simp to_z-of_z at c.magnitude.ensures in
-    let here : c.difference_after.result ≡ slice_index_or (drop c.args.at (differences c.args.before c.args.run.now)) c.args.ahead (pos 0) =
-    c.difference_after.ensures ∙ sym (there c.args.before c.args.run.now c.args.at c.args.ahead (omega arith)) in
-    (λ below. (omega arith, subst (FitsBits width) here ((size width).1 below)), λ is. (size width).0 (subst (FitsBits width) (sym here) is.1))
+    let here : c.difference_after.result ≡ slice_index_or
+    (drop c.args.at (differences c.args.before c.args.run.now)) c.args.ahead (pos 0) =
+    c.difference_after.ensures ∙ sym (there c.args.before c.args.run.now c.args.at c.args.ahead (omega arith)) in (
+      λ below. (omega arith, subst (FitsBits width) here ((size width).1 below)),
+      λ is. (size width).0
+          (subst (FitsBits width) (sym here) is.1),
+    )

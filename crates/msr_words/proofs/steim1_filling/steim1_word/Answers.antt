@@ -8,22 +8,27 @@ use Rattle.msr_words.proofs.Steim1Next.{IsSizeThere, size_there, word_none, word
 use Rattle.msr_words.proofs.Windows.{window_seen}
 use Rattle.msr_words.proofs.steim1_filling.steim1_word.Goals as goal
 
-given : (before : Option ℤ) (run : List ℤ) (at size : ℕ) (sizes : List ℕ) → AreSizes (differences before run) 0 sizes → at < length run → size ≡ get_or sizes at 0 → IsSizeThere before run at size
+given : (before : Option ℤ) (run : List ℤ) (at size : ℕ) (sizes : List ℕ)
+    → AreSizes (differences before run) 0 sizes → at < length run → size ≡ get_or sizes at 0
+    → IsSizeThere before run at size
 given before run at size sizes are less size_is =
     let m = length_differences before run in
-    size_there before run at size less (subst (IsCanonicalFirst (drop at (differences before run))) (sym size_is) (are.each at (omega arith) (omega arith)))
+    size_there before run at size less (subst (IsCanonicalFirst (drop at (differences before run))) (sym size_is)
+    (are.each at (omega arith) (omega arith)))
 
 less_seen : (c : goal.After-from) → c.args.at < length c.args.run.now
 less_seen c = let within = c.reaches.ensures.window.within in omega (arith, c.reaches.ensures.seven c.if-reaches.true)
 
 here : (c : goal.After-from) → IsSizeThere c.args.before c.args.run.now c.args.at c.from.result
-here c = given c.args.before c.args.run.now c.args.at c.from.result c.args.sizes.now c.requires.sizes (less_seen c) c.from.ensures
+here c = given c.args.before c.args.run.now c.args.at c.from.result c.args.sizes.now c.requires.sizes
+    (less_seen c) c.from.ensures
 
 less_outside : (c : goal.After-from-2) → c.args.at < length c.args.run.now
 less_outside c = omega (arith, c.requires.within, c.if-at-run.false)
 
 there : (c : goal.After-from-2) → IsSizeThere c.args.before c.args.run.now c.args.at c.from-2.result
-there c = given c.args.before c.args.run.now c.args.at c.from-2.result c.args.sizes.now c.requires.sizes (less_outside c) c.from-2.ensures
+there c = given c.args.before c.args.run.now c.args.at c.from-2.result c.args.sizes.now c.requires.sizes
+    (less_outside c) c.from-2.ensures
 
 pub bounds-sizes-at : goal.bounds-sizes-at
 bounds-sizes-at c =
@@ -63,11 +68,14 @@ returns-then-reaches-clause-next c =
     let ds = drop c.args.at (differences c.args.before c.args.run.now) in
     let within = c.reaches.ensures.window.within in
     let less : c.args.at < length c.args.run.now = omega (arith, c.reaches.ensures.seven c.if-reaches.true) in
-    let is = given c.args.before c.args.run.now c.args.at c.from.result c.args.sizes.now c.requires.sizes less c.from.ensures in
+    let is = given c.args.before c.args.run.now c.args.at c.from.result c.args.sizes.now c.requires.sizes less
+    c.from.ensures in
     let seen : AreSeen ds c.reaches.new.self.sizes c.reaches.new.self.kept (c.args.at - c.reaches.new.self.first) =
-    window_seen c.args.run.now c.args.at c.reaches.new.self c.args.before c.reaches.ensures.window (c.reaches.ensures.seven c.if-reaches.true) in
+    window_seen c.args.run.now c.args.at c.reaches.new.self c.args.before c.reaches.ensures.window
+    (c.reaches.ensures.seven c.if-reaches.true) in
     let word = c.word_seen.ensures in
-    word_there c.args.before c.args.run.now c.args.at c.from.result c.word_seen.result less is word.size word.some word.code word.small (word.word ds seen is.group)
+    word_there c.args.before c.args.run.now c.args.at c.from.result c.word_seen.result less is word.size word.some
+    word.code word.small (word.word ds seen is.group)
 
 pub returns-then-at-run-clause-next : goal.returns-then-at-run-clause-next
 returns-then-at-run-clause-next c = word_none c.args.before c.args.run.now c.args.at c.if-at-run.true
@@ -75,6 +83,8 @@ returns-then-at-run-clause-next c = word_none c.args.before c.args.run.now c.arg
 pub returns-clause-next : goal.returns-clause-next
 returns-clause-next c =
     let less : c.args.at < length c.args.run.now = omega (arith, c.requires.within, c.if-at-run.false) in
-    let is = given c.args.before c.args.run.now c.args.at c.from-2.result c.args.sizes.now c.requires.sizes less c.from-2.ensures in
+    let is = given c.args.before c.args.run.now c.args.at c.from-2.result c.args.sizes.now c.requires.sizes less
+    c.from-2.ensures in
     let word = c.word_outside.ensures in
-    word_there c.args.before c.args.run.now c.args.at c.from-2.result c.word_outside.result less is word.size word.some word.code word.small word.word
+    word_there c.args.before c.args.run.now c.args.at c.from-2.result c.word_outside.result less is word.size
+    word.some word.code word.small word.word

@@ -10,8 +10,11 @@ use Rattle.msr_words.proofs.steim1_filling.steim1_word_ahead.Goals as goal
 less_seen : (c : goal.In_ok-size) → c.args.at < length c.args.run.now
 less_seen c = let within = c.reaches.ensures.window.within in omega (arith, c.reaches.ensures.seven c.if-reaches.true)
 
-seen : (c : goal.In_ok-size) → AreSeen (drop c.args.at (differences c.args.before c.args.run.now)) c.reaches.new.self.sizes c.reaches.new.self.kept (c.args.at - c.reaches.new.self.first)
-seen c = window_seen c.args.run.now c.args.at c.reaches.new.self c.args.before c.reaches.ensures.window (c.reaches.ensures.seven c.if-reaches.true)
+seen : (c : goal.In_ok-size) → AreSeen (drop c.args.at
+    (differences c.args.before c.args.run.now)) c.reaches.new.self.sizes c.reaches.new.self.kept (c.args.at -
+    c.reaches.new.self.first)
+seen c = window_seen c.args.run.now c.args.at c.reaches.new.self c.args.before c.reaches.ensures.window
+    (c.reaches.ensures.seven c.if-reaches.true)
 
 here : (c : goal.In_ok-size) → IsSizeThere c.args.before c.args.run.now c.args.at c.in_ok-size.size
 here c =
@@ -22,7 +25,8 @@ here c =
 pub returns-in_err-size-clause-none : goal.returns-in_err-size-clause-none
 returns-in_err-size-clause-none c untold =
     c.in_err-size.ensures.none (drop c.args.at (differences c.args.before c.args.run.now))
-    (window_seen c.args.run.now c.args.at c.reaches.new.self c.args.before c.reaches.ensures.window (c.reaches.ensures.seven c.if-reaches.true)) refl
+    (window_seen c.args.run.now c.args.at c.reaches.new.self c.args.before c.reaches.ensures.window
+    (c.reaches.ensures.seven c.if-reaches.true)) refl
 
 pub word_seen-requires-clause-full : goal.word_seen-requires-clause-full
 word_seen-requires-clause-full c = (here c).some
@@ -35,12 +39,17 @@ returns-then-reaches-clause-next c =
     let ds = drop c.args.at (differences c.args.before c.args.run.now) in
     let within = c.reaches.ensures.window.within in
     let less : c.args.at < length c.args.run.now = omega (arith, c.reaches.ensures.seven c.if-reaches.true) in
-    let seen : AreSeen (drop c.args.at (differences c.args.before c.args.run.now)) c.reaches.new.self.sizes c.reaches.new.self.kept (c.args.at - c.reaches.new.self.first) =
-    window_seen c.args.run.now c.args.at c.reaches.new.self c.args.before c.reaches.ensures.window (c.reaches.ensures.seven c.if-reaches.true) in
+    let seen : AreSeen (drop c.args.at
+    (differences c.args.before c.args.run.now)) c.reaches.new.self.sizes c.reaches.new.self.kept (c.args.at -
+    c.reaches.new.self.first) =
+    window_seen c.args.run.now c.args.at c.reaches.new.self c.args.before c.reaches.ensures.window
+    (c.reaches.ensures.seven c.if-reaches.true) in
     let is = size_there c.args.before c.args.run.now c.args.at c.in_ok-size.size less
-    (c.in_ok-size.ensures.first ds seen (fits_from c.args.at (differences c.args.before c.args.run.now) c.requires.fits)) in
+    (c.in_ok-size.ensures.first ds seen (fits_from c.args.at
+    (differences c.args.before c.args.run.now) c.requires.fits)) in
     let word = c.word_seen.ensures in
-    word_there c.args.before c.args.run.now c.args.at c.in_ok-size.size c.word_seen.result less is word.size word.some word.code word.small (word.word ds seen is.group)
+    word_there c.args.before c.args.run.now c.args.at c.in_ok-size.size c.word_seen.result less is word.size
+    word.some word.code word.small (word.word ds seen is.group)
 
 pub returns-then-at-run-clause-next : goal.returns-then-at-run-clause-next
 returns-then-at-run-clause-next c = word_none c.args.before c.args.run.now c.args.at c.if-at-run.true

@@ -14,11 +14,13 @@ fields_from-fields-requires-clause-fit c =
     let l = length-drop c.args.at (differences c.args.before c.args.run.now) in
     let m = length_differences c.args.before c.args.run.now in
     let room = c.requires.room in
-    group_bits One (take c.args.size xs) c.args.size c.form_of-form.result.width (length-take-le c.args.size xs (omega arith)) c.form_of-form.ensures.width c.requires.group
+    group_bits One (take c.args.size xs) c.args.size c.form_of-form.result.width
+    (length-take-le c.args.size xs (omega arith)) c.form_of-form.ensures.width c.requires.group
 
 pub overflow_shl-result : goal.overflow_shl-result
 overflow_shl-result c =
-    let some : 1 * c.form_of-form.result.width ≤ c.args.size * c.form_of-form.result.width = mul-le-mul_right c.form_of-form.result.width c.requires.full in
+    let some : 1 * c.form_of-form.result.width ≤ c.args.size * c.form_of-form.result.width =
+    mul-le-mul_right c.form_of-form.result.width c.requires.full in
     omega (arith, c.form_of-form.ensures.within, c.form_of-form.ensures.positive)
 
 pub returns-clause-word : goal.returns-clause-word
@@ -27,5 +29,7 @@ returns-clause-word c =
     let l = length-drop c.args.at (differences c.args.before c.args.run.now) in
     let m = length_differences c.args.before c.args.run.now in
     let room = c.requires.room in
-    shifted_word_is (take c.args.size xs) c.args.size c.form_of-form.result.width c.form_of-form.result.left c.fields_from-fields.result (length-take-le c.args.size xs (omega arith)) c.form_of-form.ensures.width c.form_of-form.ensures.left
+    shifted_word_is (take c.args.size xs) c.args.size c.form_of-form.result.width c.form_of-form.result.left
+    c.fields_from-fields.result (length-take-le c.args.size xs
+    (omega arith)) c.form_of-form.ensures.width c.form_of-form.ensures.left
     c.fields_from-fields.ensures.same c.form_of-form.ensures.positive c.requires.group c.form_of-form.ensures.within

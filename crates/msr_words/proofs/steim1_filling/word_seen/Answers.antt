@@ -9,4 +9,5 @@ returns-in_default-clause-word c ds seen group =
     let few = c.requires.most in
     let some = c.requires.full in
     let is : c.args.size ≡ 4 = grind (arith, c.in_default) in
-    subst (λ n. c.formed-in_default.result.word ≡ group_word One (take n ds)) (sym is) (c.formed-in_default.ensures.word ds seen (subst (λ n. IsGroup One (take n ds)) is group))
+    subst (λ n. c.formed-in_default.result.word ≡ group_word One (take n ds)) (sym is)
+    (c.formed-in_default.ensures.word ds seen (subst (λ n. IsGroup One (take n ds)) is group))

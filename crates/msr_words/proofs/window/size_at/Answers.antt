@@ -14,4 +14,5 @@ returns c =
     let sample : SFits w32 (slice_index_or c.args.samples.now c.args.at (pos 0)) = search rules in
     let is = simp to_z-of_z at c.size_after.ensures in
     size_there c.args.samples.now c.args.at c.size_after.result (omega arith)
-    (subst (λ d. IsSize d c.size_after.result) (sym (difference_at_later c.args.samples.now c.args.at (omega arith))) is)
+    (subst (λ d. IsSize d c.size_after.result) (sym
+    (difference_at_later c.args.samples.now c.args.at (omega arith))) is)

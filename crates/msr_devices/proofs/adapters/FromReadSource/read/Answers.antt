@@ -1,9 +1,41 @@
 use Rattle.std.proofs.Common.{drop, arith, length-append, length-drop, length-take}
-use Rattle.msr_devices.proofs.Limited.{reads-limited}
+use Rattle.msr_devices.proofs.Limited.{reads_limited}
 use Rattle.msr_devices.proofs.adapters.FromReadSource.read.Goals as goal
 use Rattle.msr_devices.proofs.adapters.FromReadSource.read.Goals.{else-left-eq0-via-then-left-eq0+else-buf-gt0, else-left-eq0-via-else-left-eq0}
 
 pub returns-in-Ok-clause-reads : goal.returns-in-Ok-clause-reads
 returns-in-Ok-clause-reads g c =
-    reads-limited (g.R.Read.remaining c.args.self.now.inner) (g.R.Read.remaining c.read.new.self) c.args.self.now.given c.args.self.now.failures c.args.self.now.interruptions c.in-Ok.n c.read.new.buf (drop c.min-most.result c.args.buf.now)
-    c.in-Ok.ensures.bound.0 c.in-Ok.ensures.bytes.0 c.in-Ok.ensures.bytes.1 (omega (arith, c.in-Ok.ensures.bound.0, c.min-most.ensures, c.read.auto.buf, length-take c.min-most.result c.args.buf.now)) (λ some. elim c.else-left-eq0.branch [ else-left-eq0-via-then-left-eq0+else-buf-gt0 w ↦ omega (arith, c.min-most.ensures, c.read.auto.buf, length-append c.read.new.buf (drop c.min-most.result c.args.buf.now), length-drop c.min-most.result c.args.buf.now, length-take c.min-most.result c.args.buf.now) | else-left-eq0-via-else-left-eq0 w ↦ omega (arith, c.min-most.ensures, c.read.auto.buf, length-append c.read.new.buf (drop c.min-most.result c.args.buf.now), length-drop c.min-most.result c.args.buf.now, length-take c.min-most.result c.args.buf.now) ])
+    reads_limited (g.R.Read.remaining c.args.self.now.inner)
+    (g.R.Read.remaining c.read.new.self) c.args.self.now.given c.args.self.now.failures
+    c.args.self.now.interruptions c.in-Ok.n c.read.new.buf (drop c.min-most.result c.args.buf.now)
+    c.in-Ok.ensures.bound.0 c.in-Ok.ensures.bytes.0 c.in-Ok.ensures.bytes.1
+    (omega (
+      arith,
+      c.in-Ok.ensures.bound.0,
+      c.min-most.ensures,
+      c.read.auto.buf,
+      length-take c.min-most.result
+          c.args.buf.now,
+    )) (λ some. elim c.else-left-eq0.branch [
+      | else-left-eq0-via-then-left-eq0+else-buf-gt0 w
+          ↦ omega (
+            arith,
+            c.min-most.ensures,
+            c.read.auto.buf,
+            length-append c.read.new.buf
+                (drop c.min-most.result c.args.buf.now),
+            length-drop c.min-most.result c.args.buf.now,
+            length-take
+                c.min-most.result c.args.buf.now,
+          )
+      | else-left-eq0-via-else-left-eq0 w ↦ omega (
+        arith,
+        c.min-most.ensures,
+        c.read.auto.buf,
+        length-append c.read.new.buf
+            (drop c.min-most.result c.args.buf.now),
+        length-drop c.min-most.result c.args.buf.now,
+        length-take
+            c.min-most.result c.args.buf.now,
+      )
+    ])

@@ -1,10 +1,23 @@
 use Rattle.std.proofs.Common.{◌≡◌, ◌+◌, ◌-◌, ◌≤◌, length, drop, take, arith, length-append, length-drop, length-take}
-use Rattle.msr_devices.proofs.Known.{reads-at}
+use Rattle.msr_devices.proofs.KnownBytes.{reads_at}
 use Rattle.msr_devices.proofs.memory.TestSourceSource.read.Goals as goal
 
 pub returns-clause-reads : goal.returns-clause-reads
 returns-clause-reads c =
-    let within : c.min-n.result + c.args.self.now.at ≤ length c.args.self.now.bytes.now = omega (arith, c.min-n.ensures, c.share_of.ensures) in
-    let read = reads-at c.args.self.now.bytes.now (drop c.min-n.result c.args.buf.now) c.args.self.now.at c.min-n.result c.args.self.now.failures c.args.self.now.interruptions within (λ zero some. grind (arith, c.min-n.ensures, c.share_of.ensures, length-append (take c.min-n.result (drop c.args.self.now.at c.args.self.now.bytes.now)) (drop c.min-n.result c.args.buf.now), length-take c.min-n.result (drop c.args.self.now.at c.args.self.now.bytes.now), length-drop c.min-n.result c.args.buf.now)) in
+    let within : c.min-n.result + c.args.self.now.at ≤ length c.args.self.now.bytes.now =
+    omega (arith, c.min-n.ensures, c.share_of.ensures) in
+    let read = reads_at c.args.self.now.bytes.now
+    (drop c.min-n.result c.args.buf.now) c.args.self.now.at c.min-n.result c.args.self.now.failures
+    c.args.self.now.interruptions within (λ zero some. grind (
+      arith,
+      c.min-n.ensures,
+      c.share_of.ensures,
+      length-append
+          (take c.min-n.result (drop c.args.self.now.at c.args.self.now.bytes.now))
+          (drop c.min-n.result c.args.buf.now),
+      length-take c.min-n.result
+          (drop c.args.self.now.at c.args.self.now.bytes.now),
+      length-drop c.min-n.result c.args.buf.now,
+    )) in
     let same : c.args.self.now.at + c.min-n.result - c.args.self.now.at ≡ c.min-n.result = omega arith in
     rw c.copy_from_slice.ensures.after (rw same read)

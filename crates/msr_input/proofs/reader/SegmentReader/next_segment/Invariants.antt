@@ -7,7 +7,9 @@ use Rattle.msr_input.proofs.reader.SegmentReader.next_segment.Given as goal
 
 abbrev pub invariant-records : goal.invariant-records
 invariant-records g l = record {
-  read : (start : Device) (records : List Record) (given : List Segment) → HasRead start (g.R.Source.device l.fn.source) l.fn.self records given → (now : List Record) × HasRead start (g.R.Source.device l.source) l.self now given;
+  read : (start : Device) (records : List Record) (given : List Segment)
+      → HasRead start (g.R.Source.device l.fn.source) l.fn.self records given
+      → (now : List Record) × HasRead start (g.R.Source.device l.source) l.self now given;
   settings : settings_of l.self ≡ settings_of l.fn.self;
   left : left_to_read (g.R.Source.device l.source) l.self ≤ left_to_read (g.R.Source.device l.fn.source) l.fn.self;
   steady : IsSteady (g.R.Source.device l.fn.source) (g.R.Source.device l.source);

@@ -1,42 +1,36 @@
-use Rattle.std.proofs.Common.{arith, length-drop, refl}
+use Rattle.std.proofs.Common.{◌≡◌, ap, subst}
 use Rattle.std.proofs.lemmas.Result.{err_from_is_err_and}
-use Rattle.msr_record.specs.Records.{IsRecordOf}
-use Rattle.msr_record.proofs.Shown.{record_fits}
-use Rattle.msr_input.specs.Input.{Agrees}
-use Rattle.msr_input.specs.Records.{CountsOneMore}
-use Rattle.msr_input.proofs.Rows.{follow-stops, row-given, rows-passed}
+use Rattle.std.specs.Prelude.{option_map, Option}
+use Rattle.msr_input.specs.Outlines.{row_outline}
+use Rattle.msr_input.specs.Steps.{Follows, IsNext, StopsFollowing}
+use Rattle.msr_input.specs.declared.outline.Outline.{Outline}
+use Rattle.msr_input.specs.declared.outline.RowOutline.{RowOutline}
+use Rattle.msr_input.proofs.Rows.{follow_stops, rows_passed}
 use Rattle.msr_input.proofs.row_reader.RowReader.take.Goals as goal
 
-pub returns-in_err-next-clause-read : goal.returns-in_err-next-clause-read
-returns-in_err-next-clause-read c =
+pub returns-in_err-step-clause-read : goal.returns-in_err-step-clause-read
+returns-in_err-step-clause-read c =
     let p = err_from_is_err_and c.from_residual.result c.from_residual.ensures.1 in
     let old = c.self.inside.records in
-    let is : IsRecordOf old.waiting c.args.found = rw (← c.self.view_is) at c.requires.is_record in
-    let agrees : Agrees old.strict c.args.found = rw (← c.self.view_is) at c.requires.agrees in
-    rw (p.1, p.2, ← c.self.view_is) (λ start now records answers has. follow-stops start now (record { position = old; following = c.self.inside.follow }) records answers c.args.found c.in_err-next.field-0.0 has is agrees (rw c.offset.ensures at c.in_err-next.ensures.refused))
-
-pub pass-requires : goal.pass-requires
-pass-requires c =
-    let is : IsRecordOf c.self.inside.records.waiting c.args.found = rw (← c.self.view_is) at c.requires.is_record in
-    (record_fits c.self.inside.records.waiting c.args.found is).1
+    let why = c.in_err-step.field-0.0 in
+    rw (p.1, p.2, ← c.self.view_is) (λ start now records answers found has next.
+    let row : c.args.outline.now.row ≡ option_map row_outline found.row = ap (λ (o : Outline). o.row) next.outline_is in
+    let stop : StopsFollowing c.self.inside.follow c.args.outline.now.row old.offset why =
+    rw c.offset.ensures at c.in_err-step.ensures.refused in
+    follow_stops start now (record {
+      position = old;
+      following = c.self.inside.follow;
+    }) records answers found why has next.is_record next.agrees
+    (subst (λ (r : Option RowOutline). StopsFollowing c.self.inside.follow r old.offset why) row stop))
 
 pub returns-clause-read : goal.returns-clause-read
 returns-clause-read c =
     let old = c.self.inside.records in
-    let is : IsRecordOf old.waiting c.args.found = rw (← c.self.view_is) at c.requires.is_record in
-    let agrees : Agrees old.strict c.args.found = rw (← c.self.view_is) at c.requires.agrees in
-    let counted : CountsOneMore old.counts c.counted-counts.result c.args.found = rw c.counts.ensures at c.counted-counts.ensures in
-    rw (← c.self.view_is) (λ start now records answers has.
-    let come = c.pass.ensures.passed start now records c.args.found has.came is agrees refl counted in
-    rows-passed start now old c.pass.new.self c.self.inside.follow c.follow.new.follow records answers c.args.found c.in_ok-next.next has is c.in_ok-next.ensures.followed come)
-
-pub returns-clause-fewer : goal.returns-clause-fewer
-returns-clause-fewer c =
-    let is : IsRecordOf c.self.inside.records.waiting c.args.found = rw (← c.self.view_is) at c.requires.is_record in
-    let fits = record_fits c.self.inside.records.waiting c.args.found is in
-    rw (c.pass.ensures.waiting, ← c.self.view_is) (omega (arith, fits.0, fits.1, length-drop c.args.found.length c.self.inside.records.waiting))
-
-pub returns-clause-row : goal.returns-clause-row
-returns-clause-row c =
-    let is : IsRecordOf c.self.inside.records.waiting c.args.found = rw (← c.self.view_is) at c.requires.is_record in
-    row-given c.self.inside.records.waiting c.self.inside.follow c.follow.new.follow c.args.found c.in_ok-next.next is c.requires.can_join c.in_ok-next.ensures.followed
+    let step = c.in_ok-step.step in
+    rw (← c.self.view_is) (λ start now records answers found has next.
+    let row : c.args.outline.now.row ≡ option_map row_outline found.row = ap (λ (o : Outline). o.row) next.outline_is in
+    let come = c.pass.ensures.passed start now records found has.came next in
+    rows_passed start now old c.pass.new.self c.self.inside.follow c.follow.new.follow records answers found step
+    has next.is_record
+    (subst (λ (r : Option RowOutline). Follows c.self.inside.follow r step c.follow.new.follow) row
+    c.in_ok-step.ensures.followed) come)

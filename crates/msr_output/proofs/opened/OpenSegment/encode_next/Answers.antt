@@ -1,18 +1,18 @@
-use Rattle.std.proofs.Common.{rules, ◌∙◌, ◌∷◌, ◌++◌, [], FitsSigned, w64, to_z-of_z}
+use Rattle.std.proofs.Common.{rules, ◌∷◌, ◌++◌, []}
 use Rattle.msr_words.specs.Lengths.{bytes_of}
 use Rattle.msr_output.specs.Opened.{opened_of}
-use Rattle.msr_output.proofs.Begun.{can_encode}
+use Rattle.msr_output.proofs.OpenSegments.{can_encode}
 use Rattle.msr_output.proofs.opened.OpenSegment.encode_next.Goals as goal
 
 pub encode_shown-requires-clause-can : goal.encode_shown-requires-clause-can
 encode_shown-requires-clause-can c =
     let own = c.self.inside in
-    let fits : FitsSigned w64 own.start = search rules in
     let can = rw (← c.self.view_is) at c.requires.can in
     let size = bytes_of own.record_length in
-    rw (to_z-of_z fits)
-    (can_encode c.args.whole (opened_of own.key own.start own.record_length own.packer own.separators.items) c.in-Some.piece _ c.next_piece.new.packer can
-    (c.in-Some.ensures.given size can.segment.samples can.runs own.separators.items can.is_open.gives) (c.in-Some.ensures.shows size can.segment.samples can.runs own.separators.items can.is_open.gives))
+    can_encode c.args.whole (opened_of own.key own.start own.record_length own.packer own.separators.items)
+    c.in-Some.piece _ c.next_piece.new.packer can
+    (c.in-Some.ensures.given size can.segment.samples can.runs own.separators.items can.is_open.gives)
+    (c.in-Some.ensures.shows size can.segment.samples can.runs own.separators.items can.is_open.gives)
 
 pub returns-clause-can : goal.returns-clause-can
 returns-clause-can c =
@@ -22,7 +22,12 @@ returns-clause-can c =
     record {
       segment = can.segment;
       runs = can.runs ++ c.in-Some.piece.run ∷ [];
-      is_open = record { key = can.is_open.key; start = can.is_open.start; gives = rw c.in_ok-push.ensures.items (c.in-Some.ensures.given size can.segment.samples can.runs own.separators.items can.is_open.gives) };
+      is_open = record {
+        key = can.is_open.key;
+        start = can.is_open.start;
+        gives = rw c.in_ok-push.ensures.items
+            (c.in-Some.ensures.given size can.segment.samples can.runs own.separators.items can.is_open.gives);
+      };
       writable = can.writable;
       size = can.size;
       in_time = can.in_time;
@@ -33,9 +38,14 @@ returns-clause-appends c = λ segment runs o.
     let own = c.self.inside in
     let q = rw (← c.self.view_is) at o in
     let size = bytes_of own.record_length in
-    let fits : FitsSigned w64 own.start = search rules in
     let shows = c.in-Some.ensures.shows size segment.samples runs own.separators.items q.gives in (
       c.in-Some.piece.run,
-      record { key = q.key; start = q.start; gives = rw c.in_ok-push.ensures.items (c.in-Some.ensures.given size segment.samples runs own.separators.items q.gives) },
-      c.in_ok-encode_shown.ensures segment c.in-Some.piece.separator q.key (to_z-of_z fits ∙ q.start) shows,
+      record {
+        key = q.key;
+        start = q.start;
+        gives =
+            rw c.in_ok-push.ensures.items
+            (c.in-Some.ensures.given size segment.samples runs own.separators.items q.gives);
+      },
+      c.in_ok-encode_shown.ensures segment c.in-Some.piece.separator q.key q.start shows,
     )

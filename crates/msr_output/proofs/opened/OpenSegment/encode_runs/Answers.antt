@@ -1,5 +1,5 @@
 use Rattle.std.proofs.Common.{◌∙◌, ◌++◌}
-use Rattle.msr_output.proofs.Begun.{appends_last, appends_one}
+use Rattle.msr_output.proofs.OpenSegments.{appends_last, appends_one}
 use Rattle.msr_output.proofs.opened.OpenSegment.encode_runs.Goals as goal
 
 pub loop-number-preserved : goal.loop-number-preserved
@@ -17,7 +17,10 @@ loop-number-preserved c =
       appends = λ segment runs o.
           let a = i.appends segment runs o in
           let n = rw c.if-branch.true at e.appends segment (runs ++ a.more) a.is_open in
-          appends_one c.args.whole segment runs c.loop-number.self c.encode_next.new.self c.args.first_number c.loop-number.number c.number_after_this-number.result c.args.out.now.items c.loop-number.out.items c.encode_next.new.out.items a n.0 c.encode_next.ensures.size n.1 n.2 c.number_after_this-number.ensures.next;
+          appends_one c.args.whole segment runs c.loop-number.self c.encode_next.new.self c.args.first_number
+          c.loop-number.number c.number_after_this-number.result c.args.out.now.items c.loop-number.out.items
+          c.encode_next.new.out.items a n.0 c.encode_next.ensures.size n.1 n.2
+          c.number_after_this-number.ensures.next;
     }
 
 pub returns-clause-appends : goal.returns-clause-appends
@@ -25,4 +28,6 @@ returns-clause-appends c = λ segment runs o.
     let i = c.loop-number.invariant in
     let a = i.appends segment runs o in
     let n = rw c.if-branch.false at c.in_ok-encode_next.ensures.appends segment (runs ++ a.more) a.is_open in
-    appends_last c.args.whole segment runs c.loop-number.self c.encode_next.new.self c.args.first_number c.loop-number.number c.args.out.now.items c.loop-number.out.items c.encode_next.new.out.items a c.encode_next.ensures.size n.0 n.1 n.2
+    appends_last c.args.whole segment runs c.loop-number.self c.encode_next.new.self c.args.first_number
+    c.loop-number.number c.args.out.now.items c.loop-number.out.items c.encode_next.new.out.items a
+    c.encode_next.ensures.size n.0 n.1 n.2

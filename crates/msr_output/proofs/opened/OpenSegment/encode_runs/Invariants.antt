@@ -15,7 +15,8 @@ invariant-loop-number l = record {
   count : pushed l.self.packer ≡ pushed l.initial.self.packer;
   key : l.self.key ≡ l.initial.self.key;
   start : l.self.start ≡ l.initial.self.start;
-  appends : (segment : Segment) (runs : List Run) → IsOpen l.whole segment runs l.initial.self → AppendsSome l.whole segment runs l.self l.initial.number l.initial.out.items l.out.items l.number;
+  appends : (segment : Segment) (runs : List Run) → IsOpen l.whole segment runs l.initial.self
+      → AppendsSome l.whole segment runs l.self l.initial.number l.initial.out.items l.out.items l.number;
 }
 
 abbrev pub decreases-loop-number : goal.decreases-loop-number

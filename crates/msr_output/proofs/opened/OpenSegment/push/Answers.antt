@@ -1,9 +1,11 @@
 use Rattle.msr_words.specs.Lengths.{bytes_of}
-use Rattle.msr_output.proofs.Begun.{match_as}
+use Rattle.msr_output.proofs.OpenSegments.{match_as}
 use Rattle.msr_output.proofs.opened.OpenSegment.push.Goals as goal
 
 pub returns-clause-taken : goal.returns-clause-taken
 returns-clause-taken c = λ segment runs o.
     let q = rw (← c.self.view_is) at o in
-    match_as c.push_all.result (λ p. record { key = q.key; start = q.start; gives = p }) (λ p. record { key = q.key; start = q.start; gives = p })
-    (c.push_all.ensures.taken (bytes_of c.self.inside.record_length) segment.samples runs c.self.inside.separators.items q.gives)
+    match_as c.push_all.result (λ p. record { key = q.key; start = q.start; gives = p })
+    (λ p. record { key = q.key; start = q.start; gives = p })
+    (c.push_all.ensures.taken
+    (bytes_of c.self.inside.record_length) segment.samples runs c.self.inside.separators.items q.gives)

@@ -7,7 +7,9 @@ use Rattle.msr_packer.proofs.blocks.BlockPacker.push_all.Goals as goal
 pub returns-in_err-extend_from_slice-clause-taken : goal.returns-in_err-extend_from_slice-clause-taken
 returns-in_err-extend_from_slice-clause-taken c = λ bytes before runs separators p.
     let e = err_from_is_err_and c.from_residual.result c.from_residual.ensures.1 in
-    let q = packs_held bytes before runs separators c.self.inside.held c.make_room.new.self c.self.inside.ended c.make_room.ensures.size (c.make_room.ensures.holds before runs separators) c.make_room.ensures.stays (rw (← c.self.view_is) at p) in
+    let q = packs_held bytes before runs separators c.self.inside.held c.make_room.new.self c.self.inside.ended
+    c.make_room.ensures.size (c.make_room.ensures.holds before runs separators) c.make_room.ensures.stays
+    (rw (← c.self.view_is) at p) in
     rw e.1 (record {
       size = q.size;
       holds = rw c.in_err-extend_from_slice.ensures.items q.holds;
@@ -17,7 +19,17 @@ returns-in_err-extend_from_slice-clause-taken c = λ bytes before runs separator
 
 pub returns-clause-taken : goal.returns-clause-taken
 returns-clause-taken c = λ bytes before runs separators p.
-    let q = packs_held bytes before runs separators c.self.inside.held c.make_room.new.self c.self.inside.ended c.make_room.ensures.size (c.make_room.ensures.holds before runs separators) c.make_room.ensures.stays (rw (← c.self.view_is) at p) in
+    let q = packs_held bytes before runs separators c.self.inside.held c.make_room.new.self c.self.inside.ended
+    c.make_room.ensures.size (c.make_room.ensures.holds before runs separators) c.make_room.ensures.stays
+    (rw (← c.self.view_is) at p) in
     let room = c.make_room.new.self in
-    let new : Held = record { record_length = room.record_length; samples = c.extend_from_slice.new.self; offset = room.offset; current = room.current; from = room.from; to = room.to } in
-    packs_more bytes before runs separators room new c.args.samples.now c.self.inside.ended (rw q.size at room.record_length.least) refl refl refl c.in_ok-extend_from_slice.ensures.items q
+    let new : Held = record {
+      record_length = room.record_length;
+      samples = c.extend_from_slice.new.self;
+      offset = room.offset;
+      current = room.current;
+      from = room.from;
+      to = room.to;
+    } in
+    packs_more bytes before runs separators room new c.args.samples.now c.self.inside.ended
+    (rw q.size at room.record_length.least) refl refl refl c.in_ok-extend_from_slice.ensures.items q

@@ -6,10 +6,17 @@ use Rattle.msr_packer.proofs.held.Held.go_on.Goals as goal
 pub piece_of-piece-requires : goal.piece_of-piece-requires
 piece_of-piece-requires c =
     let sound = c.requires.sound in
-    let s = next_stepped c.args.self.now.record_length.bytes c.args.self.now.record_length.least c.args.self.now.samples.items c.args.self.now.current c.args.step c.requires.next in
+    let s = next_stepped c.args.self.now.record_length.bytes c.args.self.now.record_length.least
+    c.args.self.now.samples.items c.args.self.now.current c.args.step c.requires.next in
     let within = c.requires.next.step.reached.1 in
     let order = c.requires.next.step.reached.0 in
-    record { bytes = c.args.self.now.record_length.bytes; number = length c.args.self.now.samples.items; inside = sound.inside; within = omega arith; counted = sound.number }
+    record {
+      bytes = c.args.self.now.record_length.bytes;
+      number = length c.args.self.now.samples.items;
+      inside = sound.inside;
+      within = omega arith;
+      counted = sound.number;
+    }
 
 pub returns-clause-given : goal.returns-clause-given
 returns-clause-given c =
@@ -26,7 +33,8 @@ returns-clause-given c =
     let within = next.step.reached.1 in
     let reached = next.step.reached.0 in
     let from = c.start_of-self.ensures in
-    let later : start_of c.args.self.now.current ≤ step.start = start_before bytes (length held) c.args.self.now.current step.start c.requires.sound.inside s.near in
+    let later : start_of c.args.self.now.current ≤ step.start =
+    start_before bytes (length held) c.args.self.now.current step.start c.requires.sound.inside s.near in
     record {
       sound = record {
         number = c.requires.sound.number;
@@ -38,7 +46,11 @@ returns-clause-given c =
       held = refl;
       offset = refl;
       holds = λ samples runs separators w.
-          rw c.piece_of-piece.ensures (window_next bytes enough samples runs separators held c.args.self.now.offset c.args.self.now.current step w next);
+          rw c.piece_of-piece.ensures
+          (window_next bytes enough samples runs separators held c.args.self.now.offset c.args.self.now.current
+          step w next);
       shows = λ samples runs separators w.
-          rw (c.piece_of-piece.ensures, from) (shows_next bytes samples runs separators held c.args.self.now.offset c.args.self.now.current step.start w);
+          rw (c.piece_of-piece.ensures, from)
+          (shows_next bytes samples runs separators held c.args.self.now.offset c.args.self.now.current
+          step.start w);
     }

@@ -5,7 +5,9 @@ use Rattle.msr_packer.proofs.held.Held.step_past.Goals as goal
 
 pub returns-clause-stays : goal.returns-clause-stays
 returns-clause-stays c = λ enough stays.
-    let s = next_stepped c.args.self.now.record_length.bytes c.args.self.now.record_length.least c.args.self.now.samples.items c.args.self.now.current c.next-step.result (rw c.as_slice.ensures.value at c.next-step.ensures) in
+    let s = next_stepped c.args.self.now.record_length.bytes c.args.self.now.record_length.least
+    c.args.self.now.samples.items c.args.self.now.current c.next-step.result
+    (rw c.as_slice.ensures.value at c.next-step.ensures) in
     let few = s.few in
     let near = s.near in
     let end = ap frontier_of c.go_on.ensures.current in
@@ -13,7 +15,9 @@ returns-clause-stays c = λ enough stays.
 
 pub returns-clause-order : goal.returns-clause-order
 returns-clause-order c =
-    let s = next_stepped c.args.self.now.record_length.bytes c.args.self.now.record_length.least c.args.self.now.samples.items c.args.self.now.current c.next-step.result (rw c.as_slice.ensures.value at c.next-step.ensures) in
+    let s = next_stepped c.args.self.now.record_length.bytes c.args.self.now.record_length.least
+    c.args.self.now.samples.items c.args.self.now.current c.next-step.result
+    (rw c.as_slice.ensures.value at c.next-step.ensures) in
     let on = s.on in
     let end = ap frontier_of c.go_on.ensures.current in
     omega arith
@@ -27,7 +31,9 @@ returns-clause-furthest c = λ start end le more run.
 
 pub returns-clause-fewer : goal.returns-clause-fewer
 returns-clause-fewer c =
-    let s = next_stepped c.args.self.now.record_length.bytes c.args.self.now.record_length.least c.args.self.now.samples.items c.args.self.now.current c.next-step.result (rw c.as_slice.ensures.value at c.next-step.ensures) in
+    let s = next_stepped c.args.self.now.record_length.bytes c.args.self.now.record_length.least
+    c.args.self.now.samples.items c.args.self.now.current c.next-step.result
+    (rw c.as_slice.ensures.value at c.next-step.ensures) in
     let on = s.on in
     let end = ap frontier_of c.go_on.ensures.current in
     if_some c.go_on.result (frontier_of c.args.self.now.current) (frontier_of c.go_on.new.self.current) (omega arith)

@@ -8,7 +8,9 @@ returns-then-found-samples-clause-decided c = record {
   kind = c.next_step-found.ensures.kind;
   ends = c.next_step-found.ensures.ends;
   before_last = omega arith;
-  past = live_reaches c.args.record_length.bytes c.args.samples.now c.args.frontier c.args.from c.next_step-found.result.step.end c.next_step-found.result.step.start c.args.self.now c.requires.within c.requires.live c.next_step-found.ensures.step;
+  past = live_reaches c.args.record_length.bytes c.args.samples.now c.args.frontier c.args.from
+      c.next_step-found.result.step.end c.next_step-found.result.step.start c.args.self.now c.requires.within
+      c.requires.live c.next_step-found.ensures.step;
 }
 
 pub returns-clause-open : goal.returns-clause-open
@@ -17,4 +19,6 @@ returns-clause-open c = λ e.
     let within = step.reached.1 in
     let past = c.requires.live.past in
     let same : c.next_step-found.result.step.end ≡ length c.args.samples.now = omega arith in
-    live_of c.args.record_length.bytes c.args.record_length.least c.args.samples.now c.args.frontier c.next_step-found.result.step.end c.next_step-found.result.step.start c.of.result (omega arith) same step c.of.ensures.start c.of.ensures.tracked
+    live_of c.args.record_length.bytes c.args.record_length.least c.args.samples.now c.args.frontier
+    c.next_step-found.result.step.end c.next_step-found.result.step.start c.of.result
+    (omega arith) same step c.of.ensures.start c.of.ensures.tracked

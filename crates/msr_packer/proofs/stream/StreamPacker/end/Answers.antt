@@ -15,10 +15,13 @@ last_piece-last-requires-clause-end c =
     let e = c.step_past-first.ensures in
     let same = ap length e.given.held in
     let order = e.order in
-    elim (cases_lt (frontier_of held.current) (length held.samples.items)) as (λ _. length c.step_past-first.new.self.samples.items ≤ frontier_of c.step_past-first.new.self.current) [
+    elim (cases_lt (frontier_of held.current) (length held.samples.items)) as
+    (λ _. length c.step_past-first.new.self.samples.items ≤ frontier_of c.step_past-first.new.self.current) [
       | inl more ↦
-          let run = live_run held.record_length.bytes held.samples.items (frontier_of held.current) (length held.samples.items) c.self.inside.live (omega arith) t.is_live in
-          let far = e.furthest c.self.inside.live.start (length held.samples.items) t.is_live.before (omega arith) run in
+          let run = live_run held.record_length.bytes held.samples.items (frontier_of held.current)
+          (length held.samples.items) c.self.inside.live (omega arith) t.is_live in
+          let far = e.furthest c.self.inside.live.start (length held.samples.items) t.is_live.before
+          (omega arith) run in
           omega arith
       | inr done ↦ omega arith
     ]
@@ -31,11 +34,22 @@ returns c = λ bytes samples runs separators s.
     let g = c.step_past-first.ensures.given in
     let first = pieces_of c.step_past-first.result in
     let last = pieces_of c.last_piece-last.result in
-    let canonical = c.last_piece-last.ensures.canonical samples (runs ++ runs_of first) (separators ++ separators_of first) (g.holds samples runs separators (holds_in bytes samples runs separators held q.size q.holds)) in
+    let canonical = c.last_piece-last.ensures.canonical samples (runs ++ runs_of first)
+    (separators ++ separators_of first) (g.holds samples runs separators
+    (holds_in bytes samples runs separators held q.size q.holds)) in
     record {
-      canonical = rw (c.both.ensures, map-append (λ (p : Piece). p.run) first last, map-append (λ (p : Piece). p.separator) first last, ← append_assoc runs (runs_of first) (runs_of last), ← append_assoc separators (separators_of first) (separators_of last))
+      canonical = rw (
+        c.both.ensures,
+        map-append (λ (p : Piece). p.run) first last,
+        map-append
+            (λ (p : Piece). p.separator) first last,
+        ← append_assoc runs (runs_of first)
+            (runs_of last),
+        ← append_assoc separators (separators_of first) (separators_of last),
+      )
           (rw (g.size, q.size) at canonical);
       given = held.offset + start_of held.current;
       joined = l.joined;
-      from_there = rw (c.remove_front.ensures, c.last_piece-last.ensures.held, g.held, c.start_of-start.ensures) l.from_there;
+      from_there = rw (c.remove_front.ensures, c.last_piece-last.ensures.held, g.held, c.start_of-start.ensures)
+          l.from_there;
     }

@@ -14,7 +14,8 @@ returns-in_err-extend_from_slice-clause-given c = λ bytes before runs separator
     let own = c.self.inside.held in
     let held = c.forget.new.held in
     let t = c.forget.ensures.streaming in
-    let q = packs_held bytes before runs separators own held false c.forget.ensures.size (c.forget.ensures.holds before runs separators) (λ _. t.stays) (rw (← c.self.view_is) at s).packs in
+    let q = packs_held bytes before runs separators own held false c.forget.ensures.size
+    (c.forget.ensures.holds before runs separators) (λ _. t.stays) (rw (← c.self.view_is) at s).packs in
     rw e.1 (record {
       packs = record { size = q.size; holds = rw items q.holds; stays = rw items q.stays; goes_on = q.goes_on };
       behind = rw items c.forget.ensures.behind;
@@ -25,19 +26,36 @@ pub decide-requires-clause-live : goal.decide-requires-clause-live
 decide-requires-clause-live c =
     let held = c.forget.new.held in
     let from : c.len-from.result ≡ length held.samples.items = search rules in
-    let more = live_more held.record_length.bytes held.samples.items (take c.min-count.result c.args.samples.now) (frontier_of held.current) (length held.samples.items) c.forget.new.live (omega arith) c.forget.ensures.streaming.is_live in
-    rw (c.as_slice-seen.ensures.value, c.in_ok-extend_from_slice.ensures.items, c.frontier_of-frontier.ensures, from) more
+    let more = live_more held.record_length.bytes held.samples.items (take c.min-count.result c.args.samples.now)
+    (frontier_of held.current) (length held.samples.items) c.forget.new.live
+    (omega arith) c.forget.ensures.streaming.is_live in
+    rw (
+      c.as_slice-seen.ensures.value,
+      c.in_ok-extend_from_slice.ensures.items,
+      c.frontier_of-frontier.ensures,
+      from,
+    ) more
 
 pub returns-in_default-clause-given : goal.returns-in_default-clause-given
 returns-in_default-clause-given c = λ bytes before runs separators s.
     let own = c.self.inside.held in
     let held = c.forget.new.held in
     let t = c.forget.ensures.streaming in
-    let q = packs_held bytes before runs separators own held false c.forget.ensures.size (c.forget.ensures.holds before runs separators) (λ _. t.stays) (rw (← c.self.view_is) at s).packs in
-    let new : Held = record { record_length = held.record_length; samples = c.extend_from_slice.new.self; offset = held.offset; current = held.current; from = held.from; to = held.to } in
-    let m = packs_more bytes before runs separators held new (take c.min-count.result c.args.samples.now) false (rw q.size at held.record_length.least) refl refl refl c.in_ok-extend_from_slice.ensures.items q in
+    let q = packs_held bytes before runs separators own held false c.forget.ensures.size
+    (c.forget.ensures.holds before runs separators) (λ _. t.stays) (rw (← c.self.view_is) at s).packs in
+    let new : Held = record {
+      record_length = held.record_length;
+      samples = c.extend_from_slice.new.self;
+      offset = held.offset;
+      current = held.current;
+      from = held.from;
+      to = held.to;
+    } in
+    let m = packs_more bytes before runs separators held new (take c.min-count.result c.args.samples.now) false
+    (rw q.size at held.record_length.least) refl refl refl c.in_ok-extend_from_slice.ensures.items q in
     let live = rw (c.as_slice-seen.ensures.value, c.frontier_of-frontier.ensures) at c.in_default.ensures.open refl in
-    let behind = live_few held.record_length.bytes new.samples.items (frontier_of held.current) c.decide.new.self live in
+    let behind = live_few held.record_length.bytes new.samples.items
+    (frontier_of held.current) c.decide.new.self live in
     let near = c.forget.ensures.near in
     rw (append-nil runs, append-nil separators) (record { packs = m; behind = behind; few = omega arith })
 
@@ -49,7 +67,8 @@ returns-in_default-clause-all c = λ _.
     let most = c.most.ensures in
     let count = c.min-count.ensures in
     let live = rw (c.as_slice-seen.ensures.value, c.frontier_of-frontier.ensures) at c.in_default.ensures.open refl in
-    let behind = live_few held.record_length.bytes c.extend_from_slice.new.self.items (frontier_of held.current) c.decide.new.self live in
+    let behind = live_few held.record_length.bytes c.extend_from_slice.new.self.items
+    (frontier_of held.current) c.decide.new.self live in
     let before = c.forget.ensures.behind in
     let items = ap length c.in_ok-extend_from_slice.ensures.items in
     let whole = length-append held.samples.items (take c.min-count.result c.args.samples.now) in
@@ -60,21 +79,27 @@ pub of-next-requires-clause-step : goal.of-next-requires-clause-step
 of-next-requires-clause-step c =
     let held = c.forget.new.held in
     let from : c.len-from.result ≡ length held.samples.items = search rules in
-    let d = decided_there held.record_length.bytes c.extend_from_slice.new.self.items (frontier_of held.current) c.len-from.result c.in-Some.found (rw (c.as_slice-seen.ensures.value, c.frontier_of-frontier.ensures) at c.in-Some.ensures.decided) in
+    let d = decided_there held.record_length.bytes c.extend_from_slice.new.self.items
+    (frontier_of held.current) c.len-from.result c.in-Some.found
+    (rw (c.as_slice-seen.ensures.value, c.frontier_of-frontier.ensures) at c.in-Some.ensures.decided) in
     rw (c.as_slice-seen-2.ensures.value, c.truncate.ensures.items) d.step
 
 pub of-next-requires-clause-kind : goal.of-next-requires-clause-kind
 of-next-requires-clause-kind c =
     let held = c.forget.new.held in
     let from : c.len-from.result ≡ length held.samples.items = search rules in
-    let d = decided_there held.record_length.bytes c.extend_from_slice.new.self.items (frontier_of held.current) c.len-from.result c.in-Some.found (rw (c.as_slice-seen.ensures.value, c.frontier_of-frontier.ensures) at c.in-Some.ensures.decided) in
+    let d = decided_there held.record_length.bytes c.extend_from_slice.new.self.items
+    (frontier_of held.current) c.len-from.result c.in-Some.found
+    (rw (c.as_slice-seen.ensures.value, c.frontier_of-frontier.ensures) at c.in-Some.ensures.decided) in
     rw (c.as_slice-seen-2.ensures.value, c.truncate.ensures.items) d.kind
 
 pub of-next-requires-clause-ends : goal.of-next-requires-clause-ends
 of-next-requires-clause-ends c =
     let held = c.forget.new.held in
     let from : c.len-from.result ≡ length held.samples.items = search rules in
-    let d = decided_there held.record_length.bytes c.extend_from_slice.new.self.items (frontier_of held.current) c.len-from.result c.in-Some.found (rw (c.as_slice-seen.ensures.value, c.frontier_of-frontier.ensures) at c.in-Some.ensures.decided) in
+    let d = decided_there held.record_length.bytes c.extend_from_slice.new.self.items
+    (frontier_of held.current) c.len-from.result c.in-Some.found
+    (rw (c.as_slice-seen.ensures.value, c.frontier_of-frontier.ensures) at c.in-Some.ensures.decided) in
     rw (c.as_slice-seen-2.ensures.value, c.truncate.ensures.items) d.ends
 
 pub go_on-piece-requires-clause-sound : goal.go_on-piece-requires-clause-sound
@@ -87,21 +112,27 @@ go_on-piece-requires-clause-sound c =
     let past = d.past in
     let items = c.in_ok-extend_from_slice.ensures.items in
     let all = ap length items in
-    let now : c.truncate.new.self.items ≡ held.samples.items ++ take (found.step.end + 1 - c.len-from.result) c.args.samples.now =
-    c.truncate.ensures.items ∙ ap (take (found.step.end + 1)) items ∙ held_there held.samples.items c.args.samples.now c.min-count.result c.len-from.result (found.step.end + 1) from (omega arith) (omega arith) in
+    let now : c.truncate.new.self.items ≡ held.samples.items
+    ++ take (found.step.end + 1 - c.len-from.result) c.args.samples.now =
+    c.truncate.ensures.items ∙ ap (take (found.step.end + 1)) items
+    ∙ held_there held.samples.items c.args.samples.now c.min-count.result c.len-from.result
+    (found.step.end + 1) from (omega arith) (omega arith) in
     let number = c.forget.ensures.number in
     let allowed = rw (← c.self.view_is) at c.requires in
-    let long = ap length c.truncate.ensures.items ∙ length-take (found.step.end + 1) c.extend_from_slice.new.self.items in
+    let long = ap length c.truncate.ensures.items
+    ∙ length-take (found.step.end + 1) c.extend_from_slice.new.self.items in
     let whole = length-append held.samples.items (take c.min-count.result c.args.samples.now) in
     let some = length-take c.min-count.result c.args.samples.now in
-    sound_more held _ (take (found.step.end + 1 - c.len-from.result) c.args.samples.now) c.forget.ensures.streaming.sound refl refl refl refl now (omega arith)
+    sound_more held _ (take (found.step.end
+    + 1 - c.len-from.result) c.args.samples.now) c.forget.ensures.streaming.sound refl refl refl refl now (omega arith)
 
 pub returns-clause-given : goal.returns-clause-given
 returns-clause-given c = λ bytes before runs separators s.
     let own = c.self.inside.held in
     let held = c.forget.new.held in
     let t = c.forget.ensures.streaming in
-    let q = packs_held bytes before runs separators own held false c.forget.ensures.size (c.forget.ensures.holds before runs separators) (λ _. t.stays) (rw (← c.self.view_is) at s).packs in
+    let q = packs_held bytes before runs separators own held false c.forget.ensures.size
+    (c.forget.ensures.holds before runs separators) (λ _. t.stays) (rw (← c.self.view_is) at s).packs in
     let found = c.in-Some.found in
     let from : c.len-from.result ≡ length held.samples.items = search rules in
     let d = rw (c.as_slice-seen.ensures.value, c.frontier_of-frontier.ensures) at c.in-Some.ensures.decided in
@@ -109,18 +140,35 @@ returns-clause-given c = λ bytes before runs separators s.
     let past = d.past in
     let items = c.in_ok-extend_from_slice.ensures.items in
     let all = ap length items in
-    let now : c.truncate.new.self.items ≡ held.samples.items ++ take (found.step.end + 1 - c.len-from.result) c.args.samples.now =
-    c.truncate.ensures.items ∙ ap (take (found.step.end + 1)) items ∙ held_there held.samples.items c.args.samples.now c.min-count.result c.len-from.result (found.step.end + 1) from (omega arith) (omega arith) in
-    let mid : Held = record { record_length = held.record_length; samples = c.truncate.new.self; offset = held.offset; current = held.current; from = held.from; to = held.to } in
+    let now : c.truncate.new.self.items ≡ held.samples.items
+    ++ take (found.step.end + 1 - c.len-from.result) c.args.samples.now =
+    c.truncate.ensures.items ∙ ap (take (found.step.end + 1)) items
+    ∙ held_there held.samples.items c.args.samples.now c.min-count.result c.len-from.result
+    (found.step.end + 1) from (omega arith) (omega arith) in
+    let mid : Held = record {
+      record_length = held.record_length;
+      samples = c.truncate.new.self;
+      offset = held.offset;
+      current = held.current;
+      from = held.from;
+      to = held.to;
+    } in
     let taken = take (found.step.end + 1 - c.len-from.result) c.args.samples.now in
-    let m = packs_more bytes before runs separators held mid taken false (rw q.size at held.record_length.least) refl refl refl now q in
+    let m = packs_more bytes before runs separators held mid taken false
+    (rw q.size at held.record_length.least) refl refl refl now q in
     let g = c.go_on-piece.ensures in
-    let end : frontier_of c.go_on-piece.new.self.current ≡ found.step.end = ap frontier_of g.current ∙ c.of-next.ensures.end in
-    let long = ap length c.truncate.ensures.items ∙ length-take (found.step.end + 1) c.extend_from_slice.new.self.items in
-    let stays : Stays c.go_on-piece.new.self.current (length mid.samples.items) = stays_at c.go_on-piece.new.self.current (length mid.samples.items) found.step.end end (omega arith) in
-    let n = packs_next bytes (before ++ taken) runs separators mid c.go_on-piece.new.self false c.go_on-piece.result g.given (λ _. stays) m in
+    let end : frontier_of c.go_on-piece.new.self.current ≡ found.step.end = ap frontier_of g.current
+    ∙ c.of-next.ensures.end in
+    let long = ap length c.truncate.ensures.items
+    ∙ length-take (found.step.end + 1) c.extend_from_slice.new.self.items in
+    let stays : Stays c.go_on-piece.new.self.current (length mid.samples.items) =
+    stays_at c.go_on-piece.new.self.current (length mid.samples.items) found.step.end end (omega arith) in
+    let n = packs_next bytes
+    (before ++ taken) runs separators mid c.go_on-piece.new.self false c.go_on-piece.result g.given
+    (λ _. stays) m in
     let live = rw (c.as_slice-seen-2.ensures.value, c.of-next.ensures.end) at c.first-self-inside.ensures in
-    let behind = live_few held.record_length.bytes c.truncate.new.self.items found.step.end c.first-self-inside.result live in
+    let behind = live_few held.record_length.bytes c.truncate.new.self.items found.step.end
+    c.first-self-inside.result live in
     let same = ap length g.given.held in
     let near = c.forget.ensures.near in
     let frontier = c.frontier_of-frontier.ensures in
@@ -140,7 +188,8 @@ returns-clause-shown c = λ bytes before runs separators s.
     let own = c.self.inside.held in
     let held = c.forget.new.held in
     let t = c.forget.ensures.streaming in
-    let q = packs_held bytes before runs separators own held false c.forget.ensures.size (c.forget.ensures.holds before runs separators) (λ _. t.stays) (rw (← c.self.view_is) at s).packs in
+    let q = packs_held bytes before runs separators own held false c.forget.ensures.size
+    (c.forget.ensures.holds before runs separators) (λ _. t.stays) (rw (← c.self.view_is) at s).packs in
     let found = c.in-Some.found in
     let from : c.len-from.result ≡ length held.samples.items = search rules in
     let d = rw (c.as_slice-seen.ensures.value, c.frontier_of-frontier.ensures) at c.in-Some.ensures.decided in
@@ -148,10 +197,23 @@ returns-clause-shown c = λ bytes before runs separators s.
     let past = d.past in
     let items = c.in_ok-extend_from_slice.ensures.items in
     let all = ap length items in
-    let now : c.truncate.new.self.items ≡ held.samples.items ++ take (found.step.end + 1 - c.len-from.result) c.args.samples.now =
-    c.truncate.ensures.items ∙ ap (take (found.step.end + 1)) items ∙ held_there held.samples.items c.args.samples.now c.min-count.result c.len-from.result (found.step.end + 1) from (omega arith) (omega arith) in
-    let mid : Held = record { record_length = held.record_length; samples = c.truncate.new.self; offset = held.offset; current = held.current; from = held.from; to = held.to } in
+    let now : c.truncate.new.self.items ≡ held.samples.items
+    ++ take (found.step.end + 1 - c.len-from.result) c.args.samples.now =
+    c.truncate.ensures.items ∙ ap (take (found.step.end + 1)) items
+    ∙ held_there held.samples.items c.args.samples.now c.min-count.result c.len-from.result
+    (found.step.end + 1) from (omega arith) (omega arith) in
+    let mid : Held = record {
+      record_length = held.record_length;
+      samples = c.truncate.new.self;
+      offset = held.offset;
+      current = held.current;
+      from = held.from;
+      to = held.to;
+    } in
     let taken = take (found.step.end + 1 - c.len-from.result) c.args.samples.now in
-    let m = packs_more bytes before runs separators held mid taken false (rw q.size at held.record_length.least) refl refl refl now q in
+    let m = packs_more bytes before runs separators held mid taken false
+    (rw q.size at held.record_length.least) refl refl refl now q in
     let g = c.go_on-piece.ensures in
-    shown_if_any (before ++ taken) _ _ c.go_on-piece.result (g.given.shows (before ++ taken) runs separators (holds_in bytes (before ++ taken) runs separators mid m.size m.holds)) g.none
+    shown_if_any (before ++ taken) _ _ c.go_on-piece.result
+    (g.given.shows (before ++ taken) runs separators
+    (holds_in bytes (before ++ taken) runs separators mid m.size m.holds)) g.none

@@ -8,7 +8,8 @@ use Rattle.msr_plain.proofs.borrowed.PlainSamplesIterator.next.Goals as goal
 pub returns-then-self-eq0-clause-steps : goal.returns-then-self-eq0-clause-steps
 returns-then-self-eq0-clause-steps c =
     let old = c.self.inside in
-    let none : c.args.self.now ≡ [] = sym c.self.view_is ∙ ap (numbers_in old.width old.order old.bytes.now) c.if-self-eq0.true in
+    let none : c.args.self.now ≡ [] = sym c.self.view_is
+    ∙ ap (numbers_in old.width old.order old.bytes.now) c.if-self-eq0.true in
     (none, none)
 
 pub returns-clause-steps : goal.returns-clause-steps
@@ -18,7 +19,9 @@ returns-clause-steps c =
     let fits : SFits w32 given = search rules in
     let some : 0 < old.left = omega (arith, c.if-self-eq0.false) in
     sym c.self.view_is ∙ first_number old.width old.order old.bytes.now old.left c.bytes.result some c.bytes.ensures
-    ∙ ap (λ x. x ∷ numbers_in old.width old.order (take (length old.bytes.now - c.bytes.result) (drop c.bytes.result old.bytes.now)) (old.left - 1)) (sym (to_z-of_z w32 given fits ∙ c.read_number-sample.ensures))
+    ∙ ap (λ x. x ∷ numbers_in old.width old.order
+    (take (length old.bytes.now - c.bytes.result) (drop c.bytes.result old.bytes.now)) (old.left - 1)) (sym
+    (to_z-of_z w32 given fits ∙ c.read_number-sample.ensures))
 
 pub returns-clause-goes : goal.returns-clause-goes
 returns-clause-goes c = goes_on _ _ _ (returns-clause-steps c)

@@ -7,7 +7,8 @@ use Rattle.msr_report.proofs.report.Report.write_text.Given as goal
 -- the segments so far are written
 abbrev pub invariant-loop-line : goal.invariant-loop-line
 invariant-loop-line g l = record {
-  written : IsWritten (g.W.Sink.device l.fn.sink) (g.W.Sink.device l.sink) l.self (take l.line-index l.self.segments.items) l.buffer.bytes.items;
+  written : IsWritten (g.W.Sink.device l.fn.sink) (g.W.Sink.device l.sink) l.self
+      (take l.line-index l.self.segments.items) l.buffer.bytes.items;
   calm : IsCalm (g.W.Sink.device l.fn.sink) (g.W.Sink.device l.sink);
   records : l.records ≡ records_of (take l.line-index l.self.segments.items);
 }

@@ -13,8 +13,11 @@ longer_by-requires-clause-count c = (c.self.invariant c.in-Some.segment c.in-Som
 
 pub returns-in_ok-ok_or-in-Some-clause-history : goal.returns-in_ok-ok_or-in-Some-clause-history
 returns-in_ok-ok_or-in-Some-clause-history c =
-    let step : JoinsSegment c.args.self.now (span_of c.args.key.now c.args.start c.args.count) (record { tolerance = c.self.inside.tolerance; current = Some c.in_ok-ok_or-in-Some.field-0 }) = search rules in
-    λ rows answers row e h. followed_step c.args.self.now _ rows answers row Joins h (subst (λ (s : Span). JoinsSegment c.args.self.now s (record { tolerance = c.self.inside.tolerance; current = Some c.in_ok-ok_or-in-Some.field-0 })) (sym e) step)
+    let step : JoinsSegment c.args.self.now (span_of c.args.key.now c.args.start c.args.count)
+    (record { tolerance = c.self.inside.tolerance; current = Some c.in_ok-ok_or-in-Some.field-0 }) = search rules in
+    λ rows answers row e h. followed_step c.args.self.now _ rows answers row Joins h
+    (subst (λ (s : Span). JoinsSegment c.args.self.now s
+    (record { tolerance = c.self.inside.tolerance; current = Some c.in_ok-ok_or-in-Some.field-0 })) (sym e) step)
 
 not_true : (b : Bool) → b ≡ false → IsTrue b → ⊥
 not_true false e h = search rules
@@ -24,19 +27,24 @@ abbrev row_of : goal.After-self-in_default-1 → Span
 row_of c = span_of c.args.key.now c.args.start c.args.count
 
 -- the row does not continue the segment that was begun last
-breaks : (c : goal.After-self-in_default-1) → (segment : Span) → c.args.self.now.current ≡ Some segment → Continues c.args.self.now.tolerance segment (span_of c.args.key.now c.args.start c.args.count) → ⊥
+breaks : (c : goal.After-self-in_default-1) → (segment : Span) → c.args.self.now.current ≡ Some segment
+    → Continues c.args.self.now.tolerance segment (span_of c.args.key.now c.args.start c.args.count) → ⊥
 breaks c =
     rw (← c.self.view_is) (elim c.in_default.branch [
       | in_default-via-in-Some+else-is_continued_by w ↦
           let tested = rw (to_z-of_z c.ranges.start) at w.is_continued_by.ensures in
-          breaks_some c.self.inside.tolerance (row_of c) c.self.inside.current w.in-Some.segment w.in-Some.is (λ k. absurd (not_true _ w.if-is_continued_by.false (tested.1 k)))
-      | in_default-via-in_default w ↦ breaks_none c.self.inside.tolerance (row_of c) c.self.inside.current w.in_default.is
+          breaks_some c.self.inside.tolerance (row_of c) c.self.inside.current w.in-Some.segment w.in-Some.is
+          (λ k. absurd (not_true _ w.if-is_continued_by.false (tested.1 k)))
+      | in_default-via-in_default w ↦ breaks_none c.self.inside.tolerance
+          (row_of c) c.self.inside.current w.in_default.is
     ])
 
 pub returns-in_default-clause-out_of_range : goal.returns-in_default-clause-out_of_range
 returns-in_default-clause-out_of_range c = (λ e. absurd cc, λ o. absurd (breaks c o.segment o.current o.continues))
 
-begins : (c : goal.After-self-in_default-1) → BeginsSegment c.args.self.now (span_of c.args.key.now c.args.start c.args.count) (record { tolerance = c.self.inside.tolerance; current = Some (span_of c.args.key.now c.args.start c.args.count) })
+begins : (c : goal.After-self-in_default-1) → BeginsSegment c.args.self.now
+    (span_of c.args.key.now c.args.start c.args.count)
+    (record { tolerance = c.self.inside.tolerance; current = Some (span_of c.args.key.now c.args.start c.args.count) })
 begins c = record {
   breaks = breaks c;
   after = rw (← c.self.view_is) refl;
@@ -46,4 +54,8 @@ pub returns-in_default-clause-step : goal.returns-in_default-clause-step
 returns-in_default-clause-step c = rw (to_z-of_z c.ranges.start) (begins c)
 
 pub returns-in_default-clause-history : goal.returns-in_default-clause-history
-returns-in_default-clause-history c = rw (to_z-of_z c.ranges.start) (λ rows answers row e h. followed_step c.args.self.now (record { tolerance = c.self.inside.tolerance; current = Some (row_of c) }) rows answers row Begins h (subst (λ (s : Span). BeginsSegment c.args.self.now s (record { tolerance = c.self.inside.tolerance; current = Some (row_of c) })) (sym e) (begins c)))
+returns-in_default-clause-history c = rw (to_z-of_z c.ranges.start)
+    (λ rows answers row e h. followed_step c.args.self.now
+    (record { tolerance = c.self.inside.tolerance; current = Some (row_of c) }) rows answers row Begins h
+    (subst (λ (s : Span). BeginsSegment c.args.self.now s
+    (record { tolerance = c.self.inside.tolerance; current = Some (row_of c) })) (sym e) (begins c)))

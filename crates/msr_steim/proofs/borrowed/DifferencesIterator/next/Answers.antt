@@ -12,8 +12,11 @@ pub returns-in_err-fields-clause-steps : goal.returns-in_err-fields-clause-steps
 returns-in_err-fields-clause-steps c =
     let old = c.self.inside in
     let from = differences_from old.version old.order old.area.now old.number in
-    let none : c.args.self.now ≡ [] = sym c.self.view_is ∙ ap (λ ds. ds ++ from) (no_numbers old.fields.word old.fields.width old.fields.count c.if-self-eq0.true) ∙ c.in_err-fields.ensures.none refl in
-    subst (λ (given : Option ℤ). YieldsFirst {A = ℤ} (λ left. left) c.args.self.now given c.args.self.now) (sym c.from_residual.ensures) (none, none)
+    let none : c.args.self.now ≡ [] = sym c.self.view_is
+    ∙ ap (λ ds. ds ++ from) (no_numbers old.fields.word old.fields.width old.fields.count c.if-self-eq0.true)
+    ∙ c.in_err-fields.ensures.none refl in
+    subst (λ (given : Option ℤ). YieldsFirst {A = ℤ} (λ left. left) c.args.self.now given c.args.self.now)
+    (sym c.from_residual.ensures) (none, none)
 
 pub returns-clause-steps : goal.returns-clause-steps
 returns-clause-steps c =
@@ -22,17 +25,23 @@ returns-clause-steps c =
     let rest = differences_from here.version here.order here.area.now here.number in
     let given = c.difference_at.result in
     let fits : SFits w32 given = search rules in
-    let left : c.args.self.now ≡ numbers_in here.fields.word here.fields.width here.fields.count ++ rest = elim c.if-self-eq0.branch [
-      | then-self-eq0+in_ok-fields w ↦ sym c.self.view_is ∙ ap (λ ds. ds ++ differences_from old.version old.order old.area.now old.number) (no_numbers old.fields.word old.fields.width old.fields.count w.if-self-eq0.true)
-          ∙ w.in_ok-fields.ensures.some ∙ ap (λ i. numbers_in i.fields.word i.fields.width i.fields.count ++ differences_from i.version i.order i.area.now i.number) (sym w.self-inside-is)
-      | else-self-eq0 w ↦ sym c.self.view_is ∙ ap (λ i. numbers_in i.fields.word i.fields.width i.fields.count ++ differences_from i.version i.order i.area.now i.number) (sym w.self-inside-is)
+    let left : c.args.self.now ≡ numbers_in here.fields.word here.fields.width here.fields.count ++ rest =
+    elim c.if-self-eq0.branch [
+      | then-self-eq0+in_ok-fields w ↦ sym c.self.view_is
+          ∙ ap (λ ds. ds ++ differences_from old.version old.order old.area.now old.number)
+          (no_numbers old.fields.word old.fields.width old.fields.count w.if-self-eq0.true)
+          ∙ w.in_ok-fields.ensures.some ∙ ap (λ i. numbers_in i.fields.word i.fields.width i.fields.count
+          ++ differences_from i.version i.order i.area.now i.number) (sym w.self-inside-is)
+      | else-self-eq0 w ↦ sym c.self.view_is ∙ ap (λ i. numbers_in i.fields.word i.fields.width i.fields.count
+          ++ differences_from i.version i.order i.area.now i.number) (sym w.self-inside-is)
     ] in
     let some : 0 < here.fields.count = elim c.if-self-eq0.branch [
       | then-self-eq0+in_ok-fields w ↦ rw w.self-inside-is w.in_ok-fields.ensures.fields
       | else-self-eq0 w ↦ rw w.self-inside-is (omega (arith, w.if-self-eq0.false))
     ] in
     left ∙ ap (λ ds. ds ++ rest) (first_of_numbers here.fields.word here.fields.width here.fields.count some)
-    ∙ ap (λ x. x ∷ (numbers_in here.fields.word here.fields.width (here.fields.count - 1) ++ rest)) (sym (to_z-of_z w32 given fits ∙ c.difference_at.ensures))
+    ∙ ap (λ x. x ∷ (numbers_in here.fields.word here.fields.width (here.fields.count - 1) ++ rest))
+    (sym (to_z-of_z w32 given fits ∙ c.difference_at.ensures))
 
 pub returns-clause-goes : goal.returns-clause-goes
 returns-clause-goes c = difference_given _ _ _ (returns-clause-steps c)

@@ -1,10 +1,8 @@
 -- The first sample is given, and the others are left.
 use Rattle.std.proofs.Common.{rules, ◌≡◌, ◌<◌, ◌∷◌, ◌-◌, ◌+◌, ◌%◌, to_z, of_z, w32, SFits, ◌+ℤ◌, sym, ap, ◌∙◌, arith, take}
 use Rattle.std.specs.Int.{int_wrap}
-use Rattle.std.specs.Ordering.{int_eq}
 use Rattle.std.proofs.lemmas.Int.{to_z-of_z, wrapping_add_is}
 use Rattle.msr_steim.specs.Area.{sums_after}
-use Rattle.msr_steim.specs.InOrder.{last_after}
 use Rattle.msr_steim.proofs.InOrderLemmas.{first_sum, sample_given}
 use Rattle.msr_steim.proofs.borrowed.SteimSamplesIterator.next.Goals as goal
 
@@ -18,9 +16,11 @@ returns-clause-steps c =
     let sum : v ≡ int_wrap w32 (old.last +ℤ d) = wrapping_add_is w32 old.last d (search rules) (search rules) in
     let some : 0 < old.left = omega (arith, c.if-self-eq0.false) in
     let left : take old.left (sums_after old.last old.differences) ≡ v ∷ take (old.left - 1) (sums_after v rest) =
-    first_sum old.last old.differences rest d old.left some c.in_ok-difference.ensures.steps ∙ ap (λ x. x ∷ take (old.left - 1) (sums_after x rest)) (sym sum) in (
-      ap (λ s. s.samples) (sym c.self.view_is) ∙ left ∙ ap (λ x. x ∷ take (old.left - 1) (sums_after v rest)) (sym (to_z-of_z w32 v fits)),
-      sym (ap (λ s. s.agrees) (sym c.self.view_is) ∙ ap (λ xs. int_eq (last_after old.last xs) old.reverse) left),
+    first_sum old.last old.differences rest d old.left some c.in_ok-difference.ensures.steps
+    ∙ ap (λ x. x ∷ take (old.left - 1) (sums_after x rest)) (sym sum) in (
+      ap (λ s. s.samples) (sym c.self.view_is) ∙ left
+          ∙ ap (λ x. x ∷ take (old.left - 1) (sums_after v rest)) (sym (to_z-of_z w32 v fits)),
+      ap (λ s. s.agrees) c.self.view_is,
     )
 
 pub returns-clause-goes : goal.returns-clause-goes

@@ -2,24 +2,33 @@ use Rattle.std.proofs.Common.{◌≡◌, rules, Some}
 use Rattle.std.proofs.lemmas.Result.{err_from_is_err_and}
 use Rattle.msr_tool.specs.declared.fault.ToolFault.TheVariants.{Memory}
 use Rattle.msr_tool.specs.Writing.{GoesOn}
-use Rattle.msr_tool.proofs.Lines.{last-of, line-proper, lines-more, more-at_last, stops-at_last, stops-pushing}
+use Rattle.msr_tool.proofs.Lines.{last_of, line_proper, lines_more, more_at_last, stops_at_last, stops_pushing}
 use Rattle.msr_tool.proofs.output.LinedWriter.end_last.Goals as goal
 
 pub returns-in_err-push-clause-written : goal.returns-in_err-push-clause-written
 returns-in_err-push-clause-written g c = λ start packed current h.
     let p = err_from_is_err_and c.from_residual-in_err-push.result c.from_residual-in_err-push.ensures.1 in
     let is : c.self.inside.last ≡ Some c.in-Some.segment = search rules in
-    let last = last-of start (g.W.Sink.device c.args.sink.now) _ packed current c.in-Some.segment is (rw (← c.self.view_is) at h) in
+    let last = last_of start (g.W.Sink.device c.args.sink.now) _ packed current c.in-Some.segment is
+    (rw (← c.self.view_is) at h) in
     let wrote = c.in_ok-line.ensures.written start packed last.segment last.begun in
-    rw (p.1, p.2, ← c.self.view_is) (stops-at_last _ start (g.W.Sink.device c.end.new.sink) packed current last.segment Memory last.is (stops-pushing start (g.W.Sink.device c.end.new.sink) c.end.new.self packed last.segment c.in_ok-line.line _ c.in_ok-line.ensures.size wrote))
+    rw (p.1, p.2, ← c.self.view_is) (stops_at_last _ start
+    (g.W.Sink.device c.end.new.sink) packed current last.segment Memory last.is
+    (stops_pushing start (g.W.Sink.device c.end.new.sink) c.end.new.self packed last.segment c.in_ok-line.line
+    _ c.in_ok-line.ensures.size wrote))
 
 pub returns-clause-written : goal.returns-clause-written
 returns-clause-written g c = λ start packed current h.
     let is : c.self.inside.last ≡ Some c.in-Some.segment = search rules in
     let l = rw (← c.self.view_is) at h in
-    let last = last-of start (g.W.Sink.device c.args.sink.now) _ packed current c.in-Some.segment is l in
+    let last = last_of start (g.W.Sink.device c.args.sink.now) _ packed current c.in-Some.segment is l in
     let wrote = c.in_ok-line.ensures.written start packed last.segment last.begun in
-    let goes : GoesOn c.self.inside.writer.size c.in-Some.segment = rw is at (rw (← c.self.view_is) at c.requires.last) in
-    let is_form = c.line_has_form.ensures (line-proper start (g.W.Sink.device c.end.new.sink) c.end.new.self packed last.segment c.in_ok-line.line c.in-Some.segment wrote goes.can last.begun.is_open.key last.begun.is_open.start) in
-    rw c.take.ensures.after (more-at_last start (g.W.Sink.device c.end.new.sink) _ packed current last.segment last.is
-    (lines-more start (g.W.Sink.device c.end.new.sink) c.end.new.self c.self.inside.lines.items c.push.new.self.items packed last.segment c.in_ok-line.line l.are_lines l.forms wrote is_form c.in_ok-push.ensures.items))
+    let goes : GoesOn c.self.inside.writer.size c.in-Some.segment =
+    rw is at (rw (← c.self.view_is) at c.requires.last) in
+    let is_form = c.line_has_form.ensures (line_proper start
+    (g.W.Sink.device c.end.new.sink) c.end.new.self packed last.segment c.in_ok-line.line c.in-Some.segment
+    wrote goes.can last.begun.is_open.key last.begun.is_open.start) in
+    rw c.take.ensures.after (more_at_last start (g.W.Sink.device c.end.new.sink) _ packed current last.segment last.is
+    (lines_more start (g.W.Sink.device c.end.new.sink) c.end.new.self c.self.inside.lines.items
+    c.push.new.self.items packed last.segment c.in_ok-line.line l.are_lines l.forms wrote is_form
+    c.in_ok-push.ensures.items))

@@ -1,6 +1,6 @@
 use Rattle.std.proofs.lemmas.Result.{err_from_is_err_and}
 use Rattle.msr_walk.specs.Day.{asked_of}
-use Rattle.msr_walk.proofs.Days.{day-answer, day-unkept, day-unsettled}
+use Rattle.msr_walk.proofs.Days.{day_answer, day_unkept, day_unsettled}
 use Rattle.msr_walk.proofs.day.Day.write.Goals as goal
 
 pub returns-in_err-records : goal.returns-in_err-records
@@ -16,22 +16,24 @@ returns-in_err-report g c =
 pub returns-in_err-repacked : goal.returns-in_err-repacked
 returns-in_err-repacked g c =
     let p = err_from_is_err_and c.from_residual-in_err-repacked.result c.from_residual-in_err-repacked.ensures.1 in
-    rw (p.1, p.2) (day-answer _ _ _ _ _ _ _ c.in_err-repacked.ensures)
+    rw (p.1, p.2) (day_answer _ _ _ _ _ _ _ c.in_err-repacked.ensures)
 
 pub returns-in_err-settle : goal.returns-in_err-settle
 returns-in_err-settle g c =
     let p = err_from_is_err_and c.from_residual-in_err-settle.result c.from_residual-in_err-settle.ensures.1 in
-    rw (p.1, p.2, c.in_err-settle.ensures) (day-unsettled _ _ _ _ _ _ _ c.in_ok-repacked.ensures)
+    rw (p.1, p.2, c.in_err-settle.ensures) (day_unsettled _ _ _ _ _ _ _ c.in_ok-repacked.ensures)
 
 pub returns-in_err-settle-2 : goal.returns-in_err-settle-2
 returns-in_err-settle-2 g c =
     let p = err_from_is_err_and c.from_residual-in_err-settle-2.result c.from_residual-in_err-settle-2.ensures.1 in
-    rw (p.1, p.2, c.in_err-settle-2.ensures) (day-unsettled _ _ _ _ _ _ _ c.in_ok-repacked.ensures)
+    rw (p.1, p.2, c.in_err-settle-2.ensures) (day_unsettled _ _ _ _ _ _ _ c.in_ok-repacked.ensures)
 
 pub returns-in_err-shown : goal.returns-in_err-shown
 returns-in_err-shown g c =
     let p = err_from_is_err_and c.from_residual-in_err-shown.result c.from_residual-in_err-shown.ensures.1 in
-    rw (p.1, p.2) (day-unkept (asked_of c.args.archive.now) _ _ _ _ _ _ c.in_err-shown.field-0.0 c.in_ok-repacked.ensures c.in_err-shown.ensures)
+    rw (p.1, p.2) (day_unkept
+    (asked_of c.args.archive.now) _ _ _ _ _ _ c.in_err-shown.field-0.0 c.in_ok-repacked.ensures
+    c.in_err-shown.ensures)
 
 pub returns-in_err-keep : goal.returns-in_err-keep
 returns-in_err-keep g c =
@@ -39,4 +41,4 @@ returns-in_err-keep g c =
     rw (p.1, p.2, c.in_err-keep.ensures) tt
 
 pub returns : goal.returns
-returns g c = record { answer = day-answer _ _ _ _ _ _ _ c.in_ok-repacked.ensures; shown = c.in_ok-shown.ensures }
+returns g c = record { answer = day_answer _ _ _ _ _ _ _ c.in_ok-repacked.ensures; shown = c.in_ok-shown.ensures }

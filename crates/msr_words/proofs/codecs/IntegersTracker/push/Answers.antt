@@ -7,12 +7,14 @@ pub returns-then-not-is_taken : goal.returns-then-not-is_taken
 returns-then-not-is_taken g c bytes run h =
     let fits = c.ranges.sample in
     let taken = simp to_z-of_z at c.is_taken.ensures in
-    push_no (integers_of g.row.BITS) bytes (takes_integers g.row.BITS bytes) run c.args.sample c.args._diff c.args.self.now.left c.args.self.now.fits h
+    push_no (integers_of g.row.BITS) bytes
+    (takes_integers g.row.BITS bytes) run c.args.sample c.args._diff c.args.self.now.left c.args.self.now.fits h
     (λ t. let e = taken.1 t in cc)
 
 pub returns : goal.returns
 returns g c bytes run h =
     let fits = c.ranges.sample in
     let taken = simp to_z-of_z at c.is_taken.ensures in
-    push_yes (integers_of g.row.BITS) bytes (takes_integers g.row.BITS bytes) run c.args.sample c.args._diff c.args.self.now.left c.args.self.now.fits h
+    push_yes (integers_of g.row.BITS) bytes
+    (takes_integers g.row.BITS bytes) run c.args.sample c.args._diff c.args.self.now.left c.args.self.now.fits h
     (taken.0 c.if-not-is_taken.false)

@@ -5,10 +5,15 @@ use Rattle.msr_words.proofs.codecs.Steim1Tracker.push.Goals as goal
 pub returns-then-not-self : goal.returns-then-not-self
 returns-then-not-self c bytes run h =
     rw c.if-not-self.true
-    (push_steim1_dead bytes run c.args._sample c.args.diff c.args.self.now.words c.args.self.now.counts (rw c.if-not-self.true at h))
+    (push_steim1_dead bytes run c.args._sample c.args.diff c.args.self.now.words c.args.self.now.counts
+    (rw c.if-not-self.true at h))
 
 pub returns : goal.returns
 returns c bytes run h =
     let fits = c.ranges.diff in
-    push_steim1 bytes run c.args._sample c.args.diff c.args.self.now.words c.args.self.now.counts (rw c.if-not-self.false at h)
-    _ _ (record { with = λ past counted. simp to_z-of_z at (c.with-self.ensures past counted); within = c.within-self.ensures })
+    push_steim1 bytes run c.args._sample c.args.diff c.args.self.now.words c.args.self.now.counts
+    (rw c.if-not-self.false at h)
+    _ _ (record {
+      with = λ past counted. simp to_z-of_z at (c.with-self.ensures past counted);
+      within = c.within-self.ensures;
+    })

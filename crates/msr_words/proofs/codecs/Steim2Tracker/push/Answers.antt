@@ -7,7 +7,8 @@ use Rattle.msr_words.proofs.codecs.Steim2Tracker.push.Goals.{then-self-eq0-via-t
 pub returns-then-not-self : goal.returns-then-not-self
 returns-then-not-self c bytes run h =
     rw c.if-not-self.true
-    (push_steim2_dead bytes run c.args._sample c.args.diff c.args.self.now.left c.args.self.now.count c.args.self.now.most c.args.self.now.more (rw c.if-not-self.true at h))
+    (push_steim2_dead bytes run c.args._sample c.args.diff c.args.self.now.left c.args.self.now.count
+    c.args.self.now.most c.args.self.now.more (rw c.if-not-self.true at h))
 
 pub returns-then-self-eq0 : goal.returns-then-self-eq0
 returns-then-self-eq0 c bytes run h =
@@ -17,13 +18,18 @@ returns-then-self-eq0 c bytes run h =
     let state = rw c.if-not-self.false at h in
     elim c.then-self-eq0.branch [
       | then-self-eq0-via-then-self-eq0 w ↦
-          push_steim2_full bytes run c.args._sample c.args.diff c.args.self.now.left c.args.self.now.count c.args.self.now.most c.args.self.now.more state w.if-self-eq0.true
+          push_steim2_full bytes run c.args._sample c.args.diff c.args.self.now.left c.args.self.now.count
+          c.args.self.now.most c.args.self.now.more state w.if-self-eq0.true
       | then-self-eq0-via-else-self-eq0+then-self-opened w ↦
-          push_steim2_off bytes run c.args._sample c.args.diff c.args.self.now.left c.args.self.now.count c.args.self.now.most c.args.self.now.more state
-          c.steim2_capacity-capacity.result is c.min-most.result c.words_opened-opened.result c.min-most.ensures opened.stays opened.opens (inl w.if-self-opened.true)
+          push_steim2_off bytes run c.args._sample c.args.diff c.args.self.now.left c.args.self.now.count
+          c.args.self.now.most c.args.self.now.more state
+          c.steim2_capacity-capacity.result is c.min-most.result c.words_opened-opened.result c.min-most.ensures
+          opened.stays opened.opens (inl w.if-self-opened.true)
       | then-self-eq0-via-else-self-eq0+else-self-opened+then-from-opened w ↦
-          push_steim2_off bytes run c.args._sample c.args.diff c.args.self.now.left c.args.self.now.count c.args.self.now.most c.args.self.now.more state
-          c.steim2_capacity-capacity.result is c.min-most.result c.words_opened-opened.result c.min-most.ensures opened.stays opened.opens (inr (omega arith))
+          push_steim2_off bytes run c.args._sample c.args.diff c.args.self.now.left c.args.self.now.count
+          c.args.self.now.most c.args.self.now.more state
+          c.steim2_capacity-capacity.result is c.min-most.result c.words_opened-opened.result c.min-most.ensures
+          opened.stays opened.opens (inr (omega arith))
     ]
 
 pub returns : goal.returns
@@ -34,6 +40,9 @@ returns c bytes run h =
     let count = c.count_after-self.ensures in
     let most = c.most_after-self.ensures in
     rw c.if-not-self.false
-    (push_steim2_on bytes run c.args._sample c.args.diff c.args.self.now.left c.args.self.now.count c.args.self.now.most c.args.self.now.more (rw c.if-not-self.false at h)
-    c.steim2_capacity-capacity.result is c.min-most.result c.words_opened-opened.result c.min-most.ensures opened.stays opened.opens (omega arith)
-    c.if-self-opened.false (omega arith) _ c.count_after-self.result c.most_after-self.result refl count.stays count.opens most.stays most.opens)
+    (push_steim2_on bytes run c.args._sample c.args.diff c.args.self.now.left c.args.self.now.count
+    c.args.self.now.most c.args.self.now.more (rw c.if-not-self.false at h)
+    c.steim2_capacity-capacity.result is c.min-most.result c.words_opened-opened.result c.min-most.ensures
+    opened.stays opened.opens (omega arith)
+    c.if-self-opened.false (omega arith) _ c.count_after-self.result c.most_after-self.result refl count.stays
+    count.opens most.stays most.opens)

@@ -12,7 +12,8 @@ returns-in-Int16 c =
     let says = c.all_of_bits.ensures in
     let bytes = bytes_of c.args.record_length in
     let points = fits_integers_points 16 2 bytes c.args.before c.args.run.now in
-    let most : c.most.result ≡ most_of Int16 bytes = subst (λ kind. c.most.result ≡ most_of kind bytes) c.in-Int16.is c.most.ensures in
+    let most : c.most.result ≡ most_of Int16 bytes =
+    subst (λ kind. c.most.result ≡ most_of kind bytes) c.in-Int16.is c.most.ensures in
     let long = length_points_before c.args.before c.args.run.now in
     let header = c.args.record_length.least in
     let room : 2 * length c.args.run.now + 64 ≤ bytes = omega arith in
@@ -23,7 +24,8 @@ returns-in-Int24 c =
     let says = c.all_of_bits-in-Int24.ensures in
     let bytes = bytes_of c.args.record_length in
     let points = fits_integers_points 24 3 bytes c.args.before c.args.run.now in
-    let most : c.most.result ≡ most_of Int24 bytes = subst (λ kind. c.most.result ≡ most_of kind bytes) c.in-Int24.is c.most.ensures in
+    let most : c.most.result ≡ most_of Int24 bytes =
+    subst (λ kind. c.most.result ≡ most_of kind bytes) c.in-Int24.is c.most.ensures in
     let long = length_points_before c.args.before c.args.run.now in
     let header = c.args.record_length.least in
     let room : 3 * length c.args.run.now + 64 ≤ bytes = omega arith in
@@ -33,7 +35,8 @@ pub returns-in-Int32 : goal.returns-in-Int32
 returns-in-Int32 c =
     let bytes = bytes_of c.args.record_length in
     let points = fits_int32_points bytes c.args.before c.args.run.now in
-    let most : c.most.result ≡ most_of Int32 bytes = subst (λ kind. c.most.result ≡ most_of kind bytes) c.in-Int32.is c.most.ensures in
+    let most : c.most.result ≡ most_of Int32 bytes =
+    subst (λ kind. c.most.result ≡ most_of kind bytes) c.in-Int32.is c.most.ensures in
     let long = length_points_before c.args.before c.args.run.now in
     let header = c.args.record_length.least in
     let room : 4 * length c.args.run.now + 64 ≤ bytes = omega arith in

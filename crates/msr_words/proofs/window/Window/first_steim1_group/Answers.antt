@@ -31,14 +31,17 @@ module _ (ds : List ℤ) (sizes : List ℕ) (kept : List ℤ) (place : ℕ) (see
   large : AllByRecursion (FitsBits 32) ds → bit_or one (s 1) < 32768 → 128 ≤ s 1 → IsCanonicalFirst ds 2
   large fits = two_large ds one (s 1) h1 (at 1 (lit< tt)) fits
 
-  few : AllByRecursion (FitsBits 32) ds → bit_or one (s 1) < 32768 → 128 ≤ bit_or (bit_or (s 1) (s 2)) (s 3) → IsCanonicalFirst ds 2
-  few fits small middle = two_few ds one (s 1) (s 2) (s 3) h1 (at 1 (lit< tt)) (at 2 (lit< tt)) (at 3 (lit< tt)) fits small middle (λ e. let l = seen.long in omega arith)
+  few : AllByRecursion (FitsBits 32) ds → bit_or one (s 1) < 32768 → 128 ≤ bit_or (bit_or (s 1) (s 2)) (s 3)
+      → IsCanonicalFirst ds 2
+  few fits small middle = two_few ds one (s 1) (s 2) (s 3) h1 (at 1 (lit< tt)) (at 2 (lit< tt))
+      (at 3 (lit< tt)) fits small middle (λ e. let l = seen.long in omega arith)
 
   four : AllByRecursion (FitsBits 32) ds → one < 128 → bit_or (bit_or (s 1) (s 2)) (s 3) < 128 → IsCanonicalFirst ds 4
   four fits = four_small ds one (s 1) (s 2) (s 3) h1 (at 1 (lit< tt)) (at 2 (lit< tt)) (at 3 (lit< tt)) fits
 
   before : AllByRecursion (FitsBits 32) ds → bit_or one (s 1) < 32768 → 128 ≤ one → 128 ≤ s 4 → IsCanonicalFirst ds 2
-  before fits = two_before ds one (s 1) (s 2) (s 3) (s 4) h1 (at 1 (lit< tt)) (at 2 (lit< tt)) (at 3 (lit< tt)) (at 4 (lit< tt)) fits
+  before fits = two_before ds one (s 1) (s 2) (s 3) (s 4) h1 (at 1 (lit< tt)) (at 2 (lit< tt)) (at 3 (lit< tt))
+      (at 4 (lit< tt)) fits
 
   none : bit_or (bit_or (s 1) (s 2)) (s 3) < 128 → s 4 < 128 → BeginsWithFour (drop 1 ds)
   none = next_four ds one (s 1) (s 2) (s 3) (s 4) h1 (at 1 (lit< tt)) (at 2 (lit< tt)) (at 3 (lit< tt)) (at 4 (lit< tt))
@@ -49,11 +52,13 @@ returns-then-one-two-ge32768-clause-first c ds seen fits =
 
 pub returns-then-two-ge128-clause-first : goal.returns-then-two-ge128-clause-first
 returns-then-two-ge128-clause-first c ds seen fits =
-    large ds c.args.self.now.sizes c.args.self.now.kept c.args.place seen fits c.if-one-two-ge32768.false c.if-two-ge128.true
+    large ds c.args.self.now.sizes c.args.self.now.kept c.args.place seen fits c.if-one-two-ge32768.false
+    c.if-two-ge128.true
 
 pub returns-then-four-ge128-clause-first : goal.returns-then-four-ge128-clause-first
 returns-then-four-ge128-clause-first c ds seen fits =
-    few ds c.args.self.now.sizes c.args.self.now.kept c.args.place seen fits c.if-one-two-ge32768.false c.if-four-ge128.true
+    few ds c.args.self.now.sizes c.args.self.now.kept c.args.place seen fits c.if-one-two-ge32768.false
+    c.if-four-ge128.true
 
 pub returns-then-one-lt128-clause-first : goal.returns-then-one-lt128-clause-first
 returns-then-one-lt128-clause-first c ds seen fits =
@@ -61,8 +66,10 @@ returns-then-one-lt128-clause-first c ds seen fits =
 
 pub returns-else-self-place-lt128-clause-first : goal.returns-else-self-place-lt128-clause-first
 returns-else-self-place-lt128-clause-first c ds seen fits =
-    before ds c.args.self.now.sizes c.args.self.now.kept c.args.place seen fits c.if-one-two-ge32768.false c.if-one-lt128.false c.if-self-place-lt128.false
+    before ds c.args.self.now.sizes c.args.self.now.kept c.args.place seen fits c.if-one-two-ge32768.false
+    c.if-one-lt128.false c.if-self-place-lt128.false
 
 pub returns-then-self-place-lt128-clause-none : goal.returns-then-self-place-lt128-clause-none
 returns-then-self-place-lt128-clause-none c ds seen untold =
-    none ds c.args.self.now.sizes c.args.self.now.kept c.args.place seen c.if-four-ge128.false c.if-self-place-lt128.true
+    none ds c.args.self.now.sizes c.args.self.now.kept c.args.place seen c.if-four-ge128.false
+    c.if-self-place-lt128.true

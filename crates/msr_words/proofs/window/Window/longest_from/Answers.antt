@@ -9,7 +9,8 @@ returns-then-two-lt16384-clause-longest c ds seen =
 
 pub returns-then-one-lt536870912-clause-longest : goal.returns-then-one-lt536870912-clause-longest
 returns-then-one-lt536870912-clause-longest c ds seen =
-    seen_1 ds c.args.self.now.sizes c.args.self.now.kept c.args.place seen c.if-one-lt536870912.true (omega (arith, c.if-two-lt16384.false))
+    seen_1 ds c.args.self.now.sizes c.args.self.now.kept c.args.place seen c.if-one-lt536870912.true
+    (omega (arith, c.if-two-lt16384.false))
 
 pub returns-else-one-lt536870912-clause-longest : goal.returns-else-one-lt536870912-clause-longest
 returns-else-one-lt536870912-clause-longest c ds seen =
@@ -17,19 +18,23 @@ returns-else-one-lt536870912-clause-longest c ds seen =
 
 pub returns-then-four-ge128-clause-longest : goal.returns-then-four-ge128-clause-longest
 returns-then-four-ge128-clause-longest c ds seen =
-    seen_3 ds c.args.self.now.sizes c.args.self.now.kept c.args.place seen (omega (arith, c.if-three-ge512.false)) c.if-four-ge128.true
+    seen_3 ds c.args.self.now.sizes c.args.self.now.kept c.args.place seen
+    (omega (arith, c.if-three-ge512.false)) c.if-four-ge128.true
 
 pub returns-then-five-ge32-clause-longest : goal.returns-then-five-ge32-clause-longest
 returns-then-five-ge32-clause-longest c ds seen =
-    seen_4 ds c.args.self.now.sizes c.args.self.now.kept c.args.place seen (omega (arith, c.if-four-ge128.false)) c.if-five-ge32.true
+    seen_4 ds c.args.self.now.sizes c.args.self.now.kept c.args.place seen
+    (omega (arith, c.if-four-ge128.false)) c.if-five-ge32.true
 
 pub returns-then-six-ge16-clause-longest : goal.returns-then-six-ge16-clause-longest
 returns-then-six-ge16-clause-longest c ds seen =
-    seen_5 ds c.args.self.now.sizes c.args.self.now.kept c.args.place seen (omega (arith, c.if-five-ge32.false)) c.if-six-ge16.true
+    seen_5 ds c.args.self.now.sizes c.args.self.now.kept c.args.place seen
+    (omega (arith, c.if-five-ge32.false)) c.if-six-ge16.true
 
 pub returns-then-seven-ge8-clause-longest : goal.returns-then-seven-ge8-clause-longest
 returns-then-seven-ge8-clause-longest c ds seen =
-    seen_6 ds c.args.self.now.sizes c.args.self.now.kept c.args.place seen (omega (arith, c.if-six-ge16.false)) c.if-seven-ge8.true
+    seen_6 ds c.args.self.now.sizes c.args.self.now.kept c.args.place seen
+    (omega (arith, c.if-six-ge16.false)) c.if-seven-ge8.true
 
 pub returns-else-seven-ge8-clause-longest : goal.returns-else-seven-ge8-clause-longest
 returns-else-seven-ge8-clause-longest c ds seen =

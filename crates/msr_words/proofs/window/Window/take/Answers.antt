@@ -10,11 +10,15 @@ pub loop-place-preserved : goal.loop-place-preserved
 loop-place-preserved c =
     let before = slice_index_or c.args.samples.now (c.args.first + c.loop-place.place - 1) (pos 0) in
     let sample = slice_index_or c.args.samples.now (c.args.first + c.loop-place.place) (pos 0) in
-    let fits : SFits w32 (slice_index_or c.args.samples.now (c.args.first + c.loop-place.place - 1) (pos 0)) = search rules in
-    let fits' : SFits w32 (slice_index_or c.args.samples.now (c.args.first + c.loop-place.place) (pos 0)) = search rules in
-    let is : difference_at c.args.samples.now (c.args.first + c.loop-place.place) ≡ sample -ℤ before = difference_at_later c.args.samples.now (c.args.first + c.loop-place.place) (omega (arith, c.requires.some)) in
+    let fits : SFits w32 (slice_index_or c.args.samples.now (c.args.first + c.loop-place.place - 1) (pos 0)) =
+    search rules in
+    let fits' : SFits w32 (slice_index_or c.args.samples.now (c.args.first + c.loop-place.place) (pos 0)) =
+    search rules in
+    let is : difference_at c.args.samples.now (c.args.first + c.loop-place.place) ≡ sample -ℤ before =
+    difference_at_later c.args.samples.now (c.args.first + c.loop-place.place) (omega (arith, c.requires.some)) in
     let size : IsSize (sample -ℤ before) c.size_after.result = simp to_z-of_z at c.size_after.ensures in
-    taken_more c.args.samples.now c.args.first c.loop-place.place c.loop-place.self.sizes c.loop-place.self.kept c.size_after.result
+    taken_more c.args.samples.now c.args.first c.loop-place.place c.loop-place.self.sizes c.loop-place.self.kept
+    c.size_after.result
     (to_z w32 ((of_z w32 sample + (4294967296 - of_z w32 before)) % 4294967296))
     (search rules) (search rules)
     (record {

@@ -1,0 +1,92 @@
+-- Segments have one output.
+use Rattle.std.proofs.Common.{◌≡◌, ℕ, suc, List, [], ◌∷◌, ◌++◌, ◌∙◌, map, arith, refl, sym, ap, subst, ℤ}
+use Rattle.std.specs.List.{flat_map}
+use Rattle.std.specs.Prelude.{All}
+use Rattle.msr_time.proofs.NominalLemmas.{nominal_one}
+use Rattle.msr_words.specs.declared.kinds.Kind.{Kind}
+use Rattle.msr_words.specs.declared.kinds.Run.{Run}
+use Rattle.msr_words.specs.Packing.{IsCanonical}
+use Rattle.msr_packer.proofs.Canonical.{one_packing}
+use Rattle.msr_record.specs.declared.row.Key.{Key}
+use Rattle.msr_record.specs.declared.row.Row.{Row}
+use Rattle.msr_record.specs.Written.{IsWritten}
+use Rattle.msr_record.proofs.OneWritten.{written_once}
+use Rattle.msr_segments.specs.declared.joiner.Segment.{Segment}
+use Rattle.msr_output.specs.Output.{Packed, IsPacked, Cut, IsRowOfRun, AreWritten, IsOutput, next_number, sample_before, cuts_of, segment_of_packed}
+
+same_row : (a b : Row) → a.key ≡ b.key → a.start ≡ b.start → a.kind ≡ b.kind → a.samples ≡ b.samples → a ≡ b
+same_row a b key start kind samples =
+    ap (λ (k : Key). record { key = k; start = a.start; kind = a.kind; samples = a.samples }) key
+    ∙ ap (λ (s : ℤ). record { key = b.key; start = s; kind = a.kind; samples = a.samples }) start
+    ∙ ap (λ (k : Kind). record { key = b.key; start = b.start; kind = k; samples = a.samples }) kind
+    ∙ ap (λ (s : List ℤ). record { key = b.key; start = b.start; kind = b.kind; samples = s }) samples
+
+one_row : (segment : Segment) (run : Run) (a b : Row) → IsRowOfRun segment run a → IsRowOfRun segment run b → a ≡ b
+one_row segment run a b first second =
+    same_row a b (first.key ∙ sym second.key)
+    (nominal_one segment.key.rate segment.start run.start a.start b.start first.start second.start)
+    (first.kind ∙ sym second.kind) (first.samples ∙ sym second.samples)
+
+one_written : (size n : ℕ) (cuts : List Cut) (rows more : List Row) (bytes text : List ℕ)
+    → AreWritten size n cuts rows bytes → AreWritten size n cuts more text → (rows ≡ more) × (bytes ≡ text)
+one_written size n [] rows more bytes text first second = (first.0 ∙ sym second.0, first.1 ∙ sym second.1)
+one_written size n (cut ∷ cuts) rows more bytes text first second =
+    let w = first.2 in
+    let v = second.2 in
+    let row : w.row ≡ v.row = one_row cut.segment cut.run w.row v.row w.is_record.of_run v.is_record.of_run in
+    let before = sample_before cut.segment.samples cut.run.start in
+    let other : IsWritten v.first cut.segment.key w.row.start n before w.row.samples cut.run.kind size =
+    subst (λ (r : Row). IsWritten v.first cut.segment.key r.start n before r.samples cut.run.kind size)
+    (sym row) v.is_record.written in
+    let front : w.first ≡ v.first =
+    written_once w.first v.first cut.segment.key w.row.start n before w.row.samples cut.run.kind size
+    w.is_record.written other in
+    let rest = one_written size (next_number n) cuts first.0 second.0 first.1 second.1 first.3 second.3 in (
+      w.all_rows ∙ ap (λ (r : Row). r ∷ first.0) row ∙ ap (λ (l : List Row). v.row ∷ l) rest.0 ∙ sym v.all_rows,
+      w.all_bytes ∙ ap (λ (l : List ℕ). l ++ first.1) front ∙ ap (λ (l : List ℕ). v.first ++ l) rest.1
+          ∙ sym v.all_bytes,
+    )
+
+same_packed : (a b : Packed) → a.segment ≡ b.segment → a.runs ≡ b.runs → a.separators ≡ b.separators → a ≡ b
+same_packed a b segment runs separators =
+    ap (λ (s : Segment). record { segment = s; runs = a.runs; separators = a.separators }) segment
+    ∙ ap (λ (r : List Run). record { segment = b.segment; runs = r; separators = a.separators }) runs
+    ∙ ap (λ (s : List ℕ). record { segment = b.segment; runs = b.runs; separators = s }) separators
+
+pub all_first : {X : Type 0} (P : X → Type 0) (x : X) (xs : List X) → All P (x ∷ xs) → P x
+all_first P x xs all = all 0 x (omega arith)
+
+pub all_rest : {X : Type 0} (P : X → Type 0) (x : X) (xs : List X) → All P (x ∷ xs) → All P xs
+all_rest P x xs all k d h = all (suc k) d (omega arith)
+
+one_packed : (size : ℕ) (a b : Packed) → a.segment ≡ b.segment → IsPacked size a → IsPacked size b → a ≡ b
+one_packed size a b segment first second =
+    let canonical : IsCanonical size b.segment.samples a.runs a.separators =
+    subst (λ (s : Segment). IsCanonical size s.samples a.runs a.separators) segment first.canonical in
+    let both = one_packing size b.segment.samples a.runs b.runs a.separators b.separators canonical second.canonical in
+    same_packed a b segment both.0 both.1
+
+all_packed : (size : ℕ) (packed others : List Packed) → map segment_of_packed packed ≡ map segment_of_packed others
+    → All (IsPacked size) packed → All (IsPacked size) others → packed ≡ others
+all_packed size [] [] e first second = refl
+all_packed size [] (b ∷ others) e first second = absurd cc
+all_packed size (a ∷ packed) [] e first second = absurd cc
+all_packed size (a ∷ packed) (b ∷ others) e first second =
+    let head : a.segment ≡ b.segment = cc in
+    let tail : map segment_of_packed packed ≡ map segment_of_packed others = cc in
+    let front : a ≡ b = one_packed size a b head (all_first (IsPacked size) a packed first)
+    (all_first (IsPacked size) b others second) in
+    let rest : packed ≡ others = all_packed size packed others tail (all_rest (IsPacked size) a packed first)
+    (all_rest (IsPacked size) b others second) in
+    cc
+
+pub output_once : (size : ℕ) (packed others : List Packed) (rows more : List Row) (bytes text : List ℕ)
+    → map segment_of_packed packed ≡ map segment_of_packed others → IsOutput size packed rows bytes
+    → IsOutput size others more text →
+    (packed ≡ others) × (rows ≡ more) × (bytes ≡ text)
+output_once size packed others rows more bytes text e first second =
+    let same : packed ≡ others = all_packed size packed others e first.packings second.packings in
+    let records : AreWritten size 1 (flat_map cuts_of packed) more text =
+    subst (λ (p : List Packed). AreWritten size 1 (flat_map cuts_of p) more text) (sym same) second.records in
+    let both = one_written size 1 (flat_map cuts_of packed) rows more bytes text first.records records in
+    (same, both.0, both.1)

@@ -1,5 +1,0 @@
-use Rattle.std.proofs.Common.{arith, refl}
-use Rattle.msr_program.proofs.words.default_length.Goals as goal
-
-pub unwrap-requires : goal.unwrap-requires
-unwrap-requires c = c.new.ensures.some.1 (record { exponent = 9; least = omega arith; most = omega arith; power = refl })

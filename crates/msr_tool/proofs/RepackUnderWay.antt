@@ -1,0 +1,253 @@
+-- The state of repacking between two rows.
+use Rattle.std.proofs.Common.{◌≡◌, ◌⊎◌, inl, inr, ℕ, zero, suc, ◌*◌, ◌^◌, ◌<◌, ◌≤◌, List, [], ◌∷◌, ◌++◌, ◌∙◌, length, map, All, refl, sym, subst, Ok, Err, Option, IfSome, arith}
+use Rattle.std.proofs.Math.Nat.{mul-le-mul_right}
+use Rattle.std.specs.Option.{option_to_list}
+use Rattle.msr_words.specs.Lengths.{bytes_of}
+use Rattle.msr_segments.specs.declared.joiner.Segment.{Segment}
+use Rattle.msr_segments.specs.Joining.{Joining}
+use Rattle.msr_devices.specs.Device.{Device, HasFailed, IsCalm}
+use Rattle.msr_devices.proofs.Chaining.{left_of, steady_sound}
+use Rattle.msr_base.specs.declared.counts.Counts.{Counts}
+use Rattle.msr_report.specs.declared.report.Report.{Report}
+use Rattle.msr_report.specs.declared.report.SegmentLine.{SegmentLine}
+use Rattle.msr_report.specs.Proper.{IsProperLine}
+use Rattle.msr_certificate.specs.Form.{IsFirst}
+use Rattle.msr_input.specs.Input.{AllAgree, NoneOverruns, rows_of_records}
+use Rattle.msr_input.specs.Reading.{GaveReadable, HoldsRecord, IsWritable, StopsReading}
+use Rattle.msr_input.specs.Records.{HaveComeShort}
+use Rattle.msr_input.specs.Rows.{RowReading}
+use Rattle.msr_input.specs.declared.settings.Settings.{Settings}
+use Rattle.msr_input.specs.declared.fault.ReadFault.{ReadFault}
+use Rattle.msr_input.specs.declared.fault.ReadFault.TheVariants as read
+use Rattle.msr_input.specs.declared.row_reader.NextRow.{NextRow}
+use Rattle.msr_output.specs.Output.{Packed, OutputKeepsSegments, OutputHasSize, segment_of_packed, count_of_runs}
+use Rattle.msr_output.specs.Decided.{IsDecidedOutput, IsEncoded}
+use Rattle.msr_tool.specs.Choice.{Choice, settings_of, size_of}
+use Rattle.msr_tool.specs.Writing.{Lined, GoesOn, HasLined, LinesMore, LinesAll, StopsLining, current_with, ended_with}
+use Rattle.msr_tool.specs.Answer.{AreLinesOf}
+use Rattle.msr_tool.specs.Fault.{fault_of_reading}
+use Rattle.msr_tool.specs.Live.{IsLive}
+use Rattle.msr_tool.specs.declared.fault.ToolFault.{ToolFault}
+use Rattle.msr_tool.specs.declared.fault.ToolFault.TheVariants as fault
+use Rattle.msr_tool.proofs.Lines.{calm_lined, lined_decided, records_of_lines}
+use Rattle.msr_tool.proofs.RowsSoFar.{RowsSoFar, RecordMore, rows_begun, rows_read}
+use Rattle.msr_tool.proofs.StoppedRepacks.{IsAnswered, write_failed}
+
+pub record UnderWay (choice : Choice) (source0 source sink0 sink : Device) (reading : RowReading)
+    (so_far : Lined) : Type 0 where
+  pub packed : List Packed
+  pub joining : Joining
+  pub rows : RowsSoFar (settings_of choice) source0 source reading (map segment_of_packed packed) joining
+  pub lined : HasLined sink0 sink so_far packed joining.current
+  pub goes_on : IfSome so_far.last (GoesOn so_far.writing.size)
+  pub encoded : IfSome so_far.last IsEncoded
+  pub size : so_far.writing.size ≡ size_of choice
+  pub calm : IsCalm sink0 sink
+
+-- one more record is read and written
+pub more : (choice : Choice) (source0 source' sink0 sink' : Device) (reading' : RowReading) (so_far' : Lined)
+    (packed : List Packed) (joining : Joining) (next : Option NextRow)
+    → RecordMore (settings_of choice) source0 source' reading' (map segment_of_packed packed) joining next
+    → LinesMore sink0 sink' so_far' packed (option_to_list (ended_with next joining.current))
+    (current_with next joining.current) → IfSome so_far'.last (GoesOn so_far'.writing.size)
+    → IfSome so_far'.last IsEncoded → so_far'.writing.size ≡ size_of choice
+    → UnderWay choice source0 source' sink0 sink' reading' so_far'
+more choice source0 source' sink0 sink' reading' so_far' packed joining next m wrote goes_on encoded size = record {
+  packed = wrote.all;
+  joining = m.new;
+  rows = subst (λ (given : List Segment). RowsSoFar (settings_of choice) source0 source' reading' given m.new)
+      (sym wrote.same) m.rows;
+  lined = subst (λ (current : Option Segment). HasLined sink0 sink' so_far' wrote.all current)
+      (sym m.current) wrote.after;
+  goes_on = goes_on;
+  encoded = encoded;
+  size = size;
+  calm = calm_lined sink0 sink' so_far' wrote.all (current_with next joining.current) wrote.after;
+}
+
+-- what waits is written
+pub flushed : (choice : Choice) (source0 source sink0 sink sink' : Device) (reading : RowReading)
+    (so_far so_far' : Lined) (u : UnderWay choice source0 source sink0 sink reading so_far)
+    → HasLined sink0 sink' so_far' u.packed u.joining.current → so_far'.last ≡ so_far.last
+    → so_far'.writing.size ≡ so_far.writing.size
+    → UnderWay choice source0 source sink0 sink' reading so_far'
+flushed choice source0 source sink0 sink sink' reading so_far so_far' u wrote last size = record {
+  packed = u.packed;
+  joining = u.joining;
+  rows = u.rows;
+  lined = wrote;
+  goes_on = rw (last, size) u.goes_on;
+  encoded = rw last u.encoded;
+  size = size ∙ u.size;
+  calm = calm_lined sink0 sink' so_far' u.packed u.joining.current wrote;
+}
+
+all_head : {X : Type 0} (P : X → Type 0) (x : X) (xs : List X) → All P (x ∷ xs) → P x
+all_head P x xs all = all 0 x (omega arith)
+
+all_tail : {X : Type 0} (P : X → Type 0) (x : X) (xs : List X) → All P (x ∷ xs) → All P xs
+all_tail P x xs all k d h = all (suc k) d (omega arith)
+
+all_cons : {X : Type 0} (P : X → Type 0) (x : X) (xs : List X) → P x → All P xs → All P (x ∷ xs)
+all_cons P x xs head tail zero d h = head
+all_cons P x xs head tail (suc k) d h = tail k d (omega arith)
+
+abbrev HasSome : Packed → Type 0
+HasSome packed = 1 ≤ length packed.segment.samples
+
+-- what reading says of each segment is so of each line
+proper_lines : (packed : List Packed) (lines : List SegmentLine) → All IsWritable (map segment_of_packed packed)
+    → AreLinesOf packed lines → All IsProperLine lines
+proper_lines [] lines writable are = rw are (λ k d h. absurd (omega arith))
+proper_lines (one ∷ packed) [] writable are = absurd are
+proper_lines (one ∷ packed) (its ∷ lines) writable are =
+    let head : IsWritable one.segment = all_head IsWritable one.segment (map segment_of_packed packed) writable in
+    let first : IsProperLine its = record {
+      quality = rw are.0.key head.quality;
+      start = rw are.0.start head.in_time.first_in;
+    } in
+    all_cons IsProperLine its lines first (proper_lines packed lines
+    (all_tail IsWritable one.segment (map segment_of_packed packed) writable) are.1)
+
+some_samples : (packed : List Packed) → All IsWritable (map segment_of_packed packed) → All HasSome packed
+some_samples [] writable = λ k d h. absurd (omega arith)
+some_samples (one ∷ packed) writable =
+    all_cons HasSome one packed (all_head IsWritable one.segment (map segment_of_packed packed) writable).some
+    (some_samples packed (all_tail IsWritable one.segment (map segment_of_packed packed) writable))
+
+few_runs : (size runs bytes : ℕ) → 1 ≤ size → bytes ≡ size * runs → bytes < 2 ^ 64 → runs < 2 ^ 64
+few_runs size runs bytes some are short =
+    let most : 1 * runs ≤ size * runs = mul-le-mul_right runs some in
+    omega arith
+
+-- all was read and written
+pub done : (choice : Choice) (source0 sink0 sink : Device) (segments : List Segment) (lines : List SegmentLine)
+    (counts : Counts) (report : Report) →
+    GaveReadable source0 (settings_of choice) segments counts → All IsWritable segments
+    → LinesAll (size_of choice) sink0 sink segments lines →
+    1 ≤ choice.tolerance → choice.tolerance ≤ 1_000_000 → 1 ≤ size_of choice → OutputKeepsSegments → OutputHasSize →
+    report.length ≡ choice.record_length → report.tolerance ≡ choice.tolerance → report.counts ≡ counts
+    → report.segments.items ≡ lines → IsFirst (bytes_of report.length) report.tolerance report.counts
+    → IsAnswered choice source0 sink0 sink (Ok report)
+done choice source0 sink0 sink segments lines counts report gave can wrote least most some keeps has_size
+    same_length same_tolerance same_counts same_lines is_first =
+    let size = wrote.writing.size in
+    let all = wrote.packed in
+    let bytes = wrote.written.bytes in
+    let writable : All IsWritable (map segment_of_packed all) = rw wrote.same can in
+    let count : length bytes ≡ size * count_of_runs all = has_size size all wrote.rows bytes wrote.written.output in
+    record {
+      input = gave.input;
+      written = bytes;
+      left = gave.left;
+      takes = wrote.written.takes;
+      answers = record {
+        records = gave.records;
+        packed = all;
+        rows = wrote.rows;
+        readable = rw wrote.same gave.readable;
+        output = rw (← wrote.same_size) wrote.written.output;
+        same_segments = keeps size choice.tolerance (rows_of_records gave.records) wrote.rows all bytes least
+            (rw wrote.same gave.readable.are_segments) (some_samples all writable) wrote.written.output;
+        is_report = record {
+          size = rw same_length refl;
+          tolerance = same_tolerance;
+          counts = same_counts ∙ gave.counted;
+          lines = rw same_lines wrote.are_lines;
+          proper = record {
+            least = rw same_tolerance least;
+            most = rw same_tolerance most;
+            lines = rw same_lines (proper_lines all lines writable wrote.are_lines);
+            records = rw (same_lines, records_of_lines all lines wrote.are_lines)
+                (few_runs size (count_of_runs all) (length bytes) (rw wrote.same_size some) count wrote.written.short);
+          };
+          is_form = record { first = is_first; segments = rw same_lines wrote.forms };
+        };
+      };
+    }
+
+-- or it is not
+pub flush_stops : (choice : Choice) (source0 source sink0 sink sink' : Device) (reading : RowReading)
+    (so_far : Lined) (found : ToolFault) (u : UnderWay choice source0 source sink0 sink reading so_far)
+    → StopsLining so_far.writing.size sink0 sink'
+    (map segment_of_packed u.packed ++ option_to_list u.joining.current) found
+    → IsAnswered choice source0 sink0 sink' (Err found)
+flush_stops choice source0 source sink0 sink sink' reading so_far found u stops =
+    let all = map segment_of_packed u.packed ++ option_to_list u.joining.current in
+    write_failed choice source0 sink0 sink' all found
+    (rows_read (settings_of choice) source0 source reading (map segment_of_packed u.packed) u.joining u.rows)
+    (subst (λ (n : ℕ). StopsLining n sink0 sink' all found) u.size stops)
+
+-- ---- where what is decided is written before each read
+
+-- the next record is at hand, or nothing waits to be written
+abbrev pub IsReady : RowReading → Lined → Type 0
+IsReady reading so_far = HoldsRecord reading.position.waiting ⊎ (so_far.writing.waiting ≡ [])
+
+-- a reader that fails where nothing waits
+live_so : (choice : Choice) (source0 source source' sink0 sink : Device) (reading reading' : RowReading)
+    (so_far : Lined) (u : UnderWay choice source0 source sink0 sink reading so_far) → so_far.writing.waiting ≡ []
+    → HaveComeShort source0 source' u.rows.records reading'.position.waiting
+    → (HoldsRecord reading'.position.waiting → ⊥) → IsLive choice source0 source' sink0 sink
+live_so choice source0 source source' sink0 sink reading reading' so_far u none came short =
+    let left = left_of source' in
+    let begun = came.begins left.0 left.1 in
+    let wrote = lined_decided sink0 sink so_far u.packed u.joining.current u.goes_on u.encoded none u.lined in
+    let given = rows_begun (settings_of choice) source0 source reading
+    (map segment_of_packed u.packed) u.joining u.rows in
+    record {
+      input = begun.0;
+      records = u.rows.records;
+      behind = reading'.position.waiting;
+      rest = left.0;
+      segments = map segment_of_packed u.packed ++ option_to_list u.joining.current;
+      written = wrote.bytes;
+      left = begun.1;
+      are_read = record {
+        begins = begun.2;
+        in_range = subst (λ (settings : Settings). NoneOverruns settings.tolerance u.rows.records) u.rows.same
+            u.rows.has_read.in_range;
+        agree = subst (λ (settings : Settings). AllAgree settings.strict u.rows.records) u.rows.same
+            u.rows.has_read.came.agree;
+      };
+      came = came.moved;
+      none_whole = short;
+      are_segments = given;
+      takes = wrote.takes;
+      went = wrote.went;
+      decided = subst (λ (n : ℕ). IsDecidedOutput n
+          (map segment_of_packed u.packed ++ option_to_list u.joining.current) wrote.bytes) u.size wrote.decided;
+    }
+
+read_fault : (why : ReadFault) → fault_of_reading why ≡ fault.Read → why ≡ read.Read
+read_fault (read.Input other) e = absurd cc
+read_fault read.Read e = refl
+read_fault read.Memory e = absurd cc
+
+-- where a read failed, nothing waited
+pub live : (choice : Choice) (source0 source source' sink0 sink : Device) (reading reading' : RowReading)
+    (so_far : Lined) (why : ReadFault) (u : UnderWay choice source0 source sink0 sink reading so_far)
+    → IsReady reading so_far → fault_of_reading why ≡ fault.Read
+    → StopsReading (settings_of choice) source0 source'
+    (map segment_of_packed u.packed ++ option_to_list u.joining.current) why
+    → (HoldsRecord reading.position.waiting → source' ≡ source)
+    → (why ≡ read.Read → HaveComeShort source0 source' u.rows.records reading'.position.waiting)
+    → (why ≡ read.Read → HoldsRecord reading'.position.waiting → ⊥) → IsLive choice source0 source' sink0 sink
+live choice source0 source source' sink0 sink reading reading' so_far why u (inl holds) e stops unread came short =
+    let is = read_fault why e in
+    let failed = subst (λ (w : ReadFault). StopsReading (settings_of choice) source0 source'
+    (map segment_of_packed u.packed ++ option_to_list u.joining.current) w) is stops in
+    absurd (steady_sound source0 source u.rows.has_read.came.steady
+    (subst (λ (d : Device). HasFailed source0 d) (unread holds) failed.1))
+live choice source0 source source' sink0 sink reading reading' so_far why u (inr none) e stops unread came short =
+    let is = read_fault why e in
+    live_so choice source0 source source' sink0 sink reading reading' so_far u none (came is) (short is)
+
+-- what is written is no fault of a read
+pub lining_unread : (size : ℕ) (start now : Device) (segments : List Segment) (found : ToolFault)
+    → StopsLining size start now segments found → found ≡ fault.Read → ⊥
+lining_unread size start now segments (fault.Input other) h e = h
+lining_unread size start now segments (fault.Report line) h e = h
+lining_unread size start now segments fault.Read h e = h
+lining_unread size start now segments fault.Write h e = absurd cc
+lining_unread size start now segments fault.Memory h e = absurd cc

@@ -1,0 +1,217 @@
+-- What is answered where reading stops, and at the end of the input.
+use Rattle.std.proofs.Common.{◌≡◌, ◌↔◌, inl, inr, ℕ, ◌^◌, ◌<◌, true, List, [], ◌∷◌, ◌++◌, length, map, refl, sym, ap, subst, ◌∙◌, arith, length-append, Option, Result, Ok, Err, IsErrOf, All}
+use Rattle.std.specs.Prelude.{IfSome}
+use Rattle.std.specs.Option.{option_to_list}
+use Rattle.std.proofs.lemmas.List.{append-nil}
+use Rattle.msr_words.specs.Lengths.{bytes_of}
+use Rattle.msr_words.proofs.Certificate.{least_by_separators}
+use Rattle.msr_record.specs.declared.row.Record.{Record}
+use Rattle.msr_devices.specs.Device.{Device, HasLeft, HasFailed}
+use Rattle.msr_devices.proofs.Chaining.{left_of, steady_sound}
+use Rattle.msr_segments.specs.Segments.{Part, rows_of, segment_of, IsDivision}
+use Rattle.msr_segments.specs.declared.joiner.Segment.{Segment}
+use Rattle.msr_segments.proofs.DivisionLaws.{one_division}
+use Rattle.msr_report.specs.declared.report.Report.{Report}
+use Rattle.msr_report.specs.declared.report.SegmentLine.{SegmentLine}
+use Rattle.msr_input.specs.Input.{AreRead, IsReadable, rows_of_records}
+use Rattle.msr_input.specs.Reading.{Reading, HasRead, StopsReading, settings_of}
+use Rattle.msr_input.specs.declared.settings.Settings.{Settings}
+use Rattle.msr_input.specs.declared.fault.ReadFault.{ReadFault}
+use Rattle.msr_input.specs.declared.fault.ReadFault.TheVariants as fault
+use Rattle.msr_input.proofs.OneReading.{one_list_of_records}
+use Rattle.msr_verdict.specs.declared.verdict.Verdict.{Verdict}
+use Rattle.msr_verdict.specs.declared.verdict.Verdict.TheVariants.{Least, NotShown}
+use Rattle.msr_verdict.specs.Packed.{IsFull, IsShownBy, AreShownBy, ShowsLeast, Answers, StandsInFewest, AllStandInFewest, ShownIsFewest, ShownIsReadable, runs_of_part, settings_by}
+use Rattle.msr_verdict.specs.Compared.{Compared, ComparesEnded}
+use Rattle.msr_verdict.proofs.Lines.{shown_length}
+use Rattle.msr_verdict.proofs.Runs.{runs_length}
+use Rattle.msr_verdict.proofs.ComparingStates.{IsCompared, Follows, compare_last, true_or_false}
+
+-- The state of reading between two records.
+pub record UnderWay (report : Report) (start now : Device) (reading : Reading) (c : Compared) : Type 0 where
+  pub records : List Record
+  pub given : List Segment
+  pub read : HasRead start now reading records given
+  pub settings : settings_of reading ≡ settings_by report
+  pub follows : Follows (bytes_of report.length) report.segments.items reading.joining records c
+
+-- what is answered, for some input
+pub record IsAnswered (report : Report) (start : Device) (result : Result Verdict ReadFault) : Type 0 where
+  pub input : List ℕ
+  pub left : HasLeft start input
+  pub answers : Answers report input result
+
+pub as_answer : (report : Report) (start : Device) (result : Result Verdict ReadFault)
+    → IsAnswered report start result → (input : List ℕ) × HasLeft start input × Answers report input result
+as_answer report start result a = (a.input, a.left, a.answers)
+
+-- a record is not read, or not taken
+pub read_fails : (report : Report) (start now : Device) (given : List Segment) (why : ReadFault)
+    → StopsReading (settings_by report) start now given why → IsAnswered report start (Err why)
+read_fails report start now given (fault.Input f) h =
+    record { input = h.0.input; left = h.0.left; answers = record { records = h.0.records; first = h.0.first } }
+read_fails report start now given fault.Read h =
+    record {
+      input = h.0.input;
+      left = h.0.left;
+      answers = record { records = h.0.records; rest = h.0.rest; are_read = h.0.are_read };
+    }
+read_fails report start now given fault.Memory h =
+    record {
+      input = h.0.input;
+      left = h.0.left;
+      answers = record { records = h.0.records; rest = h.0.rest; are_read = h.0.are_read };
+    }
+
+pub read_tells : (settings : Settings) (start now : Device) (given : List Segment) (why : ReadFault)
+    → StopsReading settings start now given why → IsErrOf {T = Verdict} (Err why) fault.Read ↔ HasFailed start now
+read_tells settings start now given (fault.Input f) h =
+    ((λ e. absurd cc), (λ failed. absurd (steady_sound start now h.1 failed)))
+read_tells settings start now given fault.Read h = ((λ e. h.1), (λ failed. refl))
+read_tells settings start now given fault.Memory h =
+    ((λ e. absurd cc), (λ failed. absurd (steady_sound start now h.1 failed)))
+
+-- there is no memory for a run
+pub memory_fails : (report : Report) (start now : Device) (reading : Reading) (records : List Record)
+    (given : List Segment) (why : ReadFault) → HasRead start now reading records given
+    → settings_of reading ≡ settings_by report → why ≡ fault.Memory → IsAnswered report start (Err why)
+memory_fails report start now reading records given why h settings memory =
+    let tolerance = ap (λ (s : Settings). s.tolerance) settings in
+    let p = h.came.begins (left_of now).0 (left_of now).1 in
+    rw memory (record {
+      input = p.0;
+      left = p.1;
+      answers = record {
+        records = records;
+        rest = reading.waiting ++ (left_of now).0;
+        are_read = record { begins = p.2; in_range = rw tolerance at h.in_range; agree = λ t. absurd cc };
+      };
+    })
+
+-- the records and the parts by which a report shows the fewest records are those of the input
+same_parts : (report : Report) (input : List ℕ) (records : List Record) (parts : List Part)
+    (h : ShowsLeast report input) → AreRead (settings_by report) input records []
+    → IsDivision report.tolerance (rows_of_records records) parts → (h.records ≡ records) × (h.parts ≡ parts)
+same_parts report input records parts h are d =
+    let first : IsReadable (settings_by report) input h.records (map segment_of h.parts) =
+    record {
+      are_read = h.are_read;
+      are_segments =
+          record { parts = h.parts; division = h.division; each = refl };
+    } in
+    let second : IsReadable (settings_by report) input records (map segment_of parts) =
+    record { are_read = are; are_segments = record { parts = parts; division = d; each = refl } } in
+    let same = (one_list_of_records (settings_by report) input h.records records (map segment_of h.parts)
+    (map segment_of parts) first second).0 in
+    let division : IsDivision report.tolerance (rows_of_records records) h.parts =
+    subst (λ (rs : List Record). IsDivision report.tolerance (rows_of_records rs) h.parts) same h.division in
+    (same, one_division report.tolerance (rows_of_records records) h.parts parts division d)
+
+same_shown : (report : Report) (input : List ℕ) (records : List Record) (parts : List Part)
+    → ShowsLeast report input → AreRead (settings_by report) input records []
+    → IsDivision report.tolerance (rows_of_records records) parts
+    → All (IsFull (bytes_of report.length)) records × AreShownBy (bytes_of report.length) parts report.segments.items
+same_shown report input records parts h are d =
+    let same = same_parts report input records parts h are d in (
+      subst (λ (rs : List Record). All (IsFull (bytes_of report.length)) rs) same.0 h.full,
+      subst
+          (λ (ps : List Part). AreShownBy (bytes_of report.length) ps report.segments.items) same.1 h.shown,
+    )
+
+none_left : {X : Type 0} (left : List X) → length left ≡ 0 → left ≡ []
+none_left [] e = refl
+none_left (x ∷ left) e = absurd (omega arith)
+
+verdict_answers : (report : Report) (input : List ℕ) (records : List Record) (parts : List Part) (c : Compared)
+    (verdict : Verdict) → AreRead (settings_by report) input records []
+    → IsDivision report.tolerance (rows_of_records records) parts
+    → IsCompared (bytes_of report.length) report.segments.items records parts [] c → (verdict ≡ Least)
+    ↔ ((c.agrees ≡ true) × (c.place ≡ length report.segments.items)) → Answers report input (Ok verdict)
+verdict_answers report input records parts c Least are d compared exact =
+    let both = exact.0 refl in
+    let a = compared.agrees both.0 in
+    let none : a.left ≡ [] = none_left a.left (omega
+    (arith, both.1, a.place, ap length a.whole, length-append a.done a.left)) in
+    let whole : report.segments.items ≡ a.done = a.whole ∙ ap (λ (l : List SegmentLine). a.done ++ l) none
+    ∙ append-nil a.done in
+    record {
+      records = records;
+      parts = parts;
+      are_read = are;
+      division = d;
+      full = a.full;
+      shown = subst (λ (l : List SegmentLine). AreShownBy (bytes_of report.length) parts l) (sym whole) a.shown;
+    }
+verdict_answers report input records parts c NotShown are d compared exact = record {
+  records = records;
+  segments = map segment_of parts;
+  readable = record { are_read = are; are_segments = record { parts = parts; division = d; each = refl } };
+  none = λ h.
+      let shown = same_shown report input records parts h are d in
+      elim (true_or_false c.agrees) [
+        | inl agrees ↦ (
+            let a = compared.agrees agrees in
+            let place : c.place ≡ length report.segments.items = a.place
+            ∙ sym (shown_length (bytes_of report.length) parts a.done a.shown)
+            ∙ shown_length (bytes_of report.length) parts report.segments.items shown.1 in
+            let wrong : ◌≡◌ {A = Verdict} NotShown Least = exact.1 (agrees, place) in
+            absurd cc)
+        | inr differs ↦ (compared.differs differs).none [] [] (rw append-nil shown.0) (rw append-nil shown.1)
+      ];
+}
+
+-- all was read
+pub done : (report : Report) (start now : Device) (reading : Reading) (records : List Record)
+    (given : List Segment) (old new : Compared) (last : Option Segment) (verdict : Verdict)
+    → HasRead start now reading records given → settings_of reading ≡ settings_by report
+    → Follows (bytes_of report.length) report.segments.items reading.joining records old → reading.waiting ≡ []
+    → reading.ended ≡ true → last ≡ reading.joining.current
+    → ComparesEnded (bytes_of report.length) report.segments.items old last new
+    → IfSome last (λ segment. length segment.samples < 2 ^ 64) → (verdict ≡ Least)
+    ↔ ((new.agrees ≡ true) × (new.place ≡ length report.segments.items)) → IsAnswered report start (Ok verdict)
+done report start now reading records given old new last verdict read settings f none ended last_is k few exact =
+    let tolerance = ap (λ (s : Settings). s.tolerance) settings in
+    let came = read.came.begins [] (read.came.end ended) in
+    let are : AreRead (settings_by report) came.0 records [] =
+    record { begins = rw none at came.2; in_range = rw tolerance at read.in_range; agree = λ t. absurd cc } in
+    let d : IsDivision report.tolerance (rows_of_records records) (f.parts ++ option_to_list f.last) =
+    rw tolerance at f.has_parts.division in
+    let compared = compare_last
+    (bytes_of report.length) report.segments.items records f.parts f.last last old new f.compared
+    (last_is ∙ f.has_parts.current) k few in
+    record {
+      input = came.0;
+      left = came.1;
+      answers = verdict_answers report came.0 records
+          (f.parts ++ option_to_list f.last) new verdict are d compared exact;
+    }
+
+fewest : (size : ℕ) (part : Part) (line : SegmentLine) → IsShownBy size part line → StandsInFewest size part line
+fewest size part line is = record {
+  records = is.records ∙ runs_length 0 (rows_of part);
+  fewest = λ other packing.
+      let least = least_by_separators size (segment_of part).samples
+      (runs_of_part part) line.separators.items is.separating is.as_many other packing in
+      omega (arith, least, runs_length 0 (rows_of part));
+}
+
+all_fewest : (size : ℕ) (parts : List Part) (lines : List SegmentLine) → AreShownBy size parts lines
+    → AllStandInFewest size parts lines
+all_fewest size [] [] are = tt
+all_fewest size [] (its ∷ lines) are = absurd are
+all_fewest size (one ∷ parts) [] are = absurd are
+all_fewest size (one ∷ parts) (its ∷ lines) are = (fewest size one its are.0, all_fewest size parts lines are.1)
+
+pub shown_fewest : ShownIsFewest
+shown_fewest report input records parts h are d =
+    all_fewest (bytes_of report.length) parts report.segments.items (same_shown report input records parts h are d).1
+
+pub shown_readable : ShownIsReadable
+shown_readable report input h = (
+  h.records,
+  map segment_of h.parts,
+  record {
+    are_read = h.are_read;
+    are_segments = record { parts = h.parts; division = h.division; each = refl };
+  },
+)

@@ -1,0 +1,88 @@
+-- The lines of the channels, one after another.
+use Rattle.std.proofs.Common.{◌≡◌, ℕ, ◌+◌, List, [], ◌∷◌, ◌++◌, ◌∙◌, refl, ap, sym, append_assoc, take, drop, Some}
+use Rattle.std.proofs.lemmas.List.{append-nil, take-append-drop, take_more}
+use Rattle.std.proofs.lemmas.Option.{slice_get_within, get_or_from_slice_get}
+use Rattle.std.proofs.lemmas.Grind.{flat_map-append}
+use Rattle.std.specs.List.{flat_map, slice_get}
+use Rattle.msr_devices.specs.Device.{Device, Takes}
+use Rattle.msr_devices.proofs.Chaining.{takes_append}
+use Rattle.msr_report.specs.Writing.{TakesFront}
+use Rattle.msr_walk.specs.Entries.{Entry, IsTally}
+use Rattle.msr_walk.specs.Walk.{channel_line, counts_line, summary}
+use Rattle.msr_walk.specs.declared.tally.Tally.{Tally}
+
+-- the lines up to a place, and the line at the place
+pub lines_next : {X : Type 0} (line : X → List ℕ) (xs : List X) (i : ℕ) (x : X) → slice_get xs i ≡ Some x →
+    flat_map line (take (i + 1) xs) ≡ flat_map line (take i xs) ++ line x
+lines_next line xs i x h =
+    ap (flat_map line) (take_more xs i x (slice_get_within xs i x h)
+    ∙ ap (λ y. take i xs ++ y ∷ []) (get_or_from_slice_get xs i x x h))
+    ∙ flat_map-append line (take i xs) (x ∷ [])
+    ∙ ap (λ (t : List ℕ). flat_map line (take i xs) ++ t) (append-nil (line x))
+
+-- the lines up to a place are a prefix of all
+pub front_of : {X : Type 0} (line : X → List ℕ) (xs : List X) (i : ℕ) (old new : Device) →
+    Takes old new (flat_map line (take i xs)) → TakesFront old new (flat_map line xs)
+front_of line xs i old new takes = record {
+  taken = flat_map line (take i xs);
+  rest = flat_map line (drop i xs);
+  takes = takes;
+  whole = ap (flat_map line) (sym (take-append-drop i xs)) ∙ flat_map-append line (take i xs) (drop i xs);
+}
+
+-- with a prefix of the line at the place
+pub front_in : {X : Type 0} (line : X → List ℕ) (xs : List X) (i n : ℕ) (x : X) (text : List ℕ)
+    (old now new : Device) → slice_get xs i ≡ Some x →
+    text ≡ line x → Takes old now (flat_map line (take i xs)) → Takes now new (take n text)
+    → TakesFront old new (flat_map line xs)
+front_in line xs i n x text old now new h is before piece = record {
+  taken = flat_map line (take i xs) ++ take n text;
+  rest = drop n text ++ flat_map line (drop (i + 1) xs);
+  takes = takes_append old now new (flat_map line (take i xs)) (take n text) before piece;
+  whole =
+      ap (flat_map line) (sym (take-append-drop (i + 1) xs))
+      ∙ flat_map-append line (take (i + 1) xs) (drop (i + 1) xs)
+      ∙ ap (λ (t : List ℕ). t ++ flat_map line (drop (i + 1) xs))
+      (lines_next line xs i x h ∙ ap (λ (t : List ℕ). flat_map line (take i xs) ++ t)
+      (sym is ∙ sym (take-append-drop n text)) ∙ sym
+      (append_assoc (flat_map line (take i xs)) (take n text) (drop n text)))
+      ∙ append_assoc (flat_map line (take i xs) ++ take n text) (drop n text) (flat_map line (drop (i + 1) xs));
+}
+
+-- a prefix of a text
+pub front_piece : (old new : Device) (text : List ℕ) (n : ℕ) → Takes old new (take n text) → TakesFront old new text
+front_piece old new text n piece = record {
+  taken = take n text;
+  rest = drop n text;
+  takes = piece;
+  whole = sym (take-append-drop n text);
+}
+
+-- a prefix of what comes first
+pub front_before : (old new : Device) (first second : List ℕ) → TakesFront old new first
+    → TakesFront old new (first ++ second)
+front_before old new first second front = record {
+  taken = front.taken;
+  rest = front.rest ++ second;
+  takes = front.takes;
+  whole = ap (λ (t : List ℕ). t ++ second) front.whole ∙ append_assoc front.taken front.rest second;
+}
+
+-- all that comes first, and a prefix of the rest
+pub front_after : (old now new : Device) (first second : List ℕ) (n : ℕ) → Takes old now first
+    → Takes now new (take n second) → TakesFront old new (first ++ second)
+front_after old now new first second n before piece = record {
+  taken = first ++ take n second;
+  rest = drop n second;
+  takes = takes_append old now new first (take n second) before piece;
+  whole = ap (λ (t : List ℕ). first ++ t) (sym (take-append-drop n second))
+      ∙ sym (append_assoc first (take n second) (drop n second));
+}
+
+pub front_all : (old new : Device) (first second : List ℕ) → Takes old new first → TakesFront old new (first ++ second)
+front_all old new first second before = record { taken = first; rest = second; takes = before; whole = refl }
+
+-- the last lines, from the counts and totals of the entries
+pub summary_is : (entries : List Entry) (tally : Tally) → IsTally entries tally →
+    flat_map channel_line tally.channels ++ counts_line tally.done tally.skipped tally.refused ≡ summary entries
+summary_is entries tally h = rw (h.channels, h.done, h.skipped, h.refused) refl
