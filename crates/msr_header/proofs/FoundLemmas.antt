@@ -6,7 +6,8 @@ use Rattle.msr_time.specs.Instant.{IsTime, is_time}
 use Rattle.msr_time.proofs.TimeLemmas.{is_time_parts}
 use Rattle.msr_header.specs.Layout.{order_of, time_at}
 use Rattle.msr_header.specs.Chain.{chain_end, chain_faults, chain_offsets}
-use Rattle.msr_header.specs.Reading.{first_fault, unless, faults_of, start_faults, data_faults, fields_of, fields_unless, header_of, is_data_record, is_quality, data_blockette, data_blockette_byte}
+use Rattle.msr_header.specs.Reading.{faults_of, start_faults, data_faults, fields_of, fields_unless, header_of, is_data_record, is_quality, data_blockette, data_blockette_byte}
+use Rattle.msr_base.specs.Faults.{first_fault, unless}
 use Rattle.msr_header.specs.declared.header.Header.{Header}
 use Rattle.msr_header.specs.declared.fault.HeaderFault.{HeaderFault}
 use Rattle.msr_header.specs.declared.fault.HeaderFault.TheVariants.{Truncated, NotARecord, BadTime, NoBlockette1000, BadExponent, BadOrder, RecordCut, ChainPastRecord}

@@ -5,7 +5,8 @@ use Rattle.std.proofs.lemmas.Bool.{and_from, and_parts}
 use Rattle.std.proofs.lemmas.Bool.Decides.{Decides-int_eq}
 use Rattle.msr_header.specs.declared.header.Header.{Header}
 use Rattle.msr_record.specs.Kinds.{kind_of_code}
-use Rattle.msr_record.specs.Records.{has_rate, has_area, field_faults, first_fault}
+use Rattle.msr_record.specs.Records.{has_rate, has_area, field_faults}
+use Rattle.msr_base.specs.Faults.{first_fault}
 use Rattle.msr_words.specs.Fit.{code_of}
 use Rattle.msr_words.specs.declared.kinds.Kind.{Kind}
 use Rattle.msr_words.specs.declared.kinds.Kind.TheVariants.{Int16, Int24, Int32, Steim1, Steim2}

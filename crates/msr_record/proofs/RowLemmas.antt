@@ -9,7 +9,8 @@ use Rattle.msr_header.specs.declared.header.Header.{Header}
 use Rattle.msr_record.specs.Kinds.{kind_of_code}
 use Rattle.msr_record.specs.Correction.{key_of, start_of}
 use Rattle.msr_record.specs.Area.{Carries, ReverseAgrees}
-use Rattle.msr_record.specs.Records.{unless, has_rate, has_area, field_faults, first_fault, data_area, HasSamples, HasArea, IsOutOfTime, AgreesAtEnd, IsInTime, IsRefused}
+use Rattle.msr_record.specs.Records.{has_rate, has_area, field_faults, data_area, HasSamples, HasArea, IsOutOfTime, AgreesAtEnd, IsInTime, IsRefused}
+use Rattle.msr_base.specs.Faults.{first_fault, unless}
 use Rattle.msr_words.specs.declared.kinds.Kind.{Kind}
 use Rattle.msr_record.specs.declared.row.Key.{Key}
 use Rattle.msr_record.specs.declared.row.Row.{Row}

@@ -21,7 +21,8 @@ use Rattle.msr_words.specs.declared.kinds.Kind.TheVariants.{Int16, Int24, Int32,
 use Rattle.msr_record.specs.Kinds.{kind_of_code}
 use Rattle.msr_record.specs.Correction.{key_of, start_of, is_pending, correction_micros}
 use Rattle.msr_record.specs.Area.{Carries, ReverseAgrees}
-use Rattle.msr_record.specs.Records.{has_area, field_faults, first_fault, data_area, IsRowOf}
+use Rattle.msr_record.specs.Records.{has_area, field_faults, data_area, IsRowOf}
+use Rattle.msr_base.specs.Faults.{first_fault}
 use Rattle.msr_record.specs.Written.{sequence_digits, header_for, IsWrittenArea, AppendsRecord}
 use Rattle.msr_record.specs.declared.row.Key.{Key}
 use Rattle.msr_record.specs.declared.row.Row.{Row}

@@ -1,3 +1,4 @@
+pub use Rattle.msr_base.specs.Faults
 pub mod Kinds
 pub mod Correction
 pub mod Area

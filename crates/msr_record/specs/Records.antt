@@ -3,6 +3,7 @@ use Rattle.std.specs.Prelude.{◌≡◌, ◌↔◌, ℕ, ◌-◌, ◌^◌, ◌�
 use Rattle.std.specs.Ordering.{int_eq}
 use Rattle.msr_time.specs.Instant.{IsInstant}
 use Rattle.msr_time.specs.SampleRate.{SampleRate, IsRoundedNominal}
+use Rattle.msr_base.specs.Faults.{first_fault, unless}
 use Rattle.msr_header.specs.Reading.{header_of}
 use Rattle.msr_header.specs.declared.header.Header.{Header}
 use Rattle.msr_record.specs.Kinds.{kind_of_code}
@@ -22,10 +23,6 @@ has_rate h = not (int_eq h.factor (pos 0)) && not (int_eq h.multiplier (pos 0))
 abbrev pub has_area : Header → Bool
 has_area h = nat_le h.chain_end h.data_at && nat_le h.data_at (2 ^ h.exponent)
 
--- the fault, where the test fails
-abbrev pub unless : Bool → FaultKind → Option FaultKind
-unless passes fault = if passes then None else Some fault
-
 -- the faults of the fields that samples need, in their order, each where its test fails
 unfoldable pub field_faults : Header → List (Option FaultKind)
 field_faults h =
@@ -33,12 +30,6 @@ field_faults h =
     ∷ unless (is_some (kind_of_code h.encoding)) (OtherEncoding h.encoding)
     ∷ unless (has_area h) BadDataOffset
     ∷ []
-
--- the first fault of a list
-abbrev pub first_fault : List (Option FaultKind) → Option FaultKind
-first_fault [] = None
-first_fault (None ∷ faults) = first_fault faults
-first_fault (Some fault ∷ faults) = Some fault
 
 -- the data area: from the beginning of data to the record's end
 abbrev pub data_area : Header → List ℕ → List ℕ

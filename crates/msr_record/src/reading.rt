@@ -4,7 +4,8 @@ ghost use Rattle.msr_time.specs.Instant.{IsTime};
 ghost use Rattle.msr_header.specs.Reading.{header_of};
 ghost use Rattle.msr_record.specs.Kinds.{kind_of_code};
 ghost use Rattle.msr_record.specs.Correction.{is_pending, activity_of, correction_micros, timing_micros, timing_quality, start_of, key_of};
-ghost use Rattle.msr_record.specs.Records.{first_bytes, first_fault, data_area, field_faults, has_area, IsInTime, IsRecordOf, IsRefused, TakesMemory};
+ghost use Rattle.msr_record.specs.Records.{first_bytes, data_area, field_faults, has_area, IsInTime, IsRecordOf, IsRefused, TakesMemory};
+ghost use Rattle.msr_base.specs.Faults.{first_fault};
 ghost use Rattle.msr_record.specs.Opening.{IsOpened};
 
 use crate::area::decode_area;
