@@ -24,7 +24,8 @@ use Rattle.msr_output.proofs.CutRows.{IsFitting}
 use Rattle.msr_output.proofs.OneOutput.{all_first, all_rest}
 use Rattle.msr_output.proofs.BetweenSegments.{all_one}
 use Rattle.msr_output.proofs.Runs.{points_of_run, record_of_run}
-use Rattle.msr_output.proofs.Times.{nominal_between, rounded_parts}
+use Rattle.msr_output.proofs.Times.{nominal_between}
+use Rattle.msr_time.proofs.NominalLemmas.{rounded_parts}
 
 -- where one sample has a rounded instant, each has
 nominal_exists : (rate : SampleRate) (t0 last : ℤ) (n m : ℕ) → IsRoundedNominal rate t0 m last

@@ -5,22 +5,9 @@ use Rattle.std.proofs.Math.Nat.{mul-le-mul_right}
 use Rattle.jiff_core.proofs.SignedLemmas.{signed_arith}
 use Rattle.msr_time.specs.SampleRate.{SampleRate, period_of, IsRoundedNominal}
 use Rattle.msr_time.specs.Instant.{IsInstant}
-use Rattle.msr_time.proofs.RateLemmas.{scaled, nominal_is, quotient_bounds}
+use Rattle.msr_time.proofs.NominalLemmas.{rounded_parts}
+use Rattle.msr_time.proofs.RateLemmas.{nominal_is, quotient_bounds}
 use borrow.Author.Differences.{up, down}
-
--- the parts of a rounded instant, over naturals: times the denominator
-pub rounded_parts : (rate : SampleRate) (t0 : ℤ) (n : ℕ) (r : ℤ) → IsRoundedNominal rate t0 n r
-    → (let den = (period_of rate).1 in let span = n * (period_of rate).0 in
-    (2 * (up r * den) + 2 * (down t0 * den) ≤ 2 * (down r * den) + 2 * (up t0 * den) + 2 * span + den)
-    × (2 * (up t0 * den) + 2 * span + 2 * (down r * den) < 2 * (up r * den) + den + 2 * (down t0 * den)))
-rounded_parts rate t0 n r h =
-    let den = (period_of rate).1 in
-    let base = scaled t0 (up t0) (down t0) den (omega arith) in
-    let below = scaled (pos 2 *ℤ r -ℤ pos 1) (2 * up r) (2 * down r + 1) den (omega (arith, signed_arith)) in
-    let above = scaled (pos 2 *ℤ r +ℤ pos 1) (2 * up r + 1) (2 * down r) den (omega (arith, signed_arith)) in
-    let early = h.not_early in
-    let late = h.not_late in
-    (omega (arith, signed_arith), omega (arith, signed_arith))
 
 -- no rounded instant lies before the start
 not_before_start : (rate : SampleRate) (t0 : ℤ) (n : ℕ) (r : ℤ) → IsRoundedNominal rate t0 n r

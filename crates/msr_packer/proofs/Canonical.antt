@@ -2,6 +2,7 @@
 use Rattle.std.proofs.Common.{◌≡◌, ℕ, ℤ, List, [], ◌∷◌, length, refl, sym, ◌∙◌, subst, arith, inl, inr}
 use Rattle.std.proofs.lemmas.Bool.{cases_lt}
 use Rattle.msr_words.specs.declared.kinds.Kind.{Kind}
+use Rattle.msr_words.proofs.Runs.{same_run}
 use Rattle.msr_words.specs.declared.kinds.Run.{Run}
 use Rattle.msr_words.specs.Segment.{run_points}
 use Rattle.msr_words.specs.Fit.{FitsAny, IsRun, rank, IsFirstKind}
@@ -17,14 +18,6 @@ first_same bytes run k l first other =
         | inr nor ↦ rank_same k l (omega arith)
       ]
     ]
-
-make : ℕ → ℕ → Kind → Run
-make start end kind = record { start = start; end = end; kind = kind }
-
-same_run : (run other : Run) → run.start ≡ other.start → run.end ≡ other.end → run.kind ≡ other.kind → run ≡ other
-unfolding make
-same_run run other s e k =
-    let all : make run.start run.end run.kind ≡ make other.start other.end other.kind = rw (s, e, k) refl in all
 
 joins_from : (runs : List Run) (a c b : ℕ) → Joins a runs b → Joins c runs b → a ≡ c
 joins_from [] a c b first second = first ∙ sym second

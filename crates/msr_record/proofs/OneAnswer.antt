@@ -103,7 +103,7 @@ area_one Steim1 order area count f g p q = frames_one One order area count f g
 area_one Steim2 order area count f g p q = frames_one Two order area count f g
     (frame_fault Two order area count f p) (frame_fault Two order area count g q)
 
-some_same : {X : Type 0} (o : Option X) (x y : X) → o ≡ Some x → o ≡ Some y → x ≡ y
+pub some_same : {X : Type 0} (o : Option X) (x y : X) → o ≡ Some x → o ≡ Some y → x ≡ y
 some_same o x y p q = cc
 
 -- the header and the kind of a record are one

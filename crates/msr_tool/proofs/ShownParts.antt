@@ -2,7 +2,7 @@
 use Rattle.std.proofs.Common.{◌≡◌, ℕ, ◌+◌, ◌-◌, List, [], ◌∷◌, ◌++◌, ◌∙◌, length, map, arith, refl, sym, ap, subst, length-append}
 use Rattle.std.specs.List.{flat_map}
 use Rattle.std.specs.Prelude.{All}
-use Rattle.msr_words.specs.declared.kinds.Kind.{Kind}
+use Rattle.msr_words.proofs.Runs.{same_run}
 use Rattle.msr_words.specs.declared.kinds.Run.{Run}
 use Rattle.msr_words.specs.Packing.{Joins, IsSeparating}
 use Rattle.msr_record.specs.declared.row.Row.{Row}
@@ -44,12 +44,6 @@ same_front (x ∷ xs) (y ∷ ys) u v e first second size =
     omega (arith, size, count, length-append x.samples (samples_of xs), length-append y.samples (samples_of ys)) in
     let same = same_front xs ys u v t first.1 second.1 rest in
     (ap (λ (r : Row). r ∷ xs) h ∙ ap (λ (r : List Row). y ∷ r) same.0, same.1)
-
-same_run : (a b : Run) → a.start ≡ b.start → a.end ≡ b.end → a.kind ≡ b.kind → a ≡ b
-same_run a b start end kind =
-    ap (λ (n : ℕ). record { start = n; end = a.end; kind = a.kind }) start
-    ∙ ap (λ (n : ℕ). record { start = b.start; end = n; kind = a.kind }) end
-    ∙ ap (λ (k : Kind). record { start = b.start; end = b.end; kind = k }) kind
 
 -- The rows of a segment's records are its runs, and have all its samples.
 record AreRuns (a : ℕ) (runs : List Run) (end : ℕ) (rows : List Row) : Type 0 where

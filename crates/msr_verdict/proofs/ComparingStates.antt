@@ -3,6 +3,7 @@ use Rattle.std.proofs.Common.{◌≡◌, ◌⊎◌, inl, inr, ℕ, zero, suc, �
 use Rattle.std.specs.Prelude.{slice_get, option_map, IfSome, MatchOption}
 use Rattle.std.specs.Option.{option_to_list}
 use Rattle.std.proofs.lemmas.List.{append-nil}
+use Rattle.msr_record.proofs.OneAnswer.{some_same}
 use Rattle.msr_words.specs.declared.kinds.Run.{Run}
 use Rattle.msr_words.specs.declared.kinds.Kind.{Kind}
 use Rattle.msr_record.specs.declared.row.Row.{Row}
@@ -249,9 +250,6 @@ add_none size lines records parts rows found new other f = record {
   agrees = λ t. absurd (not_both new.agrees t f);
   differs = λ _. record { none = λ more rest all are. other (all_within (IsFull size) records more found all) };
 }
-
-some_same : {X : Type 0} (o : Option X) (x y : X) → o ≡ Some x → o ≡ Some y → x ≡ y
-some_same {X} o x y e f = let g : ◌≡◌ {A = Option X} (Some x) (Some y) = sym e ∙ f in cc
 
 add_piece : (size : ℕ) (lines : List SegmentLine) (records : List Record) (parts : List Part) (kept all : List Row)
     (row : Row) (found : Record) (piece : Option Piece) (old new : Compared)

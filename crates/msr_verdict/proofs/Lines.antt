@@ -1,6 +1,7 @@
 -- Parts of the rows beside lines of a report.
 use Rattle.std.proofs.Common.{rules, true, false, ◌≡◌, ◌↔◌, ℕ, suc, Bool, List, [], ◌∷◌, ◌++◌, length, refl, sym, ap, subst, ◌∙◌, Option, Some}
 use Rattle.std.specs.Prelude.{IsTrue, slice_get}
+use Rattle.msr_record.proofs.OneAnswer.{some_same}
 use Rattle.msr_words.specs.declared.kinds.Run.{Run}
 use Rattle.msr_words.specs.Packing.{IsPacking, IsSeparating}
 use Rattle.msr_segments.specs.Segments.{Part}
@@ -8,9 +9,6 @@ use Rattle.msr_segments.specs.declared.joiner.Segment.{Segment}
 use Rattle.msr_report.specs.declared.report.SegmentLine.{SegmentLine}
 use Rattle.msr_verdict.specs.Packed.{IsShownAs, IsShownBy, AreShownBy}
 use Rattle.msr_verdict.specs.Compared.{IsShownAt}
-
-some_same : {X : Type 0} (o : Option X) (x y : X) → o ≡ Some x → o ≡ Some y → x ≡ y
-some_same {X} o x y e f = let g : ◌≡◌ {A = Option X} (Some x) (Some y) = sym e ∙ f in cc
 
 pub is_true : (b : Bool) → b ≡ true → IsTrue b
 is_true true e = search rules

@@ -7,6 +7,8 @@ use Rattle.msr_steim.specs.Word.{FitsBits}
 use Rattle.msr_words.specs.Fit.{IsRun, FitsIntegers, FitsInt32}
 use Rattle.std.proofs.lemmas.List.Elements.{All-map}
 use Rattle.msr_words.specs.Laws.{PrefixLaw, BackStepLaw}
+use Rattle.msr_words.specs.declared.kinds.Kind.{Kind}
+use Rattle.msr_words.specs.declared.kinds.Run.{Run}
 
 pub length_points_after : (before : ℤ) (samples : List ℤ) → length (points_after before samples) ≡ length samples
 length_points_after before [] = refl
@@ -181,3 +183,10 @@ pub points_from_at : (before : Option ℤ) (samples : List ℤ) (i : ℕ) (d : �
 points_from_at None samples i d h = points_at samples i d h
 points_from_at (Some before) samples zero d h = points_after_at before samples zero d h
 points_from_at (Some before) samples (suc i) d h = points_after_at before samples (suc i) d h
+
+-- a run is its start, its end and its kind
+pub same_run : (a b : Run) → a.start ≡ b.start → a.end ≡ b.end → a.kind ≡ b.kind → a ≡ b
+same_run a b start end kind =
+    ap (λ (n : ℕ). record { start = n; end = a.end; kind = a.kind }) start
+    ∙ ap (λ (n : ℕ). record { start = b.start; end = n; kind = a.kind }) end
+    ∙ ap (λ (k : Kind). record { start = b.start; end = b.end; kind = k }) kind

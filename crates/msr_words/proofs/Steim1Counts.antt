@@ -12,7 +12,8 @@ use Rattle.msr_words.proofs.GroupSizes.{four_is, pair_is, size_here, size_later,
 use Rattle.std.proofs.Math.Nat.{pow-le-pow_right}
 use Rattle.msr_words.specs.AreCounts.{AreCounts}
 use Rattle.msr_words.specs.Lemmas.LeastCounts.{a_group_has_few, front_is}
-use Rattle.msr_words.specs.Lemmas.SteimLaws.{one_has_few, inner_is_group}
+use Rattle.msr_steim.proofs.Filling.{inner_is_group}
+use Rattle.msr_words.specs.Lemmas.SteimLaws.{one_has_few}
 use Rattle.msr_words.specs.Lemmas.Ends.{least_of_ends, none_least}
 
 -- ---- the newest group

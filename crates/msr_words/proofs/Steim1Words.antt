@@ -13,7 +13,8 @@ use Rattle.msr_words.specs.Steim1Reach.{BeginsWithThree, IsOfBitsAt, IsSteim1End
 use Rattle.msr_words.specs.Lemmas.Ends.{ends_is_division, turned_group, turned_inner}
 use Rattle.msr_words.specs.Lemmas.KindLaws.{last_of}
 use Rattle.msr_words.specs.Lemmas.LeastCounts.{a_group_has_few}
-use Rattle.msr_words.specs.Lemmas.SteimLaws.{all_more, inner_is_group, none_divides, one_has_few}
+use Rattle.msr_steim.proofs.Filling.{inner_is_group}
+use Rattle.msr_words.specs.Lemmas.SteimLaws.{all_more, none_divides, one_has_few}
 
 -- ---- the bits of one difference
 

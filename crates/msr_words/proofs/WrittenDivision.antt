@@ -12,7 +12,8 @@ use Rattle.msr_steim.specs.Word.{AreGroups, FitsBits, IsGroup, IsGroupAt, IsInne
 use Rattle.msr_words.specs.Division.{CanDivide}
 use Rattle.msr_words.specs.Canonical.{DividesFrom, IsCanonicalDivision}
 use Rattle.msr_words.specs.Lemmas.LeastCounts.{a_group_has_few}
-use Rattle.msr_words.specs.Lemmas.SteimLaws.{all_more, head_group, inner_is_group, tail_groups}
+use Rattle.msr_steim.proofs.Filling.{inner_is_group}
+use Rattle.msr_words.specs.Lemmas.SteimLaws.{all_more, head_group, tail_groups}
 
 -- ---- the first group
 

@@ -9,6 +9,7 @@ use Rattle.std.proofs.Math.Nat.{pow-le-pow_right, mul-le-mul_left}
 use Rattle.std.proofs.Math.Seq.{take-append_seam, drop-append_seam}
 use Rattle.msr_steim.specs.declared.word.Version.{Version}
 use Rattle.msr_steim.specs.declared.word.Version.TheVariants.{One, Two}
+use Rattle.msr_steim.proofs.Filling.{inner_is_group}
 use Rattle.msr_steim.specs.Word.{AreGroups, FitsBits, IsGroup, IsInnerGroup, group_width}
 use Rattle.msr_words.specs.Division.{CanDivide}
 use Rattle.msr_words.specs.Counts.{EndsIn, Parts}
@@ -66,10 +67,6 @@ pub group_drop : (version : Version) (front back : List ℤ) → IsGroup version
 group_drop version [] back is some = is
 group_drop version (x ∷ front) back is some =
     group_drop version front back (group_tail version x (front ++ back) is (rw length-append (omega arith))) some
-
-pub inner_is_group : (version : Version) (group : List ℤ) → IsInnerGroup version group → IsGroup version group
-inner_is_group One group is = is.0
-inner_is_group Two group is = is
 
 -- ---- the prefix law
 
