@@ -106,10 +106,9 @@ fn repacks_and_checks_two_segments(rt: HostRuntime) -> Result<(), Fail> {
     folder.remove(&rt)
 }
 
-/// What is missing, a folder, or empty.
+/// What is missing, and what is a folder.
 #[test]
-fn files_that_cannot_be_used(rt: HostRuntime) -> Result<(), Fail> {
-    let alloc = rt.alloc();
+fn files_that_cannot_be_opened(rt: HostRuntime) -> Result<(), Fail> {
     let folder = Folder::new(&rt)?;
     let missing = folder.path("missing")?;
     let below = folder.path("missing/file")?;
@@ -117,28 +116,43 @@ fn files_that_cannot_be_used(rt: HostRuntime) -> Result<(), Fail> {
     let inner = folder.path("inner")?;
     fs::write(&rt, empty.as_str(), "")?;
     fs::create_dir_all(&rt, inner.as_str())?;
-    let no_input = format!(in alloc; "msrepack: cannot open {missing}\n")?;
-    let no_folder = format!(in alloc; "msrepack: cannot open {below}\n")?;
-    let no_output = format!(in alloc; "msrepack: cannot open {inner}\n")?;
     let (missing, below) = (missing.as_str(), below.as_str());
     let (empty, inner) = (empty.as_str(), inner.as_str());
-    let (no_input, read_fault) = (no_input.as_str(), "msrepack: read fault\n");
-    let rows: [(&[&str], u8, &str, &str); 11] = [
-        (&["repack", missing], 1, "", no_input),
-        (&["list", missing], 1, "", no_input),
-        (&["check", missing, empty], 1, "", no_input),
-        (&["check", empty, missing], 1, "", no_input),
-        (&["repack", inner], 1, "", read_fault),
-        (&["list", inner], 1, "", read_fault),
-        (&["check", empty, inner], 1, "", read_fault),
-        (&["repack", empty], 0, REPORT_OF_NOTHING, ""),
-        (&["check", empty, empty], 1, "", "msrepack: report line 1\n"),
-        (&["repack", empty, inner], 1, "", no_output.as_str()),
-        (&["repack", empty, below], 1, "", no_folder.as_str()),
-    ];
-    for (words, status, printed, complaint) in rows {
-        ends(&rt, words, status, printed, complaint)?;
-    }
+    cannot_open(&rt, &["repack", missing], missing)?;
+    cannot_open(&rt, &["list", missing], missing)?;
+    cannot_open(&rt, &["check", missing, empty], missing)?;
+    cannot_open(&rt, &["check", empty, missing], missing)?;
+    cannot_open(&rt, &["repack", empty, inner], inner)?;
+    cannot_open(&rt, &["repack", empty, below], below)?;
+    folder.remove(&rt)
+}
+
+/// The task of these words cannot open this file.
+fn cannot_open<R: Files + AllocGlobal + Abort>(
+    rt: &R,
+    words: &[&str],
+    path: &str,
+) -> Result<(), Fail> {
+    let complaint = format!(in rt.alloc(); "msrepack: cannot open {path}\n")?;
+    ends(rt, words, 1, "", complaint.as_str())
+}
+
+/// What is a folder, and what is empty.
+#[test]
+fn files_without_a_record(rt: HostRuntime) -> Result<(), Fail> {
+    let folder = Folder::new(&rt)?;
+    let empty = folder.path("empty")?;
+    let inner = folder.path("inner")?;
+    fs::write(&rt, empty.as_str(), "")?;
+    fs::create_dir_all(&rt, inner.as_str())?;
+    let (empty, inner) = (empty.as_str(), inner.as_str());
+    let fault = "msrepack: read fault\n";
+    ends(&rt, &["repack", inner], 1, "", fault)?;
+    ends(&rt, &["list", inner], 1, "", fault)?;
+    ends(&rt, &["check", empty, inner], 1, "", fault)?;
+    ends(&rt, &["repack", empty], 0, REPORT_OF_NOTHING, "")?;
+    let no_report = "msrepack: report line 1\n";
+    ends(&rt, &["check", empty, empty], 1, "", no_report)?;
     folder.remove(&rt)
 }
 

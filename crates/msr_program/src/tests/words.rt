@@ -184,36 +184,46 @@ fn reads_how_an_archive_is_walked(rt: HostRuntime) -> Result<(), Fail> {
         &'static [&'static str],
         (bool, bool),
     ); 4] = [
-        (&["--below", "2020"], &["2020"], (false, false)),
-        (&["--resume"], &[], (true, false)),
-        (&["--check"], &[], (false, true)),
+        (
+            &["msrepack", "archive", "--below", "2020", "a", "b", "c"],
+            &["2020"],
+            (false, false),
+        ),
+        (
+            &["msrepack", "archive", "--resume", "a", "b", "c"],
+            &[],
+            (true, false),
+        ),
+        (
+            &["msrepack", "archive", "a", "b", "c", "--check"],
+            &[],
+            (false, true),
+        ),
         (
             &[
+                "msrepack",
+                "archive",
                 "--below=2021/XX/S/Z.D",
                 "--below=2020/a..b",
                 "--below=2020/a",
                 "--check",
                 "--resume",
+                "a",
+                "b",
+                "c",
             ],
             &["2021/XX/S/Z.D", "2020/a..b", "2020/a"],
             (true, true),
         ),
     ];
-    for (options, below, (resume, check)) in rows {
-        let mut words = vec![in rt.alloc(); "msrepack", "archive"]?;
-        words.extend_from_slice(options)?;
-        words.extend_from_slice(["a", "b", "c"].as_slice())?;
+    for (words, below, (resume, check)) in rows {
         let walking = Walking {
             below: below.to_vec(rt.alloc())?,
             resume,
             check,
         };
         let want = archiving(1000, ["a", "b", "c"], walking);
-        assert_eq!(&rt;
-            read_words(rt.alloc(), words.as_slice()).ok(),
-            want,
-            "at {options:?}"
-        );
+        assert_eq!(&rt; read_words(rt.alloc(), words).ok(), want, "at {words:?}");
     }
     Ok(())
 }
