@@ -116,14 +116,28 @@ fn files_that_cannot_be_opened(rt: HostRuntime) -> Result<(), Fail> {
     let inner = folder.path("inner")?;
     fs::write(&rt, empty.as_str(), "")?;
     fs::create_dir_all(&rt, inner.as_str())?;
-    let (missing, below) = (missing.as_str(), below.as_str());
-    let (empty, inner) = (empty.as_str(), inner.as_str());
-    cannot_open(&rt, &["repack", missing], missing)?;
-    cannot_open(&rt, &["list", missing], missing)?;
-    cannot_open(&rt, &["check", missing, empty], missing)?;
-    cannot_open(&rt, &["check", empty, missing], missing)?;
-    cannot_open(&rt, &["repack", empty, inner], inner)?;
-    cannot_open(&rt, &["repack", empty, below], below)?;
+    cannot_open(&rt, &["repack", missing.as_str()], missing.as_str())?;
+    cannot_open(&rt, &["list", missing.as_str()], missing.as_str())?;
+    cannot_open(
+        &rt,
+        &["check", missing.as_str(), empty.as_str()],
+        missing.as_str(),
+    )?;
+    cannot_open(
+        &rt,
+        &["check", empty.as_str(), missing.as_str()],
+        missing.as_str(),
+    )?;
+    cannot_open(
+        &rt,
+        &["repack", empty.as_str(), inner.as_str()],
+        inner.as_str(),
+    )?;
+    cannot_open(
+        &rt,
+        &["repack", empty.as_str(), below.as_str()],
+        below.as_str(),
+    )?;
     folder.remove(&rt)
 }
 
@@ -145,14 +159,25 @@ fn files_without_a_record(rt: HostRuntime) -> Result<(), Fail> {
     let inner = folder.path("inner")?;
     fs::write(&rt, empty.as_str(), "")?;
     fs::create_dir_all(&rt, inner.as_str())?;
-    let (empty, inner) = (empty.as_str(), inner.as_str());
     let fault = "msrepack: read fault\n";
-    ends(&rt, &["repack", inner], 1, "", fault)?;
-    ends(&rt, &["list", inner], 1, "", fault)?;
-    ends(&rt, &["check", empty, inner], 1, "", fault)?;
-    ends(&rt, &["repack", empty], 0, REPORT_OF_NOTHING, "")?;
+    ends(&rt, &["repack", inner.as_str()], 1, "", fault)?;
+    ends(&rt, &["list", inner.as_str()], 1, "", fault)?;
+    ends(
+        &rt,
+        &["check", empty.as_str(), inner.as_str()],
+        1,
+        "",
+        fault,
+    )?;
+    ends(&rt, &["repack", empty.as_str()], 0, REPORT_OF_NOTHING, "")?;
     let no_report = "msrepack: report line 1\n";
-    ends(&rt, &["check", empty, empty], 1, "", no_report)?;
+    ends(
+        &rt,
+        &["check", empty.as_str(), empty.as_str()],
+        1,
+        "",
+        no_report,
+    )?;
     folder.remove(&rt)
 }
 
