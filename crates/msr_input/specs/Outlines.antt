@@ -1,5 +1,5 @@
 -- Records and rows without their samples.
-use Rattle.std.specs.Prelude.{ℕ, length, option_map}
+use Rattle.std.specs.Prelude.{length, option_map}
 use Rattle.msr_record.specs.declared.row.Record.{Record}
 use Rattle.msr_record.specs.declared.row.Row.{Row}
 use Rattle.msr_segments.specs.Spans.{span_of}

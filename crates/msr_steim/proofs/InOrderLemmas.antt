@@ -1,6 +1,5 @@
 -- The samples of an area in order are those that it carries.
 use Rattle.std.proofs.Common.{◌≡◌, ◌<◌, ◌≤◌, ℕ, zero, suc, ◌+◌, ◌-◌, ◌*◌, ◌/◌, ◌%◌, ◌^◌, ℤ, pos, ◌+ℤ◌, List, [], ◌∷◌, ◌++◌, length, take, get_or, refl, sym, ap, ◌∙◌, subst, arith, w32, to_z, of_z, SFits, Some, lit<}
-use Rattle.std.specs.Prelude.{IsSomeAnd}
 use Rattle.std.specs.Int.{int_wrap}
 use Rattle.std.specs.Iterator.{MakesProgress, item_count}
 use Rattle.std.specs.Prelude.{⊤}
@@ -8,7 +7,7 @@ use Rattle.std.proofs.Math.Nat.{pow-zero, mod-lt}
 use Rattle.msr_base.specs.declared.order.Order.{Order}
 use Rattle.msr_steim.specs.declared.borrowed.Fields.{Fields}
 use Rattle.msr_steim.specs.declared.word.Version.{Version}
-use Rattle.msr_steim.specs.Area.{IsUndefined, WordHolds, arranged_word, code_of, samples_of, sums_after, word_count}
+use Rattle.msr_steim.specs.Area.{IsUndefined, arranged_word, code_of, samples_of, sums_after, word_count}
 use Rattle.msr_steim.specs.InOrder.{HasFields, differences_from, differences_of, numbers_of, word_differences}
 use Rattle.msr_steim.specs.Left.{SamplesLeft}
 use Rattle.msr_steim.specs.Word.{AreFields, numbers_in, signed_of}

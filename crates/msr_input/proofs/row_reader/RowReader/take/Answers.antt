@@ -2,7 +2,7 @@ use Rattle.std.proofs.Common.{◌≡◌, ap, subst}
 use Rattle.std.proofs.lemmas.Result.{err_from_is_err_and}
 use Rattle.std.specs.Prelude.{option_map, Option}
 use Rattle.msr_input.specs.Outlines.{row_outline}
-use Rattle.msr_input.specs.Steps.{Follows, IsNext, StopsFollowing}
+use Rattle.msr_input.specs.Steps.{Follows, StopsFollowing}
 use Rattle.msr_input.specs.declared.outline.Outline.{Outline}
 use Rattle.msr_input.specs.declared.outline.RowOutline.{RowOutline}
 use Rattle.msr_input.proofs.Rows.{follow_stops, rows_passed}
