@@ -4,8 +4,6 @@
 mod counts;
 mod order;
 mod samples;
-#[cfg(test)]
-mod tests;
 
 pub use counts::Counts;
 pub use order::Order;

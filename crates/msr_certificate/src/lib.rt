@@ -14,6 +14,3 @@ pub use fault::ReportFault;
 pub use laws::{line_has_form, one_report, report_has_form, text_is_read_back};
 pub use reading::read_report;
 pub use reports::report_of;
-
-#[cfg(test)]
-mod tests;

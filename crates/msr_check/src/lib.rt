@@ -108,6 +108,3 @@ pub fn shows_least(samples: &[i32], record_length: Length, runs: &[Run], separat
     }
     is_packing(samples, record_length, runs) && separates(samples, record_length, separators)
 }
-
-#[cfg(test)]
-mod tests;

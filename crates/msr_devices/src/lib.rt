@@ -19,6 +19,3 @@ pub use loops::{read_some, write_all, write_some};
 pub use memory::{Behavior, TestSink, TestSource};
 pub use read_buffer::{FillFault, ReadBuffer};
 pub use write_buffer::WriteBuffer;
-
-#[cfg(test)]
-mod tests;

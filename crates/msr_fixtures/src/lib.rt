@@ -6,8 +6,6 @@
 mod edit;
 mod records;
 mod refusals;
-#[cfg(test)]
-mod tests;
 
 pub use edit::Edit;
 pub use records::{

@@ -24,6 +24,3 @@ pub use outline::RowOutline;
 pub use reader::SegmentReader;
 pub use row_reader::{NextOutline, NextRecord, NextRow, RowReader};
 pub use settings::Settings;
-
-#[cfg(test)]
-mod tests;

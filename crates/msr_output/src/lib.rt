@@ -10,6 +10,3 @@ pub use fault::WriteFault;
 pub use laws::{one_output, output_has_size, output_keeps_segments, segments_have_output};
 pub use opened::OpenSegment;
 pub use writer::SegmentWriter;
-
-#[cfg(test)]
-mod tests;

@@ -8,8 +8,6 @@ mod live;
 mod steim1;
 mod step;
 mod stream;
-#[cfg(test)]
-mod tests;
 
 ghost use Rattle.std.specs.Prelude.{◌≡◌, ℕ, ◌+◌, ◌<◌, ◌≤◌, length, ◌++◌, IfOk, List, OnOk, ℤ};
 ghost use Rattle.msr_words.specs.declared.kinds.Run.{Run};

@@ -6,8 +6,6 @@ ghost use Rattle.msr_plain.specs.Plain.{CarriesPlain, FitsWidth, bytes_of, bytes
 
 mod borrowed;
 mod laws;
-#[cfg(test)]
-mod tests;
 
 pub use borrowed::{PlainSamples, plain_samples};
 use byteorder::{BigEndian, ByteOrder, LittleEndian};

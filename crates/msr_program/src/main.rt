@@ -1,18 +1,7 @@
-//! The program `msrepack`: reads its words, opens the inputs, then creates the output, and does what the words ask for.
+//! The program `msrepack`: hands its words and streams to `run`, and ends with the status that it gives.
 #![tactic(auto)]
 
-mod commands;
-mod done;
-mod files;
-mod run;
-mod stop;
-mod tasks;
-#[cfg(test)]
-mod tests;
-mod texts;
-mod words;
-
-use crate::run::{complain, run};
+use msr_command::{NOT_UTF8, complain, run};
 use msr_tool::{FromRead, FromWrite};
 use std::alloc::{AllocError, Global};
 use std::io::ErrorKind;
@@ -48,7 +37,7 @@ fn main(rt: HostRuntime) -> ExitCode {
             Err(AllocError) => complain(&mut errors, 1, "out of memory"),
         },
         Err(error) if error.kind() == ErrorKind::InvalidData => {
-            eprint!(&rt; "{}", texts::NOT_UTF8).ok();
+            eprint!(&rt; "{}", NOT_UTF8).ok();
             2
         }
         Err(_) => complain(&mut errors, 1, "out of memory"),

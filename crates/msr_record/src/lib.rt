@@ -8,8 +8,6 @@ mod reading;
 mod reverse;
 mod row;
 mod samples;
-#[cfg(test)]
-mod tests;
 mod view;
 mod writing;
 mod written_area;

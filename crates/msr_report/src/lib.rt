@@ -5,8 +5,6 @@ mod fields;
 mod laws;
 mod lines;
 mod report;
-#[cfg(test)]
-mod tests;
 mod text;
 
 pub use laws::{has_text, one_text};

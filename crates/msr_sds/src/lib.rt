@@ -112,6 +112,3 @@ impl<'a> SdsName<'a> {
 pub fn one_reading()
     ensures { OneReading }
 {}
-
-#[cfg(test)]
-mod tests;

@@ -16,6 +16,3 @@ pub use laws::{
     cuts_grow_by_rows, cuts_keep_segments, followers_stand_with_joiners, overruns_are_out_of_range,
     rows_have_one_division, steps_are_pushes,
 };
-
-#[cfg(test)]
-mod tests;

@@ -28,6 +28,3 @@ pub use msr_report::{Counts, Report, SegmentLine, TextFault};
 pub use msr_verdict::Verdict;
 pub use options::Options;
 pub use tasks::{check_and_tell, feed_and_report, repack_and_report};
-
-#[cfg(test)]
-mod tests;

@@ -90,6 +90,3 @@ impl Totals {
         Some((name.as_str(), *total))
     }
 }
-
-#[cfg(test)]
-mod tests;

@@ -4,8 +4,6 @@
 mod comparing;
 mod laws;
 mod piece;
-#[cfg(test)]
-mod tests;
 mod verdict;
 mod verify;
 

@@ -13,8 +13,6 @@ mod frames;
 mod kinds;
 mod lengths;
 mod steim1_filling;
-#[cfg(test)]
-mod tests;
 mod window;
 
 pub use any_kind::AnyKind;

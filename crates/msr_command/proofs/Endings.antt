@@ -1,0 +1,305 @@
+-- How tasks end: done, stopped, or before they begin.
+use Rattle.std.specs.Prelude.{⊤}
+use Rattle.std.proofs.Common.{◌≡◌, ℕ, Bool, List, [], codes, refl, subst, sym, inr, append-nil, Result, Ok, Err}
+use Rattle.msr_devices.specs.Device.{Device, Takes}
+use Rattle.msr_devices.proofs.Chaining.{left_of, takes_append, takes_none}
+use Rattle.msr_base.specs.declared.counts.Counts.{Counts}
+use Rattle.msr_report.specs.declared.report.Report.{Report}
+use Rattle.msr_verdict.specs.declared.verdict.Verdict.{Verdict}
+use Rattle.msr_tool.specs.Choice.{Choice, settings_of}
+use Rattle.msr_tool.specs.Listing.{ListAnswers}
+use Rattle.msr_tool.specs.Tasks.{Reports, Tells, VerdictAnswers}
+use Rattle.msr_tool.specs.declared.fault.ToolFault.{ToolFault}
+use Rattle.msr_tool.specs.declared.fault.ToolFault.TheVariants as fault
+use Rattle.msr_walk.specs.Day.{Asked}
+use Rattle.msr_walk.specs.Walk.{IsWalk, Walks}
+use Rattle.msr_command.specs.declared.done.Done.{Done}
+use Rattle.msr_command.specs.declared.done.Done.TheVariants.{Written, Checked, Walked}
+use Rattle.msr_command.specs.declared.stop.Stop.{Stop}
+use Rattle.msr_command.specs.declared.stop.Stop.TheVariants.{CannotOpen, SameFile, SameOutput, Closed, Tool}
+use Rattle.msr_command.specs.declared.words.Task.{Task}
+use Rattle.msr_command.specs.declared.words.Task.TheVariants.{Repack, List as Listing, Check, Archive, Feed}
+use Rattle.msr_command.specs.Ends.{Checks, Does, Ends, Feeds, FeedAnswers, FeedEnds, FeedsTo, IfChecked, IfWritten, IsUncreated, IsUnopened, ListEnds, ListsNamed, Over, RepackEnds, Repacks, RepacksNamed, StopsRecords, StopsReport, WalksArchive, WritesList, WritesRecords, WritesReport, days_asked}
+
+-- nothing was read or printed
+over_none : (known : Type 0) (says : (input printed : List ℕ) → Type 0) (source out0 out : Device) → Takes out0 out [] →
+    ((input : List ℕ) → says input []) → Over known says source out0 out
+over_none known says source out0 out none ends = record {
+  input = (left_of source).0;
+  printed = [];
+  left = λ is. (left_of source).1;
+  prints = none;
+  ends = ends (left_of source).0;
+}
+
+-- what was tried before prints nothing
+over_after : (known : Type 0) (says : (input printed : List ℕ) → Type 0) (source out0 out1 out : Device) →
+    Takes out0 out1 [] → Over known says source out1 out → Over known says source out0 out
+over_after known says source out0 out1 out none does = record {
+  input = does.input;
+  printed = does.printed;
+  left = does.left;
+  prints = takes_append out0 out1 out [] does.printed none does.prints;
+  ends = does.ends;
+}
+
+-- the same is said otherwise
+over_said : (known : Type 0) (says others : (input printed : List ℕ) → Type 0) (source out0 out : Device) →
+    ((input printed : List ℕ) → says input printed → others input printed) → Over known says source out0 out
+    → Over known others source out0 out
+over_said known says others source out0 out then does = record {
+  input = does.input;
+  printed = does.printed;
+  left = does.left;
+  prints = does.prints;
+  ends = then does.input does.printed does.ends;
+}
+
+-- a file cannot be opened or made
+
+unopened : (done : Done → Type 0) (stopped : ToolFault → Type 0) (stop : Stop) → IsUnopened stop →
+    Ends done IsUnopened stopped [] (Err stop)
+unopened done stopped (CannotOpen name) is = (tt, refl)
+unopened done stopped SameFile is = absurd is
+unopened done stopped SameOutput is = absurd is
+unopened done stopped Closed is = absurd is
+unopened done stopped (Tool why) is = absurd is
+
+uncreated : (done : Done → Type 0) (stopped : ToolFault → Type 0) (stop : Stop) → IsUncreated stop →
+    Ends done IsUncreated stopped [] (Err stop)
+uncreated done stopped (CannotOpen name) is = (tt, refl)
+uncreated done stopped SameFile is = (tt, refl)
+uncreated done stopped SameOutput is = (tt, refl)
+uncreated done stopped Closed is = absurd is
+uncreated done stopped (Tool why) is = absurd is
+
+unopened_uncreated : (stop : Stop) → IsUnopened stop → IsUncreated stop
+unopened_uncreated (CannotOpen name) is = tt
+unopened_uncreated SameFile is = absurd is
+unopened_uncreated SameOutput is = absurd is
+unopened_uncreated Closed is = absurd is
+unopened_uncreated (Tool why) is = absurd is
+
+pub repack_uncreated : (choice : Choice) (known : Type 0) (source out : Device) (stop : Stop) → IsUncreated stop →
+    Over known (RepackEnds choice (Err stop)) source out out
+repack_uncreated choice known source out stop is =
+    over_none known (RepackEnds choice (Err stop)) source out out (takes_none out)
+    (λ input. uncreated (IfWritten (WritesReport choice input [])) (StopsReport choice input []) stop is)
+
+pub repack_unopened : (choice : Choice) (name : List ℕ) (standard out : Device) (stop : Stop) → IsUnopened stop →
+    RepacksNamed choice name standard out out (Err stop)
+repack_unopened choice name standard out stop is =
+    repack_uncreated choice (name ≡ codes "-") standard out stop (unopened_uncreated stop is)
+
+pub feed_uncreated : (choice : Choice) (source out : Device) (stop : Stop) → IsUncreated stop →
+    Feeds choice source out out (Err stop)
+feed_uncreated choice source out stop is =
+    over_none ⊤ (FeedEnds choice (Err stop)) source out out (takes_none out)
+    (λ input. uncreated (IfWritten (WritesRecords choice input [])) (StopsRecords choice input []) stop is)
+
+pub list_unopened : (choice : Choice) (name : List ℕ) (standard out : Device) (stop : Stop) → IsUnopened stop →
+    ListsNamed choice name standard out out (Err stop)
+list_unopened choice name standard out stop is =
+    over_none (name ≡ codes "-") (ListEnds choice (Err stop)) standard out out (takes_none out)
+    (λ input. unopened (IfWritten (WritesList choice input []))
+    (λ why. ListAnswers (settings_of choice) input [] (Err why)) stop is)
+
+-- standard output is closed
+pub task_closed : (task : Task) (standard out0 out : Device) → Takes out0 out [] →
+    Does task standard out0 out (Err Closed)
+task_closed (Repack asked) standard out0 out none = over_none _ _ standard out0 out none (λ input. refl)
+task_closed (Listing asked) standard out0 out none = over_none _ _ standard out0 out none (λ input. refl)
+task_closed (Check asked) standard out0 out none =
+    record { input = []; text = []; printed = []; prints = none; ends = refl }
+task_closed (Archive asked) standard out0 out none = record { printed = []; prints = none; ends = refl }
+task_closed (Feed asked) standard out0 out none = over_none _ _ standard out0 out none (λ input. refl)
+
+pub then_does : (task : Task) (standard out0 out1 out : Device) (result : Result Done Stop) → Takes out0 out1 [] →
+    Does task standard out1 out result → Does task standard out0 out result
+then_does (Repack asked) standard out0 out1 out result none does = over_after _ _ standard out0 out1 out none does
+then_does (Listing asked) standard out0 out1 out result none does = over_after _ _ standard out0 out1 out none does
+then_does (Check asked) standard out0 out1 out result none does = record {
+  input = does.input;
+  text = does.text;
+  printed = does.printed;
+  ends = does.ends;
+  prints = takes_append out0 out1 out [] does.printed none does.prints;
+}
+then_does (Archive asked) standard out0 out1 out result none does = record {
+  printed = does.printed;
+  ends = does.ends;
+  prints = takes_append out0 out1 out [] does.printed none does.prints;
+}
+then_does (Feed asked) standard out0 out1 out result none does = over_after _ _ standard out0 out1 out none does
+
+-- the engine succeeds, or stops
+
+pub repack_done : (choice : Choice) (source records0 records out0 out : Device) (report : Report) →
+    Reports choice source records0 records out0 out (Ok report) → Repacks choice source out0 out (Ok Written)
+repack_done choice source records0 records out0 out report does = record {
+  input = does.input;
+  printed = does.told;
+  left = λ is. does.left;
+  prints = does.told_all;
+  ends = record { written = does.written; report = report; reported = does.answers };
+}
+
+pub repack_stops : (choice : Choice) (source records0 records out0 out : Device) (why : ToolFault) →
+    Reports choice source records0 records out0 out (Err why) → Repacks choice source out0 out (Err (Tool why))
+repack_stops choice source records0 records out0 out why does = record {
+  input = does.input;
+  printed = does.told;
+  left = λ is. does.left;
+  prints = does.told_all;
+  ends = record { written = does.written; answers = does.answers };
+}
+
+-- what was fed is a repack whose records are printed, and whose text goes to a file
+
+pub feed_done : (choice : Choice) (source out0 out text0 text : Device) (report : Report) →
+    Reports choice source out0 out text0 text (Ok report) → FeedsTo choice source out0 out (Ok tt)
+feed_done choice source out0 out text0 text report does = record {
+  input = does.input;
+  printed = does.written;
+  left = λ is. does.left;
+  prints = does.wrote;
+  ends = record { told = does.told; report = report; reported = does.answers };
+}
+
+pub feed_stops : (choice : Choice) (source out0 out text0 text : Device) (why : ToolFault) →
+    Reports choice source out0 out text0 text (Err why) → FeedsTo choice source out0 out (Err why)
+feed_stops choice source out0 out text0 text why does = record {
+  input = does.input;
+  printed = does.written;
+  left = λ is. does.left;
+  prints = does.wrote;
+  ends = record { told = does.told; answers = does.answers };
+}
+
+pub fed : (choice : Choice) (source out0 out : Device) → FeedsTo choice source out0 out (Ok tt) →
+    Feeds choice source out0 out (Ok Written)
+fed choice source out0 out does = over_said _ _ _ source out0 out (λ input printed ends. ends) does
+
+pub unfed : (choice : Choice) (source out0 out : Device) (why : ToolFault) →
+    FeedsTo choice source out0 out (Err why) → Feeds choice source out0 out (Err (Tool why))
+unfed choice source out0 out why does = over_said _ _ _ source out0 out (λ input printed ends. ends) does
+
+pub check_unopened : (out : Device) (stop : Stop) → IsUnopened stop → Checks out out (Err stop)
+check_unopened out stop is = record {
+  input = [];
+  text = [];
+  printed = [];
+  prints = takes_none out;
+  ends = unopened (IfChecked (λ verdict. VerdictAnswers [] [] [] (Ok verdict)))
+      (λ why. VerdictAnswers [] [] [] (Err why)) stop is;
+}
+
+pub check_stops : (packed report out0 out : Device) (why : ToolFault) → Tells packed report out0 out (Err why) →
+    Checks out0 out (Err (Tool why))
+check_stops packed report out0 out why does = record {
+  input = does.input;
+  text = does.text;
+  printed = does.told;
+  prints = does.told_all;
+  ends = does.answers;
+}
+
+pub archive_done : (asked : Asked) (out0 out : Device) (refused : Bool) → Walks asked out0 out (Ok refused) →
+    WalksArchive asked out0 out (Ok (Walked refused))
+archive_done asked out0 out refused does = record { printed = does.printed; prints = does.prints; ends = does.ends }
+
+pub archive_stops : (asked : Asked) (out0 out : Device) (why : ToolFault) → Walks asked out0 out (Err why) →
+    WalksArchive asked out0 out (Err (Tool why))
+archive_stops asked out0 out why does = record { printed = does.printed; prints = does.prints; ends = does.ends }
+
+-- what was printed is not stored
+
+repack_unstored : (choice : Choice) (input printed : List ℕ) → RepackEnds choice (Ok Written) input printed →
+    RepackEnds choice (Err (Tool fault.Write)) input printed
+repack_unstored choice input printed ends = record {
+  written = ends.written;
+  answers = inr (record { report = ends.report; rest = []; reported = rw append-nil ends.reported });
+}
+
+pub repack_unsettled : (choice : Choice) (source out0 out : Device) → Repacks choice source out0 out (Ok Written) →
+    Repacks choice source out0 out (Err (Tool fault.Write))
+repack_unsettled choice source out0 out does = over_said _ _ _ source out0 out (repack_unstored choice) does
+
+feed_unstored : (choice : Choice) (input printed : List ℕ) → FeedAnswers choice (Ok tt) input printed →
+    FeedAnswers choice (Err fault.Write) input printed
+feed_unstored choice input printed ends = record {
+  told = ends.told;
+  answers = inr (record { report = ends.report; rest = []; reported = rw append-nil ends.reported });
+}
+
+pub feed_unsettled : (choice : Choice) (source out0 out : Device) → FeedsTo choice source out0 out (Ok tt) →
+    FeedsTo choice source out0 out (Err fault.Write)
+feed_unsettled choice source out0 out does = over_said _ _ _ source out0 out (feed_unstored choice) does
+
+list_unstored : (choice : Choice) (input printed : List ℕ) → ListEnds choice (Ok Written) input printed →
+    ListEnds choice (Err (Tool fault.Write)) input printed
+list_unstored choice input printed ends = inr
+    (record { counts = ends.counts; tail = []; listed = rw append-nil ends.listed })
+
+check_unsettled : (out0 out : Device) (verdict : Verdict) → Checks out0 out (Ok (Checked verdict)) →
+    Checks out0 out (Err (Tool fault.Write))
+check_unsettled out0 out verdict does = record {
+  input = does.input;
+  text = does.text;
+  printed = does.printed;
+  prints = does.prints;
+  ends = record { verdict = verdict; rest = []; checked = does.ends.0; line = rw append-nil (sym does.ends.1) };
+}
+
+pub task_unsettled : (task : Task) (standard out0 out : Device) (done : Done) → Does task standard out0 out (Ok done) →
+    Does task standard out0 out (Err (Tool fault.Write))
+task_unsettled (Repack asked) standard out0 out Written does =
+    over_said _ _ _ standard out0 out (repack_unstored asked.options) does
+task_unsettled (Repack asked) standard out0 out (Checked verdict) does = absurd does.ends
+task_unsettled (Repack asked) standard out0 out (Walked refused) does = absurd does.ends
+task_unsettled (Listing asked) standard out0 out Written does =
+    over_said _ _ _ standard out0 out (list_unstored asked.options) does
+task_unsettled (Listing asked) standard out0 out (Checked verdict) does = absurd does.ends
+task_unsettled (Listing asked) standard out0 out (Walked refused) does = absurd does.ends
+task_unsettled (Check asked) standard out0 out Written does = absurd does.ends
+task_unsettled (Check asked) standard out0 out (Checked verdict) does = check_unsettled out0 out verdict does
+task_unsettled (Check asked) standard out0 out (Walked refused) does = absurd does.ends
+task_unsettled (Archive asked) standard out0 out Written does = absurd does.ends
+task_unsettled (Archive asked) standard out0 out (Checked verdict) does = absurd does.ends
+task_unsettled (Archive asked) standard out0 out (Walked refused) does =
+    let P : List ℕ → Type 0 = λ text. IsWalk (days_asked asked) text does.ends.0 in
+    record {
+      printed = does.printed;
+      prints = does.prints;
+      ends = record { entries = does.ends.0; rest = []; walk = subst P (sym (append-nil does.printed)) does.ends.1 };
+    }
+task_unsettled (Feed asked) standard out0 out Written does =
+    over_said _ _ _ standard out0 out (feed_unstored asked.options) does
+task_unsettled (Feed asked) standard out0 out (Checked verdict) does = absurd does.ends
+task_unsettled (Feed asked) standard out0 out (Walked refused) does = absurd does.ends
+
+-- a file, and not standard input, was listed, or is at fault
+
+pub list_done : (choice : Choice) (name : List ℕ) (standard out0 out : Device) (input printed : List ℕ)
+    (counts : Counts) →
+    (name ≡ codes "-" → ⊥) → Takes out0 out printed → ListAnswers (settings_of choice) input printed (Ok counts) →
+    ListsNamed choice name standard out0 out (Ok Written)
+list_done choice name standard out0 out input printed counts other prints answers = record {
+  input = input;
+  printed = printed;
+  left = λ is. absurd (other is);
+  prints = prints;
+  ends = record { counts = counts; listed = answers };
+}
+
+pub list_stops : (choice : Choice) (name : List ℕ) (standard out0 out : Device) (input printed : List ℕ)
+    (why : ToolFault) →
+    (name ≡ codes "-" → ⊥) → Takes out0 out printed → ListAnswers (settings_of choice) input printed (Err why) →
+    ListsNamed choice name standard out0 out (Err (Tool why))
+list_stops choice name standard out0 out input printed why other prints answers = record {
+  input = input;
+  printed = printed;
+  left = λ is. absurd (other is);
+  prints = prints;
+  ends = answers;
+}

@@ -1,0 +1,11 @@
+use Rattle.std.proofs.lemmas.Result.{err_from_is_err_and}
+use Rattle.msr_command.proofs.Endings.{archive_done, archive_stops}
+use Rattle.msr_command.proofs.tasks.repack_archive.Goals as goal
+
+pub returns-in_err-refused : goal.returns-in_err-refused
+returns-in_err-refused g c =
+    let p = err_from_is_err_and c.from_residual.result c.from_residual.ensures.1 in
+    rw (p.1, p.2) (archive_stops _ _ _ _ c.in_err-refused.ensures.answer)
+
+pub returns : goal.returns
+returns g c = archive_done _ _ _ _ c.in_ok-refused.ensures.answer

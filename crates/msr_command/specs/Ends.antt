@@ -1,0 +1,232 @@
+-- How a task ends: what was read and printed, for what the files of the system hold.
+use Rattle.std.specs.Prelude.{if◌then◌else◌, ◌≡◌, ◌≢◌, ◌⊎◌, ◌<◌, ◌≤◌, ℕ, ⊤, Bool, List, [], codes, string_bytes, Result, Ok, Err}
+use Rattle.std.specs.declared.io.Error.{Error}
+use Rattle.msr_devices.specs.Device.{Device, CountsError, HasFailed, HasLeft, Takes}
+use Rattle.msr_base.specs.declared.counts.Counts.{Counts}
+use Rattle.msr_report.specs.declared.report.Report.{Report}
+use Rattle.msr_tool.specs.Choice.{Choice, settings_of}
+use Rattle.msr_tool.specs.Listing.{IsListed, ListAnswers}
+use Rattle.msr_tool.specs.Tasks.{IsReported, ReportAnswers, VerdictAnswers}
+use Rattle.msr_verdict.specs.declared.verdict.Verdict.{Verdict}
+use Rattle.msr_verdict.specs.declared.verdict.Verdict.TheVariants.{Least, NotShown}
+use Rattle.msr_tool.specs.declared.fault.ToolFault.{ToolFault}
+use Rattle.msr_walk.specs.Day.{Asked}
+use Rattle.msr_walk.specs.Walk.{WalkEnds}
+use Rattle.msr_command.specs.declared.done.Done.{Done}
+use Rattle.msr_command.specs.declared.done.Done.TheVariants.{Written, Checked, Walked}
+use Rattle.msr_command.specs.declared.stop.Stop.{Stop}
+use Rattle.msr_command.specs.declared.stop.Stop.TheVariants.{CannotOpen, SameFile, SameOutput, Closed, Tool}
+use Rattle.msr_command.specs.declared.words.Archiving.{Archiving}
+use Rattle.msr_command.specs.declared.words.NoTask.{NoTask}
+use Rattle.msr_command.specs.declared.words.NoTask.TheVariants.{Ending, Memory}
+use Rattle.msr_command.specs.declared.words.Task.{Task}
+use Rattle.msr_command.specs.declared.words.Task.TheVariants.{Repack, List as Listing, Check, Archive, Feed}
+use Rattle.msr_command.specs.Tasks.{HasStatus, IsDefault}
+
+-- 0 for what was written or is least, 3 for what is not shown, 1 for a walk on which an entry was refused
+abbrev pub status_of_done : Done → ℕ
+status_of_done Written = 0
+status_of_done (Checked Least) = 0
+status_of_done (Checked NotShown) = 3
+status_of_done (Walked refused) = if refused then 1 else 0
+
+-- 2 where the output is the input, or two outputs are one file, which is a wrong command line, and else 1
+abbrev pub status_of_stop : Stop → ℕ
+status_of_stop (CannotOpen name) = 1
+status_of_stop SameFile = 2
+status_of_stop SameOutput = 2
+status_of_stop Closed = 1
+status_of_stop (Tool fault) = 1
+
+abbrev pub status_of : Result Done Stop → ℕ
+status_of (Ok done) = status_of_done done
+status_of (Err stop) = status_of_stop stop
+
+-- a file could not be opened
+abbrev pub IsUnopened : Stop → Type 0
+IsUnopened (CannotOpen name) = ⊤
+IsUnopened SameFile = ⊥
+IsUnopened SameOutput = ⊥
+IsUnopened Closed = ⊥
+IsUnopened (Tool fault) = ⊥
+
+-- a file could not be made, or is the input or another output
+abbrev pub IsUncreated : Stop → Type 0
+IsUncreated (CannotOpen name) = ⊤
+IsUncreated SameFile = ⊤
+IsUncreated SameOutput = ⊤
+IsUncreated Closed = ⊥
+IsUncreated (Tool fault) = ⊥
+
+-- no file stops the task
+abbrev pub IsNeither : Stop → Type 0
+IsNeither stop = ⊥
+
+-- what it says that a task was done by writing, by a verdict, or by a walk
+abbrev pub IfWritten : Type 0 → Done → Type 0
+IfWritten says Written = says
+IfWritten says (Checked verdict) = ⊥
+IfWritten says (Walked refused) = ⊥
+
+abbrev pub IfChecked : (Verdict → Type 0) → Done → Type 0
+IfChecked says Written = ⊥
+IfChecked says (Checked verdict) = says verdict
+IfChecked says (Walked refused) = ⊥
+
+abbrev pub IfWalked : (Bool → Type 0) → Done → Type 0
+IfWalked says Written = ⊥
+IfWalked says (Checked verdict) = ⊥
+IfWalked says (Walked refused) = says refused
+
+-- How a task ends: it is done, or the engine stops, with what that says; or nothing is printed, since a file stops it
+-- that may do so, or standard output is closed.
+abbrev pub Ends : (done : Done → Type 0) → (file : Stop → Type 0) → (stopped : ToolFault → Type 0) →
+    (printed : List ℕ) → Result Done Stop → Type 0
+Ends done file stopped printed (Ok what) = done what
+Ends done file stopped printed (Err (CannotOpen name)) = file (CannotOpen name) × (printed ≡ [])
+Ends done file stopped printed (Err SameFile) = file SameFile × (printed ≡ [])
+Ends done file stopped printed (Err SameOutput) = file SameOutput × (printed ≡ [])
+Ends done file stopped printed (Err Closed) = printed ≡ []
+Ends done file stopped printed (Err (Tool fault)) = stopped fault
+
+-- What a task over one input read and printed, and what these say. The input is what the source has left, where the
+-- source is known to be that of the task.
+pub record Over (known : Type 0) (says : (input printed : List ℕ) → Type 0) (source out0 out : Device) : Type 0 where
+  pub input : List ℕ
+  pub printed : List ℕ
+  pub left : known → HasLeft source input
+  pub prints : Takes out0 out printed
+  pub ends : says input printed
+
+-- The input was repacked into some records, and what was printed is the text of its report.
+pub record WritesReport (choice : Choice) (input printed : List ℕ) : Type 0 where
+  pub written : List ℕ
+  pub report : Report
+  pub reported : IsReported choice input written printed report
+
+-- The engine stopped at this fault, after some records.
+pub record StopsReport (choice : Choice) (input printed : List ℕ) (fault : ToolFault) : Type 0 where
+  pub written : List ℕ
+  pub answers : ReportAnswers choice input written printed (Err fault)
+
+abbrev pub RepackEnds : Choice → Result Done Stop → (input printed : List ℕ) → Type 0
+RepackEnds choice result input printed =
+    Ends (IfWritten (WritesReport choice input printed)) IsUncreated (StopsReport choice input printed) printed result
+
+-- Repacking a source.
+abbrev pub Repacks : Choice → (source out0 out : Device) → Result Done Stop → Type 0
+Repacks choice source out0 out result = Over ⊤ (RepackEnds choice result) source out0 out
+
+-- Repacking the file of a name, which is standard input for `-`. What another name's file holds is not known.
+abbrev pub RepacksNamed : Choice → (name : List ℕ) → (standard out0 out : Device) → Result Done Stop → Type 0
+RepacksNamed choice name standard out0 out result = Over (name ≡ codes "-") (RepackEnds choice result) standard out0 out
+
+-- The input was listed with these counts.
+pub record WritesList (choice : Choice) (input printed : List ℕ) : Type 0 where
+  pub counts : Counts
+  pub listed : IsListed (settings_of choice) input printed counts
+
+abbrev pub ListEnds : Choice → Result Done Stop → (input printed : List ℕ) → Type 0
+ListEnds choice result input printed =
+    Ends (IfWritten (WritesList choice input printed)) IsUnopened
+    (λ fault. ListAnswers (settings_of choice) input printed (Err fault)) printed result
+
+-- Listing the file of a name.
+abbrev pub ListsNamed : Choice → (name : List ℕ) → (standard out0 out : Device) → Result Done Stop → Type 0
+ListsNamed choice name standard out0 out result = Over (name ≡ codes "-") (ListEnds choice result) standard out0 out
+
+-- The input was repacked into what was printed, and this is the text of its report.
+pub record WritesRecords (choice : Choice) (input printed : List ℕ) : Type 0 where
+  pub told : List ℕ
+  pub report : Report
+  pub reported : IsReported choice input printed told report
+
+-- The engine stopped at this fault, or what it wrote was not stored, after this part of the report.
+pub record StopsRecords (choice : Choice) (input printed : List ℕ) (fault : ToolFault) : Type 0 where
+  pub told : List ℕ
+  pub answers : ReportAnswers choice input printed told (Err fault)
+
+abbrev pub FeedAnswers : Choice → Result (Unit {0}) ToolFault → (input printed : List ℕ) → Type 0
+FeedAnswers choice (Ok fed) input printed = WritesRecords choice input printed
+FeedAnswers choice (Err fault) input printed = StopsRecords choice input printed fault
+
+-- Repacking a source to standard output, and its report to a file.
+abbrev pub FeedsTo : Choice → (source out0 out : Device) → Result (Unit {0}) ToolFault → Type 0
+FeedsTo choice source out0 out result = Over ⊤ (FeedAnswers choice result) source out0 out
+
+abbrev pub FeedEnds : Choice → Result Done Stop → (input printed : List ℕ) → Type 0
+FeedEnds choice result input printed =
+    Ends (IfWritten (WritesRecords choice input printed)) IsUncreated (StopsRecords choice input printed) printed result
+
+-- Repacking standard input to standard output, and how it ends.
+abbrev pub Feeds : Choice → (standard out0 out : Device) → Result Done Stop → Type 0
+Feeds choice standard out0 out result = Over ⊤ (FeedEnds choice result) standard out0 out
+
+abbrev pub CheckEnds : (input text printed : List ℕ) → Result Done Stop → Type 0
+CheckEnds input text printed result =
+    Ends (IfChecked (λ verdict. VerdictAnswers input text printed (Ok verdict))) IsUnopened
+    (λ fault. VerdictAnswers input text printed (Err fault)) printed result
+
+-- Checking some records with some report, and what was printed.
+pub record Checks (out0 out : Device) (result : Result Done Stop) : Type 0 where
+  pub input : List ℕ
+  pub text : List ℕ
+  pub printed : List ℕ
+  pub prints : Takes out0 out printed
+  pub ends : CheckEnds input text printed result
+
+-- what is asked of each day of an archive
+abbrev pub days_asked : Archiving → Asked
+days_asked asked = record { choice = asked.options; resume = asked.walking.resume; check = asked.walking.check }
+
+abbrev pub ArchiveEnds : Asked → (printed : List ℕ) → Result Done Stop → Type 0
+ArchiveEnds asked printed result =
+    Ends (IfWalked (λ refused. WalkEnds asked printed (Ok refused))) IsNeither
+    (λ fault. WalkEnds asked printed (Err fault)) printed result
+
+-- Walking an archive, and what was printed.
+pub record WalksArchive (asked : Asked) (out0 out : Device) (result : Result Done Stop) : Type 0 where
+  pub printed : List ℕ
+  pub prints : Takes out0 out printed
+  pub ends : ArchiveEnds asked printed result
+
+-- A call was made, and it failed or was interrupted.
+pub record WasRefused (old new : Device) : Type 0 where
+  pub error : Error
+  pub counts : CountsError old new error
+
+-- Standard output was tried, and nothing was printed: it is open, and counts as before; or it is closed, as a call told.
+abbrev pub OpensOutput : (out0 out : Device) → Result (Unit {0}) Stop → Type 0
+OpensOutput out0 out (Ok open_now) = Takes out0 out [] × (out.failures ≡ out0.failures) × (out.interruptions ≡ 0)
+OpensOutput out0 out (Err stop) = Takes out0 out [] × (stop ≡ Closed) × WasRefused out0 out
+
+-- what doing a task reads and prints, and how it ends
+abbrev pub Does : Task → (standard out0 out : Device) → Result Done Stop → Type 0
+Does (Repack asked) standard out0 out result = RepacksNamed asked.options asked.input.now standard out0 out result
+Does (Listing asked) standard out0 out result = ListsNamed asked.options asked.input.now standard out0 out result
+Does (Check asked) standard out0 out result = Checks out0 out result
+Does (Archive asked) standard out0 out result = WalksArchive (days_asked asked) out0 out result
+Does (Feed asked) standard out0 out result = Feeds asked.options standard out0 out result
+
+-- The words ask for a task, with none for the default, and it ended with this status.
+pub record EndsTask (words : ℕ) (standard out0 out : Device) (status : ℕ) : Type 0 where
+  pub task : Task
+  pub outcome : Result Done Stop
+  pub default : words < 2 → IsDefault task
+  pub does : Does task standard out0 out outcome
+  pub ended : status ≡ status_of outcome
+
+-- A text was printed whole for status 0. Status 2 is for a text on standard error, and then nothing is printed; status
+-- 1 where a text of status 0 was not printed, or there is no memory.
+abbrev pub EndsText : NoTask → (out0 out : Device) → (status : ℕ) → Type 0
+EndsText (Ending ending) out0 out status =
+    ((status ≡ ending.status) × (status ≡ 0 → Takes out0 out (string_bytes ending.text)) × (status ≢ 0 → out ≡ out0)) ⊎
+    ((status ≡ 1) × (ending.status ≡ 0) × HasFailed out0 out)
+EndsText Memory out0 out status = (status ≡ 1) × (out ≡ out0)
+
+-- The words ask for no task.
+pub record EndsWithoutTask (words : ℕ) (out0 out : Device) (status : ℕ) : Type 0 where
+  pub why : NoTask
+  pub some : 2 ≤ words
+  pub has_status : HasStatus why
+  pub ends : EndsText why out0 out status

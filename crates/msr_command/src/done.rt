@@ -1,0 +1,29 @@
+//! What a task that was done ends with.
+ghost use Rattle.std.specs.Prelude.{◌≡◌};
+ghost use Rattle.msr_command.specs.Ends.{status_of_done};
+
+use msr_tool::Verdict;
+
+/// What a task that was done ends with.
+#[derive(Clone, Copy, Debug, PartialEq, Eq)]
+pub enum Done {
+    /// Everything was written.
+    Written,
+    /// A verdict was printed.
+    Checked(Verdict),
+    /// An archive was walked to its end, and an entry was refused, or none.
+    Walked { refused: bool },
+}
+
+impl Done {
+    /// The exit status of a program that ends so.
+    pub fn status(&self) -> u8
+        ensures { result ≡ status_of_done self.now }
+    {
+        match self {
+            Done::Written => 0,
+            Done::Checked(verdict) => verdict.status(),
+            Done::Walked { refused } => { if *refused { 1 } else { 0 } }
+        }
+    }
+}

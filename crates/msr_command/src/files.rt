@@ -1,0 +1,115 @@
+//! Files that are opened, created and made to last.
+ghost use Rattle.std.specs.Prelude.{◌≡◌, IfErr};
+ghost use Rattle.msr_command.specs.Ends.{IsUncreated, IsUnopened};
+
+use crate::stop::Stop;
+use msr_tool::ToolFault;
+use msr_walk::settle;
+use std::fs;
+use std::fs::{File, Metadata, OpenFile, OpenOptions};
+use std::os::unix::fs::MetadataExt;
+use std::rt::Files;
+
+/// Which regular file it is, whatever its names: its device, and its number there.
+#[derive(Clone, Copy, Debug, PartialEq, Eq)]
+pub struct FileId {
+    device: u64,
+    number: u64,
+}
+
+/// `None` where it is no regular file, as a pipe, a terminal or /dev/null.
+fn id_of(metadata: &Metadata) -> Option<FileId> {
+    if !metadata.is_file() {
+        return None;
+    }
+    Some(FileId {
+        device: metadata.dev(),
+        number: metadata.ino(),
+    })
+}
+
+/// A file that was opened to be read.
+#[derive(Drop)]
+pub struct OpenedFile<F> {
+    pub file: F,
+    pub id: Option<FileId>,
+}
+
+/// Opens the file with this name, also where it is `-`.
+pub fn open_file<'a, R: Files>(rt: &R, name: &'a str) -> Result<OpenedFile<R::File>, Stop<'a>>
+    ensures { IfErr result IsUnopened }
+{
+    let Ok(file) = File::open(rt, name) else {
+        return Err(Stop::CannotOpen(name));
+    };
+    match file.metadata() {
+        Ok(metadata) => Ok(OpenedFile {
+            file,
+            id: id_of(&metadata),
+        }),
+        Err(_) => Err(Stop::CannotOpen(name)),
+    }
+}
+
+/// Which file standard input is redirected from, where the system tells it.
+pub fn id_of_standard_input<R: Files>(rt: &R) -> Option<FileId> {
+    match fs::metadata(rt, "/dev/stdin") {
+        Ok(metadata) => id_of(&metadata),
+        Err(_) => None,
+    }
+}
+
+/// Which file standard output is redirected to, where the system tells it.
+fn id_of_standard_output<R: Files>(rt: &R) -> Option<FileId> {
+    match fs::metadata(rt, "/dev/stdout") {
+        Ok(metadata) => id_of(&metadata),
+        Err(_) => None,
+    }
+}
+
+/// Creates the file with this name, or opens it and cuts it to nothing, unless it is the input by some name, or what
+/// standard output is redirected to: then it is left as it is.
+pub fn create_output<'a, R: Files>(
+    rt: &R,
+    name: &'a str,
+    input: Option<FileId>,
+) -> Result<R::File, Stop<'a>>
+    ensures { IfErr result IsUncreated }
+{
+    let Ok(file) = OpenOptions::new().write(true).create(true).open(rt, name) else {
+        return Err(Stop::CannotOpen(name));
+    };
+    let Ok(metadata) = file.metadata() else {
+        return Err(Stop::CannotOpen(name));
+    };
+    let Some(id) = id_of(&metadata) else {
+        return Ok(file);
+    };
+    if input == Some(id) {
+        return Err(Stop::SameFile);
+    }
+    if id_of_standard_output(rt) == Some(id) {
+        return Err(Stop::SameOutput);
+    }
+    match file.set_len(0) {
+        Ok(()) => Ok(file),
+        Err(_) => Err(Stop::CannotOpen(name)),
+    }
+}
+
+/// Waits until the system has stored what was printed, where standard output is redirected to a regular file that can
+/// be opened once more.
+pub fn settle_standard_output<R: Files>(rt: &R) -> Result<(), ToolFault>
+    ensures { IfErr result (λ fault. fault ≡ ToolFault.Write) }
+{
+    let Ok(metadata) = fs::metadata(rt, "/dev/stdout") else {
+        return Ok(());
+    };
+    if !metadata.is_file() {
+        return Ok(());
+    }
+    match OpenOptions::new().write(true).open(rt, "/dev/stdout") {
+        Ok(file) => settle(&file),
+        Err(_) => Ok(()),
+    }
+}

@@ -1,0 +1,78 @@
+//! What the program does with its words: a task, or the text that they end with.
+ghost use Rattle.std.specs.Io.KnownBytes.{Appends};
+ghost use Rattle.std.specs.Prelude.{◌≡◌, ◌⊎◌, ◌++◌, OnOk, codes, length};
+ghost use Rattle.msr_devices.specs.Device.{CanCountCall};
+ghost use Rattle.msr_command.specs.Ends.{EndsTask, EndsText, EndsWithoutTask, status_of_stop};
+ghost use Rattle.msr_command.specs.declared.words.NoTask.{NoTask as ForNoTask};
+ghost use Rattle.msr_command.specs.declared.words.NoTask.TheVariants.{Ending as WithText};
+
+use crate::stop::Stop;
+use crate::tasks::do_task;
+use crate::words::{Ending, NoTask, read_words};
+use msr_devices::{Sink, Source, write_all};
+use std::alloc::Global;
+use std::io;
+use std::io::Write;
+use std::rt::Files;
+
+/// One line on standard error, for this status. Where it cannot be written, the status alone tells.
+pub fn complain<E: Write>(errors: &mut E, status: u8, text: &str) -> u8
+    ensures { result ≡ status }
+{
+    write_complaint(errors, text).ok();
+    status
+}
+
+fn write_complaint<E: Write>(errors: &mut E, text: &str) -> io::Result<()>
+    ensures { OnOk result (Appends (E.contents errors.old) (E.contents errors.new)
+        (codes "msrepack: " ++ (text.now ++ codes "\n"))) }
+{
+    writeln!(errors, "msrepack: {text}")
+}
+
+/// The line of what stopped a task, and its status.
+fn complain_of<E: Write>(errors: &mut E, stop: &Stop<'_>) -> u8
+    ensures { result ≡ status_of_stop stop.now }
+{
+    writeln!(errors, "msrepack: {stop}").ok();
+    stop.status()
+}
+
+/// Prints the text to end with: help and the version as output, a fault of the command line as an error.
+fn end<O: Sink, E: Write>(output: &mut O, errors: &mut E, ending: &Ending) -> u8
+    requires output { CanCountCall (O.device output.old) }
+    requires status { (ending.now.status ≡ 0) ⊎ (ending.now.status ≡ 2) }
+    ensures { EndsText (WithText ending.now) (O.device output.old) (O.device output.new) result }
+{
+    let text = ending.text.as_str();
+    if ending.status != 0 {
+        write!(errors, "{text}").ok();
+    } else if write_all(output, text.as_bytes()).is_err() {
+        return complain(errors, 1, "write fault");
+    }
+    ending.status
+}
+
+/// Does what the words ask for, of which the first is the program's name, and gives the status.
+pub fn run<R: Files, I: Source, O: Sink, E: Write>(
+    rt: &R,
+    alloc: Global,
+    words: &[&str],
+    input: &mut I,
+    output: &mut O,
+    errors: &mut E,
+) -> u8
+    requires input { CanCountCall (I.device input.old) }
+    requires output { CanCountCall (O.device output.old) }
+    ensures { EndsTask (length words.now) (I.device input.old) (O.device output.old) (O.device output.new) result
+        ⊎ EndsWithoutTask (length words.now) (O.device output.old) (O.device output.new) result }
+{
+    match read_words(alloc, words) {
+        Ok(task) => match do_task(rt, alloc, task, input, output) {
+            Ok(done) => done.status(),
+            Err(stop) => complain_of(errors, &stop),
+        },
+        Err(NoTask::Ending(ending)) => end(output, errors, &ending),
+        Err(NoTask::Memory) => complain(errors, 1, "out of memory"),
+    }
+}

@@ -1,0 +1,50 @@
+//! Why a task ends before it is done.
+use msr_tool::ToolFault;
+use thiserror::Error;
+
+/// Why a task ended before it was done.
+#[derive(Debug, Drop, Error)]
+pub enum Stop<'a> {
+    /// The file with this name could not be opened, or not be made.
+    #[error("cannot open {0}")]
+    CannotOpen(&'a str),
+    /// The output is the input, by another name or a link.
+    #[error("the output is the input")]
+    SameFile,
+    /// A file to be written is what standard output is redirected to.
+    #[error("two outputs are one file")]
+    SameOutput,
+    /// Standard output is closed.
+    #[error("write fault")]
+    Closed,
+    /// The engine ended.
+    #[error("{0}")]
+    Tool(ToolFault),
+}
+
+impl<'a> Stop<'a> {
+    ghost use Rattle.std.specs.Prelude.{◌≡◌};
+    ghost use Rattle.msr_command.specs.Ends.{status_of_stop};
+
+    /// The exit status of a program that ends so.
+    pub fn status(&self) -> u8
+        ensures { result ≡ status_of_stop self.now }
+    {
+        match self {
+            Stop::CannotOpen(_) | Stop::Closed => 1,
+            Stop::SameFile | Stop::SameOutput => 2,
+            Stop::Tool(fault) => fault.status(),
+        }
+    }
+}
+
+impl<'a> From<ToolFault> for Stop<'a> {
+    ghost use Rattle.std.specs.Prelude.{◌≡◌};
+    ghost use Rattle.msr_command.specs.declared.stop.Stop.TheVariants.{Tool};
+
+    ghost from_gives = { λ fault stop. stop ≡ Tool fault };
+
+    fn from(fault: ToolFault) -> Stop<'a> {
+        Stop::Tool(fault)
+    }
+}

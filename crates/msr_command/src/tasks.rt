@@ -1,0 +1,247 @@
+//! The tasks of the program, over the system's files, and over any source and sink in the place of standard input and
+//! output.
+ghost use Rattle.std.specs.Prelude.{◌≡◌};
+ghost use Rattle.msr_devices.specs.Device.{CanCountCall};
+ghost use Rattle.msr_command.specs.Ends.{days_asked, Checks, Does, Feeds, FeedsTo, ListsNamed, OpensOutput, Repacks, RepacksNamed, WalksArchive};
+
+use crate::done::Done;
+use crate::files::{
+    FileId, create_output, id_of_standard_input, open_file, settle_standard_output,
+};
+use crate::stop::Stop;
+use crate::words::{Archiving, Checking, Feeding, Listing, Repacking, Task};
+use msr_tool::{
+    FromRead, FromWrite, Options, Sink, Source, ToolFault, check_and_tell, feed_and_report,
+    list_segments, repack_and_report,
+};
+use msr_walk::{Archive, settle, walk};
+use std::alloc::Global;
+use std::fs::OpenFile;
+use std::io;
+use std::rt::Files;
+
+/// Does what was asked for: reads files, and `input` where a name is `-`; writes files, and to `output` what is to be
+/// printed.
+pub fn do_task<'a, R: Files, I: Source, O: Sink>(
+    rt: &R,
+    alloc: Global,
+    task: Task<'a>,
+    input: &mut I,
+    output: &mut O,
+) -> Result<Done, Stop<'a>>
+    requires input { CanCountCall (I.device input.old) }
+    requires output { CanCountCall (O.device output.old) }
+    ensures { Does task.entry (I.device input.old) (O.device output.old) (O.device output.new) result }
+{
+    require_open(output)?;
+    let feeds = matches!(task, Task::Feed(_));
+    let done = do_open(rt, alloc, task, input, output)?;
+    if !feeds {
+        settle_standard_output(rt)?;
+    }
+    Ok(done)
+}
+
+/// Does it where standard output is open.
+fn do_open<'a, R: Files, I: Source, O: Sink>(
+    rt: &R,
+    alloc: Global,
+    task: Task<'a>,
+    input: &mut I,
+    output: &mut O,
+) -> Result<Done, Stop<'a>>
+    requires input { CanCountCall (I.device input.old) }
+    requires output { CanCountCall (O.device output.old) }
+    ensures { Does task.entry (I.device input.old) (O.device output.old) (O.device output.new) result }
+{
+    match task {
+        Task::Repack(asked) => repack_file(rt, alloc, asked, input, output),
+        Task::List(asked) => list_file(rt, alloc, asked, input, output),
+        Task::Check(asked) => check_files(rt, alloc, asked, output),
+        Task::Archive(asked) => repack_archive(rt, alloc, asked, output),
+        Task::Feed(asked) => feed_input(rt, alloc, asked, input, output),
+    }
+}
+
+/// Nothing can be printed where standard output is closed, and a file that is made would stand in its place and get
+/// the text.
+fn require_open<'a, O: Sink>(output: &mut O) -> Result<(), Stop<'a>>
+    requires { CanCountCall (O.device output.old) }
+    ensures { OpensOutput (O.device output.old) (O.device output.new) result }
+{
+    match output.write(&[]) {
+        Ok(_) => Ok(()),
+        Err(_) => Err(Stop::Closed),
+    }
+}
+
+/// Opens the input before the output is made, so that a wrong input leaves an old output as it is.
+fn repack_file<'a, R: Files, I: Source, O: Sink>(
+    rt: &R,
+    alloc: Global,
+    asked: Repacking<'a>,
+    input: &mut I,
+    output: &mut O,
+) -> Result<Done, Stop<'a>>
+    requires input { CanCountCall (I.device input.old) }
+    requires output { CanCountCall (O.device output.old) }
+    ensures { RepacksNamed asked.entry.options asked.entry.input.now
+        (I.device input.old) (O.device output.old) (O.device output.new) result }
+{
+    let Repacking {
+        options,
+        input: name,
+        output: to,
+    } = asked;
+    if name == "-" {
+        let id = id_of_standard_input(rt);
+        return repack_from(rt, alloc, options, to, input, id, output);
+    }
+    let opened = open_file(rt, name)?;
+    let mut source = FromRead::new(opened.file);
+    repack_from(rt, alloc, options, to, &mut source, opened.id, output)
+}
+
+/// Repacks the source, which is the file with that id if it is one, to the file with that name, or to nowhere.
+fn repack_from<'a, R: Files, I: Source, O: Sink>(
+    rt: &R,
+    alloc: Global,
+    options: Options,
+    to: Option<&'a str>,
+    source: &mut I,
+    id: Option<FileId>,
+    output: &mut O,
+) -> Result<Done, Stop<'a>>
+    requires source { CanCountCall (I.device source.old) }
+    requires output { CanCountCall (O.device output.old) }
+    ensures { Repacks options (I.device source.old) (O.device output.old) (O.device output.new) result }
+{
+    let Some(name) = to else {
+        let mut nowhere = FromWrite::new(io::sink());
+        repack_and_report(alloc, source, &mut nowhere, output, options)?;
+        return Ok(Done::Written);
+    };
+    let mut file = create_output(rt, name, id)?;
+    repack_and_report(
+        alloc,
+        source,
+        &mut FromWrite::new(&mut file),
+        output,
+        options,
+    )?;
+    settle(&file)?;
+    Ok(Done::Written)
+}
+
+/// Makes the report's file before anything is read. It stands empty after a fault.
+fn feed_input<'a, R: Files, I: Source, O: Sink>(
+    rt: &R,
+    alloc: Global,
+    asked: Feeding<'a>,
+    input: &mut I,
+    output: &mut O,
+) -> Result<Done, Stop<'a>>
+    requires input { CanCountCall (I.device input.old) }
+    requires output { CanCountCall (O.device output.old) }
+    ensures { Feeds asked.entry.options (I.device input.old)
+        (O.device output.old) (O.device output.new) result }
+{
+    let id = id_of_standard_input(rt);
+    let mut file = create_output(rt, asked.report, id)?;
+    let fed = feed_to(rt, alloc, &mut file, asked.options, input, output);
+    match fed {
+        Ok(()) => Ok(Done::Written),
+        Err(fault) => {
+            file.set_len(0).ok();
+            Err(Stop::Tool(fault))
+        }
+    }
+}
+
+/// Feeds to the file of the report, and waits until the system has stored what was written.
+fn feed_to<R: Files, I: Source, O: Sink>(
+    rt: &R,
+    alloc: Global,
+    file: &mut R::File,
+    options: Options,
+    input: &mut I,
+    output: &mut O,
+) -> Result<(), ToolFault>
+    requires input { CanCountCall (I.device input.old) }
+    requires output { CanCountCall (O.device output.old) }
+    ensures { FeedsTo options (I.device input.old) (O.device output.old) (O.device output.new) result }
+{
+    feed_and_report(
+        alloc,
+        input,
+        output,
+        &mut FromWrite::new(&mut *file),
+        options,
+    )?;
+    settle_standard_output(rt)?;
+    settle(file)?;
+    Ok(())
+}
+
+fn list_file<'a, R: Files, I: Source, O: Sink>(
+    rt: &R,
+    alloc: Global,
+    asked: Listing<'a>,
+    input: &mut I,
+    output: &mut O,
+) -> Result<Done, Stop<'a>>
+    requires input { CanCountCall (I.device input.old) }
+    requires output { CanCountCall (O.device output.old) }
+    ensures { ListsNamed asked.entry.options asked.entry.input.now (I.device input.old)
+        (O.device output.old) (O.device output.new) result }
+{
+    let Listing {
+        options,
+        input: name,
+    } = asked;
+    if name == "-" {
+        list_segments(alloc, input, output, options)?;
+        return Ok(Done::Written);
+    }
+    let mut source = FromRead::new(open_file(rt, name)?.file);
+    list_segments(alloc, &mut source, output, options)?;
+    Ok(Done::Written)
+}
+
+/// Opens both inputs before either is read.
+fn check_files<'a, R: Files, O: Sink>(
+    rt: &R,
+    alloc: Global,
+    asked: Checking<'a>,
+    output: &mut O,
+) -> Result<Done, Stop<'a>>
+    requires { CanCountCall (O.device output.old) }
+    ensures { Checks (O.device output.old) (O.device output.new) result }
+{
+    let mut packed = FromRead::new(open_file(rt, asked.packed)?.file);
+    let mut report = FromRead::new(open_file(rt, asked.report)?.file);
+    let verdict = check_and_tell(alloc, &mut packed, &mut report, output)?;
+    Ok(Done::Checked(verdict))
+}
+
+fn repack_archive<'a, R: Files, O: Sink>(
+    rt: &R,
+    alloc: Global,
+    asked: Archiving<'a>,
+    output: &mut O,
+) -> Result<Done, Stop<'a>>
+    requires output { CanCountCall (O.device output.old) }
+    ensures { WalksArchive (days_asked asked.entry) (O.device output.old) (O.device output.new) result }
+{
+    let archive = Archive {
+        root: asked.folders.root,
+        out: asked.folders.out,
+        reports: asked.folders.reports,
+        options: asked.options,
+        below: asked.walking.below.as_slice(),
+        resume: asked.walking.resume,
+        check: asked.walking.check,
+    };
+    let refused = walk(rt, alloc, &archive, output)?;
+    Ok(Done::Walked { refused })
+}

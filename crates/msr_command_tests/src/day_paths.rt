@@ -1,0 +1,111 @@
+//! Paths from outside, each with its parts or its fault: that the definitions are the form that
+//! archives have.
+use msr_sds::{SdsFault, SdsName, one_reading};
+use std::test::Fail;
+
+#[test]
+fn reads_paths_and_gives_them_back(rt: HostRuntime) -> Result<(), Fail> {
+    let rows = [
+        (
+            "2020/IU/ANMO/BHZ.D/IU.ANMO.00.BHZ.D.2020.001",
+            ["IU", "ANMO", "00", "BHZ"],
+        ),
+        (
+            "2020/XX/TEST/BHZ.D/XX.TEST..BHZ.D.2020.366",
+            ["XX", "TEST", "", "BHZ"],
+        ),
+        ("1900/X/S/Z.D/X.S.0.Z.D.1900.365", ["X", "S", "0", "Z"]),
+        (
+            "2100/NETWORK8/station8/chanNEL8.D/NETWORK8.station8.location.chanNEL8.D.2100.001",
+            ["NETWORK8", "station8", "location", "chanNEL8"],
+        ),
+    ];
+    for (text, [network, station, location, channel]) in rows {
+        let Ok(name) = SdsName::parse(text) else {
+            return Err(Fail::new(text));
+        };
+        assert_eq!(rt; name.network(), network);
+        assert_eq!(rt; name.station(), station);
+        assert_eq!(rt; name.location(), location);
+        assert_eq!(rt; name.channel(), channel);
+        assert_eq!(rt; name.path_text(rt.alloc())?.as_str(), text);
+    }
+    Ok(())
+}
+
+/// Other files in an archive, folders that differ from the file's name, and parts of another form.
+const NOT_SDS: [&str; 15] = [
+    "",
+    "2020/XX/TEST/BHZ.D",
+    "2020/XX/TEST/BHZ.D/readme",
+    "2019/XX/TEST/BHZ.D/XX.TEST..BHZ.D.2020.366",
+    "2020/XX/TEST/BHZ.D/XX.TEST..BHN.D.2020.001",
+    "2020/XX/TEST/BHZ.D/XX.TEST..BHZ.L.2020.001",
+    "2020/XX/TEST/BHZ.D/XX.TEST..BHZ.D.2020.1",
+    "2020/XX/TEST/BHZ.D/XX.TEST..BHZ.D.2020.+01",
+    "2020/XX/TEST/BHZ.D/XX.TEST..BHZ.D.2020.001.bak",
+    "2020/XX/TEST/BHZ.d/XX.TEST..BHZ.d.2020.001",
+    "2020/X-/TEST/BHZ.D/X-.TEST..BHZ.D.2020.001",
+    "2020//TEST/BHZ.D/.TEST..BHZ.D.2020.001",
+    "2020/XX/LONGSTATN/BHZ.D/XX.LONGSTATN..BHZ.D.2020.001",
+    "./2020/XX/TEST/BHZ.D/XX.TEST..BHZ.D.2020.001",
+    "2020/XX/TEST/BHZ.D/XX.TEST..BHZ.D.2020.001/",
+];
+
+/// Logs and opaque data, one of them of a day that its year has not.
+const NOT_WAVEFORM: [&str; 2] = [
+    "2020/XX/TEST/BHZ.L/XX.TEST..BHZ.L.2020.366",
+    "2019/XX/TEST/BHZ.O/XX.TEST..BHZ.O.2019.366",
+];
+
+/// Days that their years have not, and years outside 1900 to 2100.
+const BAD_DAY: [&str; 5] = [
+    "2019/XX/TEST/BHZ.D/XX.TEST..BHZ.D.2019.366",
+    "1900/XX/TEST/BHZ.D/XX.TEST..BHZ.D.1900.366",
+    "2020/XX/TEST/BHZ.D/XX.TEST..BHZ.D.2020.000",
+    "1899/XX/TEST/BHZ.D/XX.TEST..BHZ.D.1899.001",
+    "2101/XX/TEST/BHZ.D/XX.TEST..BHZ.D.2101.001",
+];
+
+#[test]
+fn refuses_in_order(rt: HostRuntime) {
+    for text in NOT_SDS {
+        assert_eq!(rt;
+            SdsName::parse(text).err(),
+            Some(SdsFault::NotSds),
+            "at {text}"
+        );
+    }
+    for text in NOT_WAVEFORM {
+        assert_eq!(rt;
+            SdsName::parse(text).err(),
+            Some(SdsFault::NotWaveform),
+            "at {text}"
+        );
+    }
+    for text in BAD_DAY {
+        assert_eq!(rt;
+            SdsName::parse(text).err(),
+            Some(SdsFault::BadDay),
+            "at {text}"
+        );
+    }
+}
+
+#[test]
+fn faults_have_texts(rt: HostRuntime) -> Result<(), Fail> {
+    let rows = [
+        (SdsFault::NotSds, "not an SDS path"),
+        (SdsFault::NotWaveform, "not waveform data"),
+        (SdsFault::BadDay, "bad day"),
+    ];
+    for (fault, text) in rows {
+        assert_eq!(rt; fault.to_string(rt.alloc())?.as_str(), text);
+    }
+    Ok(())
+}
+
+#[test]
+fn laws_are_callable() {
+    one_reading();
+}

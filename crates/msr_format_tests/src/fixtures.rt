@@ -1,0 +1,83 @@
+//! Where an edit writes, and what.
+use msr_fixtures::{Edit, header_bytes, little_record, record, record_of_words, steim_record};
+
+/// An edit, where it writes, and the bytes in either order.
+type Row<'a> = (Edit<'a>, usize, &'a [u8], &'a [u8]);
+
+const ROWS: [Row<'static>; 24] = [
+    (Edit::Sequence(*b"123456"), 0, b"123456", b"123456"),
+    (Edit::Quality(b'M'), 6, b"M", b"M"),
+    (Edit::Station(*b"OTHER"), 8, b"OTHER", b"OTHER"),
+    (Edit::Channel(*b"LHN"), 15, b"LHN", b"LHN"),
+    (Edit::Day(2056, 366), 20, &[8, 8, 1, 110], &[8, 8, 110, 1]),
+    (
+        Edit::Clock(23, 59, 58, 515),
+        24,
+        &[23, 59, 58, 0, 2, 3],
+        &[23, 59, 58, 0, 3, 2],
+    ),
+    (Edit::Samples(258), 30, &[1, 2], &[2, 1]),
+    (Edit::Rate(-10, 3), 32, &[255, 246, 0, 3], &[246, 255, 3, 0]),
+    (Edit::Activity(2), 36, &[2], &[2]),
+    (Edit::Clocking(4), 37, &[4], &[4]),
+    (Edit::DataQuality(8), 38, &[8], &[8]),
+    (
+        Edit::Correction(-12),
+        40,
+        &[255, 255, 255, 244],
+        &[244, 255, 255, 255],
+    ),
+    (Edit::DataAt(256), 44, &[1, 0], &[0, 1]),
+    (Edit::FirstBlockette(56), 46, &[0, 56], &[56, 0]),
+    (Edit::After1000(128), 50, &[0, 128], &[128, 0]),
+    (Edit::Encoding(10), 52, &[10], &[10]),
+    (Edit::DataOrder(0), 53, &[0], &[0]),
+    (Edit::Exponent(9), 54, &[9], &[9]),
+    (Edit::SecondType(500), 56, &[1, 244], &[244, 1]),
+    (Edit::After1001(64), 58, &[0, 64], &[64, 0]),
+    (Edit::TimingQuality(90), 60, &[90], &[90]),
+    (Edit::Micros(-50), 61, &[206], &[206]),
+    (Edit::Frames(1), 63, &[1], &[1]),
+    (Edit::Bytes(62, &[5]), 62, &[5], &[5]),
+];
+
+/// The first bytes have this part in that place, and are else the second ones.
+fn differ_there(found: &[u8], base: &[u8], at: usize, part: &[u8]) -> bool {
+    let end = at.saturating_add(part.len());
+    found.len() == base.len()
+        && found.get(..at) == base.get(..at)
+        && found.get(at..end) == Some(part)
+        && found.get(end..) == base.get(end..)
+}
+
+#[test]
+fn edits_write_their_fields(rt: HostRuntime) {
+    for (edit, at, big, little) in ROWS {
+        assert!(rt;
+            differ_there(&header_bytes(&[edit]), &header_bytes(&[]), at, big),
+            "{edit:?}"
+        );
+        assert!(rt;
+            differ_there(&record(&[edit]), &record(&[]), at, big),
+            "{edit:?}"
+        );
+        assert!(rt;
+            differ_there(&little_record(&[edit]), &little_record(&[]), at, little),
+            "{edit:?}"
+        );
+        assert!(rt;
+            differ_there(&steim_record(&[edit]), &steim_record(&[]), at, big),
+            "{edit:?}"
+        );
+    }
+}
+
+#[test]
+fn words_fill_frames(rt: HostRuntime) {
+    let bytes = record_of_words([1, 2, 3, 4], &[Edit::Bytes(252, &[5, 6, 7, 8, 9])]);
+    assert!(rt; differ_there(&bytes, &record(&[]), 76, bytes.get(76..).unwrap_or(&[])));
+    for word in bytes.get(76..252).unwrap_or(&[]).chunks(4) {
+        assert!(rt; word == [1, 2, 3, 4].as_slice());
+    }
+    assert!(rt; bytes.ends_with([5, 6, 7, 8].as_slice()));
+}

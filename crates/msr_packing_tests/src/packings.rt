@@ -1,0 +1,461 @@
+//! Segments with their packings, worked out by hand, or from the definitions by exhaustive search.
+
+ghost use Rattle.std.specs.Prelude.{◌≡◌};
+ghost use Rattle.msr_packer.specs.Blocks.{pushed};
+
+use Made::{Bounds, Extremes, Noise, Signs, Swings, Turns, Zeros};
+use msr_packer::{BlockPacker, Last, Packing, Piece, Run, StreamPacker, pack};
+use msr_words::Kind::{self, Int16, Int24, Int32, Steim1, Steim2};
+use msr_words::Length;
+use std::alloc::{AllocError, Global};
+use std::test::Fail;
+
+/// The samples of a row.
+#[derive(Clone, Copy, Debug)]
+enum Made {
+    Zeros(usize),
+    /// -20000 at even places and 20000 at odd ones.
+    Signs(usize),
+    /// So many: 1000000 at even places and 1020000 at odd ones, but this one at the places from 84 to 88.
+    Swings(usize, i32),
+    /// 8388607 at even places and -8388608 at odd ones.
+    Bounds(usize),
+    /// The two samples that lie furthest apart, in turn.
+    Extremes(usize),
+    /// So many, by a seed, of noise of that height.
+    Noise(usize, u64, u32),
+    /// So many, by a seed, of noise of two heights in turn, each for so many samples.
+    Turns(usize, u64, u32, u32, usize),
+}
+
+/// The next number of a row that looks like chance.
+fn next_of(number: u64) -> u64 {
+    number
+        .wrapping_mul(6_364_136_223_846_793_005)
+        .wrapping_add(1_442_695_040_888_963_407)
+}
+
+/// A sample of noise of that height, half of it below 0.
+fn of_height(number: u64, height: u32) -> i32 {
+    let above = ((number >> 33) % u64::from(height.max(1))) as i32;
+    above.wrapping_sub((height / 2).cast_signed())
+}
+
+impl Made {
+    fn count(self) -> usize {
+        match self {
+            Zeros(count) | Signs(count) | Swings(count, _) | Bounds(count) | Extremes(count) =>
+                count,
+            Noise(count, _, _) | Turns(count, _, _, _, _) => count,
+        }
+    }
+
+    fn seed(self) -> u64 {
+        match self {
+            Noise(_, seed, _) | Turns(_, seed, _, _, _) => seed,
+            _ => 0,
+        }
+    }
+
+    /// The sample at a place, where the row of chance has that number.
+    fn sample(self, place: usize, number: u64) -> i32 {
+        let even = place % 2 == 0;
+        match self {
+            Zeros(_) => 0,
+            Signs(_) => { if even { -20_000 } else { 20_000 } }
+            Swings(_, calm) => {
+                if 84 <= place && place <= 88 {
+                    calm
+                } else if even {
+                    1_000_000
+                } else {
+                    1_020_000
+                }
+            }
+            Bounds(_) => { if even { 8_388_607 } else { -8_388_608 } }
+            Extremes(_) => { if even { -2_147_483_648 } else { 2_147_483_647 } }
+            Noise(_, _, height) => of_height(number, height),
+            Turns(_, _, calm, loud, stretch) => {
+                let loud_now = place / stretch.max(1) % 2 == 1;
+                of_height(number, if loud_now { loud } else { calm })
+            }
+        }
+    }
+
+    fn samples(self, alloc: Global) -> Result<Vec<i32>, AllocError> {
+        let mut samples = Vec::new(alloc);
+        let mut number = self.seed();
+        for place in 0..self.count() {
+            number = next_of(number);
+            samples.push(self.sample(place, number))?;
+        }
+        Ok(samples)
+    }
+}
+
+/// The length of records, the samples, the ends of the runs with their kinds, and the separators.
+type Row = (u32, Made, &'static [(u64, Kind)], &'static [u64]);
+
+/// Those of noise were found by a search over all cuts, starts and divisions into groups.
+const ROWS: [Row; 24] = [
+    // 43 words of seven differences
+    (256, Zeros(301), &[(301, Steim2)], &[0]),
+    (256, Zeros(302), &[(301, Steim2), (302, Steim2)], &[0, 301]),
+    // 7663 words in 511 frames
+    (32768, Zeros(53641), &[(53641, Steim2)], &[0]),
+    // 15343 words in 1023 frames have room for more samples than a header counts
+    (65536, Zeros(65535), &[(65535, Steim2)], &[0]),
+    (
+        65536,
+        Zeros(65536),
+        &[(65535, Steim2), (65536, Steim2)],
+        &[0, 65535],
+    ),
+    // 16368 places of 32 bits
+    (
+        65536,
+        Extremes(16369),
+        &[(16368, Int32), (16369, Int32)],
+        &[0, 16368],
+    ),
+    // 96 places of 16 bits
+    (256, Signs(97), &[(96, Int16), (97, Steim2)], &[0, 96]),
+    // 64 places of 24 bits
+    (256, Bounds(65), &[(64, Int24), (65, Steim2)], &[0, 64]),
+    // where each record starts at the frontier, three are needed
+    (
+        256,
+        Swings(173, 1_000_000),
+        &[(85, Steim1), (173, Steim1)],
+        &[0, 86],
+    ),
+    // a group of three ends the record
+    (256, Swings(87, 1_020_000), &[(87, Steim1)], &[0]),
+    // a difference of more than 32 bits
+    (256, Extremes(2), &[(2, Int32)], &[0]),
+    (
+        256,
+        Noise(400, 1, 10),
+        &[(290, Steim2), (400, Steim2)],
+        &[0, 290],
+    ),
+    (
+        256,
+        Noise(400, 2, 60),
+        &[(188, Steim2), (375, Steim2), (400, Steim2)],
+        &[0, 188, 375],
+    ),
+    (
+        256,
+        Noise(300, 3, 1_000),
+        &[(102, Steim2), (203, Steim2), (300, Steim2)],
+        &[0, 102, 203],
+    ),
+    (
+        256,
+        Noise(300, 4, 20_000),
+        &[(96, Int16), (192, Int16), (288, Int16), (300, Steim2)],
+        &[0, 96, 192, 288],
+    ),
+    (
+        256,
+        Noise(300, 5, 250),
+        &[(140, Steim2), (285, Steim2), (300, Steim2)],
+        &[0, 140, 285],
+    ),
+    (
+        256,
+        Noise(260, 6, 5_000),
+        &[(96, Int16), (192, Int16), (260, Steim2)],
+        &[0, 96, 192],
+    ),
+    (
+        256,
+        Turns(300, 7, 10, 20_000, 12),
+        &[(118, Steim2), (232, Steim2), (300, Steim2)],
+        &[0, 118, 232],
+    ),
+    // Steim-1 reaches furthest
+    (
+        256,
+        Turns(260, 9, 40, 40_000, 6),
+        &[(101, Steim1), (202, Steim1), (260, Steim2)],
+        &[0, 101, 202],
+    ),
+    // Steim-1, then 16-bit integers
+    (
+        256,
+        Turns(200, 10, 250, 33_000, 5),
+        &[(99, Steim1), (195, Int16), (200, Steim2)],
+        &[0, 99, 195],
+    ),
+    // Steim-1 reaches furthest from before the frontier
+    (
+        256,
+        Turns(200, 12, 60, 70_000, 40),
+        &[(88, Steim1), (177, Steim1), (200, Steim2)],
+        &[0, 89, 177],
+    ),
+    // Steim-1 from before the frontier reaches as far as Steim-2 from it
+    (
+        256,
+        Turns(260, 13, 120, 2_000_000, 16),
+        &[(69, Steim2), (137, Steim2), (205, Steim2), (260, Steim2)],
+        &[0, 69, 137, 205],
+    ),
+    // three kinds
+    (
+        256,
+        Turns(200, 42, 1_000, 70_000, 90),
+        &[(96, Int16), (160, Int24), (200, Steim2)],
+        &[0, 96, 160],
+    ),
+    // differences of more than 32 bits
+    (
+        256,
+        Turns(200, 39, 1_000, 2_147_483_648, 80),
+        &[(83, Steim1), (131, Int32), (187, Steim1), (200, Steim2)],
+        &[0, 83, 131, 187],
+    ),
+];
+
+#[test]
+fn the_rows(rt: HostRuntime) -> Result<(), Fail> {
+    for (bytes, made, runs, separators) in ROWS {
+        let record_length = Length::new(bytes).ok_or("a length")?;
+        let samples = made.samples(rt.alloc())?;
+        let packing = pack(rt.alloc(), samples.as_slice(), record_length)?;
+        assert_eq!(rt; packing.runs.len(), runs.len(), "{made:?}");
+        let mut start = 0;
+        for (run, (end, kind)) in packing.runs.iter().zip(runs) {
+            let (end, kind) = (*end, *kind);
+            assert_eq!(rt; *run, Run { start, end, kind }, "{made:?}");
+            start = end;
+        }
+        assert_eq!(rt; packing.separators.as_slice(), separators, "{made:?}");
+    }
+    Ok(())
+}
+
+#[test]
+fn no_samples(rt: HostRuntime) -> Result<(), Fail> {
+    let record_length = Length::new(512).ok_or("a length")?;
+    let packing = pack(rt.alloc(), &[], record_length)?;
+    assert_eq!(rt; packing.runs.len(), 0);
+    assert_eq!(rt; packing.separators.len(), 0);
+    Ok(())
+}
+
+/// A day at 100 samples a second that rises by one: 103 words of seven differences, and 257 samples left.
+#[test]
+fn the_ramp_of_a_day(rt: HostRuntime) -> Result<(), Fail> {
+    let record_length = Length::new(512).ok_or("a length")?;
+    let mut samples = Vec::new(rt.alloc());
+    for sample in 0..8_640_000i32 {
+        samples.push(sample)?;
+    }
+    let packing = pack(rt.alloc(), samples.as_slice(), record_length)?;
+    assert_eq!(rt; packing.runs.len(), 11984);
+    assert_eq!(rt; packing.separators.len(), 11984);
+    let mut start = 0u64;
+    for (run, separator) in packing.runs.iter().zip(packing.separators.as_slice()) {
+        let end = start.saturating_add(721).min(8_640_000);
+        assert_eq!(rt; run.start, start);
+        assert_eq!(rt; run.end, end);
+        assert_eq!(rt; run.kind, Kind::Steim2);
+        assert_eq!(rt; *separator, start);
+        start = end;
+    }
+    let last = packing.runs.as_slice().last().ok_or("a run")?;
+    assert_eq!(rt;
+        *last,
+        Run {
+            start: 8_639_743,
+            end: 8_640_000,
+            kind: Kind::Steim2
+        }
+    );
+    Ok(())
+}
+
+/// What a packer of a stream gives, and the samples that it shows with each piece and at the end.
+#[derive(Drop)]
+struct Streamed {
+    packing: Packing,
+    samples: Vec<i32>,
+    /// Whether the sample before each run was the last one of the run before it.
+    joined: bool,
+}
+
+impl Streamed {
+    fn empty(alloc: Global) -> Streamed {
+        Streamed {
+            packing: Packing {
+                runs: Vec::new(alloc),
+                separators: Vec::new(alloc),
+            },
+            samples: Vec::new(alloc),
+            joined: true,
+        }
+    }
+
+    /// Adds a piece, if there is one, with its samples.
+    fn add_if_any(&mut self, piece: Option<Piece>, samples: &[i32]) -> Result<(), AllocError> {
+        if let Some(piece) = piece {
+            self.packing.runs.push(piece.run)?;
+            self.packing.separators.push(piece.separator)?;
+        }
+        self.samples.extend_from_slice(samples)
+    }
+
+    /// Adds the last pieces.
+    fn with_last(self, last: Last) -> Result<Streamed, AllocError> {
+        let mut given = self;
+        for piece in last.pieces.as_slice() {
+            given.packing.runs.push(piece.run)?;
+            given.packing.separators.push(piece.separator)?;
+        }
+        given.samples.extend_from_slice(last.samples.as_slice())?;
+        Ok(given)
+    }
+
+    /// Adds a piece with its samples, and the sample before them.
+    fn add(
+        &mut self,
+        piece: Piece,
+        before: Option<i32>,
+        samples: &[i32],
+    ) -> Result<(), AllocError> {
+        let last = self.samples.as_slice().last().copied();
+        self.joined = self.joined && before == last;
+        self.add_if_any(Some(piece), samples)
+    }
+}
+
+/// The samples pushed one after another.
+fn stream_of(
+    alloc: Global,
+    samples: &[i32],
+    record_length: Length,
+) -> Result<Streamed, AllocError> {
+    let mut packer = StreamPacker::new(alloc, record_length);
+    let mut given = Streamed::empty(alloc);
+    for at in 0..samples.len() {
+        let piece = packer.push(samples[at])?;
+        given.add_if_any(piece, packer.run_samples())?;
+    }
+    given.with_last(packer.end())
+}
+
+/// At most so many samples pushed at a time.
+fn in_some(
+    alloc: Global,
+    samples: &[i32],
+    record_length: Length,
+    size: usize,
+) -> Result<Streamed, AllocError> {
+    let mut packer = StreamPacker::new(alloc, record_length);
+    let mut given = Streamed::empty(alloc);
+    let mut from = 0;
+    while from < samples.len() {
+        let to = from + size.max(1).min(samples.len() - from);
+        let taken = packer.push_some(&samples[from..to])?;
+        given.add_if_any(taken.piece, packer.run_samples())?;
+        from += taken.count;
+    }
+    given.with_last(packer.end())
+}
+
+#[test]
+fn the_rows_as_a_stream(rt: HostRuntime) -> Result<(), Fail> {
+    for (bytes, made, _, _) in ROWS {
+        let record_length = Length::new(bytes).ok_or("a length")?;
+        let samples = made.samples(rt.alloc())?;
+        let given = stream_of(rt.alloc(), samples.as_slice(), record_length)?;
+        let packing = pack(rt.alloc(), samples.as_slice(), record_length)?;
+        assert_eq!(rt; given.packing, packing, "{bytes} {made:?}");
+        assert_eq!(rt; given.samples, samples, "{bytes} {made:?}");
+        for size in [1, 7, 100, 1_000_000] {
+            let given = in_some(rt.alloc(), samples.as_slice(), record_length, size)?;
+            assert_eq!(rt; given.packing, packing, "{bytes} {made:?} by {size}");
+            assert_eq!(rt; given.samples, samples, "{bytes} {made:?} by {size}");
+        }
+    }
+    Ok(())
+}
+
+/// Adds the pieces that are decided.
+fn add_decided(packer: &mut BlockPacker, given: &mut Streamed) -> Result<(), AllocError>
+    ensures { pushed packer.new ≡ pushed packer.old }
+{
+    while let Some(piece) = packer.next_piece() {
+        given.add(piece, packer.sample_before(), packer.run_samples())?;
+    }
+    Ok(())
+}
+
+/// Adds the pieces at the end.
+fn add_last(packer: &mut BlockPacker, given: &mut Streamed) -> Result<(), AllocError> {
+    while let Some(piece) = packer.last_piece() {
+        given.add(piece, packer.sample_before(), packer.run_samples())?;
+    }
+    Ok(())
+}
+
+/// What a packer gives, where so many samples are pushed at a time.
+fn in_blocks(
+    alloc: Global,
+    samples: &[i32],
+    record_length: Length,
+    size: usize,
+) -> Result<Streamed, AllocError> {
+    let mut packer = BlockPacker::new(alloc, record_length);
+    let mut given = Streamed::empty(alloc);
+    let mut from = 0;
+    while from < samples.len() {
+        let to = from + size.max(1).min(samples.len() - from);
+        packer.push_all(&samples[from..to])?;
+        add_decided(&mut packer, &mut given)?;
+        from = to;
+    }
+    add_last(&mut packer, &mut given)?;
+    Ok(given)
+}
+
+/// Blocks of one sample, of a few, of about a record, and all at once.
+#[test]
+fn the_rows_in_blocks(rt: HostRuntime) -> Result<(), Fail> {
+    for (bytes, made, _, _) in ROWS {
+        let record_length = Length::new(bytes).ok_or("a length")?;
+        let samples = made.samples(rt.alloc())?;
+        let packing = pack(rt.alloc(), samples.as_slice(), record_length)?;
+        for size in [1, 7, 100, 1_000_000] {
+            let given = in_blocks(rt.alloc(), samples.as_slice(), record_length, size)?;
+            assert_eq!(rt; given.packing, packing, "{bytes} {made:?} by {size}");
+            assert_eq!(rt; given.samples, samples, "{bytes} {made:?} by {size}");
+            assert!(rt; given.joined, "{bytes} {made:?} by {size}");
+        }
+    }
+    Ok(())
+}
+
+#[test]
+fn zeros_one_after_another(rt: HostRuntime) -> Result<(), Fail> {
+    let record_length = Length::new(256).ok_or("a length")?;
+    let zeros = vec![in rt.alloc(); 0; 603]?;
+    let given = stream_of(rt.alloc(), zeros.as_slice(), record_length)?;
+    let runs = [(0, 301), (301, 602), (602, 603)].map(|(start, end)| Run {
+        start,
+        end,
+        kind: Steim2,
+    });
+    assert_eq!(rt; given.packing.runs.as_slice(), runs.as_slice());
+    assert_eq!(rt;
+        given.packing.separators.as_slice(),
+        [0, 301, 602].as_slice()
+    );
+    assert_eq!(rt; given.samples, zeros);
+    let none = stream_of(rt.alloc(), &[], record_length)?;
+    assert!(rt; none.packing.runs.is_empty() && none.samples.is_empty());
+    Ok(())
+}

@@ -1,7 +1,0 @@
-use Rattle.std.proofs.Common.{refl}
-use Rattle.msr_program.proofs.tasks.require_open.Goals as goal
-
-pub returns-in-Err : goal.returns-in-Err
-returns-in-Err g c =
-    let writes = c.in-Err.ensures.writes in
-    (writes.bytes, refl, record { error = c.in-Err.field-0; counts = writes.counts })
