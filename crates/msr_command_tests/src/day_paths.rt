@@ -1,5 +1,5 @@
-//! Paths from outside, each with its parts or its fault: that the definitions are the form that
-//! archives have.
+//! msr_sds: paths from outside, each with its parts or its fault: that the definitions are the form
+//! that archives have.
 use msr_sds::{SdsFault, SdsName, one_reading};
 use std::test::Fail;
 

@@ -1,4 +1,4 @@
-//! Adds of a few names, with the totals worked out by hand.
+//! msr_totals: adds of a few names, with the totals worked out by hand.
 use msr_totals::{Total, Totals};
 use std::test::Fail;
 

@@ -1,4 +1,4 @@
-//! What command lines are read as, and the text and status that the others end with.
+//! msr_command: what command lines are read as, and the text and status that the others end with.
 use msr_command::{
     Archiving, Checking, Ending, Feeding, Folders, Listing, NoTask, Repacking, Task, Walking,
     read_words,

@@ -1,4 +1,4 @@
-//! Where an edit writes, and what.
+//! msr_fixtures: where an edit writes, and what.
 use msr_fixtures::{Edit, header_bytes, little_record, record, record_of_words, steim_record};
 
 /// An edit, where it writes, and the bytes in either order.

@@ -1,4 +1,5 @@
-//! Headers from outside, which say that the layout is the standard's, and the faults' texts.
+//! msr_header: headers from outside, which say that the layout is the standard's, and the faults'
+//! texts.
 use msr_fixtures::{Edit, header_bytes, little_record, record};
 use msr_header::{Header, HeaderFault, Order, Timing, read_header, write_header};
 use msr_time::BTime;

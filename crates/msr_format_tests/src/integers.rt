@@ -1,4 +1,5 @@
-//! Areas from outside, and what no clause says: that a call succeeds, and the text of a fault.
+//! msr_plain: areas from outside, and what no clause says: that a call succeeds, and the text of a
+//! fault.
 use msr_base::Order;
 use msr_plain::{PlainFault, Width, decode_plain, decode_plain_into, fill_plain, plain_samples};
 use std::test::Fail;

@@ -1,4 +1,5 @@
-//! Records from outside, which say that the definitions are the standard's, and the faults' texts.
+//! msr_record: records from outside, which say that the definitions are the standard's, and the
+//! faults' texts.
 ghost use Rattle.std.specs.Prelude.{◌≡◌, IsTrue, false};
 ghost use Rattle.msr_header.specs.Reading.{is_quality};
 ghost use Rattle.msr_record.specs.Correction.{is_pending};

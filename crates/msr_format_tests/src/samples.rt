@@ -1,4 +1,4 @@
-//! What no clause says: that a call succeeds, and the text of a list.
+//! msr_base: what no clause says: that a call succeeds, and the text of a list.
 use msr_base::Samples;
 use std::test::Fail;
 

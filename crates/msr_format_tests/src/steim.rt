@@ -1,4 +1,5 @@
-//! Words and areas from outside, and what no clause says: that a call succeeds, and the text of a fault.
+//! msr_steim: words and areas from outside, and what no clause says: that a call succeeds, and the
+//! text of a fault.
 ghost use Rattle.std.specs.Prelude.{IsTrue, map};
 ghost use Rattle.msr_steim.specs.Word.{AreGroups};
 

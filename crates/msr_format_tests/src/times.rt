@@ -1,4 +1,5 @@
-//! Instants and sample times from outside: that the definitions mean the standard's calendar.
+//! msr_time: instants and sample times from outside: that the definitions mean the standard's
+//! calendar.
 use msr_time::{BTime, Rate, is_instant, one_nominal_instant, split};
 
 fn time(year: u16, day: u16, clock: (u8, u8, u8), fract: u16) -> BTime {

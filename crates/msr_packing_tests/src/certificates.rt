@@ -1,4 +1,4 @@
-//! Separating lists and packings, worked out by hand.
+//! msr_check: separating lists and packings, worked out by hand.
 
 use msr_check::{separates, shows_least};
 use msr_words::{Kind, Length, Run};

@@ -1,4 +1,4 @@
-//! Runs worked out by hand, by the trackers, by `Kind::fits` and by `groups`.
+//! msr_words: runs worked out by hand, by the trackers, by `Kind::fits` and by `groups`.
 
 ghost use Rattle.std.specs.Prelude.{◌≤◌, length};
 

@@ -1,4 +1,5 @@
-//! Segments with their packings, worked out by hand, or from the definitions by exhaustive search.
+//! msr_packer: segments with their packings, worked out by hand, or from the definitions by
+//! exhaustive search.
 
 ghost use Rattle.std.specs.Prelude.{◌≡◌};
 ghost use Rattle.msr_packer.specs.Blocks.{pushed};

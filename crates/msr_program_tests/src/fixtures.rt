@@ -1,5 +1,6 @@
 //! A run of the program over streams of memory, a folder of its own for each test, and the sample files.
 use msr_command::run;
+use msr_fixtures::{Edit, header_bytes};
 use msr_tool::{Behavior, TestSink, TestSource};
 use std::alloc::{AllocError, Global};
 use std::rt::Files;
@@ -90,27 +91,30 @@ impl Folder {
 }
 
 /// 302 samples of 32 bits from 2020-01-01 00:00:00 on, 20 a second, in a record of 4096 bytes.
-pub const HEADER: [u8; 64] = [
-    0x30, 0x30, 0x30, 0x30, 0x30, 0x31, 0x44, 0x20, 0x54, 0x45, 0x53, 0x54, 0x20, 0x30, 0x30, 0x42,
-    0x48, 0x5a, 0x58, 0x58, 0x07, 0xe4, 0x00, 0x01, 0x00, 0x00, 0x00, 0x00, 0x00, 0x00, 0x01, 0x2e,
-    0x00, 0x14, 0x00, 0x01, 0x00, 0x00, 0x00, 0x02, 0x00, 0x00, 0x00, 0x00, 0x00, 0x40, 0x00, 0x30,
-    0x03, 0xe8, 0x00, 0x38, 0x03, 0x01, 0x0c, 0x00, 0x03, 0xe9, 0x00, 0x00, 0x00, 0x00, 0x00, 0x00,
-];
+pub fn header() -> [u8; 64] {
+    header_bytes(&[
+        Edit::Samples(302),
+        Edit::Encoding(3),
+        Edit::Exponent(12),
+        Edit::Frames(0),
+    ])
+}
 
 /// A record of 4096 bytes with 302 samples of 0.
 pub fn zeros(alloc: Global) -> Result<Vec<u8>, AllocError> {
     let mut record = vec![in alloc; 0; 4096]?;
-    record.as_mut_slice()[..64].copy_from_slice(&HEADER);
+    record.as_mut_slice()[..64].copy_from_slice(&header());
     Ok(record)
 }
 
 /// A record of 4096 bytes with one sample of 0, whose reverse constant is 1.
 pub fn mismatched(alloc: Global) -> Result<Vec<u8>, AllocError> {
     let mut front = [0; 76];
-    front[..64].copy_from_slice(&HEADER);
-    front[30] = 0;
-    front[31] = 1;
-    front[52] = 11;
+    front[..64].copy_from_slice(&header_bytes(&[
+        Edit::Samples(1),
+        Edit::Exponent(12),
+        Edit::Frames(0),
+    ]));
     front[64] = 1;
     front[75] = 1;
     let mut record = vec![in alloc; 0; 4096]?;
@@ -128,16 +132,17 @@ const WAVE: [i16; 100] = [
     100, -21, -134, -226, -290, -319, -312, -272, -205, -119, -24, 69, 150, 211, 246, 252,
 ];
 
-/// Where a header has other bytes in a record of that file: its number, the second, the number of samples, the
-/// encoding and the length.
-fn short_record(number: u8, second: u8) -> [u8; 512] {
+/// A record of that file, by its number and the second at which it begins.
+fn short_record(number: [u8; 6], second: u8) -> [u8; 512] {
     let mut record = [0; 512];
-    record[..64].copy_from_slice(&HEADER);
-    record[5] = number;
-    record[26] = second;
-    record[30..32].copy_from_slice(&[0, 100]);
-    record[52] = 1;
-    record[54] = 9;
+    record[..64].copy_from_slice(&header_bytes(&[
+        Edit::Sequence(number),
+        Edit::Clock(0, 0, second, 0),
+        Edit::Samples(100),
+        Edit::Encoding(1),
+        Edit::Exponent(9),
+        Edit::Frames(0),
+    ]));
     for (place, sample) in WAVE.iter().enumerate() {
         record[64 + 2 * place..66 + 2 * place].copy_from_slice(&sample.to_be_bytes());
     }
@@ -148,7 +153,13 @@ fn short_record(number: u8, second: u8) -> [u8; 512] {
 /// after the third.
 pub fn two_segments(alloc: Global) -> Result<Vec<u8>, AllocError> {
     let mut bytes = Vec::new(alloc);
-    for (number, second) in [(b'1', 0), (b'2', 5), (b'3', 10), (b'4', 25), (b'5', 30)] {
+    for (number, second) in [
+        (*b"000001", 0),
+        (*b"000002", 5),
+        (*b"000003", 10),
+        (*b"000004", 25),
+        (*b"000005", 30),
+    ] {
         bytes.extend_from_slice(&short_record(number, second))?;
     }
     Ok(bytes)

@@ -1,4 +1,5 @@
-//! What devices do, which no clause says: how a test device plays, how large the pieces are, and each call once.
+//! msr_devices: what devices do, which no clause says: how a test device plays, how large the
+//! pieces are, and each call once.
 use msr_devices::{
     Behavior, FillFault, FromRead, FromWrite, ReadBuffer, SinkFailed, SourceFailed, TestSink,
     TestSource, WriteBuffer, read_some, write_all, write_some,

@@ -1,4 +1,5 @@
-//! What readers do, which no clause says: printed faults, sources that play, and each call once.
+//! msr_input: what readers do, which no clause says: printed faults, sources that play, and each
+//! call once.
 use msr_base::Counts;
 use msr_devices::{Behavior, FillFault, TestSource};
 use msr_fixtures::{Edit, START, int32_record};

@@ -1,5 +1,5 @@
-//! Rows worked out by hand, which say that the definitions are the joining rule, and each call with
-//! ample memory.
+//! msr_segments: rows worked out by hand, which say that the definitions are the joining rule, and
+//! each call with ample memory.
 ghost use Rattle.std.specs.Prelude.{◌≡◌, IfOk, length};
 
 use msr_base::Samples;

@@ -1,4 +1,5 @@
-//! Reports from outside, and those that are at fault: which line is told, and that reading stops there.
+//! msr_certificate: reports from outside, and those that are at fault: which line is told, and that
+//! reading stops there.
 use msr_certificate::{
     ReportFault, line_has_form, one_report, read_report, report_has_form, report_of,
     text_is_read_back,

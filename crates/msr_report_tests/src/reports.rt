@@ -1,5 +1,5 @@
-//! Texts worked out by hand, which say that the definitions are the form of the lines, and each call with
-//! ample memory.
+//! msr_report: texts worked out by hand, which say that the definitions are the form of the lines,
+//! and each call with ample memory.
 ghost use Rattle.std.specs.Prelude.{◌<◌, ◌^◌, All, IfOk, IfSome, IsTrue};
 ghost use Rattle.msr_header.specs.Reading.{is_quality};
 ghost use Rattle.msr_report.specs.Proper.{IsProper, IsProperLine, records_of};

@@ -1,4 +1,5 @@
-//! What verdicts are on records worked out by hand, their texts, and each call with ample memory.
+//! msr_verdict: what verdicts are on records worked out by hand, their texts, and each call with
+//! ample memory.
 ghost use Rattle.std.specs.Prelude.{◌≡◌, IfSome, IsTrue, false};
 ghost use Rattle.msr_header.specs.Reading.{is_quality};
 ghost use Rattle.msr_record.specs.Correction.{is_pending};

@@ -1,4 +1,5 @@
-//! The bytes of records worked out by hand, sinks that fail, and each call with ample memory.
+//! msr_output: the bytes of records worked out by hand, sinks that fail, and each call with ample
+//! memory.
 ghost use Rattle.std.specs.Prelude.{◌≡◌, ◌+◌, ◌-◌, ◌<◌, ◌≤◌, ◌^◌, IsTrue, false};
 ghost use Rattle.msr_header.specs.Reading.{is_quality};
 ghost use Rattle.msr_record.specs.Correction.{is_pending};
