@@ -208,6 +208,14 @@ def lost_output(bench, case):
         bench.hold(f"{case.title}, {to}", ended(outcome, calm, "write fault"))
 
 
+def one_output(bench, case):
+    """Standard output that is redirected to the file of the other output: nothing is written to it."""
+    for to, left in ((">", b""), (">>", OLD)):
+        outcome = bench.run(case, ("sh", "-c", f'exec "$0" "$@" {to} {bench.out}'))
+        right = Outcome(2, b"", b"msrepack: two outputs are one file\n", left)
+        bench.hold(f"{case.title}, {to} OUT", None if outcome == right else f"status {outcome.status}")
+
+
 def short_memory(bench, case):
     """Memory of more and more bytes, until it is enough."""
     calm = bench.run(case)
@@ -278,6 +286,8 @@ def hold_case(bench, case):
     each_call(bench, case)
     full_disk(bench, case)
     lost_output(bench, case)
+    if bench.out in case.words:
+        one_output(bench, case)
     short_memory(bench, case)
     if case.input and os.path.getsize(case.input) < 10_000:
         single_bytes(bench, case)
