@@ -88,31 +88,37 @@ fn repack_file<'a, R: Files, I: Source, O: Sink>(
     ensures { RepacksNamed asked.entry.options asked.entry.input.now
         (I.device input.old) (O.device output.old) (O.device output.new) result }
 {
-    if asked.input == "-" {
+    let Repacking {
+        options,
+        input: name,
+        output: to,
+    } = asked;
+    if name == "-" {
         let id = id_of_standard_input(rt);
-        return repack_from(rt, alloc, asked, input, id, output);
+        return repack_from(rt, alloc, options, to, input, id, output);
     }
-    let opened = open_file(rt, asked.input)?;
+    let opened = open_file(rt, name)?;
     let mut source = FromRead::new(opened.file);
-    repack_from(rt, alloc, asked, &mut source, opened.id, output)
+    repack_from(rt, alloc, options, to, &mut source, opened.id, output)
 }
 
-/// Repacks the source, which is the file with that id if it is one, to the file that is asked for, or to nowhere.
+/// Repacks the source, which is the file with that id if it is one, to the file with that name, or to nowhere.
 fn repack_from<'a, R: Files, I: Source, O: Sink>(
     rt: &R,
     alloc: Global,
-    asked: Repacking<'a>,
+    options: Options,
+    to: Option<&'a str>,
     source: &mut I,
     id: Option<FileId>,
     output: &mut O,
 ) -> Result<Done, Stop<'a>>
     requires source { CanCountCall (I.device source.old) }
     requires output { CanCountCall (O.device output.old) }
-    ensures { Repacks asked.entry.options (I.device source.old) (O.device output.old) (O.device output.new) result }
+    ensures { Repacks options (I.device source.old) (O.device output.old) (O.device output.new) result }
 {
-    let Some(name) = asked.output else {
+    let Some(name) = to else {
         let mut nowhere = FromWrite::new(io::sink());
-        repack_and_report(alloc, source, &mut nowhere, output, asked.options)?;
+        repack_and_report(alloc, source, &mut nowhere, output, options)?;
         return Ok(Done::Written);
     };
     let mut file = create_output(rt, name, id)?;
@@ -121,7 +127,7 @@ fn repack_from<'a, R: Files, I: Source, O: Sink>(
         source,
         &mut FromWrite::new(&mut file),
         output,
-        asked.options,
+        options,
     )?;
     settle(&file)?;
     Ok(Done::Written)

@@ -9,7 +9,7 @@ returns-in_default g c = repack_done _ _ _ _ _ _ _ c.in_ok-repack_and_report.ens
 pub returns-in_err-file : goal.returns-in_err-file
 returns-in_err-file g c =
     let p = err_from_is_err_and c.from_residual-in_err-file.result c.from_residual-in_err-file.ensures.1 in
-    rw (p.1, p.2) (repack_uncreated c.args.asked.options ⊤ (g.I.Source.device c.args.source.now)
+    rw (p.1, p.2) (repack_uncreated c.args.options ⊤ (g.I.Source.device c.args.source.now)
     (g.O.Sink.device c.args.output.now) c.in_err-file.field-0.0 c.in_err-file.ensures)
 
 pub returns-in_err-repack_and_report-2 : goal.returns-in_err-repack_and_report-2
