@@ -1,6 +1,6 @@
 //! Standard input that is repacked while it comes, and the file of its report.
 use crate::fixtures::{
-    Folder, PLAIN, REPORT_OF_NOTHING, REPORT_OF_ZEROS, header, run_on, run_through, zeros,
+    Folder, PLAIN, REPORT_OF_NOTHING, REPORT_OF_ZEROS, run_on, run_through, zeros,
 };
 use msr_tool::Behavior;
 use std::fs;
@@ -44,15 +44,16 @@ fn the_records_are_printed_and_the_report_goes_to_a_file(rt: HostRuntime) -> Res
 fn after_a_fault_the_report_stands_empty(rt: HostRuntime) -> Result<(), Fail> {
     let folder = Folder::new(&rt)?;
     let report = folder.path("report.txt")?;
+    let mut cut = zeros(rt.alloc())?;
+    cut.truncate(47);
     let zeros = zeros(rt.alloc())?;
-    let header = header();
     let failing = Behavior {
         fails_at: Some(1),
         ..PLAIN
     };
     let rows: [(&[u8], Behavior, Behavior, &'static str); 3] = [
         (
-            &header[..47],
+            cut.as_slice(),
             PLAIN,
             PLAIN,
             "msrepack: offset 0: 1 Truncated\n",

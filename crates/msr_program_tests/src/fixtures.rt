@@ -91,7 +91,7 @@ impl Folder {
 }
 
 /// 302 samples of 32 bits from 2020-01-01 00:00:00 on, 20 a second, in a record of 4096 bytes.
-pub fn header() -> [u8; 64] {
+fn header() -> [u8; 64] {
     header_bytes(&[
         Edit::Samples(302),
         Edit::Encoding(3),
