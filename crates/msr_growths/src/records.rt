@@ -18,13 +18,13 @@ use std::io;
 /// Where the data of a record begin.
 const DATA_AT: usize = 64;
 
-fn data(record: &[u8]) -> &[u8]
-    ensures { result.now ≡ drop 64 record.now }
+fn data(bytes: &[u8]) -> &[u8]
+    ensures { result.now ≡ drop 64 bytes.now }
 {
-    if record.len() < DATA_AT {
+    if bytes.len() < DATA_AT {
         return &[];
     }
-    &record[DATA_AT..]
+    &bytes[DATA_AT..]
 }
 
 pub fn push(rt: &HostRuntime) -> io::Result<()> {
