@@ -94,34 +94,49 @@ fn repack_file<'a, R: Files, I: Source, O: Sink>(
         output: to,
     } = asked;
     if name == "-" {
-        let id = id_of_standard_input(rt);
-        return repack_from(rt, alloc, options, to, input, id, output);
+        let target = Target {
+            name: to,
+            input: id_of_standard_input(rt),
+        };
+        return repack_from(rt, alloc, options, target, input, output);
     }
     let opened = open_file(rt, name)?;
+    let target = Target {
+        name: to,
+        input: opened.id,
+    };
     let mut source = FromRead::new(opened.file);
-    repack_from(rt, alloc, options, to, &mut source, opened.id, output)
+    repack_from(rt, alloc, options, target, &mut source, output)
 }
 
-/// Repacks the source, which is the file with that id if it is one, to the file with that name, or to nowhere.
+/// Where the records of a repack go.
+#[derive(Clone, Copy)]
+struct Target<'a> {
+    /// The name of the file, or none for nowhere.
+    name: Option<&'a str>,
+    /// The file that is read, if it is one: the other must not be the same.
+    input: Option<FileId>,
+}
+
+/// Repacks the source to the target.
 fn repack_from<'a, R: Files, I: Source, O: Sink>(
     rt: &R,
     alloc: Global,
     options: Options,
-    to: Option<&'a str>,
+    target: Target<'a>,
     source: &mut I,
-    id: Option<FileId>,
     output: &mut O,
 ) -> Result<Done, Stop<'a>>
     requires source { CanCountCall (I.device source.old) }
     requires output { CanCountCall (O.device output.old) }
     ensures { Repacks options (I.device source.old) (O.device output.old) (O.device output.new) result }
 {
-    let Some(name) = to else {
+    let Some(name) = target.name else {
         let mut nowhere = FromWrite::new(io::sink());
         repack_and_report(alloc, source, &mut nowhere, output, options)?;
         return Ok(Done::Written);
     };
-    let mut file = create_output(rt, name, id)?;
+    let mut file = create_output(rt, name, target.input)?;
     repack_and_report(
         alloc,
         source,

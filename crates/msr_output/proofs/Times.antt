@@ -1,5 +1,5 @@
 -- A sample of a segment lies in the supported years where the first and the last do.
-use Rattle.std.proofs.Common.{◌≡◌, refl, ℕ, ◌+◌, ◌*◌, ◌/◌, ◌<◌, ◌≤◌, arith, ℤ, pos, ◌+ℤ◌, ◌-ℤ◌, ◌*ℤ◌, Option, None, Some}
+use Rattle.std.proofs.Common.{◌≡◌, refl, ℕ, ◌+◌, ◌*◌, ◌/◌, ◌<◌, ◌≤◌, arith, ℤ, pos, ◌+ℤ◌, Option, None, Some}
 use Rattle.std.specs.Prelude.{SomeIff, IsSome}
 use Rattle.std.proofs.Math.Nat.{mul-le-mul_right}
 use Rattle.jiff_core.proofs.SignedLemmas.{signed_arith}

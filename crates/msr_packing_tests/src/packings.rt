@@ -9,6 +9,7 @@ use msr_packer::{BlockPacker, Last, Packing, Piece, Run, StreamPacker, pack};
 use msr_words::Kind::{self, Int16, Int24, Int32, Steim1, Steim2};
 use msr_words::Length;
 use std::alloc::{AllocError, Global};
+use std::process::Abort;
 use std::test::Fail;
 
 /// The samples of a row.
@@ -220,20 +221,34 @@ const ROWS: [Row; 24] = [
     ),
 ];
 
+/// Runs with these ends and kinds, each from the end of the one before it.
+fn runs_of(alloc: Global, ends: &[(u64, Kind)]) -> Result<Vec<Run>, AllocError> {
+    let mut runs = Vec::new(alloc);
+    let mut start = 0;
+    for (end, kind) in ends {
+        let (end, kind) = (*end, *kind);
+        runs.push(Run { start, end, kind })?;
+        start = end;
+    }
+    Ok(runs)
+}
+
+/// The packing of a row.
+fn packs(rt: &impl Abort, alloc: Global, row: Row) -> Result<(), Fail> {
+    let (bytes, made, ends, separators) = row;
+    let record_length = Length::new(bytes).ok_or("a length")?;
+    let samples = made.samples(alloc)?;
+    let runs = runs_of(alloc, ends)?;
+    let packing = pack(alloc, samples.as_slice(), record_length)?;
+    assert_eq!(rt; packing.runs, runs, "{made:?}");
+    assert_eq!(rt; packing.separators.as_slice(), separators, "{made:?}");
+    Ok(())
+}
+
 #[test]
 fn the_rows(rt: HostRuntime) -> Result<(), Fail> {
-    for (bytes, made, runs, separators) in ROWS {
-        let record_length = Length::new(bytes).ok_or("a length")?;
-        let samples = made.samples(rt.alloc())?;
-        let packing = pack(rt.alloc(), samples.as_slice(), record_length)?;
-        assert_eq!(rt; packing.runs.len(), runs.len(), "{made:?}");
-        let mut start = 0;
-        for (run, (end, kind)) in packing.runs.iter().zip(runs) {
-            let (end, kind) = (*end, *kind);
-            assert_eq!(rt; *run, Run { start, end, kind }, "{made:?}");
-            start = end;
-        }
-        assert_eq!(rt; packing.separators.as_slice(), separators, "{made:?}");
+    for row in ROWS {
+        packs(&rt, rt.alloc(), row)?;
     }
     Ok(())
 }

@@ -1,5 +1,5 @@
 -- The record that bytes begin with: its row of samples, or why it is refused.
-use Rattle.std.specs.Prelude.{◌≡◌, ◌↔◌, ℕ, ◌-◌, ◌^◌, ◌≤◌, Bool, not, ◌&&◌, nat_le, if◌then◌else◌, ℤ, pos, List, [], ◌∷◌, length, take, slice_range, Option, Some, None, Ok, Err, is_some, IsTrue, IfNone, IfSome}
+use Rattle.std.specs.Prelude.{◌≡◌, ◌↔◌, ℕ, ◌-◌, ◌^◌, ◌≤◌, Bool, not, ◌&&◌, nat_le, ℤ, pos, List, [], ◌∷◌, length, take, slice_range, Option, Some, None, Ok, Err, is_some, IsTrue, IfNone, IfSome}
 use Rattle.std.specs.Ordering.{int_eq}
 use Rattle.msr_time.specs.Instant.{IsInstant}
 use Rattle.msr_time.specs.SampleRate.{SampleRate, IsRoundedNominal}

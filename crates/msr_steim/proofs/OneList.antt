@@ -22,11 +22,11 @@ one_row : (P : Division → Type 0) → P (record { count = 0; width = 0 })
     → IfSome {T = Division} (cond a (Some (record { count = 0; width = 0 }))
     (cond b (Some (record { count = 4; width = 8 }))
     (cond c (Some (record { count = 2; width = 16 })) (cond d (Some (record { count = 1; width = 32 })) None)))) P
-one_row P none rows true b c d = none
-one_row P none rows false true c d = rows 4 8 (omega arith) (omega arith)
-one_row P none rows false false true d = rows 2 16 (omega arith) (omega arith)
-one_row P none rows false false false true = rows 1 32 (omega arith) (omega arith)
-one_row P none rows false false false false = tt
+one_row P none row_to true b c d = none
+one_row P none row_to false true c d = row_to 4 8 (omega arith) (omega arith)
+one_row P none row_to false false true d = row_to 2 16 (omega arith) (omega arith)
+one_row P none row_to false false false true = row_to 1 32 (omega arith) (omega arith)
+one_row P none row_to false false false false = tt
 
 two_row : (P : Division → Type 0) → P (record { count = 0; width = 0 })
     → ((count width : ℕ) → 0 < width → count ≤ 7 → P (record { count = count; width = width }))
@@ -40,25 +40,25 @@ two_row : (P : Division → Type 0) → P (record { count = 0; width = 0 })
     (cond s (Some (record { count = 5; width = 6 })) (cond t (Some (record { count = 6; width = 5 }))
     (cond u (Some (record { count = 7; width = 4 })) None)))
     None)))) P
-two_row P none rows true b c d p q r s t u = none
-two_row P none rows false true c d p q r s t u = rows 4 8 (omega arith) (omega arith)
-two_row P none rows false false true d true q r s t u = rows 1 30 (omega arith) (omega arith)
-two_row P none rows false false true d false true r s t u = rows 2 15 (omega arith) (omega arith)
-two_row P none rows false false true d false false true s t u = rows 3 10 (omega arith) (omega arith)
-two_row P none rows false false true d false false false s t u = tt
-two_row P none rows false false false true p q r true t u = rows 5 6 (omega arith) (omega arith)
-two_row P none rows false false false true p q r false true u = rows 6 5 (omega arith) (omega arith)
-two_row P none rows false false false true p q r false false true = rows 7 4 (omega arith) (omega arith)
-two_row P none rows false false false true p q r false false false = tt
-two_row P none rows false false false false p q r s t u = tt
+two_row P none row_to true b c d p q r s t u = none
+two_row P none row_to false true c d p q r s t u = row_to 4 8 (omega arith) (omega arith)
+two_row P none row_to false false true d true q r s t u = row_to 1 30 (omega arith) (omega arith)
+two_row P none row_to false false true d false true r s t u = row_to 2 15 (omega arith) (omega arith)
+two_row P none row_to false false true d false false true s t u = row_to 3 10 (omega arith) (omega arith)
+two_row P none row_to false false true d false false false s t u = tt
+two_row P none row_to false false false true p q r true t u = row_to 5 6 (omega arith) (omega arith)
+two_row P none row_to false false false true p q r false true u = row_to 6 5 (omega arith) (omega arith)
+two_row P none row_to false false false true p q r false false true = row_to 7 4 (omega arith) (omega arith)
+two_row P none row_to false false false true p q r false false false = tt
+two_row P none row_to false false false false p q r s t u = tt
 
 -- what the rows of both tables have
 each_row : (P : Division → Type 0) → P (record { count = 0; width = 0 })
     → ((count width : ℕ) → 0 < width → count ≤ 7 → P (record { count = count; width = width }))
     → (version : Version) (code top : ℕ) → IfSome (division_of version code top) P
-each_row P none rows One code top = one_row P none rows (code == 0) (code == 1) (code == 2) (code == 3)
-each_row P none rows Two code top =
-    two_row P none rows (code == 0) (code == 1) (code == 2) (code == 3) (top == 1) (top == 2) (top == 3) (top == 0)
+each_row P none row_to One code top = one_row P none row_to (code == 0) (code == 1) (code == 2) (code == 3)
+each_row P none row_to Two code top =
+    two_row P none row_to (code == 0) (code == 1) (code == 2) (code == 3) (top == 1) (top == 2) (top == 3) (top == 0)
     (top == 1) (top == 2)
 
 pub has_bits : (version : Version) (code top : ℕ) → IfSome (division_of version code top) HasBits

@@ -1,5 +1,5 @@
 -- Parts of the rows beside lines of a report.
-use Rattle.std.proofs.Common.{rules, true, false, ◌≡◌, ◌↔◌, ℕ, suc, Bool, List, [], ◌∷◌, ◌++◌, length, refl, ap, subst, ◌∙◌, Some}
+use Rattle.std.proofs.Common.{rules, true, false, ◌≡◌, ◌↔◌, ℕ, suc, Bool, List, [], ◌∷◌, ◌++◌, length, refl, ap, subst, Some}
 use Rattle.std.specs.Prelude.{IsTrue, slice_get}
 use Rattle.msr_record.proofs.OneAnswer.{some_same}
 use Rattle.msr_words.specs.declared.kinds.Run.{Run}

@@ -1,4 +1,4 @@
-use Rattle.std.proofs.Common.{rules, ◌∷◌, ◌++◌, []}
+use Rattle.std.proofs.Common.{◌∷◌, ◌++◌, []}
 use Rattle.msr_words.specs.Lengths.{bytes_of}
 use Rattle.msr_output.specs.Opened.{opened_of}
 use Rattle.msr_output.proofs.OpenSegments.{can_encode}
