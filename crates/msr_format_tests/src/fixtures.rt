@@ -1,5 +1,6 @@
 //! msr_fixtures: where an edit writes, and what.
 use msr_fixtures::{Edit, header_bytes, little_record, record, record_of_words, steim_record};
+use std::process::Abort;
 
 /// An edit, where it writes, and the bytes in either order.
 type Row<'a> = (Edit<'a>, usize, &'a [u8], &'a [u8]);
@@ -50,25 +51,36 @@ fn differ_there(found: &[u8], base: &[u8], at: usize, part: &[u8]) -> bool {
         && found.get(end..) == base.get(end..)
 }
 
+/// Headers and records with the edit of a row differ there from those without.
+fn edit_writes(rt: &impl Abort, row: Row<'_>) {
+    let (edit, at, big, little) = row;
+    assert!(rt;
+        differ_there(&header_bytes(&[edit]), &header_bytes(&[]), at, big),
+        "{edit:?}"
+    );
+    assert!(rt;
+        differ_there(&record(&[edit]), &record(&[]), at, big),
+        "{edit:?}"
+    );
+    assert!(rt;
+        differ_there(&little_record(&[edit]), &little_record(&[]), at, little),
+        "{edit:?}"
+    );
+    assert!(rt;
+        differ_there(&steim_record(&[edit]), &steim_record(&[]), at, big),
+        "{edit:?}"
+    );
+}
+
+/// The rows, as an array that no proof looks into.
+fn rows() -> [Row<'static>; 24] {
+    ROWS
+}
+
 #[test]
 fn edits_write_their_fields(rt: HostRuntime) {
-    for (edit, at, big, little) in ROWS {
-        assert!(rt;
-            differ_there(&header_bytes(&[edit]), &header_bytes(&[]), at, big),
-            "{edit:?}"
-        );
-        assert!(rt;
-            differ_there(&record(&[edit]), &record(&[]), at, big),
-            "{edit:?}"
-        );
-        assert!(rt;
-            differ_there(&little_record(&[edit]), &little_record(&[]), at, little),
-            "{edit:?}"
-        );
-        assert!(rt;
-            differ_there(&steim_record(&[edit]), &steim_record(&[]), at, big),
-            "{edit:?}"
-        );
+    for row in rows() {
+        edit_writes(&rt, row);
     }
 }
 

@@ -3,6 +3,7 @@
 use msr_check::{separates, shows_least};
 use msr_words::{Kind, Length, Run};
 use std::alloc::{AllocError, Global};
+use std::process::Abort;
 use std::test::Fail;
 
 /// 1000000 at even places and 1020000 at odd ones, but 1000000 at the places from 84 to 88: 173 samples,
@@ -21,9 +22,9 @@ fn swings(alloc: Global) -> Result<Vec<i32>, AllocError> {
 }
 
 /// A list of sample numbers, and whether it separates.
-type Separators = (&'static [u64], bool);
+type Separators<'a> = (&'a [u64], bool);
 
-const SEPARATORS: [Separators; 9] = [
+const SEPARATORS: [Separators<'static>; 9] = [
     (&[], true),
     (&[0], true),
     (&[0, 86], true),
@@ -36,13 +37,19 @@ const SEPARATORS: [Separators; 9] = [
     (&[0, 86, 173], false),
 ];
 
+/// What is said of a list.
+fn list_is_told(rt: &impl Abort, samples: &[i32], record_length: Length, list: Separators<'_>) {
+    let (separators, wanted) = list;
+    let answer = separates(samples, record_length, separators);
+    assert_eq!(rt; answer, wanted, "{separators:?}");
+}
+
 #[test]
 fn which_lists_separate(rt: HostRuntime) -> Result<(), Fail> {
     let record_length = Length::new(256).ok_or("a length")?;
     let samples = swings(rt.alloc())?;
-    for (separators, wanted) in SEPARATORS {
-        let answer = separates(samples.as_slice(), record_length, separators);
-        assert_eq!(rt; answer, wanted, "{separators:?}");
+    for list in SEPARATORS {
+        list_is_told(&rt, samples.as_slice(), record_length, list);
     }
     Ok(())
 }
@@ -60,9 +67,9 @@ const SECOND: Run = Run {
 };
 
 /// Runs, sample numbers, and whether they show the runs to be least.
-type Certificate = (&'static [Run], &'static [u64], bool);
+type Certificate<'a> = (&'a [Run], &'a [u64], bool);
 
-const CERTIFICATES: [Certificate; 10] = [
+const CERTIFICATES: [Certificate<'static>; 10] = [
     (&[FIRST, SECOND], &[0, 86], true),
     (&[FIRST, SECOND], &[0, 85], false),
     // one separator fewer, one more, a run fewer
@@ -134,13 +141,24 @@ const CERTIFICATES: [Certificate; 10] = [
     ),
 ];
 
+/// What is said of a packing.
+fn packing_is_told(rt: &impl Abort, samples: &[i32], record_length: Length, row: Certificate<'_>) {
+    let (runs, separators, wanted) = row;
+    let answer = shows_least(samples, record_length, runs, separators);
+    assert_eq!(rt; answer, wanted, "{runs:?} {separators:?}");
+}
+
+/// The certificates, as an array that no proof looks into.
+fn certificates() -> [Certificate<'static>; 10] {
+    CERTIFICATES
+}
+
 #[test]
 fn which_packings_are_shown_to_be_least(rt: HostRuntime) -> Result<(), Fail> {
     let record_length = Length::new(256).ok_or("a length")?;
     let samples = swings(rt.alloc())?;
-    for (runs, separators, wanted) in CERTIFICATES {
-        let answer = shows_least(samples.as_slice(), record_length, runs, separators);
-        assert_eq!(rt; answer, wanted, "{runs:?} {separators:?}");
+    for row in certificates() {
+        packing_is_told(&rt, samples.as_slice(), record_length, row);
     }
     Ok(())
 }
@@ -175,11 +193,11 @@ fn samples_of_24_bits(rt: HostRuntime) -> Result<(), Fail> {
                 kind: Kind::Steim2,
             },
         ];
-        let answer = shows_least(samples.as_slice(), record_length, &runs, &[0, cut]);
-        assert_eq!(rt; answer, wanted, "{cut}");
+        let row: Certificate<'_> = (&runs, &[0, cut], wanted);
+        packing_is_told(&rt, samples.as_slice(), record_length, row);
     }
-    assert!(rt; separates(samples.as_slice(), record_length, &[0, 64]));
-    assert!(rt; !separates(samples.as_slice(), record_length, &[0, 63]));
+    list_is_told(&rt, samples.as_slice(), record_length, (&[0, 64], true));
+    list_is_told(&rt, samples.as_slice(), record_length, (&[0, 63], false));
     Ok(())
 }
 
@@ -191,9 +209,14 @@ fn a_long_way_between_separators(rt: HostRuntime) -> Result<(), Fail> {
     for _ in 0..1_000_000 {
         samples.push(0)?;
     }
-    assert!(rt; separates(samples.as_slice(), record_length, &[0, 500_000, 999_999]));
-    assert!(rt; !separates(samples.as_slice(), record_length, &[0, 720]));
-    assert!(rt; separates(samples.as_slice(), record_length, &[0, 721]));
+    let lists: [Separators<'_>; 3] = [
+        (&[0, 500_000, 999_999], true),
+        (&[0, 720], false),
+        (&[0, 721], true),
+    ];
+    for list in lists {
+        list_is_told(&rt, samples.as_slice(), record_length, list);
+    }
     Ok(())
 }
 
@@ -218,9 +241,15 @@ fn as_far_as_a_header_counts(rt: HostRuntime) -> Result<(), Fail> {
         end: 65_536,
         kind,
     };
-    assert!(rt; shows_least(&zeros, record_length, &[first, second], &[0, 65_535]));
-    assert!(rt; !shows_least(&zeros, record_length, &[first, second], &[0, 65_534]));
-    assert!(rt; !shows_least(&zeros, record_length, &[whole], &[0]));
-    assert!(rt; shows_least(&zeros[..65_535], record_length, &[first], &[0]));
+    let rows: [Certificate<'_>; 3] = [
+        (&[first, second], &[0, 65_535], true),
+        (&[first, second], &[0, 65_534], false),
+        (&[whole], &[0], false),
+    ];
+    for row in rows {
+        packing_is_told(&rt, &zeros, record_length, row);
+    }
+    let shorter = zeros.get(..65_535).ok_or("samples")?;
+    packing_is_told(&rt, shorter, record_length, (&[first], &[0], true));
     Ok(())
 }

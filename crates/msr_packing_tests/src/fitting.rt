@@ -8,6 +8,7 @@ use msr_words::{
     difference, fill_steim1, fill_steim2, first_kind, groups, one_division, run_fits,
 };
 use std::alloc::{AllocError, Global};
+use std::process::Abort;
 use std::test::Fail;
 
 fn shortest() -> Result<Length, Fail> {
@@ -225,24 +226,30 @@ fn no_division_of_more_than_are_counted(rt: HostRuntime) -> Result<(), Fail> {
     Ok(())
 }
 
+/// Whether a kind fits two samples that lie furthest apart, the highest sample after 0 and after -1,
+/// samples of 16 bits, and none.
+fn fits_runs(kind: Kind, length: Length) -> [bool; 5] {
+    let high = [2_147_483_647];
+    [
+        kind.fits(None, &[-2_147_483_648, 2_147_483_647], length),
+        kind.fits(Some(0), &high, length),
+        kind.fits(Some(-1), &high, length),
+        kind.fits(None, &[30_000, -30_000, 30_000], length),
+        kind.fits(None, &[], length),
+    ]
+}
+
 #[test]
 fn which_kinds_a_run_fits(rt: HostRuntime) -> Result<(), Fail> {
     let length = shortest()?;
-    let swing = [-2_147_483_648, 2_147_483_647];
-    let high = [2_147_483_647];
-    let wide = [30_000, -30_000, 30_000];
-    for (kind, whole, after_zero, after_less, far, none) in [
-        (Kind::Int16, false, false, false, true, true),
-        (Kind::Int24, false, false, false, true, true),
-        (Kind::Int32, true, true, true, true, true),
-        (Kind::Steim1, false, true, false, true, true),
-        (Kind::Steim2, false, false, false, true, true),
+    for (kind, expected) in [
+        (Kind::Int16, [false, false, false, true, true]),
+        (Kind::Int24, [false, false, false, true, true]),
+        (Kind::Int32, [true, true, true, true, true]),
+        (Kind::Steim1, [false, true, false, true, true]),
+        (Kind::Steim2, [false, false, false, true, true]),
     ] {
-        assert_eq!(rt; kind.fits(None, &swing, length), whole);
-        assert_eq!(rt; kind.fits(Some(0), &high, length), after_zero);
-        assert_eq!(rt; kind.fits(Some(-1), &high, length), after_less);
-        assert_eq!(rt; kind.fits(None, &wide, length), far);
-        assert_eq!(rt; kind.fits(None, &[], length), none);
+        assert_eq!(rt; fits_runs(kind, length), expected, "{kind:?}");
     }
     Ok(())
 }
@@ -258,15 +265,34 @@ fn zigzag(alloc: Global) -> Result<Vec<i32>, AllocError> {
     Ok(samples)
 }
 
-#[test]
-fn runs_of_a_segment(rt: HostRuntime) -> Result<(), Fail> {
+/// The kind of a run, its start, its end, and whether it fits.
+type Fitting = (Kind, usize, usize, bool);
+
+/// What is said of a run of these samples.
+fn run_is_told(rt: &impl Abort, samples: &[i32], row: Fitting) -> Result<(), Fail> {
+    let (kind, start, end, expected) = row;
     let length = shortest()?;
+    assert!(rt; start <= end);
+    assert!(rt; end <= samples.len());
+    let fits = run_fits(kind, samples, start, end, length);
+    assert_eq!(rt; fits, expected, "{kind:?} {start} {end}");
+    Ok(())
+}
+
+#[test]
+fn differences_of_a_segment(rt: HostRuntime) -> Result<(), Fail> {
     let samples = zigzag(rt.alloc())?;
     assert_eq!(rt; samples.len(), 88);
     for (at, expected) in [(0, 0), (1, 20_000), (2, -20_000), (84, 0), (87, 20_000)] {
         assert_eq!(rt; difference(&samples, at), expected);
     }
-    for (kind, start, end, expected) in [
+    Ok(())
+}
+
+#[test]
+fn runs_of_a_segment(rt: HostRuntime) -> Result<(), Fail> {
+    let samples = zigzag(rt.alloc())?;
+    for row in [
         (Kind::Steim1, 0, 87, true),
         (Kind::Steim1, 0, 88, false),
         (Kind::Steim1, 1, 88, false),
@@ -281,10 +307,7 @@ fn runs_of_a_segment(rt: HostRuntime) -> Result<(), Fail> {
         (Kind::Int16, 0, 1, false),
         (Kind::Int16, 3, 3, true),
     ] {
-        assert!(rt; start <= end);
-        assert!(rt; end <= samples.len());
-        let fits = run_fits(kind, &samples, start, end, length);
-        assert_eq!(rt; fits, expected, "{kind:?} {start} {end}");
+        run_is_told(&rt, &samples, row)?;
     }
     Ok(())
 }
@@ -305,21 +328,19 @@ fn the_first_kind_of_a_run(rt: HostRuntime) -> Result<(), Fail> {
 /// Differences of 25 bits take a word each.
 #[test]
 fn a_swing_of_24_bits(rt: HostRuntime) -> Result<(), Fail> {
-    let length = shortest()?;
     let mut swing = Vec::new(rt.alloc());
     for i in 0..65 {
         swing.push(if i % 2 == 0 { 8_388_607 } else { -8_388_608 })?;
     }
-    for (kind, end, expected) in [
-        (Kind::Steim2, 43, true),
-        (Kind::Steim2, 44, false),
-        (Kind::Steim1, 44, false),
-        (Kind::Int16, 44, false),
-        (Kind::Int24, 64, true),
-        (Kind::Int24, 65, false),
+    for row in [
+        (Kind::Steim2, 0, 43, true),
+        (Kind::Steim2, 0, 44, false),
+        (Kind::Steim1, 0, 44, false),
+        (Kind::Int16, 0, 44, false),
+        (Kind::Int24, 0, 64, true),
+        (Kind::Int24, 0, 65, false),
     ] {
-        assert!(rt; end <= swing.len());
-        assert_eq!(rt; run_fits(kind, &swing, 0, end, length), expected);
+        run_is_told(&rt, &swing, row)?;
     }
     Ok(())
 }
@@ -433,6 +454,16 @@ fn the_longest_groups(rt: HostRuntime) -> Result<(), Fail> {
     Ok(())
 }
 
+/// The area of a record of 256 bytes with these words, the others being 0.
+fn area_of(alloc: Global, words: &[u32]) -> Result<Vec<u8>, AllocError> {
+    let mut bytes = Vec::new(alloc);
+    for word in words {
+        bytes.extend_from_slice(&word.to_be_bytes())?;
+    }
+    bytes.resize(192, 0)?;
+    Ok(bytes)
+}
+
 /// 100 samples that rise by one: fourteen words of seven differences, the first of which is 0, and one of two.
 #[test]
 fn an_area_of_steim2(rt: HostRuntime) -> Result<(), Fail> {
@@ -443,19 +474,28 @@ fn an_area_of_steim2(rt: HostRuntime) -> Result<(), Fail> {
     assert_eq!(rt; samples.len(), 100);
     let mut area = [255; 192];
     assert_eq!(rt; fill_steim2(None, &samples, &mut area), 15);
-    let mut expected = Vec::new(rt.alloc());
-    for word in [0x03FF_FFFFu32, 0, 99, 0x8011_1111] {
-        expected.extend_from_slice(&word.to_be_bytes())?;
-    }
-    for _ in 0..12 {
-        expected.extend_from_slice(&0x8111_1111u32.to_be_bytes())?;
-    }
-    for word in [0x3800_0000u32, 0x8111_1111, 0x8000_8001] {
-        expected.extend_from_slice(&word.to_be_bytes())?;
-    }
-    for _ in 0..116 {
-        expected.push(0)?;
-    }
+    let words = [
+        0x03FF_FFFF,
+        0,
+        99,
+        0x8011_1111,
+        0x8111_1111,
+        0x8111_1111,
+        0x8111_1111,
+        0x8111_1111,
+        0x8111_1111,
+        0x8111_1111,
+        0x8111_1111,
+        0x8111_1111,
+        0x8111_1111,
+        0x8111_1111,
+        0x8111_1111,
+        0x8111_1111,
+        0x3800_0000,
+        0x8111_1111,
+        0x8000_8001,
+    ];
+    let expected = area_of(rt.alloc(), &words)?;
     assert!(rt; area.as_slice() == expected.as_slice());
     Ok(())
 }
@@ -469,16 +509,6 @@ fn steim1_area(alloc: Global, before: Option<i32>, run: &[i32]) -> Result<[u8; 1
         return Ok(area);
     }
     Err("no room")?
-}
-
-/// The words of the first frame, the others being 0.
-fn first_frame(alloc: Global, words: &[u32]) -> Result<Vec<u8>, AllocError> {
-    let mut bytes = Vec::new(alloc);
-    for word in words {
-        bytes.extend_from_slice(&word.to_be_bytes())?;
-    }
-    bytes.resize(192, 0)?;
-    Ok(bytes)
 }
 
 /// Groups of one, four, two and one difference; and one before four, where two would leave three for
@@ -497,12 +527,12 @@ fn areas_of_steim1(rt: HostRuntime) -> Result<(), Fail> {
         0x012C_FED4,
         5,
     ];
-    let expected = first_frame(rt.alloc(), &words)?;
+    let expected = area_of(rt.alloc(), &words)?;
     let area = steim1_area(rt.alloc(), Some(0), &told)?;
     assert!(rt; area.as_slice() == expected.as_slice());
     let untold = [200, 200, 200, 200, 200, 70_200];
     let words = [0x0370_0000, 200, 70_200, 200, 0, 70_000];
-    let expected = first_frame(rt.alloc(), &words)?;
+    let expected = area_of(rt.alloc(), &words)?;
     let area = steim1_area(rt.alloc(), Some(0), &untold)?;
     assert!(rt; area.as_slice() == expected.as_slice());
     Ok(())

@@ -221,6 +221,11 @@ const ROWS: [Row; 24] = [
     ),
 ];
 
+/// The rows, as an array that no proof looks into.
+fn rows() -> [Row; 24] {
+    ROWS
+}
+
 /// Runs with these ends and kinds, each from the end of the one before it.
 fn runs_of(alloc: Global, ends: &[(u64, Kind)]) -> Result<Vec<Run>, AllocError> {
     let mut runs = Vec::new(alloc);
@@ -247,7 +252,7 @@ fn packs(rt: &impl Abort, alloc: Global, row: Row) -> Result<(), Fail> {
 
 #[test]
 fn the_rows(rt: HostRuntime) -> Result<(), Fail> {
-    for row in ROWS {
+    for row in rows() {
         packs(&rt, rt.alloc(), row)?;
     }
     Ok(())
@@ -262,6 +267,21 @@ fn no_samples(rt: HostRuntime) -> Result<(), Fail> {
     Ok(())
 }
 
+/// Runs of 721 samples of a day, each with a separator where it starts.
+fn even_runs(rt: &impl Abort, packing: &Packing) {
+    let mut start = 0u64;
+    for (run, separator) in packing.runs.iter().zip(packing.separators.as_slice()) {
+        let end = start.saturating_add(721).min(8_640_000);
+        let expected = Run {
+            start,
+            end,
+            kind: Steim2,
+        };
+        assert_eq!(rt; (*run, *separator), (expected, start));
+        start = end;
+    }
+}
+
 /// A day at 100 samples a second that rises by one: 103 words of seven differences, and 257 samples left.
 #[test]
 fn the_ramp_of_a_day(rt: HostRuntime) -> Result<(), Fail> {
@@ -273,15 +293,7 @@ fn the_ramp_of_a_day(rt: HostRuntime) -> Result<(), Fail> {
     let packing = pack(rt.alloc(), samples.as_slice(), record_length)?;
     assert_eq!(rt; packing.runs.len(), 11984);
     assert_eq!(rt; packing.separators.len(), 11984);
-    let mut start = 0u64;
-    for (run, separator) in packing.runs.iter().zip(packing.separators.as_slice()) {
-        let end = start.saturating_add(721).min(8_640_000);
-        assert_eq!(rt; run.start, start);
-        assert_eq!(rt; run.end, end);
-        assert_eq!(rt; run.kind, Kind::Steim2);
-        assert_eq!(rt; *separator, start);
-        start = end;
-    }
+    even_runs(&rt, &packing);
     let last = packing.runs.as_slice().last().ok_or("a run")?;
     assert_eq!(rt;
         *last,
@@ -295,7 +307,7 @@ fn the_ramp_of_a_day(rt: HostRuntime) -> Result<(), Fail> {
 }
 
 /// What a packer of a stream gives, and the samples that it shows with each piece and at the end.
-#[derive(Drop)]
+#[derive(Debug, Drop, PartialEq)]
 struct Streamed {
     packing: Packing,
     samples: Vec<i32>,
@@ -313,6 +325,17 @@ impl Streamed {
             samples: Vec::new(alloc),
             joined: true,
         }
+    }
+
+    /// What is to be given of these samples.
+    fn whole(alloc: Global, made: Made, record_length: Length) -> Result<Streamed, AllocError> {
+        let samples = made.samples(alloc)?;
+        let packing = pack(alloc, samples.as_slice(), record_length)?;
+        Ok(Streamed {
+            packing,
+            samples,
+            joined: true,
+        })
     }
 
     /// Adds a piece, if there is one, with its samples.
@@ -382,20 +405,24 @@ fn in_some(
     given.with_last(packer.end())
 }
 
+/// A row pushed one sample after another, and some at a time.
+fn streams(rt: &impl Abort, alloc: Global, row: Row) -> Result<(), Fail> {
+    let (bytes, made, _, _) = row;
+    let record_length = Length::new(bytes).ok_or("a length")?;
+    let whole = Streamed::whole(alloc, made, record_length)?;
+    let given = stream_of(alloc, whole.samples.as_slice(), record_length)?;
+    assert_eq!(rt; given, whole, "{made:?}");
+    for size in [1, 7, 100, 1_000_000] {
+        let given = in_some(alloc, whole.samples.as_slice(), record_length, size)?;
+        assert_eq!(rt; given, whole, "{made:?} by {size}");
+    }
+    Ok(())
+}
+
 #[test]
 fn the_rows_as_a_stream(rt: HostRuntime) -> Result<(), Fail> {
-    for (bytes, made, _, _) in ROWS {
-        let record_length = Length::new(bytes).ok_or("a length")?;
-        let samples = made.samples(rt.alloc())?;
-        let given = stream_of(rt.alloc(), samples.as_slice(), record_length)?;
-        let packing = pack(rt.alloc(), samples.as_slice(), record_length)?;
-        assert_eq!(rt; given.packing, packing, "{bytes} {made:?}");
-        assert_eq!(rt; given.samples, samples, "{bytes} {made:?}");
-        for size in [1, 7, 100, 1_000_000] {
-            let given = in_some(rt.alloc(), samples.as_slice(), record_length, size)?;
-            assert_eq!(rt; given.packing, packing, "{bytes} {made:?} by {size}");
-            assert_eq!(rt; given.samples, samples, "{bytes} {made:?} by {size}");
-        }
+    for row in rows() {
+        streams(&rt, rt.alloc(), row)?;
     }
     Ok(())
 }
@@ -439,18 +466,21 @@ fn in_blocks(
 }
 
 /// Blocks of one sample, of a few, of about a record, and all at once.
+fn blocks(rt: &impl Abort, alloc: Global, row: Row) -> Result<(), Fail> {
+    let (bytes, made, _, _) = row;
+    let record_length = Length::new(bytes).ok_or("a length")?;
+    let whole = Streamed::whole(alloc, made, record_length)?;
+    for size in [1, 7, 100, 1_000_000] {
+        let given = in_blocks(alloc, whole.samples.as_slice(), record_length, size)?;
+        assert_eq!(rt; given, whole, "{made:?} by {size}");
+    }
+    Ok(())
+}
+
 #[test]
 fn the_rows_in_blocks(rt: HostRuntime) -> Result<(), Fail> {
-    for (bytes, made, _, _) in ROWS {
-        let record_length = Length::new(bytes).ok_or("a length")?;
-        let samples = made.samples(rt.alloc())?;
-        let packing = pack(rt.alloc(), samples.as_slice(), record_length)?;
-        for size in [1, 7, 100, 1_000_000] {
-            let given = in_blocks(rt.alloc(), samples.as_slice(), record_length, size)?;
-            assert_eq!(rt; given.packing, packing, "{bytes} {made:?} by {size}");
-            assert_eq!(rt; given.samples, samples, "{bytes} {made:?} by {size}");
-            assert!(rt; given.joined, "{bytes} {made:?} by {size}");
-        }
+    for row in rows() {
+        blocks(&rt, rt.alloc(), row)?;
     }
     Ok(())
 }
