@@ -187,7 +187,7 @@ def wrong_with(tree, walked, failed):
     told, following = told_in(tree, walked.printed, failed)
     rest = walked.printed[sum(len(line) + 1 for line in told) :]
     if not any(text.startswith(rest) for text in following):
-        return f"printed {rest[-120:]!r} behind {told[-1:]}"
+        return f"printed {rest[-120:]!r} after {told[-1:]}"
     whole = rest == following[0] and rest.startswith(("channel ", "files "))
     complaints = {f"msrepack: {text}\n" for text in failed.texts}
     refused = any(line.startswith(("refused ", "notshown ")) for line in told)
@@ -198,7 +198,7 @@ def wrong_with(tree, walked, failed):
     else:
         right = whole and walked.status == int(refused) or failed.silent and walked.status == 1
     if not right:
-        return f"status {walked.status}, {walked.complained!r}, behind {walked.printed[-120:]!r}"
+        return f"status {walked.status}, {walked.complained!r}, after {walked.printed[-120:]!r}"
     return files_wrong_with(tree, walked, told, failed.kinds)
 
 

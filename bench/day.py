@@ -114,7 +114,8 @@ def line(name, command, words, samples, few, folder, runs):
     counts = [instructions(words(it), folder) for it in (few[0], few[1])]
     each = f"{(counts[1] - counts[0]) / few[2]:.1f}" if None not in counts else "-"
     size = os.path.getsize(name)
-    row = [os.path.basename(name), command, f"{seconds:.3f}", f"{samples / seconds:,.0f}", f"{size / seconds / 1e6:,.0f}", "-" if memory is None else f"{memory:,}", each]
+    speeds = [f"{seconds:.3f}", f"{samples / seconds:,.0f}", f"{size / seconds / 1e6:,.0f}"]
+    row = [os.path.basename(name), command, *speeds, "-" if memory is None else f"{memory:,}", each]
     print("| " + " | ".join(row) + " |", flush=True)
 
 

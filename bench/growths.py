@@ -1,13 +1,13 @@
 #!/usr/bin/env python3
-"""Refuses each growth of memory in turn, for each public call that can answer want of memory.
+"""Refuses each growth of memory in turn, for each public call that can answer that memory ran out.
 
     bench/growths.py [--only NAME] [--program FILE]
 
 The program msr_growths makes one call and prints what it answers. growths.c, loaded before the C library, refuses the
 first growth, then the second, and so on until a run ends without a refusal; once that growth alone, once all from it on.
-Each run has to answer as the undisturbed one, or want of memory, and then what is left or was written is a first part of
-the usual; where nothing was refused it has to answer as the undisturbed one.
-The last line is `N growths refused, M answered want of memory, K wrong`, and the status 0 where none is wrong.
+Each run has to answer as the undisturbed one, or that memory ran out, and then what is left or was written is a first
+part of the usual; where nothing was refused it has to answer as the undisturbed one.
+The last line is `N growths refused, M answered that memory ran out, K wrong`, and the status 0 where none is wrong.
 """
 import argparse
 import os
@@ -16,7 +16,7 @@ import sys
 import tempfile
 
 ROOT = os.path.dirname(os.path.dirname(os.path.abspath(__file__)))
-# How want of memory is told: by an error's name, or by the line of a call that is made many times.
+# How it is told that memory ran out: by an error's name, or by the line of a call that is made many times.
 TOLD = ("Err(AllocError)", "Err(Memory)", "refused true")
 
 
@@ -26,7 +26,7 @@ def list_in(printed):
 
 
 def usual_begins_with(usual, printed):
-    """Where want of memory is told, what is left or was written is a first part of the usual."""
+    """Where it is told that memory ran out, what is left or was written is a first part of the usual."""
     left = [it for it in list_in(printed) if it]
     return left == list_in(usual)[: len(left)]
 
@@ -58,7 +58,7 @@ class Bench:
         if any(it in printed for it in TOLD):
             self.told += 1
             return status == 0 and usual_begins_with(usual, printed)
-        # before the call its inputs are made, and behind it the answer is printed
+        # before the call its inputs are made, and after it the answer is printed
         not_reached = printed.startswith("not reached")
         return printed == usual or not_reached or (status != 0 and usual.startswith(printed))
 
@@ -73,10 +73,10 @@ class Bench:
             for growth in range(1, made + 2):
                 if not self.judge(name, usual, growth, all_from_there):
                     self.wrong += 1
-                    print(f"{name}: wrong at growth {growth}{' and behind' if all_from_there else ''}")
+                    print(f"{name}: wrong at growth {growth}{' and after' if all_from_there else ''}")
         if self.told == told:
             self.wrong += 1
-        print(f"{name}: {made} growths, want of memory told {self.told - told} times", flush=True)
+        print(f"{name}: {made} growths, out of memory told {self.told - told} times", flush=True)
 
 
 def main():
@@ -89,7 +89,7 @@ def main():
         names = [given.only] if given.only else bench.run(None)[0].splitlines()
         for name in names:
             bench.try_call(name)
-    print(f"{bench.refused} growths refused, {bench.told} answered want of memory, {bench.wrong} wrong")
+    print(f"{bench.refused} growths refused, {bench.told} answered that memory ran out, {bench.wrong} wrong")
     return 1 if bench.wrong else 0
 
 

@@ -4,7 +4,8 @@
     bench/kinds.py [--program FILE] [--functions N] [--list]
 
 Each input is made up, the same on every machine, at 100,000 and at 200,000 samples; the count is the difference of the
-two by callgrind, so that starting up does not count. --functions prints the functions that cost most, too. --list counts `list` of the inputs in place of `repack`.
+two by callgrind, so that starting up does not count. --functions prints the functions that cost most, too. --list
+counts `list` of the inputs in place of `repack`.
 """
 import argparse
 import math

@@ -89,7 +89,7 @@ class Bench:
         return [it for it in (Trace(*it) for it in self.lines(output, "sifis")) if it.count]
 
     def lines(self, output, form):
-        """Lines of words of these forms, each with its samples behind it; SAMPLES has them in the order of the lines."""
+        """Lines of words of these forms, each with its samples after it; SAMPLES has them in the order of the lines."""
         readers = {"s": str, "i": int, "f": float}
         with open(self.samples, "rb") as it:
             for line in output.splitlines():
