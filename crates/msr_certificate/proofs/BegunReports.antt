@@ -12,7 +12,7 @@ use Rattle.msr_certificate.proofs.RestOfText.{not_empty, form_with, one_2, one_3
 use Rattle.msr_certificate.proofs.Segments.{opening_body, end_body, opening_then, end_then, words_then}
 use Rattle.msr_certificate.proofs.OneLines.{opening_is_one, end_is_one}
 use Rattle.msr_certificate.proofs.NextLines.{opens_with, separators_body, separators_then, separators_body_is_one}
-use Rattle.msr_certificate.proofs.SegmentsRead.{Going, texts_more, all_more, length_lines, records_same}
+use Rattle.msr_certificate.proofs.SegmentsRead.{Going, texts_more, all_more, length-lines, records_same}
 
 same_count : (m n : ℕ) (text : List ℕ) → m ≡ n → AreLines m text → AreLines n text
 same_count m n text is are = rw (sym is) are
@@ -124,7 +124,7 @@ going_lines text bytes tolerance counts segments rest going =
     (first_lines_are bytes tolerance counts going.is_first)
     (texts_lines (map form_line segments) going.lines going.each going.are) in
     same_count (4 + 2 * length (map form_line segments)) (4 + 2 * length segments)
-    (first_then bytes tolerance counts going.lines) (omega (arith, length_lines segments))
+    (first_then bytes tolerance counts going.lines) (omega (arith, length-lines segments))
     (subst (λ (l : List ℕ). AreLines (4 + 2 * length (map form_line segments)) l)
     (first_append bytes tolerance counts [] going.lines) lines)
 
@@ -224,7 +224,7 @@ before_behind text bytes tolerance counts segments rest more going fits is =
     let end : List ℕ = end_line (length (map form_line segments)) (form_records (map form_line segments)) in
     let last : body ++ (10 ∷ []) ≡ end = sym (end_then (length segments) (records_of segments) [])
     ∙ append-nil (end_line (length segments) (records_of segments))
-    ∙ rw (length_lines segments, records_same segments) refl in
+    ∙ rw (length-lines segments, records_same segments) refl in
     record {
       form = form_from bytes tolerance counts (map form_line segments);
       first = first_then bytes tolerance counts (going.lines ++ (body ++ (10 ∷ [])));

@@ -14,7 +14,7 @@ use Rattle.msr_certificate.specs.Laws.{OneReport, NoLineAtFault, TextIsReadBack}
 use Rattle.msr_certificate.specs.declared.fault.ReportFault.TheVariants.{Line, Read, Memory}
 use Rattle.msr_certificate.proofs.RestOfText.{record_length_small, counts_then, counts_split}
 use Rattle.msr_certificate.proofs.LineFeeds.{same_cons}
-use Rattle.msr_certificate.proofs.SegmentsRead.{first_same, opening_not_end, records_same, length_lines}
+use Rattle.msr_certificate.proofs.SegmentsRead.{first_same, opening_not_end, records_same, length-lines}
 use Rattle.msr_certificate.proofs.SameFields.{differ, same_number, same_signed, same_hex, same_field, same_time, wider}
 use Rattle.msr_certificate.proofs.Segments.{first_line_then}
 use Rattle.msr_certificate.proofs.Separators.{spaced, line_then, ends_number}
@@ -333,7 +333,7 @@ pub form_text : (report : Report) (text : List ℕ) → IsReportText report text
 form_text report text is_text = record {
   segments = is_text.segments;
   are = texts_from report.segments.items is_text.segments is_text.are;
-  is = rw (length_lines report.segments.items, records_same report.segments.items) (is_text.is ∙ first_same report _);
+  is = rw (length-lines report.segments.items, records_same report.segments.items) (is_text.is ∙ first_same report _);
 }
 
 pub one_report : OneReport

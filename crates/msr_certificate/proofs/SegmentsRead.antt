@@ -171,9 +171,9 @@ first_long : (bytes tolerance : ℕ) (counts : Counts) (more : List ℕ)
     → 18 + length more ≤ length (first_then bytes tolerance counts more)
 first_long bytes tolerance counts more = simp length-append (omega arith)
 
-pub length_lines : (segments : List SegmentLine) → length (map form_line segments) ≡ length segments
-length_lines [] = refl
-length_lines (s ∷ segments) = ap suc (length_lines segments)
+pub length-lines : (segments : List SegmentLine) → length (map form_line segments) ≡ length segments
+length-lines [] = refl
+length-lines (s ∷ segments) = ap suc (length-lines segments)
 
 pub going_long : (text : List ℕ) (bytes tolerance : ℕ) (counts : Counts) (segments : List SegmentLine)
     (rest : List ℕ) → Going text bytes tolerance counts segments rest → 18 + 2 * length segments ≤ length text
@@ -187,5 +187,5 @@ going_long text bytes tolerance counts segments rest going =
       length-append going.lines rest,
       texts_long
           (map form_line segments) going.lines going.are,
-      length_lines segments,
+      length-lines segments,
     )

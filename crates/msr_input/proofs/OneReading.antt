@@ -8,7 +8,7 @@ use Rattle.msr_record.specs.declared.fault.FaultKind.TheVariants.{Memory}
 use Rattle.msr_record.proofs.OneAnswer.{one_record}
 use Rattle.msr_segments.specs.Segments.{AreSegments}
 use Rattle.msr_segments.proofs.DivisionLaws.{one_list}
-use Rattle.msr_input.specs.Input.{AllAgree, BeginsWith, NoneOverruns, IsRefusedAlone, IsRefusedBehind, bytes_of_records, rows_of_records, OneListOfRecords, OneFirstFault, ReadableHasNoFault, MemoryIsNoFault}
+use Rattle.msr_input.specs.Input.{AllAgree, BeginsWith, NoneOverruns, IsRefusedAlone, IsRefusedAfter, bytes_of_records, rows_of_records, OneListOfRecords, OneFirstFault, ReadableHasNoFault, MemoryIsNoFault}
 use Rattle.msr_input.specs.declared.fault.Fault.{Fault}
 use Rattle.msr_input.specs.declared.settings.Settings.{Settings}
 use Rattle.msr_input.proofs.Records.{GoesOn, agree_one, compare_begins, nothing_begins}
@@ -22,7 +22,7 @@ stops_at_end (x ∷ xs) to b = absurd (nothing_begins x b.0)
 -- the record that is refused after others is none of a list that goes on
 refused_stops : (settings : Settings) (records others more : List Record) (from to : List ℕ) (kind : FaultKind)
     → others ≡ records ++ more → BeginsWith more from to → NoneOverruns settings.tolerance others
-    → AllAgree settings.strict others → IsRefusedBehind settings records from kind → (more ≡ []) × (from ≡ to)
+    → AllAgree settings.strict others → IsRefusedAfter settings records from kind → (more ≡ []) × (from ≡ to)
 refused_stops settings records others [] from to kind whole b none agree refused = (refl, b)
 refused_stops settings records others (x ∷ xs) from to kind whole b none agree (inl refused) =
     let agrees = agree_one settings.strict records xs x
@@ -35,7 +35,7 @@ refused_stops settings records others (x ∷ xs) from to kind whole b none agree
     absurd (none records xs o.found o.row whole2 o.has_row o.out_of_range)
 
 same_kind : (settings : Settings) (records others : List Record) (bytes : List ℕ) (kind other : FaultKind)
-    → IsRefusedBehind settings records bytes kind → IsRefusedBehind settings others bytes other → kind ≡ other
+    → IsRefusedAfter settings records bytes kind → IsRefusedAfter settings others bytes other → kind ≡ other
 same_kind settings records others bytes kind other (inl a) (inl b) = one_alone settings.strict bytes kind other a b
 same_kind settings records others bytes kind other (inl a) (inr b) =
     absurd (not_alone settings.strict bytes b.1.found kind b.1.is_record b.1.agrees a)
@@ -62,13 +62,13 @@ one_list_of_records settings input records others segments more a b =
 
 first_same : (settings : Settings) (records others : List Record) (r s : List ℕ) (fault other : Fault)
     → GoesOn records others r s → NoneOverruns settings.tolerance others → AllAgree settings.strict others
-    → IsRefusedBehind settings records r fault.kind → IsRefusedBehind settings others s other.kind
+    → IsRefusedAfter settings records r fault.kind → IsRefusedAfter settings others s other.kind
     → fault.offset ≡ bytes_of_records records → other.offset ≡ bytes_of_records others
     → (records ≡ others) × (fault ≡ other)
 first_same settings records others r s fault other g none agree a b p q =
     let stop = refused_stops settings records others g.more r s fault.kind g.whole g.begins none agree a in
     let same : others ≡ records = g.whole ∙ ap (λ (xs : List Record). records ++ xs) stop.0 ∙ append-nil records in
-    let b1 = subst (λ (bytes : List ℕ). IsRefusedBehind settings others bytes other.kind) (sym stop.1) b in (
+    let b1 = subst (λ (bytes : List ℕ). IsRefusedAfter settings others bytes other.kind) (sym stop.1) b in (
       sym same,
       same_fault fault other (p ∙ ap bytes_of_records (sym same) ∙ sym q)
           (same_kind settings records others r fault.kind other.kind a b1),
@@ -101,7 +101,7 @@ memory_alone strict rest kind (inl m) e = let mismatch = m.1 in cc
 memory_alone strict rest kind (inr r) e = subst (λ (k : FaultKind). IsRefused rest k) e r.1
 
 memory_refused : (settings : Settings) (records : List Record) (rest : List ℕ) (kind : FaultKind)
-    → IsRefusedBehind settings records rest kind → kind ≡ Memory → ⊥
+    → IsRefusedAfter settings records rest kind → kind ≡ Memory → ⊥
 memory_refused settings records rest kind (inl refused) e = memory_alone settings.strict rest kind refused e
 memory_refused settings records rest kind (inr overruns) e = let time = overruns.0 in cc
 

@@ -97,8 +97,8 @@ pub record OverrunsBehind (settings : Settings) (records : List Record) (rest : 
 
 -- After these records the one that the bytes begin with is refused so: by itself, or since it ends its segment
 -- out of range.
-abbrev pub IsRefusedBehind : Settings → List Record → List ℕ → FaultKind → Type 0
-IsRefusedBehind settings records rest kind =
+abbrev pub IsRefusedAfter : Settings → List Record → List ℕ → FaultKind → Type 0
+IsRefusedAfter settings records rest kind =
     IsRefusedAlone settings.strict rest kind ⊎ ((kind ≡ TimeRange) × OverrunsBehind settings records rest)
 
 -- The first fault of an input: these records are read before it, and the next one is refused. The offset is that
@@ -107,7 +107,7 @@ pub record IsFirstFault (settings : Settings) (input : List ℕ) (records : List
   pub rest : List ℕ
   pub are_read : AreRead settings input records rest
   pub some_left : 0 < length rest
-  pub refused : IsRefusedBehind settings records rest fault.kind
+  pub refused : IsRefusedAfter settings records rest fault.kind
   pub offset_is : fault.offset ≡ bytes_of_records records
 
 -- some first records of the input are read; these are first segments of their rows, and what follows them

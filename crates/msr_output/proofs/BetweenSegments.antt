@@ -77,7 +77,7 @@ stopped_all start old now w packed rows left h p failed =
       record {
         taken = h.taken ++ p.taken;
         takes = takes_append start old now h.taken p.taken h.takes p.takes;
-        front = record {
+        prefix = record {
           packed = packed;
           others = [];
           rows = rows;

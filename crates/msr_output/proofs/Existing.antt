@@ -18,7 +18,7 @@ use Rattle.msr_packer.proofs.Least.{found}
 use Rattle.msr_record.specs.declared.row.Row.{Row}
 use Rattle.msr_record.proofs.Existing.{has_record}
 use Rattle.msr_segments.specs.declared.joiner.Segment.{Segment}
-use Rattle.msr_output.specs.Output.{Packed, IsPacked, Cut, IsRecordOfRun, IsWritableSegment, AreWritten, IsOutput, IsFrontOfOutput, next_number, number_after, sample_before, cuts_at, cuts_of, segment_of_packed}
+use Rattle.msr_output.specs.Output.{Packed, IsPacked, Cut, IsRecordOfRun, IsWritableSegment, AreWritten, IsOutput, IsPrefixOfOutput, next_number, number_after, sample_before, cuts_at, cuts_of, segment_of_packed}
 use Rattle.msr_output.proofs.Appending.{written_append, cuts_further}
 use Rattle.msr_output.proofs.CutRows.{IsFitting}
 use Rattle.msr_output.proofs.OneOutput.{all_first, all_rest}
@@ -206,7 +206,7 @@ pub front_of_output : (size : ℕ) (packed : List Packed) (segment : Segment) (r
     → IsRecordLength size → All (IsPacked size) packed → IsWritableSegment segment
     → IsCanonical size segment.samples (runs ++ others) separators
     → AreWritten size 1 (flat_map cuts_of packed ++ cuts_at segment runs) rows bytes
-    → IsFrontOfOutput size (map segment_of_packed packed ++ segment ∷ more) bytes
+    → IsPrefixOfOutput size (map segment_of_packed packed ++ segment ∷ more) bytes
 front_of_output size packed segment runs others separators more rows bytes power packings writable canonical written =
     let one : Packed = record { segment = segment; runs = runs ++ others; separators = separators } in
     let is : IsPacked size one = is_packed_by size segment (runs ++ others) separators

@@ -25,7 +25,7 @@ use Rattle.msr_record.specs.declared.row.Row.{Row}
 use Rattle.msr_segments.specs.Spans.{SpanIsInTime, span_of}
 use Rattle.msr_segments.specs.declared.joiner.Segment.{Segment}
 use Rattle.msr_output.specs.Opened.{AppendsMore, AppendsSome, CanEncode, CanGoOn, Gives, HasBegun, IsOpen, Opened, empty_segment, longer_by}
-use Rattle.msr_output.specs.Output.{AreWritten, Cut, IsFrontOfOutput, IsPacked, IsWritableSegment, Packed, cuts_at, cuts_of, next_number, number_after, sample_before, segment_of_packed}
+use Rattle.msr_output.specs.Output.{AreWritten, Cut, IsPrefixOfOutput, IsPacked, IsWritableSegment, Packed, cuts_at, cuts_of, next_number, number_after, sample_before, segment_of_packed}
 use Rattle.msr_output.specs.Writing.{AppendsRecordOfRun, HasWritten, StopsWriting, Writing}
 use Rattle.msr_output.specs.declared.fault.WriteFault.TheVariants.{Memory, Write}
 use Rattle.msr_output.proofs.Appending.{appends_more, appends_nothing, cuts_further, number_after-append, written_append}
@@ -254,7 +254,7 @@ begun_more start old now w packed segment opened other filled left next size h a
 -- ---- where it stops
 
 front_shorter : (size : ℕ) (segments : List Segment) (bytes more : List ℕ)
-    → IsFrontOfOutput size segments (bytes ++ more) → IsFrontOfOutput size segments bytes
+    → IsPrefixOfOutput size segments (bytes ++ more) → IsPrefixOfOutput size segments bytes
 front_shorter size segments bytes more f = record {
   packed = f.packed;
   others = f.others;
@@ -281,7 +281,7 @@ begun_failed start old now w packed segment opened other whole filled left next 
       record {
         taken = h.taken ++ p.taken;
         takes = takes_append start old now h.taken p.taken h.takes p.takes;
-        front = front_shorter w.size (map segment_of_packed packed ++ segment ∷ []) (h.taken ++ p.taken) left
+        prefix = front_shorter w.size (map segment_of_packed packed ++ segment ∷ []) (h.taken ++ p.taken) left
             (rw (more_whole old now h.bytes h.taken w.waiting a.appends.bytes filled left h.whole a.appends.joined
             p) at all);
       },
@@ -301,7 +301,7 @@ begun_refused start now w packed segment target opened power writable h records 
       record {
         taken = h.taken;
         takes = h.takes;
-        front = front_shorter w.size (map segment_of_packed packed ++ target ∷ []) h.taken w.waiting
+        prefix = front_shorter w.size (map segment_of_packed packed ++ target ∷ []) h.taken w.waiting
             (rw h.whole at all);
       },
       h.calm.steady,

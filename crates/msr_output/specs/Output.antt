@@ -99,7 +99,7 @@ pub record IsOutput (size : ℕ) (packed : List Packed) (rows : List Row) (bytes
   pub records : AreWritten size 1 (flat_map cuts_of packed) rows bytes
 
 -- the prefix of the output of some first ones of these segments
-pub record IsFrontOfOutput (size : ℕ) (segments : List Segment) (bytes : List ℕ) : Type 0 where
+pub record IsPrefixOfOutput (size : ℕ) (segments : List Segment) (bytes : List ℕ) : Type 0 where
   pub packed : List Packed
   pub others : List Segment
   pub rows : List Row
@@ -151,14 +151,14 @@ SegmentsHaveOutput =
 
 -- The records of whole segments, and then of the first runs of one segment's packing, are the prefix of an output,
 -- whatever segments follow.
-abbrev pub FirstRecordsAreFront : Type 0
-FirstRecordsAreFront =
+abbrev pub FirstRecordsArePrefix : Type 0
+FirstRecordsArePrefix =
     (size : ℕ) (packed : List Packed) (segment : Segment) (runs others : List Run) (separators : List ℕ)
     (more : List Segment) (rows : List Row) (bytes : List ℕ)
     → IsRecordLength size → All (IsPacked size) packed → IsWritableSegment segment
     → IsCanonical size segment.samples (runs ++ others) separators
     → AreWritten size 1 (flat_map cuts_of packed ++ cuts_at segment runs) rows bytes
-    → IsFrontOfOutput size (map segment_of_packed packed ++ segment ∷ more) bytes
+    → IsPrefixOfOutput size (map segment_of_packed packed ++ segment ∷ more) bytes
 
 -- the records of runs of a segment stay the records of its runs when samples follow
 abbrev pub RecordsStay : Type 0

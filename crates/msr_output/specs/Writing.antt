@@ -6,7 +6,7 @@ use Rattle.msr_words.specs.declared.kinds.Run.{Run}
 use Rattle.msr_record.specs.declared.row.Row.{Row}
 use Rattle.msr_segments.specs.declared.joiner.Segment.{Segment}
 use Rattle.msr_report.specs.declared.report.SegmentLine.{SegmentLine}
-use Rattle.msr_output.specs.Output.{Packed, Cut, IsRecordOfRun, AreWritten, IsOutput, IsFrontOfOutput, number_after, cuts_of}
+use Rattle.msr_output.specs.Output.{Packed, Cut, IsRecordOfRun, AreWritten, IsOutput, IsPrefixOfOutput, number_after, cuts_of}
 use Rattle.msr_output.specs.declared.fault.WriteFault.{WriteFault}
 use Rattle.msr_output.specs.declared.fault.WriteFault.TheVariants.{Write, Memory}
 
@@ -70,12 +70,12 @@ pub record WritesSegment (start now : Device) (writing : Writing) (packed : List
   pub is_line : IsLineOf more line
 
 -- a prefix of the output of some first ones of these segments was written
-pub record HasWrittenFront (size : ℕ) (start now : Device) (segments : List Segment) : Type 0 where
+pub record HasWrittenPrefix (size : ℕ) (start now : Device) (segments : List Segment) : Type 0 where
   pub taken : List ℕ
   pub takes : Takes start now taken
-  pub front : IsFrontOfOutput size segments taken
+  pub prefix : IsPrefixOfOutput size segments taken
 
 -- The sink failed; or memory was refused, and the sink did not fail.
 abbrev pub StopsWriting : ℕ → Device → Device → List Segment → WriteFault → Type 0
-StopsWriting size start now segments Write = HasWrittenFront size start now segments × HasFailed start now
-StopsWriting size start now segments Memory = HasWrittenFront size start now segments × IsSteady start now
+StopsWriting size start now segments Write = HasWrittenPrefix size start now segments × HasFailed start now
+StopsWriting size start now segments Memory = HasWrittenPrefix size start now segments × IsSteady start now

@@ -1,5 +1,5 @@
 //! Laws of outputs, each the contract of a function that does nothing.
-ghost use Rattle.msr_output.specs.Output.{OneOutput, OutputKeepsSegments, OutputHasSize, SegmentsHaveOutput, FirstRecordsAreFront, RecordsStay};
+ghost use Rattle.msr_output.specs.Output.{OneOutput, OutputKeepsSegments, OutputHasSize, SegmentsHaveOutput, FirstRecordsArePrefix, RecordsStay};
 
 /// Segments have at most one output in records of one length.
 pub fn one_output()
@@ -20,6 +20,6 @@ pub fn output_has_size()
 /// when their segment grows.
 pub fn segments_have_output()
     ensures whole { SegmentsHaveOutput }
-    ensures front { FirstRecordsAreFront }
+    ensures front { FirstRecordsArePrefix }
     ensures stay { RecordsStay }
 {}

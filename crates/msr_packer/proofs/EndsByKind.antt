@@ -12,7 +12,7 @@ use Rattle.msr_words.specs.Laws.{BackStepLaw, look_back_of, most_of}
 use Rattle.msr_words.specs.RecordLength.{words_of}
 use Rattle.msr_words.specs.Segment.{difference_at, run_points}
 use Rattle.msr_words.specs.Lemmas.KindLaws.{back_step_kind, empty_kind, prefix_kind, size_kind}
-use Rattle.msr_words.proofs.Runs.{back_step_run, length_run_points, prefix_run, run_points_cut, run_points_more, run_points_none}
+use Rattle.msr_words.proofs.Runs.{back_step_run, length-run_points, prefix_run, run_points_cut, run_points_more, run_points_none}
 use Rattle.msr_words.proofs.DivisionsExist.{few_kinds, rank_same}
 use Rattle.msr_words.proofs.WordRoom.{rest_of_run}
 use Rattle.msr_packer.specs.declared.step.Ends.{Ends}
@@ -58,7 +58,7 @@ module _ (bytes : ℕ) (samples : List ℤ) (g : ℕ) where
       → s ≤ g → IsRun (Fits kind bytes) samples s b → b ≤ end
   none_longer kind most end is order long s b le run =
       let size = size_kind kind bytes (run_points samples s b) run.2 in
-      let l = length_run_points samples s b run.0 run.1 in
+      let l = length-run_points samples s b run.0 run.1 in
       let up = run.0 in
       omega arith
 
@@ -74,14 +74,14 @@ module _ (bytes : ℕ) (samples : List ℤ) (g : ℕ) where
   pub int32_is_end : (left : ℕ) → 64 ≤ bytes → g ≤ length samples
       → left ≡ min (length samples - g) (most_of Int32 bytes) → IsEnd Int32 bytes samples g (g + left)
   int32_is_end left header within is =
-      let l = length_run_points samples g (g + left) (omega arith) (omega arith) in
+      let l = length-run_points samples g (g + left) (omega arith) (omega arith) in
       let run : IsRun (Fits Int32 bytes) samples g (g + left) =
       (omega arith, omega arith, (omega arith, omega arith)) in
       record {
         fits = run;
         furthest = λ b r.
             let size = size_kind Int32 bytes (run_points samples g b) r.2 in
-            let k = length_run_points samples g b r.0 r.1 in
+            let k = length-run_points samples g b r.0 r.1 in
             let up = r.0 in
             let in' = r.1 in
             omega arith;

@@ -11,7 +11,7 @@ use Rattle.msr_words.specs.Laws.{most_any}
 use Rattle.msr_words.specs.Lengths.{bytes_of}
 use Rattle.msr_words.specs.Lemmas.KindLaws.{back_step_any, short_any, size_any}
 use Rattle.msr_words.specs.Packing.{IsCanonical, IsStep, Joins}
-use Rattle.msr_words.proofs.Runs.{length_run_points}
+use Rattle.msr_words.proofs.Runs.{length-run_points}
 use Rattle.msr_packer.specs.SoFar.{IsSoFar}
 use Rattle.msr_packer.specs.Held.{BeginsAll, GivesPiece, Holds, InsideIfAny, IsCurrent, IsNext, IsSound, IsWindow, LeavesFew, Shows, StandsAt, Stays, before_place, frontier_of, piece_of, pieces_of, runs_of, samples_of, separators_of, start_of}
 use Rattle.msr_packer.specs.declared.held.Current.{Current}
@@ -26,7 +26,7 @@ pub run_size : (bytes : ℕ) (samples : List ℤ) (a b : ℕ) (kind : Kind) → 
     → b ≤ a + most_any bytes
 run_size bytes samples a b kind run =
     let size = size_any bytes (run_points samples a b) (kind, run.2) in
-    let long = length_run_points samples a b run.0 run.1 in
+    let long = length-run_points samples a b run.0 run.1 in
     omega arith
 
 -- ---- samples that follow, and samples that are not needed any more

@@ -9,7 +9,7 @@ use Rattle.msr_words.specs.Segment.{run_points}
 use Rattle.msr_words.specs.Fit.{Fits, FitsAny, IsRun, IsFirstKind}
 use Rattle.msr_words.specs.Laws.{BackStepLaw, FitsShort}
 use Rattle.msr_words.specs.Lemmas.KindLaws.{short_any, back_step_any, prefix_kind}
-use Rattle.msr_words.proofs.Runs.{prefix_run, back_step_run, length_run_points}
+use Rattle.msr_words.proofs.Runs.{prefix_run, back_step_run, length-run_points}
 use Rattle.msr_words.specs.Packing.{Joins, IsPacking, IsLeast, NoneHolds, IsSeparating, IsStep, CanonicalTo, IsCanonical}
 use Rattle.msr_packer.specs.SoFar.{IsSoFar}
 use Rattle.msr_words.proofs.Certificate.{joins_more, least_by_separators}
@@ -31,7 +31,7 @@ module _ (bytes : ℕ) (samples : List ℤ) where
           omega arith,
           omega arith,
           short (run_points samples g (min (g + 4) (length samples)))
-              (let e = length_run_points samples g (min (g + 4) (length samples)) (omega arith) (omega arith) in
+              (let e = length-run_points samples g (min (g + 4) (length samples)) (omega arith) (omega arith) in
               omega arith),
         )
 

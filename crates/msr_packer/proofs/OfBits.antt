@@ -9,7 +9,7 @@ use Rattle.msr_words.specs.Fit.{Fits, IsRun}
 use Rattle.msr_words.specs.Laws.{most_of}
 use Rattle.msr_words.specs.Segment.{difference_at, run_points}
 use Rattle.msr_words.specs.Lemmas.KindLaws.{prefix_kind, size_kind}
-use Rattle.msr_words.proofs.Runs.{length_run_points, prefix_run, run_points_cut, run_points_more, run_points_none}
+use Rattle.msr_words.proofs.Runs.{length-run_points, prefix_run, run_points_cut, run_points_more, run_points_none}
 use Rattle.msr_packer.specs.Steps.{AreOfBits}
 
 module _ (bits : ℕ) (samples : List ℤ) where
@@ -38,14 +38,14 @@ module _ (kind : Kind) (bits bytes : ℕ) (are : AreIntegers kind bits bytes) (s
     le,
     within,
     are.takes (run_points samples a b) all
-        (let l = length_run_points samples a b le within in omega arith),
+        (let l = length-run_points samples a b le within in omega arith),
   )
 
   pub no_longer : (b : ℕ) → end ≡ a + min (most_of kind bytes) (length samples - a)
       → IsRun (Fits kind bytes) samples a b → b ≤ end
   no_longer b is run =
       let size = size_kind kind bytes (run_points samples a b) run.2 in
-      let l = length_run_points samples a b run.0 run.1 in
+      let l = length-run_points samples a b run.0 run.1 in
       let up = run.0 in
       let in' = run.1 in
       omega arith

@@ -11,7 +11,7 @@ use Rattle.msr_words.specs.Laws.{IsNarrow}
 use Rattle.msr_words.specs.RecordLength.{words_of}
 use Rattle.msr_words.specs.Segment.{difference_at, differences, points, run_points}
 use Rattle.msr_words.proofs.GreedyReach.{narrow_in_group}
-use Rattle.msr_words.proofs.Plain.{length_differences}
+use Rattle.msr_words.proofs.Plain.{length-differences}
 use Rattle.msr_packer.specs.Steps.{AreNarrow, AreNarrowThrough}
 use Rattle.msr_packer.proofs.Narrow.{one_narrow}
 use Rattle.msr_packer.proofs.Windows.{by_front, run_points_stay}
@@ -37,7 +37,7 @@ pub walk_more : (words left : ℕ) (samples : List ℤ) (start at size : ℕ)
     → IsWalked words (suc left) samples start at → IsWalked words left samples start (at + size)
 walk_more words left samples start at size longest is =
     let l = length-drop at (differences None samples) in
-    let n = length_differences None samples in
+    let n = length-differences None samples in
     let w = longest.within in
     let from' = is.from in
     let within' = is.within in
@@ -77,7 +77,7 @@ pub group_narrow : (samples : List ℤ) (start at size : ℕ) → start ≤ at �
     → 1 < size → AreNarrow samples start at → AreNarrow samples start (at + size)
 group_narrow samples start at size le within longest some all =
     let l = length-drop at (differences None samples) in
-    let n = length_differences None samples in
+    let n = length-differences None samples in
     let w = longest.within in
     narrow_more samples start at size le (omega arith)
     (λ k less. narrow_in_group samples at size k longest some less) all

@@ -7,7 +7,7 @@ use Rattle.msr_devices.specs.WriteBuffer.{Passes}
 use Rattle.msr_devices.proofs.Chaining.{takes_append, takes_none}
 use Rattle.msr_report.specs.Proper.{IsProper, IsProperLine, records_of}
 use Rattle.msr_report.specs.Text.{IsSegmentText, AreSegmentTexts, first_lines, end_line, IsReportText}
-use Rattle.msr_report.specs.Writing.{TakesFront}
+use Rattle.msr_report.specs.Writing.{TakesPrefix}
 use Rattle.msr_report.specs.declared.report.SegmentLine.{SegmentLine}
 use Rattle.msr_report.specs.declared.report.Report.{Report}
 use Rattle.msr_report.proofs.OneText.{has_segments_text, has_report_text}
@@ -84,7 +84,7 @@ written_next old new next report i line waits text pushed left within item w is_
 -- Where some segments are written, a prefix of the report's text is taken.
 pub written_front : (old new : Device) (report : Report) (lines others : List SegmentLine) (waits : List ℕ)
     → lines ++ others ≡ report.segments.items → (others_text : List ℕ) → AreSegmentTexts others others_text
-    → IsWritten old new report lines waits → (text : List ℕ) × (IsReportText report text × TakesFront old new text)
+    → IsWritten old new report lines waits → (text : List ℕ) × (IsReportText report text × TakesPrefix old new text)
 written_front old new report lines others waits all more are w =
     let end = end_line (length report.segments.items) (records_of report.segments.items) in
     let P : List SegmentLine → Type 0 = λ l. AreSegmentTexts l (w.segments ++ more) in (
@@ -112,7 +112,7 @@ written_front old new report lines others waits all more are w =
 -- the same of the first i segments of a proper report
 pub written_front_of : (old new : Device) (report : Report) (i : ℕ) (waits : List ℕ)
     → IsProper report → IsWritten old new report (take i report.segments.items) waits
-    → (text : List ℕ) × (IsReportText report text × TakesFront old new text)
+    → (text : List ℕ) × (IsReportText report text × TakesPrefix old new text)
 written_front_of old new report i waits proper w =
     let others = drop i report.segments.items in
     let more = has_segments_text others (All-drop IsProperLine i report.segments.items proper.lines) in
@@ -152,7 +152,7 @@ written_end old new next report lines waits pushed left segments records all cou
 
 pub end_front : (old new : Device) (report : Report) (left : List ℕ)
     → (text : List ℕ) × (IsReportText report text × ((taken : List ℕ) × (Takes old new taken × (text ≡ taken ++ left))))
-    → (text : List ℕ) × (IsReportText report text × TakesFront old new text)
+    → (text : List ℕ) × (IsReportText report text × TakesPrefix old new text)
 end_front old new report left h = (
   h.0,
   (
@@ -172,7 +172,7 @@ end_whole old new report left none h =
 
 -- a sink that took nothing took a prefix
 pub nothing_taken : (device : Device) (report : Report) → IsProper report
-    → (text : List ℕ) × (IsReportText report text × TakesFront device device text)
+    → (text : List ℕ) × (IsReportText report text × TakesPrefix device device text)
 nothing_taken device report proper =
     let whole = has_report_text report proper in
     (whole.0, (whole.1, record { taken = []; rest = whole.0; takes = takes_none device; whole = refl }))

@@ -3,7 +3,7 @@ ghost use Rattle.std.specs.Prelude.{◌≡◌, ◌↔◌, ℕ, List, MatchResult
 ghost use Rattle.msr_devices.specs.Device.{CanCountCall, CountsFew, HasFailed, IsCalm, Takes};
 ghost use Rattle.msr_report.specs.Proper.{IsProper};
 ghost use Rattle.msr_report.specs.Text.{IsReportText};
-ghost use Rattle.msr_report.specs.Writing.{TakesFront};
+ghost use Rattle.msr_report.specs.Writing.{TakesPrefix};
 ghost use Rattle.msr_report.specs.declared.text.TextFault.TheVariants.{Write, Memory};
 
 use crate::lines::{push_end_line, push_first_lines, push_segment};
@@ -46,7 +46,7 @@ impl Report {
         requires count { CanCountCall (W.device sink.old) }
         ensures text { (text : List ℕ) × (IsReportText self.now text
             × MatchResult result (λ _. Takes (W.device sink.old) (W.device sink.new) text)
-            (λ _. TakesFront (W.device sink.old) (W.device sink.new) text)) }
+            (λ _. TakesPrefix (W.device sink.old) (W.device sink.new) text)) }
         ensures write { IsErrOf result TextFault.Write ↔ HasFailed (W.device sink.old) (W.device sink.new) }
         ensures calm { OnOk result (IsCalm (W.device sink.old) (W.device sink.new)) }
         ensures few { CountsFew (W.device sink.old) (W.device sink.new) }

@@ -6,12 +6,12 @@ use Rattle.std.proofs.lemmas.List.{length-take, take_all, take_more}
 use Rattle.std.proofs.lemmas.Nat.{mul-mod_first, pow-add}
 use Rattle.msr_base.specs.declared.order.Order.{Order}
 use Rattle.msr_steim.specs.declared.sums.Place.{Place}
-use Rattle.msr_steim.specs.declared.word.Division.{Division}
+use Rattle.msr_steim.specs.declared.word.WordLayout.{WordLayout}
 use Rattle.msr_steim.specs.declared.word.Version.{Version}
 use Rattle.msr_steim.specs.Area.{FirstWordsHold, WordHolds, arranged_word, code_of, constant, differences, samples_of, sums_after, whole_word, word_count}
 use Rattle.msr_steim.specs.InOrder.{BeginsAfter, differences_from, numbers_of, word_differences}
 use Rattle.msr_steim.specs.Sums.{IsWritten, ReachesEnd}
-use Rattle.msr_steim.specs.Word.{AreFields, division_of}
+use Rattle.msr_steim.specs.Word.{AreFields, layout_of}
 use Rattle.msr_steim.proofs.Decoding.{AreReadBelow, differences_push, length-samples_of, length-sums_after}
 use Rattle.msr_steim.proofs.InOrderLemmas.{numbers_are_fields, one_word}
 use Rattle.msr_steim.proofs.OneList.{HasBits, has_bits, holds_one}
@@ -20,7 +20,7 @@ use Rattle.msr_steim.proofs.Shifts.{code_shifted}
 
 -- ---- what a word holds is what it has in order
 
-numbers_hold : (o : Option Division) (word : ℕ) (group : List ℤ) → IfSome o HasBits
+numbers_hold : (o : Option WordLayout) (word : ℕ) (group : List ℤ) → IfSome o HasBits
     → IsSomeAnd o (AreFields word group) → IsSomeAnd o (AreFields word (numbers_of o word))
 unfolding HasBits
 numbers_hold None word group bits holds = holds
@@ -32,9 +32,9 @@ unfolding word_differences
 held_differences version order area number group holds =
     let code = code_of order area number in
     let word = arranged_word version order code area number in
-    let division = division_of version code (word / 2 ^ 30) in
-    holds_one version code word (numbers_of division word) group
-    (numbers_hold division word group (has_bits version code (word / 2 ^ 30)) holds) holds
+    let layout = layout_of version code (word / 2 ^ 30) in
+    holds_one version code word (numbers_of layout word) group
+    (numbers_hold layout word group (has_bits version code (word / 2 ^ 30)) holds) holds
 
 one_group : (version : Version) (order : Order) (area : List ℕ) (number : ℕ) (group : List ℤ)
     → number < word_count area → WordHolds version order area number group

@@ -6,12 +6,12 @@ use Rattle.std.proofs.lemmas.List.{append-nil, get_or-append-add, get_or-take, l
 use Rattle.std.proofs.lemmas.Option.{slice_get-get_or}
 use Rattle.msr_base.specs.declared.order.Order.{Order}
 use Rattle.msr_steim.specs.declared.sums.Place.{Place}
-use Rattle.msr_steim.specs.declared.word.Division.{Division}
+use Rattle.msr_steim.specs.declared.word.WordLayout.{WordLayout}
 use Rattle.msr_steim.specs.declared.word.Version.{Version}
 use Rattle.msr_steim.specs.Area.{CarriesSteim, WordHolds, arranged_word, code_of, constant, differences, samples_of, sums_after, whole_word, word_count}
 use Rattle.msr_steim.specs.InOrder.{BeginsAfter, HasSamples, differences_from}
 use Rattle.msr_steim.specs.Sums.{IsInnerWritten, ReachesEnd}
-use Rattle.msr_steim.specs.Word.{AreFields, IsUndefinedWord, division_of, numbers_in}
+use Rattle.msr_steim.specs.Word.{AreFields, IsUndefinedWord, layout_of, numbers_in}
 use Rattle.msr_steim.proofs.Beginning.{begins_here, begins_on, code_here, held_in_order}
 use Rattle.msr_steim.proofs.Decoding.{AreReadBelow, length-samples_of, read_enough, read_more}
 use Rattle.msr_steim.proofs.InOrderLemmas.{numbers_are_fields}
@@ -21,18 +21,18 @@ use Rattle.msr_steim.proofs.Reading.{grown, held_so, no_samples}
 
 -- ---- a word that is not written whole is undefined
 
-no_division : (word : ℕ) (o : Option Division) → IfSome o HasBits → IfSome o (λ d. d.count ≤ 7)
+no_layout : (word : ℕ) (o : Option WordLayout) → IfSome o HasBits → IfSome o (λ d. d.count ≤ 7)
     → ((group : List ℤ) → IsSomeAnd o (AreFields word group) → 8 ≤ length group) → o ≡ None
 unfolding HasBits
-no_division word None bits few reaches = refl
-no_division word (Some d) bits few reaches =
+no_layout word None bits few reaches = refl
+no_layout word (Some d) bits few reaches =
     let fields : AreFields word (numbers_in word d.width d.count) d = numbers_are_fields word d.width d.count bits in
     absurd (omega (arith, reaches (numbers_in word d.width d.count) fields, fields.count, few))
 
 pub undefined_alone : (version : Version) (code word n : ℕ) → n ≡ 8 → ReachesEnd version code word 0 n
     → IsUndefinedWord version code word
 undefined_alone version code word n size ends =
-    no_division word (division_of version code (word / 2 ^ 30)) (has_bits version code (word / 2 ^ 30))
+    no_layout word (layout_of version code (word / 2 ^ 30)) (has_bits version code (word / 2 ^ 30))
     (has_few version code (word / 2 ^ 30))
     (λ group holds. omega (arith, size, ends.reaches group holds))
 

@@ -21,35 +21,35 @@ use Rattle.byteorder.specs.Numbers.{big_number-reads_back}
 use Rattle.msr_base.specs.declared.order.Order.TheVariants.{Big}
 use Rattle.msr_steim.specs.declared.word.Version.{Version}
 use Rattle.msr_steim.specs.declared.word.Version.TheVariants.{One, Two}
-use Rattle.msr_steim.specs.Word.{AreGroups, FitsBits, Holds, IsGroup, IsInnerGroup, IsWordOf, as_read, division_of, group_code, group_width, group_word, joined_fields, padding_of}
+use Rattle.msr_steim.specs.Word.{AreGroups, FitsBits, Holds, IsGroup, IsInnerGroup, IsWordOf, as_read, layout_of, group_code, group_width, group_word, joined_fields, padding_of}
 use Rattle.msr_steim.specs.Area.{CarriesSteim, FirstWordsHold, ReverseAgrees, WordHolds, arranged_word, code_of, constant, differences, samples_of, sums_after, whole_word}
 use Rattle.msr_steim.specs.Frames.{code_in, codes_word, differences_after, frame_bytes, frame_word, frame_words, group_in}
 use Rattle.msr_steim.proofs.Fields.{joined_fields_lt, all_fit_zeros, pow_pow}
 use Rattle.msr_steim.proofs.OneList.{number_after}
 use Rattle.msr_steim.proofs.OneOutcome.{samples_more}
 use Rattle.msr_steim.proofs.Words.{word_holds}
-use Rattle.msr_steim.proofs.Filling.{codes_below, codes_lt, group_or_none, length_words}
+use Rattle.msr_steim.proofs.Filling.{codes_below, codes_lt, group_or_none, length-words}
 
 -- ---- the word of a group
 
 -- fields that fill the word
 whole_word_of : (version : Version) (code count width fields : ℕ) → count * width ≡ 32
-    → ((top : ℕ) → division_of version code top ≡ Some (record { count = count; width = width }))
+    → ((top : ℕ) → layout_of version code top ≡ Some (record { count = count; width = width }))
     → fields < 2 ^ (count * width) → IsWordOf version code 0 fields count width
-whole_word_of version code count width fields size division few =
+whole_word_of version code count width fields size layout few =
     let few_so : fields < 2 ^ 32 = subst (λ n. fields < 2 ^ n) size few in
     record {
       small = omega arith;
-      division = division ((0 * 2 ^ 30 + fields) / 2 ^ 30);
+      layout = layout ((0 * 2 ^ 30 + fields) / 2 ^ 30);
       lowest = subst (λ n. (0 * 2 ^ 30 + fields) % 2 ^ n ≡ fields) (sym size) (omega arith);
       others = subst (λ n. (0 * 2 ^ 30 + fields) % 2 ^ 30 < 2 ^ n) (sym size) (omega arith);
     }
 
--- fields below two bits that tell the division
+-- fields below two bits that tell the layout
 top_word_of : (version : Version) (code top count width fields : ℕ) → count * width ≤ 30 → top < 4
-    → division_of version code top ≡ Some (record { count = count; width = width })
+    → layout_of version code top ≡ Some (record { count = count; width = width })
     → fields < 2 ^ (count * width) → IsWordOf version code top fields count width
-top_word_of version code top count width fields size small division few =
+top_word_of version code top count width fields size small layout few =
     let s = count * width in
     let most : 2 ^ s ≤ 2 ^ 30 = pow-le-pow_right {n = 2} (lit< tt) {i = s} {j = 30} size in
     let below : fields < 2 ^ 30 = omega arith in
@@ -59,7 +59,7 @@ top_word_of version code top count width fields size small division few =
     regroup top (2 ^ 30) (2 ^ (30 - s)) (2 ^ s) product in
     record {
       small = omega arith;
-      division = ap (division_of version code) (digits_div top below) ∙ division;
+      layout = ap (layout_of version code) (digits_div top below) ∙ layout;
       lowest = ap (λ n. n % 2 ^ s) spelled ∙ digits_mod (top * 2 ^ (30 - s)) few;
       others = subst (λ n. n < 2 ^ s) (sym (digits_mod top below)) few;
     }
@@ -345,7 +345,7 @@ pub length-frame_bytes : (version : Version) (first last : ℤ) (gs : List (List
     → length (frame_bytes version first last gs frames) ≡ 64 * frames
 length-frame_bytes version first last gs frames =
     let e : 4 * (16 * frames) ≡ 64 * frames = omega arith in
-    length_words (frame_words version first last gs frames)
+    length-words (frame_words version first last gs frames)
     ∙ ap (λ n. 4 * n) (length-map-range_with_len (frame_word version first last gs) 0 (16 * frames)) ∙ e
 
 all_held : (version : Version) (first last : ℤ) (gs : List (List ℤ)) (frames : ℕ) → AreGroups version gs

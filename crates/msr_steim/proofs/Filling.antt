@@ -105,9 +105,9 @@ codes_fit codes k few small =
 
 -- ---- the bytes of the words
 
-pub length_words : (ws : List ℕ) → length (flat_map (big_bytes 4) ws) ≡ 4 * length ws
-length_words [] = refl
-length_words (w ∷ ws) = let e : length (flat_map (big_bytes 4) ws) ≡ 4 * length ws = length_words ws in omega arith
+pub length-words : (ws : List ℕ) → length (flat_map (big_bytes 4) ws) ≡ 4 * length ws
+length-words [] = refl
+length-words (w ∷ ws) = let e : length (flat_map (big_bytes 4) ws) ≡ 4 * length ws = length-words ws in omega arith
 
 -- one more word
 pub fill_step : (ws : List ℕ) (w n : ℕ) (old area buf : List ℕ) → length ws ≡ n
@@ -118,7 +118,7 @@ fill_step ws w n old area buf number same written room =
     let g = flat_map (big_bytes 4) ws in
     let d = drop (4 * n) old in
     let k = length area - 4 * n in
-    let size : length g ≡ 4 * n = length_words ws ∙ ap (λ m. 4 * m) number in
+    let size : length g ≡ 4 * n = length-words ws ∙ ap (λ m. 4 * m) number in
     let front : take (4 * n) area ≡ g = ap (take (4 * n)) same ∙ take_at g d (4 * n) size in
     let back : drop (4 * n) area ≡ d = ap (drop (4 * n)) same ∙ drop_at g d (4 * n) size in
     let left : length (drop (4 * n) area) ≡ length area - 4 * n = length-drop (4 * n) area in

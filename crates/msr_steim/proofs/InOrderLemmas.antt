@@ -36,15 +36,15 @@ pub fields_differences : (version : Version) (order : Order) (area : List ℕ) (
     → word_differences version order area number ≡ numbers_in fields.word fields.width fields.count
 unfolding word_differences
 fields_differences version order area number fields has =
-    ap (λ division. numbers_of division (arranged_word version order
-    (code_of order area number) area number)) has.division_is
+    ap (λ layout. numbers_of layout (arranged_word version order
+    (code_of order area number) area number)) has.layout_is
     ∙ ap (λ word. numbers_in word fields.width fields.count) (sym has.word_is)
 
 undefined_differences : (version : Version) (order : Order) (area : List ℕ) (number : ℕ)
     → IsUndefined version order area number → word_differences version order area number ≡ []
 unfolding word_differences
 undefined_differences version order area number undefined =
-    ap (λ division. numbers_of division (arranged_word version order (code_of order area number) area number)) undefined
+    ap (λ layout. numbers_of layout (arranged_word version order (code_of order area number) area number)) undefined
 
 pub no_numbers : (word width count : ℕ) → count ≡ 0 → numbers_in word width count ≡ []
 unfolding numbers_in

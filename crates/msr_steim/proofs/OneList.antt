@@ -5,33 +5,33 @@ use Rattle.std.specs.List.{AllByRecursion}
 use Rattle.std.specs.Int.Digits.{number_from_digits_after}
 use Rattle.std.proofs.lemmas.List.{length-map}
 use Rattle.std.proofs.lemmas.Nat.{same_from_place}
-use Rattle.msr_steim.specs.declared.word.Division.{Division}
+use Rattle.msr_steim.specs.declared.word.WordLayout.{WordLayout}
 use Rattle.msr_steim.specs.declared.word.Version.{Version}
 use Rattle.msr_steim.specs.declared.word.Version.TheVariants.{One, Two}
-use Rattle.msr_steim.specs.Word.{AreFields, FitsBits, Holds, IsUndefinedWord, division_of, joined_fields, twos_complement}
+use Rattle.msr_steim.specs.Word.{AreFields, FitsBits, Holds, IsUndefinedWord, layout_of, joined_fields, twos_complement}
 use Rattle.std.proofs.Math.Nat.{pow-zero, pow-suc}
 use Rattle.msr_steim.proofs.Fields.{power_is_half, joined_fields_lt, pow_pow}
 
 -- a field has some bits, where there is one
-unfoldable pub HasBits : Division → Type 0
+unfoldable pub HasBits : WordLayout → Type 0
 HasBits d = 0 < d.count → 0 < d.width
 
-one_row : (P : Division → Type 0) → P (record { count = 0; width = 0 })
+one_layout : (P : WordLayout → Type 0) → P (record { count = 0; width = 0 })
     → ((count width : ℕ) → 0 < width → count ≤ 7 → P (record { count = count; width = width }))
     → (a b c d : Bool)
-    → IfSome {T = Division} (cond a (Some (record { count = 0; width = 0 }))
+    → IfSome {T = WordLayout} (cond a (Some (record { count = 0; width = 0 }))
     (cond b (Some (record { count = 4; width = 8 }))
     (cond c (Some (record { count = 2; width = 16 })) (cond d (Some (record { count = 1; width = 32 })) None)))) P
-one_row P none row_to true b c d = none
-one_row P none row_to false true c d = row_to 4 8 (omega arith) (omega arith)
-one_row P none row_to false false true d = row_to 2 16 (omega arith) (omega arith)
-one_row P none row_to false false false true = row_to 1 32 (omega arith) (omega arith)
-one_row P none row_to false false false false = tt
+one_layout P none row_to true b c d = none
+one_layout P none row_to false true c d = row_to 4 8 (omega arith) (omega arith)
+one_layout P none row_to false false true d = row_to 2 16 (omega arith) (omega arith)
+one_layout P none row_to false false false true = row_to 1 32 (omega arith) (omega arith)
+one_layout P none row_to false false false false = tt
 
-two_row : (P : Division → Type 0) → P (record { count = 0; width = 0 })
+two_layout : (P : WordLayout → Type 0) → P (record { count = 0; width = 0 })
     → ((count width : ℕ) → 0 < width → count ≤ 7 → P (record { count = count; width = width }))
     → (a b c d p q r s t u : Bool)
-    → IfSome {T = Division} (cond a (Some (record { count = 0; width = 0 }))
+    → IfSome {T = WordLayout} (cond a (Some (record { count = 0; width = 0 }))
     (cond b (Some (record { count = 4; width = 8 }))
     (cond c
     (cond p (Some (record { count = 1; width = 30 })) (cond q (Some (record { count = 2; width = 15 }))
@@ -40,39 +40,39 @@ two_row : (P : Division → Type 0) → P (record { count = 0; width = 0 })
     (cond s (Some (record { count = 5; width = 6 })) (cond t (Some (record { count = 6; width = 5 }))
     (cond u (Some (record { count = 7; width = 4 })) None)))
     None)))) P
-two_row P none row_to true b c d p q r s t u = none
-two_row P none row_to false true c d p q r s t u = row_to 4 8 (omega arith) (omega arith)
-two_row P none row_to false false true d true q r s t u = row_to 1 30 (omega arith) (omega arith)
-two_row P none row_to false false true d false true r s t u = row_to 2 15 (omega arith) (omega arith)
-two_row P none row_to false false true d false false true s t u = row_to 3 10 (omega arith) (omega arith)
-two_row P none row_to false false true d false false false s t u = tt
-two_row P none row_to false false false true p q r true t u = row_to 5 6 (omega arith) (omega arith)
-two_row P none row_to false false false true p q r false true u = row_to 6 5 (omega arith) (omega arith)
-two_row P none row_to false false false true p q r false false true = row_to 7 4 (omega arith) (omega arith)
-two_row P none row_to false false false true p q r false false false = tt
-two_row P none row_to false false false false p q r s t u = tt
+two_layout P none row_to true b c d p q r s t u = none
+two_layout P none row_to false true c d p q r s t u = row_to 4 8 (omega arith) (omega arith)
+two_layout P none row_to false false true d true q r s t u = row_to 1 30 (omega arith) (omega arith)
+two_layout P none row_to false false true d false true r s t u = row_to 2 15 (omega arith) (omega arith)
+two_layout P none row_to false false true d false false true s t u = row_to 3 10 (omega arith) (omega arith)
+two_layout P none row_to false false true d false false false s t u = tt
+two_layout P none row_to false false false true p q r true t u = row_to 5 6 (omega arith) (omega arith)
+two_layout P none row_to false false false true p q r false true u = row_to 6 5 (omega arith) (omega arith)
+two_layout P none row_to false false false true p q r false false true = row_to 7 4 (omega arith) (omega arith)
+two_layout P none row_to false false false true p q r false false false = tt
+two_layout P none row_to false false false false p q r s t u = tt
 
 -- what the rows of both tables have
-each_row : (P : Division → Type 0) → P (record { count = 0; width = 0 })
+each_layout : (P : WordLayout → Type 0) → P (record { count = 0; width = 0 })
     → ((count width : ℕ) → 0 < width → count ≤ 7 → P (record { count = count; width = width }))
-    → (version : Version) (code top : ℕ) → IfSome (division_of version code top) P
-each_row P none row_to One code top = one_row P none row_to (code == 0) (code == 1) (code == 2) (code == 3)
-each_row P none row_to Two code top =
-    two_row P none row_to (code == 0) (code == 1) (code == 2) (code == 3) (top == 1) (top == 2) (top == 3) (top == 0)
+    → (version : Version) (code top : ℕ) → IfSome (layout_of version code top) P
+each_layout P none row_to One code top = one_layout P none row_to (code == 0) (code == 1) (code == 2) (code == 3)
+each_layout P none row_to Two code top =
+    two_layout P none row_to (code == 0) (code == 1) (code == 2) (code == 3) (top == 1) (top == 2) (top == 3) (top == 0)
     (top == 1) (top == 2)
 
-pub has_bits : (version : Version) (code top : ℕ) → IfSome (division_of version code top) HasBits
+pub has_bits : (version : Version) (code top : ℕ) → IfSome (layout_of version code top) HasBits
 unfolding HasBits
-has_bits = each_row HasBits (λ some. absurd (omega (arith, some))) (λ count width positive few some. positive)
+has_bits = each_layout HasBits (λ some. absurd (omega (arith, some))) (λ count width positive few some. positive)
 
 -- at most seven fields
-pub has_few : (version : Version) (code top : ℕ) → IfSome (division_of version code top) (λ d. d.count ≤ 7)
-has_few = each_row (λ d. d.count ≤ 7) (omega arith) (λ count width positive few. few)
+pub has_few : (version : Version) (code top : ℕ) → IfSome (layout_of version code top) (λ d. d.count ≤ 7)
+has_few = each_layout (λ d. d.count ≤ 7) (omega arith) (λ count width positive few. few)
 
-pub bits_of_fields : (version : Version) (code top : ℕ) (d : Division) → division_of version code top ≡ Some d
+pub bits_of_fields : (version : Version) (code top : ℕ) (d : WordLayout) → layout_of version code top ≡ Some d
     → 0 < d.count → 0 < d.width
 unfolding HasBits
-bits_of_fields version code top d division = subst (λ o. IfSome o HasBits) division (has_bits version code top)
+bits_of_fields version code top d layout = subst (λ o. IfSome o HasBits) layout (has_bits version code top)
 
 -- digits after a number
 pub number_after : (b n : ℕ) (ds : List ℕ) → number_from_digits_after b n ds
@@ -138,7 +138,7 @@ fields_are_one width (x ∷ xs) (y ∷ ys) positive size f g e =
     zero_first : (b n : ℕ) → 0 * b + n ≡ n
     zero_first b n = omega arith
 
-same_fields : (word : ℕ) (xs ys : List ℤ) (o : Option Division) → IfSome o HasBits
+same_fields : (word : ℕ) (xs ys : List ℤ) (o : Option WordLayout) → IfSome o HasBits
     → IsSomeAnd o (AreFields word xs) → IsSomeAnd o (AreFields word ys) → xs ≡ ys
 unfolding HasBits
 same_fields word xs ys None bits f g = absurd f
@@ -153,10 +153,10 @@ same_fields word (x ∷ xs) ys (Some d) bits f g =
 
 pub holds_one : (version : Version) (code word : ℕ) (xs ys : List ℤ) → Holds version code word xs
     → Holds version code word ys → xs ≡ ys
-holds_one version code word xs ys f g = same_fields word xs ys (division_of version code (word / 2 ^ 30))
+holds_one version code word xs ys f g = same_fields word xs ys (layout_of version code (word / 2 ^ 30))
     (has_bits version code (word / 2 ^ 30)) f g
 
 pub undefined_holds_none : (version : Version) (code word : ℕ) (xs : List ℤ) → IsUndefinedWord version code word
     → Holds version code word xs → ⊥
 undefined_holds_none version code word xs undefined holds =
-    subst (λ division. IsSomeAnd division (AreFields word xs)) undefined holds
+    subst (λ layout. IsSomeAnd layout (AreFields word xs)) undefined holds

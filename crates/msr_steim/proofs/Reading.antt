@@ -13,7 +13,7 @@ use Rattle.msr_steim.specs.declared.word.Version.{Version}
 use Rattle.msr_steim.specs.declared.word.Version.TheVariants.{One, Two}
 use Rattle.msr_steim.specs.Area.{CarriesSteim, IsUndefined, IsUndefinedBefore, WordHolds, arranged_word, code_of, constant, differences, samples_of, sums_after, whole_word, word_count}
 use Rattle.msr_steim.specs.Sums.{IsWritten}
-use Rattle.msr_steim.specs.Word.{Holds, IsUndefinedWord, division_of}
+use Rattle.msr_steim.specs.Word.{Holds, IsUndefinedWord, layout_of}
 use Rattle.msr_steim.proofs.Decoding.{AreReadBelow, differences_push, length-samples_of, one_more_held, read_enough, read_more}
 use Rattle.msr_steim.proofs.Summing.{holds_none}
 
@@ -199,9 +199,9 @@ step_enough version order area number code word at start next old new reached be
 
 -- ---- words with no differences
 
-no_division : (version : Version) (top : ℕ) → division_of version 0 top ≡ Some (record { count = 0; width = 0 })
-no_division One top = refl
-no_division Two top = refl
+no_layout : (version : Version) (top : ℕ) → layout_of version 0 top ≡ Some (record { count = 0; width = 0 })
+no_layout One top = refl
+no_layout Two top = refl
 
 skip_one : (version : Version) (order : Order) (area : List ℕ) (count n : ℕ) (first : ℤ) (samples : List ℤ)
     → AreReadBelow version order area count n first samples → n < word_count area → code_of order area n ≡ 0
@@ -210,7 +210,7 @@ skip_one version order area count n first samples read within none =
     let word = arranged_word version order 0 area n in
     let empty : WordHolds version order area n [] =
     held_so version order area n 0 word [] (sym none) refl
-    (holds_none version 0 word (no_division version (word / 2 ^ 30))) in
+    (holds_none version 0 word (no_layout version (word / 2 ^ 30))) in
     let same : differences (read.groups ++ [] ∷ []) ≡ differences read.groups = differences_push read.groups []
     ∙ append-nil (differences read.groups) in
     record {

@@ -11,7 +11,7 @@ use Rattle.msr_steim.specs.declared.word.Version.{Version}
 use Rattle.msr_steim.specs.declared.word.Version.TheVariants.{Two}
 use Rattle.msr_steim.specs.Area.{sums_after}
 use Rattle.msr_steim.specs.Sums.{IsGroupWritten, IsInnerWritten, IsWritten}
-use Rattle.msr_steim.specs.Word.{AreFields, FitsBits, Holds, division_of, numbers_in}
+use Rattle.msr_steim.specs.Word.{AreFields, FitsBits, Holds, layout_of, numbers_in}
 use Rattle.msr_steim.proofs.Decoding.{length-sums_after, sums_after_push}
 use Rattle.msr_steim.proofs.Fields.{half_bound}
 use Rattle.msr_steim.proofs.Shifts.{are_fields}
@@ -93,22 +93,22 @@ far_written out new ds last place m same far =
     (omega (arith, far, enough)) enough)
     (cases_lt (length out) (place + length ds))
 
--- the division of a word, by its code and its top two bits
+-- the layout of a word, by its code and its top two bits
 pub divided : (version other : Version) (code top c t : ℕ) → version ≡ other → code ≡ c → top ≡ t
-    → division_of version code top ≡ division_of other c t
-divided version other code top c t e f g = ap (λ v. division_of v code top) e ∙ ap (λ n. division_of other n top) f
-    ∙ ap (division_of other c) g
+    → layout_of version code top ≡ layout_of other c t
+divided version other code top c t e f g = ap (λ v. layout_of v code top) e ∙ ap (λ n. layout_of other n top) f
+    ∙ ap (layout_of other c) g
 
 -- a word that is divided so was written
 pub group_written : (version : Version) (code word : ℕ) (at : Place) (old new : List ℤ) (next : Place) (count width : ℕ)
-    → division_of version code (word / 2 ^ 30) ≡ Some (record { count = count; width = width }) → 0 < width
+    → layout_of version code (word / 2 ^ 30) ≡ Some (record { count = count; width = width }) → 0 < width
     → next.place ≤ length old
     → take next.place new ≡ take (length old) (take at.place old ++ sums_after at.last (numbers_in word width count))
     → next.last ≡ slice_index_or new (next.place - 1) (pos 0)
     → IsWritten version code word at old new next
-group_written version code word at old new next count width division positive within samples last = record {
+group_written version code word at old new next count width layout positive within samples last = record {
   group = numbers_in word width count;
-  holds = subst (λ d. IsSomeAnd d (AreFields word (numbers_in word width count))) (sym division)
+  holds = subst (λ d. IsSomeAnd d (AreFields word (numbers_in word width count))) (sym layout)
       (are_fields word width count positive);
   within = within;
   samples = samples;
@@ -118,19 +118,19 @@ group_written version code word at old new next count width division positive wi
 -- the same for a word of Steim-2, by its code and its top two bits as one number
 pub divided_by : (version : Version) (code word key : ℕ) → version ≡ Two → word < 4294967296
     → 4 * code + word / 1073741824 ≡ key
-    → division_of version code (word / 1073741824) ≡ division_of Two (key / 4) (key % 4)
+    → layout_of version code (word / 1073741824) ≡ layout_of Two (key / 4) (key % 4)
 divided_by version code word key e small key_is =
     divided version Two code (word / 1073741824) (key / 4) (key % 4) e (omega arith) (omega arith)
 
 -- and a place is left after it, where it was written whole
 pub inner_group_written : (version : Version) (code word : ℕ) (at : Place) (old new : List ℤ) (count width : ℕ)
     (result : Option Place)
-    → division_of version code (word / 2 ^ 30) ≡ Some (record { count = count; width = width }) → 0 < count → 0 < width
+    → layout_of version code (word / 2 ^ 30) ≡ Some (record { count = count; width = width }) → 0 < count → 0 < width
     → IfSome result (IsGroupWritten word count width at old new)
     → IfSome result (IsInnerWritten version code word at old new)
-inner_group_written version code word at old new count width None division some positive written = tt
-inner_group_written version code word at old new count width (Some next) division some positive written = record {
-  written = group_written version code word at old new next count width division positive
+inner_group_written version code word at old new count width None layout some positive written = tt
+inner_group_written version code word at old new count width (Some next) layout some positive written = record {
+  written = group_written version code word at old new next count width layout positive
       (omega (arith, written.room)) written.samples written.last;
   room = written.room;
   on = inr (omega (arith, written.place));
@@ -138,8 +138,8 @@ inner_group_written version code word at old new count width (Some next) divisio
 
 -- a word with no fields holds nothing
 pub holds_none : (version : Version) (code word : ℕ)
-    → division_of version code (word / 2 ^ 30) ≡ Some (record { count = 0; width = 0 }) → Holds version code word []
-holds_none version code word division = subst (λ d. IsSomeAnd d (AreFields word [])) (sym division) fields
+    → layout_of version code (word / 2 ^ 30) ≡ Some (record { count = 0; width = 0 }) → Holds version code word []
+holds_none version code word layout = subst (λ d. IsSomeAnd d (AreFields word [])) (sym layout) fields
   where
     fields : AreFields word [] (record { count = 0; width = 0 })
     fields =
@@ -153,11 +153,11 @@ holds_none version code word division = subst (λ d. IsSomeAnd d (AreFields word
 
 -- and nothing is written for it
 pub none_written : (version : Version) (code word : ℕ) (at : Place) (out : List ℤ)
-    → division_of version code (word / 2 ^ 30) ≡ Some (record { count = 0; width = 0 }) → at.place < length out
+    → layout_of version code (word / 2 ^ 30) ≡ Some (record { count = 0; width = 0 }) → at.place < length out
     → IsWritten version code word at out out at
-none_written version code word at out division room = record {
+none_written version code word at out layout room = record {
   group = [];
-  holds = holds_none version code word division;
+  holds = holds_none version code word layout;
   within = omega (arith, room);
   samples = sym (ap (take (length out)) (append-nil (take at.place out))
       ∙ take_all (length out) (take at.place out) (omega (arith, length-take at.place out, room)));
@@ -165,7 +165,7 @@ none_written version code word at out division room = record {
 }
 
 pub inner_none_written : (version : Version) (code word : ℕ) (at : Place) (out : List ℤ)
-    → division_of version code (word / 2 ^ 30) ≡ Some (record { count = 0; width = 0 }) → at.place < length out
+    → layout_of version code (word / 2 ^ 30) ≡ Some (record { count = 0; width = 0 }) → at.place < length out
     → IsInnerWritten version code word at out out at
-inner_none_written version code word at out division room =
-    record { written = none_written version code word at out division room; room = room; on = inl refl }
+inner_none_written version code word at out layout room =
+    record { written = none_written version code word at out layout room; room = room; on = inl refl }

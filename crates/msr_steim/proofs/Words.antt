@@ -3,10 +3,10 @@ use Rattle.std.proofs.Common.{◌≡◌, ◌<◌, ℕ, ◌+◌, ◌*◌, ◌/◌
 use Rattle.std.specs.Prelude.{IsSomeAnd, IfSome, unwrap_or}
 use Rattle.std.specs.List.{AllByRecursion}
 use Rattle.std.proofs.lemmas.List.{length-replicate}
-use Rattle.msr_steim.specs.declared.word.Row.{Row}
-use Rattle.msr_steim.specs.declared.word.Division.{Division}
+use Rattle.msr_steim.specs.declared.word.GroupLayout.{GroupLayout}
+use Rattle.msr_steim.specs.declared.word.WordLayout.{WordLayout}
 use Rattle.msr_steim.specs.declared.word.Version.{Version}
-use Rattle.msr_steim.specs.Word.{AreFields, FitsBits, HasNoOtherBits, Holds, IsRowFor, IsWordOf, as_read, division_of, group_top, group_width, group_word, joined_fields}
+use Rattle.msr_steim.specs.Word.{AreFields, FitsBits, HasNoOtherBits, Holds, IsLayoutFor, IsWordOf, as_read, layout_of, group_top, group_width, group_word, joined_fields}
 use Rattle.msr_steim.proofs.Fields.{joined_fields_lt, joined_fields_zeros, all_fit_zeros}
 
 -- what a word of these fields holds
@@ -15,25 +15,25 @@ pub word_holds : (version : Version) (code top fields count width word : ℕ) (z
     → length zs ≡ count → AllByRecursion (FitsBits width) zs → fields ≡ joined_fields width zs
     → Holds version code word zs × HasNoOtherBits version code word
 word_holds version code top fields count width word zs is same number all spelled =
-    let division : Division = record { count = count; width = width } in
+    let layout : WordLayout = record { count = count; width = width } in
     let lowest : word % 2 ^ (count * width) ≡ joined_fields width zs = ap (λ n. n % 2 ^ (count * width)) same
     ∙ is.lowest ∙ spelled in
     let others : word % 2 ^ 30 < 2 ^ (count * width) = rw same is.others in
-    let divided : division_of version code (word / 2 ^ 30) ≡ Some division =
-    ap (λ n. division_of version code (n / 2 ^ 30)) same ∙ is.division in
-    let fields_are : AreFields word zs division = record { count = number; fit = all; bits = lowest } in (
+    let divided : layout_of version code (word / 2 ^ 30) ≡ Some layout =
+    ap (λ n. layout_of version code (n / 2 ^ 30)) same ∙ is.layout in
+    let fields_are : AreFields word zs layout = record { count = number; fit = all; bits = lowest } in (
       subst (λ d. IsSomeAnd d (AreFields word zs)) (sym divided) fields_are,
       subst
           (λ d. IfSome d (λ d. word % 2 ^ 30 < 2 ^ (d.count * d.width))) (sym divided) others,
     )
 
 -- the word that the row and the fields of a group make
-pub row_word : (version : Version) (zs : List ℤ) (row : Row) (fields word : ℕ) → IsRowFor version (length zs) row
+pub layout_word : (version : Version) (zs : List ℤ) (row : GroupLayout) (fields word : ℕ) → IsLayoutFor version (length zs) row
     → AllByRecursion (FitsBits row.width) zs → fields ≡ joined_fields row.width zs
     → word ≡ row.top * 1073741824 % 4294967296 + fields * 2 ^ (row.padding * row.width) % 4294967296
     → (word < 2 ^ 32) × Holds version row.code word (as_read version zs) × HasNoOtherBits version row.code word
     × (word ≡ row.top * 2 ^ 30 + joined_fields row.width (as_read version zs))
-row_word version zs row fields word is all spelled same =
+layout_word version zs row fields word is all spelled same =
     let spelling = fields * 2 ^ (row.padding * row.width) in
     let read : as_read version zs ≡ zs ++ replicate row.padding (pos 0) =
     ap (λ p. zs ++ replicate p (pos 0)) (sym is.padding) in
@@ -56,7 +56,7 @@ row_word version zs row fields word is all spelled same =
     (omega (arith, made.small), holds.0, holds.1, sum ∙ ap (λ n. row.top * 2 ^ 30 + n) spelled_so)
 
 -- the same word by the tables
-pub group_word_is : (version : Version) (zs : List ℤ) (row : Row) (word : ℕ)
+pub group_word_is : (version : Version) (zs : List ℤ) (row : GroupLayout) (word : ℕ)
     → group_width version (length zs) ≡ Some row.width → group_top version (length zs) ≡ row.top
     → word ≡ row.top * 2 ^ 30 + joined_fields row.width (as_read version zs) → word ≡ group_word version zs
 group_word_is version zs row word width top same =

@@ -2,26 +2,26 @@
 use Rattle.std.specs.Prelude.{◌≡◌, ◌↔◌, ℕ, zero, suc, ◌-◌, ◌/◌, ◌^◌, ℤ, Bool, List, [], ◌++◌, IsTrue, length, Option, Some, None}
 use Rattle.msr_base.specs.declared.order.Order.{Order}
 use Rattle.msr_steim.specs.declared.borrowed.Fields.{Fields}
-use Rattle.msr_steim.specs.declared.word.Division.{Division}
+use Rattle.msr_steim.specs.declared.word.WordLayout.{WordLayout}
 use Rattle.msr_steim.specs.declared.word.Version.{Version}
 use Rattle.msr_steim.specs.Area.{CarriesSteim, ReverseAgrees, arranged_word, code_of, constant, samples_of, sums_after, word_count}
-use Rattle.msr_steim.specs.Word.{division_of, numbers_in}
+use Rattle.msr_steim.specs.Word.{layout_of, numbers_in}
 
 -- the numbers in the fields of a word that is divided so; an undefined word has none
-abbrev pub numbers_of : Option Division → ℕ → List ℤ
+abbrev pub numbers_of : Option WordLayout → ℕ → List ℤ
 numbers_of None word = []
-numbers_of (Some division) word = numbers_in word division.width division.count
+numbers_of (Some layout) word = numbers_in word layout.width layout.count
 
 -- how the word with this number is divided
-abbrev pub word_division : Version → Order → List ℕ → ℕ → Option Division
-word_division version order area number =
-    division_of version (code_of order area number)
+abbrev pub word_layout : Version → Order → List ℕ → ℕ → Option WordLayout
+word_layout version order area number =
+    layout_of version (code_of order area number)
     (arranged_word version order (code_of order area number) area number / 2 ^ 30)
 
 -- the differences of the word with this number
 unfoldable pub word_differences : Version → Order → List ℕ → ℕ → List ℤ
 word_differences version order area number =
-    numbers_of (word_division version order area number)
+    numbers_of (word_layout version order area number)
     (arranged_word version order (code_of order area number) area number)
 
 -- the differences of so many words, from this one on
@@ -37,7 +37,7 @@ differences_from version order area number = differences_of version order area n
 -- the word with this number has these fields
 pub record HasFields (version : Version) (order : Order) (area : List ℕ) (number : ℕ) (fields : Fields) : Type 0 where
   pub word_is : fields.word ≡ arranged_word version order (code_of order area number) area number
-  pub division_is : word_division version order area number
+  pub layout_is : word_layout version order area number
       ≡ Some (record { count = fields.count; width = fields.width })
 
 -- The area carries so many samples, and the last of them is the reverse constant or not.

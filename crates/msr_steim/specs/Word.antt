@@ -2,8 +2,8 @@
 use Rattle.std.specs.Prelude.{◌≡◌, ◌≢◌, ◌<◌, ◌==◌, nat_lt, ℕ, zero, suc, ◌+◌, ◌-◌, ◌*◌, ◌/◌, ◌%◌, ◌^◌, ℤ, pos, negsuc, Bool, true, false, List, [], ◌∷◌, ◌++◌, length, map, Option, Some, None, IsSomeAnd, IfSome, if◌then◌else◌, ◌≤◌, replicate, unwrap_or, ⊤}
 use Rattle.std.specs.List.{AllByRecursion}
 use Rattle.std.specs.Int.Digits.{number_from_digits}
-use Rattle.msr_steim.specs.declared.word.Division.{Division}
-use Rattle.msr_steim.specs.declared.word.Row.{Row}
+use Rattle.msr_steim.specs.declared.word.WordLayout.{WordLayout}
+use Rattle.msr_steim.specs.declared.word.GroupLayout.{GroupLayout}
 use Rattle.msr_steim.specs.declared.word.Version.{Version}
 use Rattle.msr_steim.specs.declared.word.Version.TheVariants.{One, Two}
 
@@ -33,15 +33,15 @@ joined_fields width numbers = number_from_digits (2 ^ width) (map (twos_compleme
 
 -- How a word with this code and these top two bits (in Steim-2 the manual's decode nibble) is divided
 -- into fields of equal width, by the tables of appendix B. Code 0 has no field. A pair that is not in
--- the table has no division.
-abbrev pub division_of : Version → ℕ → ℕ → Option Division
-division_of One code top =
+-- the table has no layout.
+abbrev pub layout_of : Version → ℕ → ℕ → Option WordLayout
+layout_of One code top =
     if code == 0 then Some (record { count = 0; width = 0 })
     else if code == 1 then Some (record { count = 4; width = 8 })
     else if code == 2 then Some (record { count = 2; width = 16 })
     else if code == 3 then Some (record { count = 1; width = 32 })
     else None
-division_of Two code top =
+layout_of Two code top =
     if code == 0 then Some (record { count = 0; width = 0 })
     else if code == 1 then Some (record { count = 4; width = 8 })
     else if code == 2 then
@@ -56,24 +56,24 @@ division_of Two code top =
     else None)
     else None
 
--- the lowest bits of the word are these numbers, in the fields of this division
-pub record AreFields (word : ℕ) (numbers : List ℤ) (division : Division) : Type 0 where
-  pub count : length numbers ≡ division.count
-  pub fit : AllByRecursion (FitsBits division.width) numbers
-  pub bits : word % 2 ^ (division.count * division.width) ≡ joined_fields division.width numbers
+-- the lowest bits of the word are these numbers, in the fields of this layout
+pub record AreFields (word : ℕ) (numbers : List ℤ) (layout : WordLayout) : Type 0 where
+  pub count : length numbers ≡ layout.count
+  pub fit : AllByRecursion (FitsBits layout.width) numbers
+  pub bits : word % 2 ^ (layout.count * layout.width) ≡ joined_fields layout.width numbers
 
 -- the word with this code holds these differences
 abbrev pub Holds : Version → ℕ → ℕ → List ℤ → Type 0
-Holds version code word differences = IsSomeAnd (division_of version code (word / 2 ^ 30)) (AreFields word differences)
+Holds version code word differences = IsSomeAnd (layout_of version code (word / 2 ^ 30)) (AreFields word differences)
 
--- the word with this code is undefined: it has no division, and holds no list
+-- the word with this code is undefined: it has no layout, and holds no list
 abbrev pub IsUndefinedWord : Version → ℕ → ℕ → Type 0
-IsUndefinedWord version code word = division_of version code (word / 2 ^ 30) ≡ None
+IsUndefinedWord version code word = layout_of version code (word / 2 ^ 30) ≡ None
 
 -- the word has no other bit set than its top two and those of its fields
 abbrev pub HasNoOtherBits : Version → ℕ → ℕ → Type 0
 HasNoOtherBits version code word =
-    IfSome (division_of version code (word / 2 ^ 30)) (λ d. word % 2 ^ 30 < 2 ^ (d.count * d.width))
+    IfSome (layout_of version code (word / 2 ^ 30)) (λ d. word % 2 ^ 30 < 2 ^ (d.count * d.width))
 
 -- of how many bits the differences of a group are, by their number
 abbrev pub group_width : Version → ℕ → Option ℕ
@@ -143,13 +143,13 @@ group_word version differences =
 -- these fields below these top bits are a word of `count` fields, with no other bit set
 pub record IsWordOf (version : Version) (code top fields count width : ℕ) : Type 0 where
   pub small : top * 2 ^ 30 + fields < 2 ^ 32
-  pub division : division_of version code ((top * 2 ^ 30 + fields) / 2 ^ 30)
+  pub layout : layout_of version code ((top * 2 ^ 30 + fields) / 2 ^ 30)
       ≡ Some (record { count = count; width = width })
   pub lowest : (top * 2 ^ 30 + fields) % 2 ^ (count * width) ≡ fields
   pub others : (top * 2 ^ 30 + fields) % 2 ^ 30 < 2 ^ (count * width)
 
 -- the row of the table for a group of `count` differences: whatever the fields are, the word is read so
-pub record IsRowFor (version : Version) (count : ℕ) (row : Row) : Type 0 where
+pub record IsLayoutFor (version : Version) (count : ℕ) (row : GroupLayout) : Type 0 where
   pub code : row.code < 4
   pub padding : row.padding ≡ padding_of version count
   pub positive : 0 < row.width

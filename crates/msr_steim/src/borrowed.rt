@@ -9,7 +9,7 @@ ghost use Rattle.msr_steim.specs.Word.{numbers_in};
 
 use crate::area::{SteimFault, arranged_word_at, constant_at, whole_word_at};
 use crate::check::check_area;
-use crate::word::{Version, difference_at, division_for};
+use crate::word::{Version, difference_at, layout_for};
 use msr_base::Order;
 use std::alloc::AllocError;
 use std::marker::Model;
@@ -106,11 +106,11 @@ fn fields_at(version: Version, order: Order, area: &[u8], number: usize) -> Opti
 {
     let code = code_at(order, area, number);
     let word = arranged_word_at(version, order, code, area, number);
-    let division = division_for(version, code, word >> 30)?;
+    let layout = layout_for(version, code, word >> 30)?;
     Some(Fields {
         word,
-        count: division.count,
-        width: division.width,
+        count: layout.count,
+        width: layout.width,
     })
 }
 

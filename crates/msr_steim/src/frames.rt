@@ -8,7 +8,7 @@ ghost use Rattle.msr_steim.specs.Area.{CarriesSteim, ReverseAgrees, constant, di
 ghost use Rattle.msr_steim.specs.Word.{AreGroups, group_word};
 ghost use Rattle.msr_steim.specs.Frames.{code_in, codes_word, differences_after, frame_bytes, frame_word, group_in};
 
-use crate::word::{Group, Version, row_for, write_word};
+use crate::word::{Group, Version, layout_of_group, write_word};
 use byteorder::{BigEndian, ByteOrder};
 
 /// The group in the word with this number, where it has one.
@@ -31,7 +31,7 @@ fn code_in(version: Version, groups: &[Group], number: usize) -> u8
     let Some(group) = group_in(groups, number) else {
         return 0;
     };
-    match row_for(version, group.len()) {
+    match layout_of_group(version, group.len()) {
         Some(row) => row.code,
         None => 0,
     }

@@ -4,13 +4,13 @@ ghost use Rattle.std.specs.Prelude.{◌≡◌, ◌<◌, ◌≤◌, ◌↔◌, Is
 ghost use Rattle.std.specs.List.{AllByRecursion};
 ghost use Rattle.msr_steim.specs.Word.{FitsBits, IsGroupAt, group_width};
 
-use crate::word::{Version, row_for};
+use crate::word::{Version, layout_of_group};
 
 /// Of how many bits the differences of a group are, by their number.
 pub fn group_width(version: Version, count: usize) -> Option<u32>
     ensures { result ≡ group_width version count }
 {
-    Some(row_for(version, count)?.width)
+    Some(layout_of_group(version, count)?.width)
 }
 
 /// Whether a number is one of `width` bits.

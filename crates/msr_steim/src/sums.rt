@@ -5,7 +5,7 @@ ghost use Rattle.msr_steim.specs.Area.{sums_after};
 ghost use Rattle.msr_steim.specs.Sums.{IsGroupWritten, IsInnerWritten, IsWritten, ReachesEnd};
 ghost use Rattle.msr_steim.specs.Word.{IsUndefinedWord, numbers_in};
 
-use crate::word::{Version, difference_at, division_for};
+use crate::word::{Version, difference_at, layout_for};
 
 /// How far the samples are written: the next sample's place, and the sample that its difference is added
 /// to.
@@ -118,15 +118,15 @@ pub(crate) fn write_last_word(
     ensures some { IfSome result (IsWritten version code word at out.old out.new) }
     ensures none { IsNone result → IsUndefinedWord version code word }
 {
-    let division = division_for(version, code, word >> 30)?;
-    if division.count == 0 {
+    let layout = layout_for(version, code, word >> 30)?;
+    if layout.count == 0 {
         return Some(at);
     }
-    let end = out.len().min(at.place + division.count as usize);
+    let end = out.len().min(at.place + layout.count as usize);
     let last = write_sums(
         word,
-        division.count,
-        division.width,
+        layout.count,
+        layout.width,
         at.last,
         &mut out[at.place..end],
     );

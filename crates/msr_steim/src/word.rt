@@ -1,7 +1,7 @@
 //! The differences that a 32-bit word holds.
 
 ghost use Rattle.std.specs.Prelude.{◌≡◌, ◌<◌, ◌≤◌, ℕ, ◌+◌, ◌*◌, ◌/◌, ◌%◌, ◌^◌, ◌↔◌, ℤ, List, IfOk, IsErr, IsSome, IfSome, MatchOption, Some, None, length};
-ghost use Rattle.msr_steim.specs.Word.{AreFields, FitsBits, HasNoOtherBits, Holds, IsGroup, IsRowFor, IsUndefinedWord, as_read, division_of, group_code, group_top, group_width, group_word, joined_fields, signed_of, twos_complement};
+ghost use Rattle.msr_steim.specs.Word.{AreFields, FitsBits, HasNoOtherBits, Holds, IsGroup, IsLayoutFor, IsUndefinedWord, as_read, layout_of, group_code, group_top, group_width, group_word, joined_fields, signed_of, twos_complement};
 ghost use Rattle.msr_steim.specs.declared.word.Version.{Version};
 ghost use Rattle.std.specs.List.{AllByRecursion};
 
@@ -20,7 +20,7 @@ pub type Group = ArrayVec<i32, 7>;
 
 /// How a word is divided: `count` fields of `width` bits each, in its lowest bits.
 #[derive(Clone, Copy, Debug, PartialEq, Eq)]
-pub(crate) struct Division {
+pub(crate) struct WordLayout {
     pub count: u32,
     pub width: u32,
 }
@@ -28,7 +28,7 @@ pub(crate) struct Division {
 /// How a group is written: its word's code and top two bits, the bits of each of its fields, and how
 /// many fields below them are left 0.
 #[derive(Clone, Copy, Debug, PartialEq, Eq)]
-pub(crate) struct Row {
+pub(crate) struct GroupLayout {
     pub code: u8,
     pub top: u32,
     pub width: u32,
@@ -41,35 +41,35 @@ pub(crate) struct Row {
 pub struct BadCode;
 
 /// How a word with this code and these top two bits is divided.
-pub(crate) fn division_for(version: Version, code: u8, top: u32) -> Option<Division>
-    ensures { result ≡ division_of version code top }
+pub(crate) fn layout_for(version: Version, code: u8, top: u32) -> Option<WordLayout>
+    ensures { result ≡ layout_of version code top }
 {
     match (version, code, top) {
-        (_, 0, _) => Some(Division { count: 0, width: 0 }),
-        (_, 1, _) => Some(Division { count: 4, width: 8 }),
-        (Version::One, 2, _) => Some(Division {
+        (_, 0, _) => Some(WordLayout { count: 0, width: 0 }),
+        (_, 1, _) => Some(WordLayout { count: 4, width: 8 }),
+        (Version::One, 2, _) => Some(WordLayout {
             count: 2,
             width: 16,
         }),
-        (Version::One, 3, _) => Some(Division {
+        (Version::One, 3, _) => Some(WordLayout {
             count: 1,
             width: 32,
         }),
-        (Version::Two, 2, 1) => Some(Division {
+        (Version::Two, 2, 1) => Some(WordLayout {
             count: 1,
             width: 30,
         }),
-        (Version::Two, 2, 2) => Some(Division {
+        (Version::Two, 2, 2) => Some(WordLayout {
             count: 2,
             width: 15,
         }),
-        (Version::Two, 2, 3) => Some(Division {
+        (Version::Two, 2, 3) => Some(WordLayout {
             count: 3,
             width: 10,
         }),
-        (Version::Two, 3, 0) => Some(Division { count: 5, width: 6 }),
-        (Version::Two, 3, 1) => Some(Division { count: 6, width: 5 }),
-        (Version::Two, 3, 2) => Some(Division { count: 7, width: 4 }),
+        (Version::Two, 3, 0) => Some(WordLayout { count: 5, width: 6 }),
+        (Version::Two, 3, 1) => Some(WordLayout { count: 6, width: 5 }),
+        (Version::Two, 3, 2) => Some(WordLayout { count: 7, width: 4 }),
         _ => None,
     }
 }
@@ -86,15 +86,15 @@ pub(crate) fn difference_at(word: u32, below: u32, width: u32) -> i32
 }
 
 /// The numbers in the fields of a word.
-fn fields_of(word: u32, division: Division) -> Group
-    requires count { division.count ≤ 7 }
-    requires width { 0 < division.count → 0 < division.width }
-    requires within { division.count * division.width ≤ 32 }
-    ensures { AreFields word result.items division }
+fn fields_of(word: u32, layout: WordLayout) -> Group
+    requires count { layout.count ≤ 7 }
+    requires width { 0 < layout.count → 0 < layout.width }
+    requires within { layout.count * layout.width ≤ 32 }
+    ensures { AreFields word result.items layout }
 {
     let mut group = Group::new();
-    for below in (0..division.count).rev() {
-        group.push(difference_at(word, below, division.width));
+    for below in (0..layout.count).rev() {
+        group.push(difference_at(word, below, layout.width));
     }
     group
 }
@@ -106,15 +106,15 @@ pub fn read_word(version: Version, code: u8, word: u32) -> Result<Group, BadCode
     ensures ok { IfOk result (λ group. Holds version code word group.items) }
     ensures err { IsErr result ↔ IsUndefinedWord version code word }
 {
-    let division = division_for(version, code, word >> 30).ok_or(BadCode)?;
-    Ok(fields_of(word, division))
+    let layout = layout_for(version, code, word >> 30).ok_or(BadCode)?;
+    Ok(fields_of(word, layout))
 }
 
 /// How a group of so many differences is written.
-pub(crate) fn row_for(version: Version, count: usize) -> Option<Row>
+pub(crate) fn layout_of_group(version: Version, count: usize) -> Option<GroupLayout>
     ensures some { IsSome result ↔ IsSome (group_width version count) }
     ensures width { IfSome result (λ row. group_width version count ≡ Some row.width) }
-    ensures row { IfSome result (IsRowFor version count) }
+    ensures row { IfSome result (IsLayoutFor version count) }
     ensures code { MatchOption result
         (group_code version count ≡ 0)
         (λ row. group_code version count ≡ row.code) }
@@ -133,7 +133,7 @@ pub(crate) fn row_for(version: Version, count: usize) -> Option<Row>
         (Version::Two, 7) => (3, 2, 4, 0),
         _ => return None,
     };
-    Some(Row {
+    Some(GroupLayout {
         code,
         top,
         width,
@@ -184,7 +184,7 @@ pub fn write_word(version: Version, differences: &[i32]) -> Option<(u8, u32)>
     ensures same { IfSome result (λ written. (written.0 ≡ group_code version (length differences.now))
         × (written.1 ≡ group_word version differences.now)) }
 {
-    let row = row_for(version, differences.len())?;
+    let row = layout_of_group(version, differences.len())?;
     let fields = fields_from(differences, row.width)?;
     Some((
         row.code,

@@ -8,7 +8,7 @@ use Rattle.msr_certificate.specs.declared.fault.ReportFault.{ReportFault}
 use Rattle.msr_certificate.specs.declared.fault.ReportFault.TheVariants as report
 use Rattle.msr_input.specs.declared.fault.ReadFault.{ReadFault}
 use Rattle.msr_input.specs.declared.fault.ReadFault.TheVariants as read
-use Rattle.msr_verdict.specs.Packed.{Answers}
+use Rattle.msr_verdict.specs.Packed.{VerifyAnswers}
 use Rattle.msr_verdict.specs.declared.verdict.Verdict.{Verdict}
 use Rattle.msr_tool.specs.Checking.{CheckAnswers}
 use Rattle.msr_tool.specs.Fault.{fault_of_reading, fault_of_report}
@@ -29,7 +29,7 @@ report_fails packed0 report0 text report.Memory left reads = let p = left_of pac
 
 -- the packed records are not
 pub verify_fails : (packed0 report0 : Device) (input text : List ℕ) (found : Report) (why : ReadFault)
-    → HasLeft packed0 input → HasLeft report0 text → ReadsReport text (Ok found) → Answers found input (Err why)
+    → HasLeft packed0 input → HasLeft report0 text → ReadsReport text (Ok found) → VerifyAnswers found input (Err why)
     → IsCheckAnswered packed0 report0 (Err (fault_of_reading why))
 verify_fails packed0 report0 input text found (read.Input other) left left_text reads answers =
     (input, text, left, left_text, record { report = found; read = reads; answers = answers })

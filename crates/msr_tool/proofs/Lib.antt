@@ -6,7 +6,7 @@ pub mod Listed
 pub mod ListUnderWay
 pub mod Consequences
 pub mod ShownRows
-pub mod ShownFronts
+pub mod ShownPrefixes
 pub mod ShownParts
 pub mod ShownLeast
 pub mod Checked

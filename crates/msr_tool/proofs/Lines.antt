@@ -21,7 +21,7 @@ use Rattle.msr_certificate.specs.Form.{IsFormLine, form_line}
 use Rattle.msr_certificate.proofs.SegmentsRead.{all_more}
 use Rattle.msr_output.specs.Opened.{Opened, CanGoOn, HasBegun, count_of}
 use Rattle.msr_output.specs.Output.{Packed, segment_of_packed, count_of_runs}
-use Rattle.msr_output.specs.Writing.{Writing, IsLineOf, HasWritten, HasWrittenFront, WritesSegment, StopsWriting}
+use Rattle.msr_output.specs.Writing.{Writing, IsLineOf, HasWritten, HasWrittenPrefix, WritesSegment, StopsWriting}
 use Rattle.msr_output.specs.declared.fault.WriteFault.{WriteFault}
 use Rattle.msr_output.specs.declared.fault.WriteFault.TheVariants as write
 use Rattle.msr_tool.specs.Fault.{fault_of_writing}
@@ -55,28 +55,28 @@ same_more packed more segment same = map-append segment_of_packed packed (more �
 
 -- a prefix of the output of some segments is one of more segments
 pub front_more : (size : ℕ) (start now : Device) (segments others all : List Segment)
-    → HasWrittenFront size start now segments → all ≡ segments ++ others → HasWrittenFront size start now all
+    → HasWrittenPrefix size start now segments → all ≡ segments ++ others → HasWrittenPrefix size start now all
 front_more size start now segments others all h same = record {
   taken = h.taken;
   takes = h.takes;
-  front = record {
-    packed = h.front.packed;
-    others = h.front.others ++ others;
-    rows = h.front.rows;
-    tail = h.front.tail;
-    some_first = same ∙ ap (λ (s : List Segment). s ++ others) h.front.some_first
-        ∙ append_assoc (map segment_of_packed h.front.packed) h.front.others others;
-    output = h.front.output;
+  prefix = record {
+    packed = h.prefix.packed;
+    others = h.prefix.others ++ others;
+    rows = h.prefix.rows;
+    tail = h.prefix.tail;
+    some_first = same ∙ ap (λ (s : List Segment). s ++ others) h.prefix.some_first
+        ∙ append_assoc (map segment_of_packed h.prefix.packed) h.prefix.others others;
+    output = h.prefix.output;
   };
 }
 
 -- what was written so far is a prefix of the output of all segments
 pub front_of : (start now : Device) (writing : Writing) (packed : List Packed) (rows : List Row)
-    → HasWritten start now writing packed rows → HasWrittenFront writing.size start now (map segment_of_packed packed)
+    → HasWritten start now writing packed rows → HasWrittenPrefix writing.size start now (map segment_of_packed packed)
 front_of start now writing packed rows h = record {
   taken = h.taken;
   takes = h.takes;
-  front = record {
+  prefix = record {
     packed = packed;
     others = [];
     rows = rows;
@@ -238,7 +238,7 @@ stops_finishing size start now w all packed current fault same_size same h =
 
 front_written : (start now : Device) (w : Writing) (packed : List Packed) (current : Option Segment)
     (last : Option Opened) → IfSome last (GoesOn w.size) → StandsWritten start now w packed current last
-    → HasWrittenFront w.size start now (map segment_of_packed packed ++ option_to_list current)
+    → HasWrittenPrefix w.size start now (map segment_of_packed packed ++ option_to_list current)
 front_written start now w packed None None goes h =
     rw (append-nil (map segment_of_packed packed)) (front_of start now w packed h.0 h.1)
 front_written start now w packed None (Some opened) goes h = absurd h
@@ -250,7 +250,7 @@ front_written start now w packed (Some segment) (Some opened) goes h =
 -- what was written so far is a prefix of the output of all segments, with the one that has not ended
 pub front_lined : (start now : Device) (lined : Lined) (packed : List Packed) (current : Option Segment)
     → IfSome lined.last (GoesOn lined.writing.size) → HasLined start now lined packed current
-    → HasWrittenFront lined.writing.size start now (map segment_of_packed packed ++ option_to_list current)
+    → HasWrittenPrefix lined.writing.size start now (map segment_of_packed packed ++ option_to_list current)
 front_lined start now lined packed current goes h =
     front_written start now lined.writing packed current lined.last goes h.written
 

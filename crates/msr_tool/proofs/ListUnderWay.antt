@@ -24,7 +24,7 @@ use Rattle.msr_input.specs.declared.outline.RowOutline.{RowOutline}
 use Rattle.msr_input.specs.declared.row_reader.NextOutline.{NextOutline}
 use Rattle.msr_tool.specs.Fault.{fault_of_reading}
 use Rattle.msr_tool.specs.Listing.{IsListStopped, ListAnswers}
-use Rattle.msr_tool.specs.ListWriting.{Lister, HasListed, HasListedAll, HasListedFront, StopsListing, StopsListingAll, IsOpenInBounds, open_after, open_longer, open_of}
+use Rattle.msr_tool.specs.ListWriting.{Lister, HasListed, HasListedAll, HasListedPrefix, StopsListing, StopsListingAll, IsOpenInBounds, open_after, open_longer, open_of}
 use Rattle.msr_tool.specs.Writing.{current_after, ended_by, longer_current}
 use Rattle.msr_tool.specs.declared.fault.ToolFault.{ToolFault}
 use Rattle.msr_tool.specs.declared.fault.ToolFault.TheVariants as fault
@@ -133,7 +133,7 @@ record Stopped (settings : Settings) (source0 sink0 sink : Device) : Type 0 wher
   pub stopped : IsListStopped settings input written
 
 stopped : (settings : Settings) (source0 sink0 sink : Device) (given : List Segment)
-    → StopsAfter settings source0 given → HasListedFront sink0 sink given → Stopped settings source0 sink0 sink
+    → StopsAfter settings source0 given → HasListedPrefix sink0 sink given → Stopped settings source0 sink0 sink
 stopped settings source0 sink0 sink given h front =
     let all : List Segment = given ++ h.begun.others in
     let wide = front_wider sink0 sink given h.begun.others all front refl in
@@ -148,13 +148,13 @@ stopped settings source0 sink0 sink given h front =
         segments = all;
         are_read = h.are_read;
         are_segments = h.begun.are_segments;
-        front = wide.front;
+        prefix = wide.prefix;
       };
     }
 
 -- no further segment is read
 pub list_read_failed : (settings : Settings) (source0 source sink0 sink : Device) (given : List Segment)
-    (why : ReadFault) → StopsReading settings source0 source given why → HasListedFront sink0 sink given
+    (why : ReadFault) → StopsReading settings source0 source given why → HasListedPrefix sink0 sink given
     → IsListAnswered settings source0 sink0 sink (Err (fault_of_reading why))
 list_read_failed settings source0 source sink0 sink given (read.Input found) h front =
     let all : List Segment = given ++ h.0.begun.others in
@@ -168,7 +168,7 @@ list_read_failed settings source0 source sink0 sink given (read.Input found) h f
         segments = all;
         first = h.0.first;
         are_segments = h.0.begun.are_segments;
-        front = wide.front;
+        prefix = wide.prefix;
       },
     )
 list_read_failed settings source0 source sink0 sink given read.Read h front =

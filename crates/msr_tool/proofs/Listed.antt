@@ -10,7 +10,7 @@ use Rattle.msr_devices.proofs.Chaining.{takes_append, calm_calm}
 use Rattle.msr_report.specs.Text.{IsListLine, counts_line}
 use Rattle.msr_base.specs.declared.counts.Counts.{Counts}
 use Rattle.msr_tool.specs.Listing.{AreListLines}
-use Rattle.msr_tool.specs.ListWriting.{HasListed, HasListedAll, HasListedFront, HasListedCut, IsLastLine, open_of}
+use Rattle.msr_tool.specs.ListWriting.{HasListed, HasListedAll, HasListedPrefix, HasListedCut, IsLastLine, open_of}
 
 pub lists_snoc : (segments : List Segment) (text line : List ℕ) (segment : Segment) → AreListLines segments text
     → IsListLine segment.key segment.start (length segment.samples) line
@@ -54,11 +54,11 @@ flows_on start now next waiting pushed waits more segments h same passes = recor
 
 -- there is no memory for a line
 pub front_listed : (start now : Device) (waiting : List ℕ) (segments others : List Segment)
-    → HasListed start now waiting segments → HasListedFront start now (segments ++ others)
+    → HasListed start now waiting segments → HasListedPrefix start now (segments ++ others)
 front_listed start now waiting segments others h = record {
   taken = h.taken;
   takes = h.takes;
-  front = record {
+  prefix = record {
     first = segments;
     others = others;
     tail = waiting;
@@ -68,18 +68,18 @@ front_listed start now waiting segments others h = record {
 }
 
 -- a prefix of a longer list of segments
-pub front_wider : (start now : Device) (segments others all : List Segment) → HasListedFront start now segments
-    → all ≡ segments ++ others → HasListedFront start now all
+pub front_wider : (start now : Device) (segments others all : List Segment) → HasListedPrefix start now segments
+    → all ≡ segments ++ others → HasListedPrefix start now all
 front_wider start now segments others all h same = record {
   taken = h.taken;
   takes = h.takes;
-  front = record {
-    first = h.front.first;
-    others = h.front.others ++ others;
-    tail = h.front.tail;
-    some_first = same ∙ ap (λ (s : List Segment). s ++ others) h.front.some_first
-        ∙ append_assoc h.front.first h.front.others others;
-    lines = h.front.lines;
+  prefix = record {
+    first = h.prefix.first;
+    others = h.prefix.others ++ others;
+    tail = h.prefix.tail;
+    some_first = same ∙ ap (λ (s : List Segment). s ++ others) h.prefix.some_first
+        ∙ append_assoc h.prefix.first h.prefix.others others;
+    lines = h.prefix.lines;
   };
 }
 
@@ -115,13 +115,13 @@ listed_passed start now next waiting waits segments h passes calm =
     }
 
 pub listed_cut : (start now next : Device) (waiting waits : List ℕ) (segments : List Segment)
-    → HasListed start now waiting segments → Passes now next waiting [] waits → HasListedFront start next segments
+    → HasListed start now waiting segments → Passes now next waiting [] waits → HasListedPrefix start next segments
 listed_cut start now next waiting waits segments h passes =
     let f = flows_on start now next waiting waiting waits [] segments h (sym (append-nil waiting)) passes in
     record {
       taken = f.taken;
       takes = f.takes;
-      front = record {
+      prefix = record {
         first = segments;
         others = [];
         tail = waits;

@@ -18,11 +18,11 @@ use Rattle.msr_verdict.specs.Packed.{IsFull, AreShownBy}
 use Rattle.msr_tool.specs.Choice.{settings_of, size_of}
 use Rattle.msr_tool.specs.Shown.{EndsBeforeTheLast, RepackedIsShown}
 use Rattle.msr_tool.proofs.ShownRows.{IsWithin, AreWithin, record_of, lines_within, cuts_within, rows_sound, bytes_begin, records_full, records_rows}
-use Rattle.msr_tool.proofs.ShownFronts.{IsFrontOf, last_of_front}
+use Rattle.msr_tool.proofs.ShownPrefixes.{IsPrefixOf, last_of_front}
 use Rattle.msr_tool.proofs.ShownParts.{are_shown}
 
 -- a prefix of such a segment ends in the supported years
-front_within : (front whole : Segment) → IsFrontOf front whole → IsWithin whole
+front_within : (front whole : Segment) → IsPrefixOf front whole → IsWithin whole
     → EndsOutOfRange (segment_span front) → ⊥
 front_within front whole is within out =
     let rate = whole.key.rate in

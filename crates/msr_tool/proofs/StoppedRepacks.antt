@@ -9,11 +9,11 @@ use Rattle.msr_input.specs.Reading.{StopsAfter, StopsReading}
 use Rattle.msr_input.specs.declared.settings.Settings.{Settings}
 use Rattle.msr_input.specs.declared.fault.ReadFault.{ReadFault}
 use Rattle.msr_input.specs.declared.fault.ReadFault.TheVariants as read
-use Rattle.msr_output.specs.Writing.{HasWrittenFront}
+use Rattle.msr_output.specs.Writing.{HasWrittenPrefix}
 use Rattle.msr_tool.specs.Choice.{Choice, settings_of, size_of}
 use Rattle.msr_tool.specs.Fault.{fault_of_reading}
 use Rattle.msr_tool.specs.Writing.{StopsSink, StopsLining}
-use Rattle.msr_tool.specs.ListWriting.{HasListedCut, HasListedFront, StopsListing, StopsListingAll}
+use Rattle.msr_tool.specs.ListWriting.{HasListedCut, HasListedPrefix, StopsListing, StopsListingAll}
 use Rattle.msr_tool.specs.Answer.{IsStopped, Answers}
 use Rattle.msr_tool.specs.declared.fault.ToolFault.{ToolFault}
 use Rattle.msr_tool.specs.declared.fault.ToolFault.TheVariants as fault
@@ -35,7 +35,7 @@ record Stopped (choice : Choice) (source0 sink0 sink : Device) : Type 0 where
   pub stopped : IsStopped choice input written
 
 stopped : (choice : Choice) (source0 sink0 sink : Device) (given : List Segment)
-    → StopsAfter (settings_of choice) source0 given → HasWrittenFront (size_of choice) sink0 sink given
+    → StopsAfter (settings_of choice) source0 given → HasWrittenPrefix (size_of choice) sink0 sink given
     → Stopped choice source0 sink0 sink
 stopped choice source0 sink0 sink given h front =
     let all : List Segment = given ++ h.begun.others in
@@ -51,14 +51,14 @@ stopped choice source0 sink0 sink given h front =
         segments = all;
         are_read = h.are_read;
         are_segments = h.begun.are_segments;
-        front = wide.front;
+        prefix = wide.prefix;
       };
     }
 
 -- no further segment is read
 pub read_failed : (choice : Choice) (source0 source sink0 sink : Device) (given : List Segment) (why : ReadFault)
     → StopsReading (settings_of choice) source0 source given why
-    → HasWrittenFront (size_of choice) sink0 sink given
+    → HasWrittenPrefix (size_of choice) sink0 sink given
     → IsAnswered choice source0 sink0 sink (Err (fault_of_reading why))
 read_failed choice source0 source sink0 sink given (read.Input other) h front =
     let all : List Segment = given ++ h.0.begun.others in
@@ -73,7 +73,7 @@ read_failed choice source0 source sink0 sink given (read.Input other) h front =
         segments = all;
         first = h.0.first;
         are_segments = h.0.begun.are_segments;
-        front = wide.front;
+        prefix = wide.prefix;
       };
     }
 read_failed choice source0 source sink0 sink given read.Read h front =
@@ -133,40 +133,40 @@ write_tells_source failed refused source0 source sink0 sink fault.Memory steady 
 pub lined_tells_sink : {T : Type 0} (size : ℕ) (sink0 sink : Device) (given : List Segment) (found : ToolFault)
     → StopsLining size sink0 sink given found → IsErrOf {T = T} (Err found) fault.Write ↔ HasFailed sink0 sink
 lined_tells_sink size sink0 sink given found h =
-    write_tells_sink (HasWrittenFront size sink0 sink given) (HasWrittenFront size sink0 sink given) sink0 sink found h
+    write_tells_sink (HasWrittenPrefix size sink0 sink given) (HasWrittenPrefix size sink0 sink given) sink0 sink found h
 
 pub lined_tells_source : {T : Type 0} (size : ℕ) (source0 source sink0 sink : Device) (given : List Segment)
     (found : ToolFault) → IsSteady source0 source → StopsLining size sink0 sink given found
     → IsErrOf {T = T} (Err found) fault.Read ↔ HasFailed source0 source
 lined_tells_source size source0 source sink0 sink given found steady h =
-    write_tells_source (HasWrittenFront size sink0 sink given)
-    (HasWrittenFront size sink0 sink given) source0 source sink0 sink found steady h
+    write_tells_source (HasWrittenPrefix size sink0 sink given)
+    (HasWrittenPrefix size sink0 sink given) source0 source sink0 sink found steady h
 
 -- and of lines
 pub listing_tells_sink : {T : Type 0} (sink0 sink : Device) (given : List Segment) (found : ToolFault)
     → StopsListing sink0 sink given found → IsErrOf {T = T} (Err found) fault.Write ↔ HasFailed sink0 sink
 listing_tells_sink sink0 sink given found h =
-    write_tells_sink (HasListedFront sink0 sink given) (HasListedFront sink0 sink given) sink0 sink found h
+    write_tells_sink (HasListedPrefix sink0 sink given) (HasListedPrefix sink0 sink given) sink0 sink found h
 
 pub listing_tells_source : {T : Type 0} (source0 source sink0 sink : Device) (given : List Segment)
     (found : ToolFault) → IsSteady source0 source → StopsListing sink0 sink given found
     → IsErrOf {T = T} (Err found) fault.Read ↔ HasFailed source0 source
 listing_tells_source source0 source sink0 sink given found steady h =
-    write_tells_source (HasListedFront sink0 sink given)
-    (HasListedFront sink0 sink given) source0 source sink0 sink found steady h
+    write_tells_source (HasListedPrefix sink0 sink given)
+    (HasListedPrefix sink0 sink given) source0 source sink0 sink found steady h
 
 pub listed_tells_sink : {T : Type 0} (sink0 sink : Device) (given : List Segment) (counts : Counts)
     (found : ToolFault) → StopsListingAll sink0 sink given counts found → IsErrOf {T = T} (Err found) fault.Write
     ↔ HasFailed sink0 sink
 listed_tells_sink sink0 sink given counts found h =
-    write_tells_sink (HasListedCut sink0 sink given counts) (HasListedFront sink0 sink given) sink0 sink found h
+    write_tells_sink (HasListedCut sink0 sink given counts) (HasListedPrefix sink0 sink given) sink0 sink found h
 
 pub listed_tells_source : {T : Type 0} (source0 source sink0 sink : Device) (given : List Segment)
     (counts : Counts) (found : ToolFault) → IsSteady source0 source → StopsListingAll sink0 sink given counts found
     → IsErrOf {T = T} (Err found) fault.Read ↔ HasFailed source0 source
 listed_tells_source source0 source sink0 sink given counts found steady h =
     write_tells_source (HasListedCut sink0 sink given counts)
-    (HasListedFront sink0 sink given) source0 source sink0 sink found steady h
+    (HasListedPrefix sink0 sink given) source0 source sink0 sink found steady h
 
 -- no device failed
 pub ok_tells : {T : Type 0} (old new : Device) (value : T) (found : ToolFault) → IsSteady old new

@@ -4,7 +4,7 @@ use Rattle.std.proofs.lemmas.List.{take-append-drop}
 use Rattle.msr_devices.specs.Device.{Device, HasLeft, Takes}
 use Rattle.msr_devices.proofs.Chaining.{takes_none}
 use Rattle.msr_report.specs.Text.{IsReportText}
-use Rattle.msr_report.specs.Writing.{TakesFront}
+use Rattle.msr_report.specs.Writing.{TakesPrefix}
 use Rattle.msr_report.specs.declared.report.Report.{Report}
 use Rattle.msr_report.specs.declared.text.TextFault.{TextFault}
 use Rattle.msr_report.specs.declared.text.TextFault.TheVariants as text_fault
@@ -50,7 +50,7 @@ repack_stops choice source records0 records text input written fault.Memory left
     (inl (record { stopped = a; untold = refl }))
 
 in_part : (choice : Choice) (input written : List ℕ) (report : Report) (text0 text : Device) (whole : List ℕ) →
-    IsRepacked choice input written report → IsReportText report whole → (front : TakesFront text0 text whole) →
+    IsRepacked choice input written report → IsReportText report whole → (front : TakesPrefix text0 text whole) →
     IsReportedInPart choice input written front.taken
 in_part choice input written report text0 text whole repacked is_text front = record {
   report = report;
@@ -66,10 +66,10 @@ cut_answers choice input written told text_fault.Memory part = inr part
 -- the text of the report is not written whole
 pub text_stops : (choice : Choice) (source records0 records text0 text : Device) (input written whole : List ℕ)
     (report : Report) (why : TextFault) → HasLeft source input → Takes records0 records written →
-    IsRepacked choice input written report → IsReportText report whole → TakesFront text0 text whole →
+    IsRepacked choice input written report → IsReportText report whole → TakesPrefix text0 text whole →
     Reports choice source records0 records text0 text (Err (fault_of_text why))
 text_stops choice source records0 records text0 text input written whole report why left wrote repacked is_text
-    front = record {
+    prefix = record {
       input = input;
       written = written;
       told = front.taken;

@@ -12,7 +12,7 @@ use Rattle.msr_certificate.specs.Form.{IsForm, form_of}
 use Rattle.msr_input.specs.declared.fault.Fault.{Fault}
 use Rattle.msr_input.specs.Input.{AreRead, IsReadable, IsFirstFault, rows_of_records, counts_of}
 use Rattle.msr_output.specs.Writing.{IsLineOf}
-use Rattle.msr_output.specs.Output.{Packed, IsOutput, IsFrontOfOutput, segment_of_packed}
+use Rattle.msr_output.specs.Output.{Packed, IsOutput, IsPrefixOfOutput, segment_of_packed}
 use Rattle.msr_tool.specs.Choice.{Choice, settings_of, size_of}
 use Rattle.msr_tool.specs.declared.fault.ToolFault.{ToolFault}
 use Rattle.msr_tool.specs.declared.fault.ToolFault.TheVariants as fault
@@ -50,7 +50,7 @@ pub record IsRefusedAt (choice : Choice) (input written : List ℕ) (fault : Fau
   pub segments : List Segment
   pub first : IsFirstFault (settings_of choice) input records fault
   pub are_segments : AreSegments choice.tolerance (rows_of_records records) segments
-  pub front : IsFrontOfOutput (size_of choice) segments written
+  pub prefix : IsPrefixOfOutput (size_of choice) segments written
 
 -- Some first records of the input are read, none of them refused. What was written is a prefix of the output of the
 -- segments of their rows.
@@ -60,7 +60,7 @@ pub record IsStopped (choice : Choice) (input written : List ℕ) : Type 0 where
   pub segments : List Segment
   pub are_read : AreRead (settings_of choice) input records rest
   pub are_segments : AreSegments choice.tolerance (rows_of_records records) segments
-  pub front : IsFrontOfOutput (size_of choice) segments written
+  pub prefix : IsPrefixOfOutput (size_of choice) segments written
 
 -- what an answer says of the input and of what was written
 abbrev pub Answers : Choice → List ℕ → List ℕ → Result Report ToolFault → Type 0

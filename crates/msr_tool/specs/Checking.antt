@@ -6,7 +6,7 @@ use Rattle.msr_certificate.specs.Fault.{IsFaultLine}
 use Rattle.msr_certificate.specs.Reading.{IsReadFrom}
 use Rattle.msr_input.specs.declared.fault.ReadFault.{ReadFault}
 use Rattle.msr_input.specs.declared.fault.ReadFault.TheVariants as read
-use Rattle.msr_verdict.specs.Packed.{Answers}
+use Rattle.msr_verdict.specs.Packed.{VerifyAnswers}
 use Rattle.msr_verdict.specs.declared.verdict.Verdict.{Verdict}
 use Rattle.msr_tool.specs.declared.fault.ToolFault.{ToolFault}
 use Rattle.msr_tool.specs.declared.fault.ToolFault.TheVariants as fault
@@ -17,7 +17,7 @@ use Rattle.msr_tool.specs.declared.fault.ToolFault.TheVariants as fault
 pub record IsChecked (input text : List ℕ) (answer : Result Verdict ReadFault) : Type 0 where
   pub report : Report
   pub read : IsReadFrom report text
-  pub answers : Answers report input answer
+  pub answers : VerifyAnswers report input answer
 
 -- what an answer says of the packed records and of the text
 abbrev pub CheckAnswers : List ℕ → List ℕ → Result Verdict ToolFault → Type 0

@@ -9,7 +9,7 @@ use Rattle.msr_input.specs.declared.outline.RowOutline.{RowOutline}
 use Rattle.msr_report.specs.Text.{IsListLine, counts_line}
 use Rattle.msr_base.specs.declared.counts.Counts.{Counts}
 use Rattle.msr_tool.specs.Writing.{StopsSink}
-use Rattle.msr_tool.specs.Listing.{AreListLines, IsFrontOfList}
+use Rattle.msr_tool.specs.Listing.{AreListLines, IsPrefixOfList}
 use Rattle.msr_tool.specs.declared.fault.ToolFault.{ToolFault}
 use Rattle.msr_tool.specs.declared.open_segment.OpenSegment.{OpenSegment}
 
@@ -62,10 +62,10 @@ pub record HasListedAll (start now : Device) (segments : List Segment) (counts :
   pub calm : IsCalm start now
 
 -- a prefix of the lines of some first ones of these segments was written
-pub record HasListedFront (start now : Device) (segments : List Segment) : Type 0 where
+pub record HasListedPrefix (start now : Device) (segments : List Segment) : Type 0 where
   pub taken : List ℕ
   pub takes : Takes start now taken
-  pub front : IsFrontOfList segments taken
+  pub prefix : IsPrefixOfList segments taken
 
 -- a prefix of the lines of these segments and of that of the counts was written
 pub record HasListedCut (start now : Device) (segments : List Segment) (counts : Counts) : Type 0 where
@@ -79,9 +79,9 @@ pub record HasListedCut (start now : Device) (segments : List Segment) (counts :
 -- a prefix of the lines of these segments was written
 abbrev pub StopsListing : Device → Device → List Segment → ToolFault → Type 0
 StopsListing start now segments fault =
-    StopsSink (HasListedFront start now segments) (HasListedFront start now segments) start now fault
+    StopsSink (HasListedPrefix start now segments) (HasListedPrefix start now segments) start now fault
 
 -- the same after the last segment, where a prefix of the line of the counts may follow
 abbrev pub StopsListingAll : Device → Device → List Segment → Counts → ToolFault → Type 0
 StopsListingAll start now segments counts fault =
-    StopsSink (HasListedCut start now segments counts) (HasListedFront start now segments) start now fault
+    StopsSink (HasListedCut start now segments counts) (HasListedPrefix start now segments) start now fault

@@ -25,7 +25,7 @@ AreListLines (segment ∷ segments) text = (others : List ℕ) × ListsFirst seg
     × AreListLines segments others
 
 -- the prefix of the lines of some first ones of these segments
-pub record IsFrontOfList (segments : List Segment) (text : List ℕ) : Type 0 where
+pub record IsPrefixOfList (segments : List Segment) (text : List ℕ) : Type 0 where
   pub first : List Segment
   pub others : List Segment
   pub tail : List ℕ
@@ -49,7 +49,7 @@ pub record IsListedTo (settings : Settings) (input written : List ℕ) (fault : 
   pub segments : List Segment
   pub first : IsFirstFault settings input records fault
   pub are_segments : AreSegments settings.tolerance (rows_of_records records) segments
-  pub front : IsFrontOfList segments written
+  pub prefix : IsPrefixOfList segments written
 
 -- Some first records of the input are read, none of them refused. What was written is a prefix of the lines of the
 -- segments of their rows.
@@ -59,7 +59,7 @@ pub record IsListStopped (settings : Settings) (input written : List ℕ) : Type
   pub segments : List Segment
   pub are_read : AreRead settings input records rest
   pub are_segments : AreSegments settings.tolerance (rows_of_records records) segments
-  pub front : IsFrontOfList segments written
+  pub prefix : IsPrefixOfList segments written
 
 -- The input is readable. What was written is a prefix of its list, the last line included.
 pub record IsListCut (settings : Settings) (input written : List ℕ) : Type 0 where

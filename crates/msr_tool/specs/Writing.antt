@@ -14,7 +14,7 @@ use Rattle.msr_report.specs.declared.report.SegmentLine.{SegmentLine}
 use Rattle.msr_certificate.specs.Form.{IsFormLine, form_line}
 use Rattle.msr_output.specs.Opened.{Opened, CanGoOn, HasBegun, count_of, longer_by}
 use Rattle.msr_output.specs.Output.{Packed, segment_of_packed}
-use Rattle.msr_output.specs.Writing.{Writing, HasWritten, HasWrittenAll, HasWrittenFront}
+use Rattle.msr_output.specs.Writing.{Writing, HasWritten, HasWrittenAll, HasWrittenPrefix}
 use Rattle.msr_tool.specs.Answer.{AreLinesOf}
 use Rattle.msr_tool.specs.declared.fault.ToolFault.{ToolFault}
 use Rattle.msr_tool.specs.declared.fault.ToolFault.TheVariants.{Input, Report, Read, Write, Memory}
@@ -119,4 +119,4 @@ StopsSink failed refused start now Memory = refused × IsSteady start now
 -- a prefix of the output of some first ones of these segments was written
 abbrev pub StopsLining : ℕ → Device → Device → List Segment → ToolFault → Type 0
 StopsLining size start now segments fault =
-    StopsSink (HasWrittenFront size start now segments) (HasWrittenFront size start now segments) start now fault
+    StopsSink (HasWrittenPrefix size start now segments) (HasWrittenPrefix size start now segments) start now fault

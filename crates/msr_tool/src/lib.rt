@@ -3,18 +3,18 @@
 #![tactic(auto)]
 
 mod check;
-mod engine;
+mod repack;
 mod fault;
 mod laws;
 mod list;
 mod list_writer;
 mod open_segment;
 mod options;
-mod output;
+mod lined_writer;
 mod tasks;
 
 pub use check::check_packed;
-pub use engine::{feed, repack};
+pub use repack::{feed, repack};
 pub use fault::ToolFault;
 pub use laws::{
     one_refusal, one_repacking, readable_is_listed, readable_is_repacked, repacked_is_least,

@@ -7,7 +7,7 @@ ghost use Rattle.msr_tool.specs.Live.{IsLive};
 ghost use Rattle.msr_tool.specs.Tasks.{Reports, Tells};
 
 use crate::check::check_packed;
-use crate::engine::{feed, repack};
+use crate::repack::{feed, repack};
 use crate::fault::ToolFault;
 use crate::options::Options;
 use msr_devices::{Sink, Source, write_all};

@@ -21,7 +21,7 @@ use Rattle.msr_input.specs.declared.fault.ReadFault.TheVariants as fault
 use Rattle.msr_input.proofs.OneReading.{one_list_of_records}
 use Rattle.msr_verdict.specs.declared.verdict.Verdict.{Verdict}
 use Rattle.msr_verdict.specs.declared.verdict.Verdict.TheVariants.{Least, NotShown}
-use Rattle.msr_verdict.specs.Packed.{IsFull, IsShownBy, AreShownBy, ShowsLeast, Answers, StandsInFewest, AllStandInFewest, ShownIsFewest, ShownIsReadable, runs_of_part, settings_by}
+use Rattle.msr_verdict.specs.Packed.{IsFull, IsShownBy, AreShownBy, ShowsLeast, VerifyAnswers, StandsInFewest, AllStandInFewest, ShownIsFewest, ShownIsReadable, runs_of_part, settings_by}
 use Rattle.msr_verdict.specs.Compared.{Compared, ComparesEnded}
 use Rattle.msr_verdict.proofs.Lines.{shown_length}
 use Rattle.msr_verdict.proofs.Runs.{runs_length}
@@ -39,10 +39,10 @@ pub record UnderWay (report : Report) (start now : Device) (reading : Reading) (
 pub record IsAnswered (report : Report) (start : Device) (result : Result Verdict ReadFault) : Type 0 where
   pub input : List ℕ
   pub left : HasLeft start input
-  pub answers : Answers report input result
+  pub answers : VerifyAnswers report input result
 
 pub as_answer : (report : Report) (start : Device) (result : Result Verdict ReadFault)
-    → IsAnswered report start result → (input : List ℕ) × HasLeft start input × Answers report input result
+    → IsAnswered report start result → (input : List ℕ) × HasLeft start input × VerifyAnswers report input result
 as_answer report start result a = (a.input, a.left, a.answers)
 
 -- a record is not read, or not taken
@@ -126,7 +126,7 @@ verdict_answers : (report : Report) (input : List ℕ) (records : List Record) (
     (verdict : Verdict) → AreRead (settings_by report) input records []
     → IsDivision report.tolerance (rows_of_records records) parts
     → IsCompared (bytes_of report.length) report.segments.items records parts [] c → (verdict ≡ Least)
-    ↔ ((c.agrees ≡ true) × (c.place ≡ length report.segments.items)) → Answers report input (Ok verdict)
+    ↔ ((c.agrees ≡ true) × (c.place ≡ length report.segments.items)) → VerifyAnswers report input (Ok verdict)
 verdict_answers report input records parts c Least are d compared exact =
     let both = exact.0 refl in
     let a = compared.agrees both.0 in

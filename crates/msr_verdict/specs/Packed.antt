@@ -74,7 +74,7 @@ pub record DoesNotShow (report : Report) (input : List ℕ) : Type 0 where
   pub none : ShowsLeast report input → ⊥
 
 -- The input has this first fault.
-pub record IsRefusedAt (settings : Settings) (input : List ℕ) (fault : Fault) : Type 0 where
+pub record HasFirstFault (settings : Settings) (input : List ℕ) (fault : Fault) : Type 0 where
   pub records : List Record
   pub first : IsFirstFault settings input records fault
 
@@ -85,12 +85,12 @@ pub record BeginsReadable (settings : Settings) (input : List ℕ) : Type 0 wher
   pub are_read : AreRead settings input records rest
 
 -- what an answer says of the input
-abbrev pub Answers : Report → List ℕ → Result Verdict ReadFault → Type 0
-Answers report input (Ok Least) = ShowsLeast report input
-Answers report input (Ok NotShown) = DoesNotShow report input
-Answers report input (Err (Input fault)) = IsRefusedAt (settings_by report) input fault
-Answers report input (Err Read) = BeginsReadable (settings_by report) input
-Answers report input (Err Memory) = BeginsReadable (settings_by report) input
+abbrev pub VerifyAnswers : Report → List ℕ → Result Verdict ReadFault → Type 0
+VerifyAnswers report input (Ok Least) = ShowsLeast report input
+VerifyAnswers report input (Ok NotShown) = DoesNotShow report input
+VerifyAnswers report input (Err (Input fault)) = HasFirstFault (settings_by report) input fault
+VerifyAnswers report input (Err Read) = BeginsReadable (settings_by report) input
+VerifyAnswers report input (Err Memory) = BeginsReadable (settings_by report) input
 
 -- No packing of the part's segment has fewer records than it stands in, nor than the line says.
 pub record StandsInFewest (size : ℕ) (part : Part) (line : SegmentLine) : Type 0 where

@@ -1,7 +1,7 @@
 //! Reading packed records beside their report.
 ghost use Rattle.std.specs.Prelude.{◌↔◌, ◌≤◌, ℕ, List, IsErrOf};
 ghost use Rattle.msr_devices.specs.Device.{CanCountCall, CountsFew, HasFailed, HasLeft};
-ghost use Rattle.msr_verdict.specs.Packed.{Answers};
+ghost use Rattle.msr_verdict.specs.Packed.{VerifyAnswers};
 
 use crate::comparing::Comparing;
 use crate::piece::piece_of;
@@ -25,7 +25,7 @@ pub fn verify_packed<R: Source>(
     requires tolerance { (1 ≤ report.now.tolerance) × (report.now.tolerance ≤ 1_000_000) }
 
     // What is answered, for the bytes that the source has.
-    ensures answer { (input : List ℕ) × HasLeft (R.device source.old) input × Answers report.now input result }
+    ensures answer { (input : List ℕ) × HasLeft (R.device source.old) input × VerifyAnswers report.now input result }
 
     // A failure of the source is answered as such, and nothing else is.
     ensures read { IsErrOf result ReadFault.Read ↔ HasFailed (R.device source.old) (R.device source.new) }

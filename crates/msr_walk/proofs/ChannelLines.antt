@@ -6,7 +6,7 @@ use Rattle.std.proofs.lemmas.Grind.{flat_map-append}
 use Rattle.std.specs.List.{flat_map, slice_get}
 use Rattle.msr_devices.specs.Device.{Device, Takes}
 use Rattle.msr_devices.proofs.Chaining.{takes_append}
-use Rattle.msr_report.specs.Writing.{TakesFront}
+use Rattle.msr_report.specs.Writing.{TakesPrefix}
 use Rattle.msr_walk.specs.Entries.{Entry, IsTally}
 use Rattle.msr_walk.specs.Walk.{channel_line, counts_line, summary}
 use Rattle.msr_walk.specs.declared.tally.Tally.{Tally}
@@ -22,7 +22,7 @@ lines_next line xs i x h =
 
 -- the lines up to a place are a prefix of all
 pub front_of : {X : Type 0} (line : X → List ℕ) (xs : List X) (i : ℕ) (old new : Device) →
-    Takes old new (flat_map line (take i xs)) → TakesFront old new (flat_map line xs)
+    Takes old new (flat_map line (take i xs)) → TakesPrefix old new (flat_map line xs)
 front_of line xs i old new takes = record {
   taken = flat_map line (take i xs);
   rest = flat_map line (drop i xs);
@@ -34,7 +34,7 @@ front_of line xs i old new takes = record {
 pub front_in : {X : Type 0} (line : X → List ℕ) (xs : List X) (i n : ℕ) (x : X) (text : List ℕ)
     (old now new : Device) → slice_get xs i ≡ Some x →
     text ≡ line x → Takes old now (flat_map line (take i xs)) → Takes now new (take n text)
-    → TakesFront old new (flat_map line xs)
+    → TakesPrefix old new (flat_map line xs)
 front_in line xs i n x text old now new h is before piece = record {
   taken = flat_map line (take i xs) ++ take n text;
   rest = drop n text ++ flat_map line (drop (i + 1) xs);
@@ -50,7 +50,7 @@ front_in line xs i n x text old now new h is before piece = record {
 }
 
 -- a prefix of a text
-pub front_piece : (old new : Device) (text : List ℕ) (n : ℕ) → Takes old new (take n text) → TakesFront old new text
+pub front_piece : (old new : Device) (text : List ℕ) (n : ℕ) → Takes old new (take n text) → TakesPrefix old new text
 front_piece old new text n piece = record {
   taken = take n text;
   rest = drop n text;
@@ -59,8 +59,8 @@ front_piece old new text n piece = record {
 }
 
 -- a prefix of what comes first
-pub front_before : (old new : Device) (first second : List ℕ) → TakesFront old new first
-    → TakesFront old new (first ++ second)
+pub front_before : (old new : Device) (first second : List ℕ) → TakesPrefix old new first
+    → TakesPrefix old new (first ++ second)
 front_before old new first second front = record {
   taken = front.taken;
   rest = front.rest ++ second;
@@ -70,7 +70,7 @@ front_before old new first second front = record {
 
 -- all that comes first, and a prefix of the rest
 pub front_after : (old now new : Device) (first second : List ℕ) (n : ℕ) → Takes old now first
-    → Takes now new (take n second) → TakesFront old new (first ++ second)
+    → Takes now new (take n second) → TakesPrefix old new (first ++ second)
 front_after old now new first second n before piece = record {
   taken = first ++ take n second;
   rest = drop n second;
@@ -79,7 +79,7 @@ front_after old now new first second n before piece = record {
       ∙ sym (append_assoc first (take n second) (drop n second));
 }
 
-pub front_all : (old new : Device) (first second : List ℕ) → Takes old new first → TakesFront old new (first ++ second)
+pub front_all : (old new : Device) (first second : List ℕ) → Takes old new first → TakesPrefix old new (first ++ second)
 front_all old new first second before = record { taken = first; rest = second; takes = before; whole = refl }
 
 -- the last lines, from the counts and totals of the entries

@@ -5,13 +5,13 @@ use Rattle.std.proofs.lemmas.Bool.{ltb-true, ltb-false}
 use Rattle.std.specs.List.{AllByRecursion}
 use Rattle.msr_devices.specs.Device.{Device, IsCalm, Takes}
 use Rattle.msr_devices.proofs.Chaining.{takes_append, calm_same, calm_calm, calm_failed, steady_steady}
-use Rattle.msr_report.specs.Writing.{TakesFront}
+use Rattle.msr_report.specs.Writing.{TakesPrefix}
 use Rattle.msr_tool.specs.Writing.{StopsSink}
 use Rattle.msr_tool.specs.declared.fault.ToolFault.{ToolFault}
 use Rattle.msr_tool.specs.declared.fault.ToolFault.TheVariants.{Input, Report, Read, Write, Memory}
 use Rattle.msr_walk.specs.Day.{Asked}
 use Rattle.msr_walk.specs.Entries.{Entry, IsEntry, IsOutcomeOf, IsLineOf, AreLines, IsTally, counted, is_refused}
-use Rattle.msr_walk.specs.Walk.{IsWalkInPart, StopsFront, StopsTelling, Tells, TellsInPart, TellsRefusals, Walks, summary}
+use Rattle.msr_walk.specs.Walk.{IsWalkInPart, StopsPrefix, StopsTelling, Tells, TellsInPart, TellsRefusals, Walks, summary}
 use Rattle.msr_walk.specs.declared.outcome.Outcome.{Outcome}
 use Rattle.msr_walk.specs.declared.tally.Tally.{Tally}
 
@@ -182,7 +182,7 @@ entries_in_part asked out0 out told = record {
 -- all entries, and a prefix of the last lines
 summary_in_part : (asked : Asked) (out0 out1 out : Device) (tally0 tally : Tally)
     (told : Tells asked out0 out1 tally0 tally) →
-    TakesFront out1 out (summary told.entries) → WalksInPart asked out0 out
+    TakesPrefix out1 out (summary told.entries) → WalksInPart asked out0 out
 summary_in_part asked out0 out1 out tally0 tally told front = record {
   printed = told.lines ++ front.taken;
   prints = takes_append out0 out1 out told.lines front.taken told.prints front.takes;
@@ -204,7 +204,7 @@ stops_entries asked out0 out fault told = stops_within out0 out0 out fault (calm
     (entries_in_part asked out0 out) told
 
 pub stops_summary : (asked : Asked) (out0 out1 out : Device) (tally0 tally : Tally) (fault : ToolFault) →
-    (told : Tells asked out0 out1 tally0 tally) → StopsFront out1 out (summary told.entries) fault →
+    (told : Tells asked out0 out1 tally0 tally) → StopsPrefix out1 out (summary told.entries) fault →
     StopsSink (WalksInPart asked out0 out) (WalksInPart asked out0 out) out0 out fault
 stops_summary asked out0 out1 out tally0 tally fault told front =
     stops_within out0 out1 out fault told.calm (summary_in_part asked out0 out1 out tally0 tally told) front

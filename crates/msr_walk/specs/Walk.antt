@@ -3,7 +3,7 @@ use Rattle.std.specs.Prelude.{◌≡◌, ℕ, ◌<◌, Bool, true, false, List, 
 use Rattle.std.specs.Fmt.{decimal}
 use Rattle.std.specs.List.{AllByRecursion, flat_map}
 use Rattle.msr_devices.specs.Device.{Device, IsCalm, Takes}
-use Rattle.msr_report.specs.Writing.{TakesFront}
+use Rattle.msr_report.specs.Writing.{TakesPrefix}
 use Rattle.msr_totals.specs.declared.Total.{Total}
 use Rattle.msr_tool.specs.Writing.{StopsSink}
 use Rattle.msr_tool.specs.declared.fault.ToolFault.{ToolFault}
@@ -31,8 +31,8 @@ summary entries = flat_map channel_line (channels_of entries)
     ++ counts_line (counted is_done entries) (counted is_skipped entries) (counted is_refused entries)
 
 -- a prefix of a text was printed where the walk stops: the sink failed, or else memory was refused
-abbrev pub StopsFront : Device → Device → List ℕ → ToolFault → Type 0
-StopsFront out0 out text fault = StopsSink (TakesFront out0 out text) (TakesFront out0 out text) out0 out fault
+abbrev pub StopsPrefix : Device → Device → List ℕ → ToolFault → Type 0
+StopsPrefix out0 out text fault = StopsSink (TakesPrefix out0 out text) (TakesPrefix out0 out text) out0 out fault
 
 -- Some more entries were told: their lines were printed, and they are counted.
 pub record Tells (asked : Asked) (out0 out : Device) (tally0 tally : Tally) : Type 0 where

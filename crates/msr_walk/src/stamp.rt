@@ -3,7 +3,7 @@ ghost use Rattle.std.specs.Prelude.{◌≡◌, IfErr, IfOk, OnOk};
 ghost use Rattle.std.specs.String.{string_bytes};
 ghost use Rattle.msr_devices.specs.Device.{CanCountCall, Takes};
 ghost use Rattle.msr_walk.specs.Stamp.{IsNotPut, stamp_text};
-ghost use Rattle.msr_walk.specs.Walk.{StopsFront};
+ghost use Rattle.msr_walk.specs.Walk.{StopsPrefix};
 
 use crate::files::{NewFile, settle};
 use crate::outcome::Refusal;
@@ -51,7 +51,7 @@ impl Stamp {
     fn write<O: Sink>(self, alloc: Global, out: &mut O) -> Result<(), ToolFault>
         requires { CanCountCall (O.device out.old) }
         ensures all { OnOk result (Takes (O.device out.old) (O.device out.new) (stamp_text self)) }
-        ensures stops { IfErr result (StopsFront (O.device out.old) (O.device out.new) (stamp_text self)) }
+        ensures stops { IfErr result (StopsPrefix (O.device out.old) (O.device out.new) (stamp_text self)) }
     {
         let text = self.text(alloc)?;
         write_all(out, text.as_bytes())?;

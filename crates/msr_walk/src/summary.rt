@@ -4,7 +4,7 @@ ghost use Rattle.std.specs.List.{flat_map};
 ghost use Rattle.std.specs.String.{string_bytes};
 ghost use Rattle.msr_devices.specs.Device.{CanCountCall, IsCalm, Takes};
 ghost use Rattle.msr_walk.specs.Entries.{Entry, IsTally};
-ghost use Rattle.msr_walk.specs.Walk.{StopsFront, channel_line, summary};
+ghost use Rattle.msr_walk.specs.Walk.{StopsPrefix, channel_line, summary};
 
 use crate::tally::Tally;
 use msr_devices::write_all;
@@ -27,7 +27,7 @@ fn write_channels<O: Sink>(alloc: Global, out: &mut O, totals: &Totals) -> Resul
     requires { CanCountCall (O.device out.old) }
     ensures all { OnOk result (Takes (O.device out.old) (O.device out.new) (flat_map channel_line totals.now)) }
     ensures calm { OnOk result (IsCalm (O.device out.old) (O.device out.new)) }
-    ensures stops { IfErr result (StopsFront (O.device out.old) (O.device out.new) (flat_map channel_line totals.now)) }
+    ensures stops { IfErr result (StopsPrefix (O.device out.old) (O.device out.new) (flat_map channel_line totals.now)) }
 {
     for place in 0..usize::MAX {
         let Some((name, total)) = totals.get(place) else {
@@ -47,7 +47,7 @@ pub fn write_summary<O: Sink>(alloc: Global, out: &mut O, tally: &Tally) -> Resu
         OnOk result (Takes (O.device out.old) (O.device out.new) (summary entries)) }
     ensures calm { OnOk result (IsCalm (O.device out.old) (O.device out.new)) }
     ensures stops { (entries : List Entry) → IsTally entries tally.now →
-        IfErr result (StopsFront (O.device out.old) (O.device out.new) (summary entries)) }
+        IfErr result (StopsPrefix (O.device out.old) (O.device out.new) (summary entries)) }
 {
     write_channels(alloc, out, &tally.channels)?;
     let (files, skipped, refused) = (tally.done, tally.skipped, tally.refused);

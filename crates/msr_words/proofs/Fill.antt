@@ -13,7 +13,7 @@ use Rattle.msr_steim.specs.declared.word.Version.{Version}
 use Rattle.msr_steim.specs.declared.word.Version.TheVariants.{One, Two}
 use Rattle.msr_steim.specs.Word.{FitsBits, group_code, group_word}
 use Rattle.msr_steim.specs.Frames.{code_in, codes_word, frame_bytes, frame_word, group_in}
-use Rattle.msr_steim.proofs.Filling.{codes_more, length_words}
+use Rattle.msr_steim.proofs.Filling.{codes_more, length-words}
 use Rattle.msr_words.specs.Division.{CanDivide}
 use Rattle.msr_words.specs.Canonical.{IsCanonicalDivision}
 use Rattle.msr_words.specs.Groups.{IsCapacity, IsLongestGroup, IsOneBelow}
@@ -179,7 +179,7 @@ pub put_next : (ws : List ℕ) (w n : ℕ) (old area new : List ℕ) → length 
 put_next ws w n old area new number same put =
     let g = flat_map (big_bytes 4) ws in
     let d = drop (4 * n) old in
-    let size : length g ≡ 4 * n = length_words ws ∙ ap (λ m. 4 * m) number in
+    let size : length g ≡ 4 * n = length-words ws ∙ ap (λ m. 4 * m) number in
     let front : take (4 * n) area ≡ g = ap (take (4 * n)) same ∙ take_at g d (4 * n) size in
     let back : drop (4 * n) area ≡ d = ap (drop (4 * n)) same ∙ drop_at g d (4 * n) size in
     let places : 4 * n + 4 ≡ 4 * (n + 1) = omega arith in
@@ -197,7 +197,7 @@ pub put_back : (ps rs : List ℕ) (v w n : ℕ) (tail area new : List ℕ) → l
 put_back ps rs v w n tail area new number same put =
     let g = flat_map (big_bytes 4) ps in
     let f = flat_map (big_bytes 4) rs in
-    let size : length g ≡ 4 * n = length_words ps ∙ ap (λ m. 4 * m) number in
+    let size : length g ≡ 4 * n = length-words ps ∙ ap (λ m. 4 * m) number in
     let area_is : area ≡ g ++ (big_bytes 4 v ++ (f ++ tail)) =
     same ∙ ap (λ x. x ++ tail) (flat_map-append (big_bytes 4) ps (v ∷ rs))
     ∙ append_assoc g (big_bytes 4 v ++ f) tail ∙ ap (λ x. g ++ x) (append_assoc (big_bytes 4 v) f tail) in

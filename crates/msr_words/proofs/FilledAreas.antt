@@ -9,7 +9,7 @@ use Rattle.msr_words.specs.Filled.{IsFilledArea}
 use Rattle.msr_words.specs.Segment.{differences}
 use Rattle.msr_words.specs.Lemmas.SteimLaws.{size_law}
 use Rattle.msr_words.proofs.DivisionsExist.{has_division}
-use Rattle.msr_words.proofs.Plain.{length_differences}
+use Rattle.msr_words.proofs.Plain.{length-differences}
 
 -- with the groups of the division that is written, which has room where any division has
 pub area_filled : (version : Version) (before : Option ℤ) (run : List ℤ) (frames : ℕ) (area : List ℕ) (number : ℕ)
@@ -25,7 +25,7 @@ area_filled version before run frames area number some can filled =
     let chosen = found.canonical in
     let few : length found.groups ≤ 15 * frames - 2 =
     (let least = chosen.fewest can.groups can.are_groups can.join in let most = can.few in omega arith) in
-    let long = length_differences before run in
+    let long = length-differences before run in
     let room : length found.groups + 2 ≤ 15 * frames = elim (cases_lt 0 frames) [
       | inl some' ↦ omega arith
       | inr none ↦ absurd (let most = size_law version 0 (differences before run)

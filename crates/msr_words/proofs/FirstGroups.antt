@@ -14,7 +14,7 @@ use Rattle.msr_words.specs.Lemmas.LeastCounts.{a_group_has_few}
 use Rattle.msr_words.specs.Lemmas.SteimLaws.{head_group, none_divides, one_has_few, size_law, tail_groups}
 use Rattle.msr_words.proofs.WrittenDivision.{at_place_is, divides_can, group_fits, no_groups, starts_with, tail_chosen, with_first}
 use Rattle.msr_words.specs.NextWord.{IsNext}
-use Rattle.msr_words.proofs.Plain.{difference_of, length_differences}
+use Rattle.msr_words.proofs.Plain.{difference_of, length-differences}
 
 -- ---- the best size
 
@@ -327,7 +327,7 @@ pub front_at : (before : Option ℤ) (run : List ℤ) (at end : ℕ) → at + 1 
     → drop at (run_differences before run) ≡ difference_from before run at ∷ drop end (run_differences before run)
 front_at before run at end one less =
     let ds = run_differences before run in
-    let long = length_differences before run in
+    let long = length-differences before run in
     let there : at < length (run_differences before run) = omega arith in
     let next : suc at ≡ end = omega arith in
     drop-cons ds at (pos 0) there ∙ ap (λ x. x ∷ drop (suc at) ds) (difference_of before run at less)

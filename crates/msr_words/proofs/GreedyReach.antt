@@ -18,9 +18,9 @@ use Rattle.msr_words.specs.Segment.{difference_at, differences, points, run_poin
 use Rattle.msr_words.specs.Lemmas.KindLaws.{back_step_kind, size_kind}
 use Rattle.msr_words.specs.Lemmas.LeastCounts.{a_group_has_few}
 use Rattle.msr_words.specs.Lemmas.SteimLaws.{all_more}
-use Rattle.msr_words.proofs.Plain.{difference_of, length_differences}
+use Rattle.msr_words.proofs.Plain.{difference_of, length-differences}
 use Rattle.msr_words.proofs.Parts.{HasDivision, division_rest, first_fits, more_groups, no_groups, none_left, one_group}
-use Rattle.msr_words.proofs.Runs.{back_step_run, length_points, length_run_points, run_points_cut}
+use Rattle.msr_words.proofs.Runs.{back_step_run, length-points, length-run_points, run_points_cut}
 use Rattle.msr_words.proofs.Steim2Groups.{IsSteim2Group, division_from, division_to, group_from, group_to, steim2_parts}
 
 -- ---- the differences from the start on
@@ -106,7 +106,7 @@ pub differences_to : (samples : List ℤ) (g n end : ℕ) → g + n ≤ end → 
 differences_to samples g n end within inside =
     let long : length (map (λ (p : ℤ × ℤ). p.1) (run_points samples g (g + n))) ≡ n =
     length-map (run_points samples g (g + n)) (λ (p : ℤ × ℤ). p.1)
-    ∙ length_run_points samples g (g + n) (omega arith) (omega arith) ∙ omega arith in
+    ∙ length-run_points samples g (g + n) (omega arith) (omega arith) ∙ omega arith in
     let whole : map (λ (p : ℤ × ℤ). p.1) (run_points samples g end) ≡ map (λ p. p.1) (run_points samples g (g + n))
     ++ map (λ p. p.1) (run_points samples (g + n) end) =
     ap (map (λ (p : ℤ × ℤ). p.1)) (sym (run_points_cut samples g (g + n) end (omega arith) within))
@@ -118,19 +118,19 @@ differences_to samples g n end within inside =
 abbrev between : List ℤ → ℕ → ℕ → List ℤ
 between samples g end = map (λ p. p.1) (run_points samples g end)
 
-length_between : (samples : List ℤ) (g end : ℕ) → g ≤ end → end ≤ length samples
+length-between : (samples : List ℤ) (g end : ℕ) → g ≤ end → end ≤ length samples
     → length (between samples g end) ≡ end - g
-length_between samples g end order within = length-map (run_points samples g end) (λ (p : ℤ × ℤ). p.1)
-    ∙ length_run_points samples g end order within
+length-between samples g end order within = length-map (run_points samples g end) (λ (p : ℤ × ℤ). p.1)
+    ∙ length-run_points samples g end order within
 
 pub greedy_law : GreedyLaw
 greedy_law bytes samples g reach le is =
     let end = latest_end Steim2 bytes samples g in
     let ds = between samples g (latest_end Steim2 bytes samples g) in
-    let l = length_between samples g (latest_end Steim2 bytes samples g) (omega arith) (omega arith) in
+    let l = length-between samples g (latest_end Steim2 bytes samples g) (omega arith) (omega arith) in
     let w = reach_within (words_of bytes) (between samples g (latest_end Steim2 bytes samples g)) reach is in
     let inside : g + reach ≤ latest_end Steim2 bytes samples g = omega arith in
-    let long = length_run_points samples g (g + reach) (omega arith) (omega arith) in (
+    let long = length-run_points samples g (g + reach) (omega arith) (omega arith) in (
       (
         omega arith,
         omega arith,
@@ -156,10 +156,10 @@ greedy_law bytes samples g reach le is =
         let here : IsRun (Fits Steim2 bytes) samples g b =
         subst (λ x. IsRun (Fits Steim2 bytes) samples x b) same cut.4 in
         let in' = here.1 in
-        let long = length_run_points samples g b here.0 here.1 in
+        let long = length-run_points samples g b here.0 here.1 in
         let few = size_kind Steim2 bytes (run_points samples g b) here.2 in
         let ds = between samples g (latest_end Steim2 bytes samples g) in
-        let l = length_between samples g (latest_end Steim2 bytes samples g) (omega arith) (omega arith) in
+        let l = length-between samples g (latest_end Steim2 bytes samples g) (omega arith) (omega arith) in
         let e : b ≡ g + (b - g) = omega arith in
         let can : CanDivide Two (words_of bytes) (take (b - g)
         (between samples g (latest_end Steim2 bytes samples g))) =
@@ -183,7 +183,7 @@ pub differences_from : (samples : List ℤ) (g : ℕ) → g ≤ length samples
 differences_from samples g le =
     let rest = drop g (points None samples) in
     let size : length (drop g (points None samples)) ≤ length samples - g =
-    simp (length-drop, length_points) (omega arith) in
+    simp (length-drop, length-points) (omega arith) in
     ap (map (λ (p : ℤ × ℤ). p.1)) (take_all (length samples - g) rest size)
     ∙ sym (drop-map (λ (p : ℤ × ℤ). p.1) g (points None samples))
 
@@ -217,7 +217,7 @@ narrow_in_group samples at size k longest some less =
     let ds = differences None samples in
     let xs = drop at (differences None samples) in
     let l = length-drop at (differences None samples) in
-    let n = length_differences None samples in
+    let n = length-differences None samples in
     let w = longest.within in
     let m = length-take size (drop at (differences None samples)) in
     let small = each_small (take size xs) k (pair_small (take size xs) (omega arith) (longest.group (omega arith)))

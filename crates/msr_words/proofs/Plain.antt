@@ -10,7 +10,7 @@ use Rattle.msr_words.specs.Division.{CanDivide}
 use Rattle.msr_words.specs.Counts.{EndsIn}
 use Rattle.msr_words.specs.Lemmas.Ends.{ends_is_division, reverse_push}
 use Rattle.msr_words.specs.Segment.{points, differences, difference_from}
-use Rattle.msr_words.proofs.Runs.{points_from_at, length_points_before}
+use Rattle.msr_words.proofs.Runs.{points_from_at, length-points_before}
 use Rattle.msr_words.specs.Lemmas.KindLaws.{last_of, front_divides}
 use Rattle.msr_words.specs.declared.counts.LeastCounts.{LeastCounts}
 use Rattle.msr_words.specs.AreCounts.{AreCounts}
@@ -31,8 +31,8 @@ difference_of before run i h =
     let d : ℤ × ℤ = (pos 0, pos 0) in
     second (points before run) i d ∙ ap (λ (p : ℤ × ℤ). p.1) (points_from_at before run i d h)
 
-pub length_differences : (before : Option ℤ) (run : List ℤ) → length (differences before run) ≡ length run
-length_differences before run = length-map (points before run) (λ (p : ℤ × ℤ). p.1) ∙ length_points_before before run
+pub length-differences : (before : Option ℤ) (run : List ℤ) → length (differences before run) ≡ length run
+length-differences before run = length-map (points before run) (λ (p : ℤ × ℤ). p.1) ∙ length-points_before before run
 
 pub difference_behind : (before : Option ℤ) (run : List ℤ) (at next : ℕ) → at ≤ next → next < length run
     → get_or (drop at (differences before run)) (next - at) (pos 0) ≡ difference_from before run next
@@ -46,7 +46,7 @@ pub newest_more : (before : Option ℤ) (run : List ℤ) (i : ℕ) → i < lengt
     → reverse (take (i + 1) (differences before run))
     ≡ difference_from before run i ∷ reverse (take i (differences before run))
 newest_more before run i h =
-    let there : i < length (differences before run) = (let l = length_differences before run in omega arith) in
+    let there : i < length (differences before run) = (let l = length-differences before run in omega arith) in
     ap reverse (take_more (differences before run) i (pos 0) there)
     ∙ reverse_push (get_or (differences before run) i (pos 0)) (take i (differences before run)) ∙
     ap (λ d. d ∷ reverse (take i (differences before run))) (difference_of before run i h)
@@ -79,7 +79,7 @@ pub counted_front : (words : ℕ) (before : Option ℤ) (run : List ℤ) (i : �
     ((past : List ℤ) → 0 < length past → AreCounts words past new → (IsTrue result ↔ EndsIn One true words past)) →
     (IsTrue result ↔ CanDivide One words (take (i + 1) (differences before run)))
 counted_front words before run i new result h counted within =
-    let l = length_differences before run in
+    let l = length-differences before run in
     let m = length-take (i + 1) (differences before run) in
     let r = length-reverse (take (i + 1) (differences before run)) in
     counted_fits words (take (i + 1) (differences before run)) result (omega arith)
@@ -99,7 +99,7 @@ front_not words n ds result exact e = (λ t. cc, λ can. absurd (not_whole words
 pub front_all : (words n : ℕ) (before : Option ℤ) (run : List ℤ) → length run ≤ n
     → CanDivide One words (take n (differences before run)) → CanDivide One words (differences before run)
 front_all words n before run all can =
-    let l = length_differences before run in
+    let l = length-differences before run in
     subst (CanDivide One words) (take_all n (differences before run) (omega arith)) can
 
 -- ---- Steim-2: by the longest group from the start on

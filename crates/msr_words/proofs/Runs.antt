@@ -10,17 +10,17 @@ use Rattle.msr_words.specs.Laws.{PrefixLaw, BackStepLaw}
 use Rattle.msr_words.specs.declared.kinds.Kind.{Kind}
 use Rattle.msr_words.specs.declared.kinds.Run.{Run}
 
-pub length_points_after : (before : ℤ) (samples : List ℤ) → length (points_after before samples) ≡ length samples
-length_points_after before [] = refl
-length_points_after before (x ∷ xs) = ap suc (length_points_after x xs)
+pub length-points_after : (before : ℤ) (samples : List ℤ) → length (points_after before samples) ≡ length samples
+length-points_after before [] = refl
+length-points_after before (x ∷ xs) = ap suc (length-points_after x xs)
 
-pub length_points : (samples : List ℤ) → length (points None samples) ≡ length samples
-length_points [] = refl
-length_points (x ∷ xs) = ap suc (length_points_after x xs)
+pub length-points : (samples : List ℤ) → length (points None samples) ≡ length samples
+length-points [] = refl
+length-points (x ∷ xs) = ap suc (length-points_after x xs)
 
-pub length_points_before : (before : Option ℤ) (samples : List ℤ) → length (points before samples) ≡ length samples
-length_points_before None samples = length_points samples
-length_points_before (Some before) samples = length_points_after before samples
+pub length-points_before : (before : Option ℤ) (samples : List ℤ) → length (points before samples) ≡ length samples
+length-points_before None samples = length-points samples
+length-points_before (Some before) samples = length-points_after before samples
 
 points_after_at : (before : ℤ) (samples : List ℤ) (i : ℕ) (d : ℤ × ℤ) → i < length samples →
     get_or (points_after before samples) i d ≡ (
@@ -60,22 +60,22 @@ pub run_points_more : (samples : List ℤ) (a i : ℕ) → a ≤ i → i < lengt
 run_points_more samples a i h k =
     let width : i + 1 - a ≡ (i - a) + 1 = omega arith in
     let d : ℤ × ℤ = (pos 0, pos 0) in
-    let there : i - a < length (drop a (points None samples)) = simp (length-drop, length_points) (omega arith) in
+    let there : i - a < length (drop a (points None samples)) = simp (length-drop, length-points) (omega arith) in
     let last : get_or (drop a (points None samples)) (i - a) d ≡ (get_or samples i (pos 0), difference_at samples i) =
     get_or-drop a (points None samples) (i - a) d ∙ ap (λ n. get_or (points None samples) n d) (omega arith)
     ∙ points_at samples i d k in
     rw width (take_more (drop a (points None samples)) (i - a) d there
     ∙ ap (λ p. run_points samples a i ++ p ∷ []) last)
 
-pub length_run_points : (samples : List ℤ) (a b : ℕ) → a ≤ b → b ≤ length samples
+pub length-run_points : (samples : List ℤ) (a b : ℕ) → a ≤ b → b ≤ length samples
     → length (run_points samples a b) ≡ b - a
-length_run_points samples a b h k = simp (length-take, length-drop, length_points) (omega arith)
+length-run_points samples a b h k = simp (length-take, length-drop, length-points) (omega arith)
 
 run_points_drop : (samples : List ℤ) (a n g : ℕ) → a + n ≤ g → g ≤ length samples
     → drop n (run_points samples a g) ≡ run_points samples (a + n) g
 run_points_drop samples a n g h k =
     let front : length (run_points samples a (a + n)) ≡ n =
-    length_run_points samples a (a + n) (omega arith) (omega arith) ∙ omega arith in
+    length-run_points samples a (a + n) (omega arith) (omega arith) ∙ omega arith in
     rw (← run_points_cut samples a (a + n) g (omega arith) h)
     (drop_at (run_points samples a (a + n)) (run_points samples (a + n) g) n front)
 
@@ -95,7 +95,7 @@ pub back_step_run : (fits : List (ℤ × ℤ) → Type 0) (places : ℕ) → Bac
 back_step_run fits places law samples a g b h k run =
     let step = law (run_points samples a g) (run_points samples g b)
     (subst fits (sym (run_points_cut samples a g b h k)) run.2) in
-    let wide : length (run_points samples a g) ≡ g - a = length_run_points samples a g h (omega arith) in
+    let wide : length (run_points samples a g) ≡ g - a = length-run_points samples a g h (omega arith) in
     let joined : drop step.0 (run_points samples a g) ++ run_points samples g b ≡ run_points samples (a + step.0) b =
     ap (λ p. p ++ run_points samples g b) (run_points_drop samples a step.0 g (omega arith) (omega arith))
     ∙ run_points_cut samples (a + step.0) g b (omega arith) k in
@@ -161,7 +161,7 @@ pub fits_integers_points : (bits size bytes : ℕ) (before : Option ℤ) (run : 
     → (All (FitsBits bits) run × (size * length run + 64 ≤ bytes)) ↔ FitsIntegers bits size bytes (points before run)
 fits_integers_points bits size bytes before run =
     let long : size * length (points before run) ≡ size * length run =
-    ap (λ n. size * n) (length_points_before before run) in (
+    ap (λ n. size * n) (length-points_before before run) in (
       λ h. (
         all_unmap bits (points before run) (subst (All (FitsBits bits))
             (sym (samples_of_points before run)) h.0),
@@ -176,7 +176,7 @@ fits_integers_points bits size bytes before run =
 
 pub fits_int32_points : (bytes : ℕ) (before : Option ℤ) (run : List ℤ) → (4 * length run + 64 ≤ bytes)
     ↔ FitsInt32 bytes (points before run)
-fits_int32_points bytes before run = let long = length_points_before before run in (λ h. omega arith, λ h. omega arith)
+fits_int32_points bytes before run = let long = length-points_before before run in (λ h. omega arith, λ h. omega arith)
 
 pub points_from_at : (before : Option ℤ) (samples : List ℤ) (i : ℕ) (d : ℤ × ℤ) → i < length samples →
     get_or (points before samples) i d ≡ (get_or samples i (pos 0), difference_from before samples i)

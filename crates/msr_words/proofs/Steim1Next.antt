@@ -8,7 +8,7 @@ use Rattle.msr_words.specs.FirstGroup.{IsCanonicalFirst}
 use Rattle.msr_words.specs.NextWord.{IsNextWord}
 use Rattle.msr_words.specs.Segment.{differences}
 use Rattle.msr_words.proofs.FirstGroups.{first_few, first_is_group, first_some, next_first, next_none}
-use Rattle.msr_words.proofs.Plain.{length_differences}
+use Rattle.msr_words.proofs.Plain.{length-differences}
 
 -- what is known of the size of the group that begins with a difference
 pub record IsSizeThere (before : Option ℤ) (run : List ℤ) (at size : ℕ) : Type 0 where
@@ -22,7 +22,7 @@ pub record IsSizeThere (before : Option ℤ) (run : List ℤ) (at size : ℕ) : 
 pub size_there : (before : Option ℤ) (run : List ℤ) (at size : ℕ) → at < length run
     → IsCanonicalFirst (drop at (differences before run)) size → IsSizeThere before run at size
 size_there before run at size less first =
-    let m = length_differences before run in
+    let m = length-differences before run in
     let ds = drop at (differences before run) in
     let l = length-drop at (differences before run) in
     record {
@@ -42,7 +42,7 @@ pub word_there : (before : Option ℤ) (run : List ℤ) (at size : ℕ) (next : 
     → IsNextWord One (drop at (differences before run)) next
 word_there before run at size next less is size_is empty code_is small word_is =
     let ds = drop at (differences before run) in
-    let m = length_differences before run in
+    let m = length-differences before run in
     let l = length-drop at (differences before run) in
     let first : IsCanonicalFirst (drop at (differences before run)) next.size =
     subst (IsCanonicalFirst (drop at (differences before run))) (sym size_is) is.first in
@@ -61,7 +61,7 @@ pub word_none : (before : Option ℤ) (run : List ℤ) (at : ℕ) → at ≡ len
     → IsNextWord One (drop at (differences before run)) (record { size = 0; code = 0; word = 0; empty = 1 })
 word_none before run at end =
     let ds = drop at (differences before run) in
-    let m = length_differences before run in
+    let m = length-differences before run in
     let l = length-drop at (differences before run) in
     let none : length (drop at (differences before run)) ≡ 0 = omega arith in
     record {

@@ -11,16 +11,16 @@ use Rattle.msr_words.specs.RecordLength.{words_of}
 use Rattle.msr_words.specs.Segment.{differences, run_points}
 use Rattle.msr_words.specs.Steim1Reach.{IsSteim1End, IsSteim1Reach}
 use Rattle.msr_words.proofs.GreedyReach.{differences_from, differences_to}
-use Rattle.msr_words.proofs.Plain.{length_differences}
+use Rattle.msr_words.proofs.Plain.{length-differences}
 use Rattle.msr_words.proofs.Steim1Words.{nothing_reached}
 
 -- the differences of the samples from `start` on
 abbrev pub behind : List ℤ → ℕ → List ℤ
 behind samples start = drop start (differences None samples)
 
-pub length_behind : (samples : List ℤ) (start : ℕ) → length (behind samples start) ≡ length samples - start
-length_behind samples start = length-drop start (differences None samples)
-    ∙ ap (λ n. n - start) (length_differences None samples)
+pub length-behind : (samples : List ℤ) (start : ℕ) → length (behind samples start) ≡ length samples - start
+length-behind samples start = length-drop start (differences None samples)
+    ∙ ap (λ n. n - start) (length-differences None samples)
 
 -- no words hold nothing
 pub none_reached : (samples : List ℤ) (start : ℕ) → IsSteim1Reach 0 (behind samples start) (start - start) false
@@ -47,7 +47,7 @@ module _ (bytes : ℕ) (few : 4 * words_of bytes ≤ most_counted) (samples : Li
   -- the end of the walk is the end of the run
   pub walk_ends : IsEnd Steim1 bytes samples start end
   walk_ends =
-      let l = length_behind samples start in
+      let l = length-behind samples start in
       let w = is.within in
       let inside : start + reach ≤ length samples = omega arith in
       let can = subst (CanDivide One (words_of bytes)) (sym (taken reach inside)) is.fits in

@@ -12,7 +12,7 @@ use Rattle.msr_words.specs.Groups.{IsLongestGroup}
 use Rattle.msr_words.specs.Segment.{difference_at, differences}
 use Rattle.msr_words.specs.Window.{AreSeen, AreTaken, IsSize, IsTaken, IsWindow}
 use Rattle.msr_words.proofs.FillSizes.{from_inside, longest_0, longest_1, longest_2, longest_3, longest_4, longest_5, longest_6, longest_7, seven_of, there}
-use Rattle.msr_words.proofs.Plain.{length_differences}
+use Rattle.msr_words.proofs.Plain.{length-differences}
 
 -- ---- one difference
 
@@ -69,7 +69,7 @@ window_seen samples at window before is seven =
     let b = is.before in
     let w = is.within in
     let l = length-drop at (differences before samples) in
-    let n = length_differences before samples in
+    let n = length-differences before samples in
     let later : 0 < at = (let f = is.later (omega arith) in omega arith) in
     record {
       long = omega arith;
@@ -189,7 +189,7 @@ pub size_there : (samples : List ℤ) (at size : ℕ) → at < length samples �
     → IsSizeAt (drop at (differences None samples)) 0 size
 size_there samples at size less is width small =
     let l = length-drop at (differences None samples) in
-    let n = length_differences None samples in
+    let n = length-differences None samples in
     let one : at + 0 ≡ at = omega arith in
     let e : get_or (drop at (differences None samples)) 0 (pos 0) ≡ difference_at samples at =
     there None samples at 0 (omega arith) ∙ ap (difference_at samples) one in (
@@ -202,6 +202,6 @@ pub size_past : (samples : List ℤ) (at size : ℕ) → length samples ≤ at �
     → IsSizeAt (drop at (differences None samples)) 0 size
 size_past samples at size past large width small =
     let l = length-drop at (differences None samples) in
-    let n = length_differences None samples in
+    let n = length-differences None samples in
     let most : 2 ^ (width - 1) ≤ 2 ^ 31 = pow-le-pow_right {n = 2} (lit< tt) {i = width - 1} {j = 31} (omega arith) in
     (λ below. absurd (omega arith), λ fits. let h = fits.0 in absurd (omega arith))

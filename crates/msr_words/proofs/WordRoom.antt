@@ -20,7 +20,7 @@ use Rattle.msr_words.specs.Lemmas.LeastCounts.{a_group_has_few}
 use Rattle.msr_words.specs.Lemmas.SteimLaws.{all_more, head_group, one_has_few, tail_groups}
 use Rattle.msr_words.proofs.WrittenDivision.{inner_first}
 use Rattle.msr_words.proofs.Plain.{second}
-use Rattle.msr_words.proofs.Runs.{length_run_points, points_at, prefix_run}
+use Rattle.msr_words.proofs.Runs.{length-run_points, points_at, prefix_run}
 
 -- ---- sums over groups
 
@@ -168,7 +168,7 @@ four_begin samples a b at le less order within four =
     let d : ℤ × ℤ = (pos 0, pos 0) in
     let enough = four.enough in
     let l = length-map (run_points samples a b) (λ (p : ℤ × ℤ). p.1) in
-    let long = length_run_points samples a b order within in
+    let long = length-run_points samples a b order within in
     let in' : at < b = omega arith in
     let here : get_or (run_points samples a b) (at - a) d
     ≡ (slice_index_or samples at (pos 0), difference_at samples at) =

@@ -8,9 +8,9 @@ use Rattle.msr_input.specs.declared.outline.Outline.{Outline}
 use Rattle.msr_input.proofs.Records.{one_most, empty_most, mismatch_most, empty_snoc, mismatch_snoc}
 use Rattle.msr_input.proofs.step.counted.Goals as goal
 
-some-outlined : (row : Option Row) → is_some (option_map row_outline row) ≡ is_some row
-some-outlined None = refl
-some-outlined (Some row) = refl
+some_outlined : (row : Option Row) → is_some (option_map row_outline row) ≡ is_some row
+some_outlined None = refl
+some_outlined (Some row) = refl
 
 pub returns : goal.returns
 returns c = λ records found outline counts few.
@@ -25,7 +25,7 @@ returns c = λ records found outline counts few.
     ) in
     let one : c.one_unless-empty.result ≡ (if is_some found.row then 0 else 1) = c.one_unless-empty.ensures
     ∙ ap (λ (b : Bool). if b then 0 else 1) (c.is_some.ensures ∙ ap (λ (o : Outline). is_some o.row) outline
-    ∙ some-outlined found.row) in
+    ∙ some_outlined found.row) in
     let empty : c.saturating_add-2.result ≡ empty_count (records ++ found ∷ []) =
     grind (
       arith,

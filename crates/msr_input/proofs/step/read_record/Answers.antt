@@ -10,9 +10,9 @@ use Rattle.msr_input.proofs.SettledRefusals.{decoding_stops, none_held}
 use Rattle.msr_input.proofs.step.read_record.Goals.{else-is_empty-via-then-is_empty+else-has_ended, else-is_empty-via-else-is_empty, then-has_ended-2-via-then-has_ended-2, then-has_ended-2-via-else-has_ended-2+then-not-may_change}
 use Rattle.msr_input.proofs.step.read_record.Goals as goal
 
-not-empty : (bytes : List ℕ) (empty : Bool) → empty ≡ (length bytes == 0) → empty ≡ false → 0 < length bytes
-not-empty [] empty is none = absurd cc
-not-empty (x ∷ xs) empty is none = omega arith
+not_empty : (bytes : List ℕ) (empty : Bool) → empty ≡ (length bytes == 0) → empty ≡ false → 0 < length bytes
+not_empty [] empty is none = absurd cc
+not_empty (x ∷ xs) empty is none = omega arith
 
 pub returns-then-has_ended-2-clause-refused : goal.returns-then-has_ended-2-clause-refused
 returns-then-has_ended-2-clause-refused g c =
@@ -25,7 +25,7 @@ returns-then-has_ended-2-clause-refused g c =
     let memory = rw c.bytes-bytes.ensures at c.in-Err.ensures.memory in
     let some : window.ended ≡ true → 0 < length window.bytes = λ ended. elim c.else-is_empty.branch [
       | else-is_empty-via-then-is_empty+else-has_ended w ↦ absurd cc
-      | else-is_empty-via-else-is_empty w ↦ not-empty window.bytes c.is_empty.result
+      | else-is_empty-via-else-is_empty w ↦ not_empty window.bytes c.is_empty.result
           (rw c.bytes-bytes.ensures at c.is_empty.ensures) w.if-is_empty.false
     ] in
     let decided : window.ended ≡ false → may_change c.in-Err.kind (length window.bytes) ≡ false =

@@ -6,6 +6,6 @@ pub returns : goal.returns
 returns c = record {
   whole = λ size segments power writable. let o = has_output size segments power writable in
       (o.packed, o.rows, o.bytes, o.same, o.output);
-  front = front_of_output;
+  prefix = front_of_output;
   stay = written_longer;
 }

@@ -3,7 +3,7 @@ use Rattle.msr_words.specs.Segment.{differences}
 use Rattle.msr_words.specs.RecordLength.{words_of}
 use Rattle.msr_words.specs.Steim1Reach.{IsSteim1End, IsSteim1Reach, IsSteim1Word}
 use Rattle.msr_words.proofs.Windows.{window_on}
-use Rattle.msr_words.proofs.Steim1Runs.{behind, left_behind, length_behind, none_reached, walk_ends}
+use Rattle.msr_words.proofs.Steim1Runs.{behind, left_behind, length-behind, none_reached, walk_ends}
 use Rattle.msr_packer.proofs.steim1.steim1_reach.Goals as goal
 
 pub loop-word-init : goal.loop-word-init
@@ -34,7 +34,7 @@ loop-word-preserved c =
     let one : suc (c.loop-word._word - 1) ≡ c.loop-word._word + 1 - 1 = omega arith in
     let sum : c.loop-word.at - c.args.start + c.next_word-next.result.size
     ≡ c.loop-word.at + c.next_word-next.result.size - c.args.start = omega arith in
-    let l = length_behind samples start in
+    let l = length-behind samples start in
     let w = more.within in
     record {
       from = omega arith;

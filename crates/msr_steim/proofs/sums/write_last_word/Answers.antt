@@ -6,7 +6,7 @@ use Rattle.std.proofs.lemmas.List.{length-take, length-drop}
 use Rattle.std.proofs.lemmas.Slice.{take-put_mid}
 use borrow.Rule.Slice.PartMut.{put_mid}
 use Rattle.msr_steim.specs.Area.{sums_after}
-use Rattle.msr_steim.specs.Word.{division_of, numbers_in}
+use Rattle.msr_steim.specs.Word.{layout_of, numbers_in}
 use Rattle.msr_steim.proofs.OneList.{bits_of_fields}
 use Rattle.msr_steim.proofs.Shifts.{length-numbers_in}
 use Rattle.msr_steim.proofs.Summing.{far_written, group_written}
@@ -28,16 +28,16 @@ returns-clause-some c =
     let word = c.args.word in
     let out = c.args.out.now in
     let at = c.args.at in
-    let count = c.in_ok-division.division.count in
-    let width = c.in_ok-division.division.width in
+    let count = c.in_ok-layout.layout.count in
+    let width = c.in_ok-layout.layout.width in
     let end = c.min-end.result in
     let new = c.write_sums-last.new.out in
     let ds = numbers_in word width count in
-    let division : division_of version code (word / 1073741824) ≡ Some c.in_ok-division.division =
-    sym c.division_for.ensures ∙ c.in_ok-division.was in
-    let some : 0 < count = omega (arith, c.if-division-eq0.false) in
+    let layout : layout_of version code (word / 1073741824) ≡ Some c.in_ok-layout.layout =
+    sym c.layout_for.ensures ∙ c.in_ok-layout.was in
+    let some : 0 < count = omega (arith, c.if-layout-eq0.false) in
     let positive : 0 < width = bits_of_fields version code
-    (word / 1073741824) c.in_ok-division.division division some in
+    (word / 1073741824) c.in_ok-layout.layout layout some in
     let wide : length ds ≡ count = length-numbers_in word width count in
     let end_is : end ≡ min (length out) (at.place + count) = c.min-end.ensures in
     let within : end ≤ length out = omega (arith, end_is) in
@@ -55,7 +55,7 @@ returns-clause-some c =
       place = end;
       last =
           to_z w32 (of_z w32 c.write_sums-last.result);
-    }) count width division positive within
+    }) count width layout positive within
     (take-put_mid at.place (end - at.place) out new end stored (omega (arith, c.requires.room))
     ∙ far_written out new ds at.last at.place m filled far)
     (last_is c)

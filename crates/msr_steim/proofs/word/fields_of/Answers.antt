@@ -10,7 +10,7 @@ use Rattle.msr_steim.proofs.word.fields_of.Goals as goal
 
 pub loop-below-preserved : goal.loop-below-preserved
 loop-below-preserved c =
-    let width = c.args.division.width in
+    let width = c.args.layout.width in
     let below = c.loop-below.below - 1 in
     let last : below + 1 ≡ c.loop-below.below = omega arith in
     let positive : 0 < width = c.requires.width (omega arith) in
@@ -20,7 +20,7 @@ loop-below-preserved c =
     ap (twos_complement width) c.difference_at.ensures ∙ signed_same width part small in
     let fitting : FitsBits width c.difference_at.result =
     subst (FitsBits width) (sym c.difference_at.ensures) (signed_fits width part positive small) in
-    let before : c.args.word % 2 ^ (c.args.division.count * width)
+    let before : c.args.word % 2 ^ (c.args.layout.count * width)
     ≡ joined_fields width c.loop-below.group.items * 2 ^ ((below + 1) * width) + c.args.word % 2 ^
     ((below + 1) * width) = rw last c.loop-below.invariant.bits in
     let fits : SFits w32 c.difference_at.result = search rules in
@@ -30,6 +30,6 @@ loop-below-preserved c =
       fit = rw items (all_fit_push
           (FitsBits width) c.loop-below.group.items c.difference_at.result c.loop-below.invariant.fit fitting);
       bits = rw items (next_field c.args.word below width
-          (c.args.word % 2 ^ (c.args.division.count * width)) c.loop-below.group.items c.difference_at.result
+          (c.args.word % 2 ^ (c.args.layout.count * width)) c.loop-below.group.items c.difference_at.result
           before field);
     }

@@ -5,8 +5,8 @@ use Rattle.msr_verdict.proofs.Lines.{is_true, true_is}
 use Rattle.msr_verdict.proofs.comparing.is_line_of.Goals as goal
 use Rattle.msr_verdict.proofs.comparing.is_line_of.Goals.{then-eq, else-eq, then-line-segment, else-line-segment}
 
-same-signed : (a b : ℤ) → FitsSigned w64 a → FitsSigned w64 b → of_z w64 a ≡ of_z w64 b → a ≡ b
-same-signed a b f g e = sym (to_z-of_z f) ∙ ap (λ n. to_z w64 n) e ∙ to_z-of_z g
+same_signed : (a b : ℤ) → FitsSigned w64 a → FitsSigned w64 b → of_z w64 a ≡ of_z w64 b → a ≡ b
+same_signed a b f g e = sym (to_z-of_z f) ∙ ap (λ n. to_z w64 n) e ∙ to_z-of_z g
 
 pub returns-then-line-samples : goal.returns-then-line-samples
 returns-then-line-samples c =
@@ -16,7 +16,7 @@ returns-then-line-samples c =
       | then-line-segment v ↦ elim c.if-eq.branch [
         | then-eq u ↦ (
             let key = (key_decides c.args.line.now.key c.args.segment.now.key).0 (sym c.eq.ensures ∙ u.if-eq.true) in
-            let start = same-signed c.args.line.now.start c.args.segment.now.start fits row_fits
+            let start = same_signed c.args.line.now.start c.args.segment.now.start fits row_fits
             ((Decides-eqb _ _).0 (sym u.value-is ∙ v.if-line-segment.true)) in
             let samples = (Decides-eqb c.args.line.now.samples c.args.samples).0
             (sym v.value-is ∙ c.if-line-samples.true) in

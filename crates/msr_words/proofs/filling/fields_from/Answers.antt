@@ -4,7 +4,7 @@ use Rattle.std.proofs.lemmas.Int.{to_z-of_z}
 use Rattle.std.proofs.lemmas.List.{length-drop}
 use Rattle.msr_steim.specs.Word.{FitsBits, joined_fields, twos_complement}
 use Rattle.msr_words.specs.Segment.{differences}
-use Rattle.msr_words.proofs.Plain.{difference_behind, length_differences}
+use Rattle.msr_words.proofs.Plain.{difference_behind, length-differences}
 use Rattle.msr_words.proofs.FillFields.{all_lt, fields_more, fits_there}
 use Rattle.msr_words.proofs.filling.fields_from.Goals as goal
 
@@ -13,7 +13,7 @@ loop-next-preserved c =
     let xs = drop c.args.at (differences c.args.before c.args.run.now) in
     let i = c.loop-next.next - c.args.at in
     let diff : SFits w64 c.difference_after-difference.result = search rules in
-    let long = length_differences c.args.before c.args.run.now in
+    let long = length-differences c.args.before c.args.run.now in
     let l = length-drop c.args.at (differences c.args.before c.args.run.now) in
     let here : get_or (drop c.args.at (differences c.args.before c.args.run.now)) (c.loop-next.next - c.args.at)
     (pos 0) ≡ c.difference_after-difference.result =
@@ -34,7 +34,7 @@ loop-next-preserved c =
 pub overflow_cast-result : goal.overflow_cast-result
 overflow_cast-result c =
     let xs = drop c.args.at (differences c.args.before c.args.run.now) in
-    let long = length_differences c.args.before c.args.run.now in
+    let long = length-differences c.args.before c.args.run.now in
     let l = length-drop c.args.at (differences c.args.before c.args.run.now) in
     let all = all_lt c.args.width c.args.size xs c.requires.positive c.requires.within
     (omega (arith, c.requires.room)) c.requires.fit (c.loop-next.next - c.args.at) c.loop-next.fields
@@ -45,7 +45,7 @@ overflow_cast-result c =
 pub returns-clause-same : goal.returns-clause-same
 returns-clause-same c =
     let xs = drop c.args.at (differences c.args.before c.args.run.now) in
-    let long = length_differences c.args.before c.args.run.now in
+    let long = length-differences c.args.before c.args.run.now in
     let l = length-drop c.args.at (differences c.args.before c.args.run.now) in
     let all = all_lt c.args.width c.args.size xs c.requires.positive c.requires.within
     (omega (arith, c.requires.room)) c.requires.fit (c.loop-next.next - c.args.at) c.loop-next.fields
@@ -55,7 +55,7 @@ returns-clause-same c =
 pub returns-clause-few : goal.returns-clause-few
 returns-clause-few c =
     let xs = drop c.args.at (differences c.args.before c.args.run.now) in
-    let long = length_differences c.args.before c.args.run.now in
+    let long = length-differences c.args.before c.args.run.now in
     let l = length-drop c.args.at (differences c.args.before c.args.run.now) in
     let all = all_lt c.args.width c.args.size xs c.requires.positive c.requires.within
     (omega (arith, c.requires.room)) c.requires.fit (c.loop-next.next - c.args.at) c.loop-next.fields

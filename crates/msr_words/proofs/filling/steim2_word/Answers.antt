@@ -4,7 +4,7 @@ use Rattle.std.proofs.lemmas.List.{length-drop}
 use Rattle.msr_words.specs.Segment.{differences}
 use Rattle.msr_words.specs.Window.{AreSeen}
 use Rattle.msr_words.proofs.Fill.{next_is}
-use Rattle.msr_words.proofs.Plain.{length_differences}
+use Rattle.msr_words.proofs.Plain.{length-differences}
 use Rattle.msr_words.proofs.Windows.{window_seen}
 use Rattle.msr_words.proofs.filling.steim2_word.Goals as goal
 
@@ -33,7 +33,7 @@ pub returns-clause-next : goal.returns-clause-next
 returns-clause-next c =
     let ds = drop c.args.at (differences c.args.before c.args.run.now) in
     let longest = c.word_outside.ensures.longest in
-    let long = length_differences c.args.before c.args.run.now in
+    let long = length-differences c.args.before c.args.run.now in
     let l = length-drop c.args.at (differences c.args.before c.args.run.now) in
     let within = c.requires.within in
     record {

@@ -7,7 +7,7 @@ use Rattle.std.proofs.lemmas.Int.{to_z-of_z}
 use Rattle.msr_steim.proofs.Filling.{codes_fit}
 use Rattle.msr_words.specs.Segment.{differences}
 use Rattle.msr_words.specs.Sizing.{version_of}
-use Rattle.msr_words.proofs.Plain.{length_differences}
+use Rattle.msr_words.proofs.Plain.{length-differences}
 use Rattle.msr_words.proofs.Fill.{IsFilled, IsFramed, codes_below_more, constants_more, frame_begins, frame_ends, framed_all, group_more, some_codes, some_next}
 use Rattle.msr_words.proofs.Windows.{window_on}
 use Rattle.msr_words.proofs.frames.fill_frames.Goals as goal
@@ -91,7 +91,7 @@ overflow_add-codes c =
 
 pub overflow_add-at : goal.overflow_add-at
 overflow_add-at c =
-    let long = length_differences c.args.before c.args.run.now in
+    let long = length-differences c.args.before c.args.run.now in
     let l = length-drop c.loop-slot.at (differences c.args.before c.args.run.now) in
     let in' = c.in-Some.ensures.next.within in
     let here = c.loop-slot.invariant.within in
@@ -113,7 +113,7 @@ loop-slot-preserved c =
     let high : 3 ≤ 16 * c.loop-frame.frame + c.loop-slot.slot + 1 = omega (arith, inv.high) in
     let few = inv.few in
     let enough = inv.enough in
-    let long = length_differences c.args.before c.args.run.now in
+    let long = length-differences c.args.before c.args.run.now in
     let l = length-drop c.loop-slot.at (differences c.args.before c.args.run.now) in
     let next = c.in-Some.ensures.next in
     let in' = next.within in

@@ -4,7 +4,7 @@ use Rattle.std.proofs.lemmas.List.{length-drop}
 use Rattle.msr_words.specs.Segment.{differences}
 use Rattle.msr_words.specs.Groups.{IsLongestGroup}
 use Rattle.msr_words.specs.Groups.{IsCapacity}
-use Rattle.msr_words.proofs.Plain.{IsOpenGroup, open_none, open_more, longest_here, longest_at_end, difference_behind, length_differences}
+use Rattle.msr_words.proofs.Plain.{IsOpenGroup, open_none, open_more, longest_here, longest_at_end, difference_behind, length-differences}
 use Rattle.msr_words.proofs.kinds.longest_group.Goals as goal
 
 pub loop-next-init : goal.loop-next-init
@@ -19,7 +19,7 @@ returns-then-next-at c =
     let diff : SFits w64 c.difference_after.result = search rules in
     let cap : IsCapacity c.difference_after.result c.tested_capacity.result =
     simp to_z-of_z at c.tested_capacity.ensures in
-    let long = length_differences c.args.before c.args.run.now in
+    let long = length-differences c.args.before c.args.run.now in
     let l = length-drop c.args.at ds in
     let here : get_or (drop c.args.at ds) (c.loop-next.next - c.args.at) (pos 0) ≡ c.difference_after.result =
     rw c.difference_after.ensures (difference_behind c.args.before c.args.run.now c.args.at c.loop-next.next
@@ -34,7 +34,7 @@ loop-next-preserved c =
     let diff : SFits w64 c.difference_after.result = search rules in
     let cap : IsCapacity c.difference_after.result c.tested_capacity.result =
     simp to_z-of_z at c.tested_capacity.ensures in
-    let long = length_differences c.args.before c.args.run.now in
+    let long = length-differences c.args.before c.args.run.now in
     let l = length-drop c.args.at ds in
     let here : get_or (drop c.args.at ds) (c.loop-next.next - c.args.at) (pos 0) ≡ c.difference_after.result =
     rw c.difference_after.ensures (difference_behind c.args.before c.args.run.now c.args.at c.loop-next.next
@@ -48,7 +48,7 @@ loop-next-preserved c =
 pub returns : goal.returns
 returns c =
     let ds = differences c.args.before c.args.run.now in
-    let long = length_differences c.args.before c.args.run.now in
+    let long = length-differences c.args.before c.args.run.now in
     let l = length-drop c.args.at ds in
     let all : c.loop-next.next - c.args.at ≡ length c.args.run.now - c.args.at = omega arith in
     subst (IsLongestGroup (drop c.args.at ds)) all

@@ -2,13 +2,13 @@
 use Rattle.std.proofs.Common.{arith, ◌≡◌, ◌-◌, ℕ, ℤ, List, Option, length, drop}
 use Rattle.std.proofs.lemmas.List.{length-drop}
 use Rattle.msr_words.specs.Segment.{differences}
-use Rattle.msr_words.proofs.Plain.{length_differences}
+use Rattle.msr_words.proofs.Plain.{length-differences}
 use Rattle.msr_words.proofs.Steim1Ahead.{fits_from, four_small, next_four, one_apart, two_before, two_few, two_large, two_left, three_left}
 use Rattle.msr_words.proofs.steim1_filling.first_group_outside.Goals as goal
 
 long : (before : Option ℤ) (run : List ℤ) (at : ℕ) → length (drop at (differences before run)) ≡ length run - at
 long before run at =
-    let m = length_differences before run in
+    let m = length-differences before run in
     let l = length-drop at (differences before run) in
     omega arith
 

@@ -7,20 +7,20 @@ use Rattle.msr_steim.specs.Word.{FitsBits}
 use Rattle.msr_words.specs.Segment.{differences}
 use Rattle.msr_words.specs.Window.{IsSize}
 use Rattle.msr_words.proofs.FillSizes.{there}
-use Rattle.msr_words.proofs.Plain.{length_differences}
+use Rattle.msr_words.proofs.Plain.{length-differences}
 use Rattle.msr_words.proofs.steim1_filling.size_ahead.Goals as goal
 
 pub returns-then-place-run : goal.returns-then-place-run
 returns-then-place-run c width small =
     let l = length-drop c.args.at (differences c.args.before c.args.run.now) in
-    let n = length_differences c.args.before c.args.run.now in
+    let n = length-differences c.args.before c.args.run.now in
     let most : 2 ^ (width - 1) ≤ 2 ^ 31 = pow-le-pow_right {n = 2} (lit< tt) {i = width - 1} {j = 31} (omega arith) in
     (λ below. absurd (omega arith), λ fits. let h = fits.0 in absurd (omega arith))
 
 pub returns : goal.returns
 returns c width small =
     let l = length-drop c.args.at (differences c.args.before c.args.run.now) in
-    let n = length_differences c.args.before c.args.run.now in
+    let n = length-differences c.args.before c.args.run.now in
     let fits : SFits w64 c.difference_after.result = search rules in
     let size : IsSize c.difference_after.result c.magnitude.result = simp to_z-of_z at c.magnitude.ensures in
     let here : c.difference_after.result ≡ slice_index_or

@@ -8,13 +8,13 @@ use Rattle.msr_words.specs.Following.{IsFollowing}
 use Rattle.msr_words.specs.Segment.{difference_from, differences}
 use Rattle.msr_words.proofs.FillSizes.{from_inside}
 use Rattle.msr_words.proofs.FirstGroups.{all_at, front_at, no_sizes, sizes_more}
-use Rattle.msr_words.proofs.Plain.{difference_of, length_differences}
+use Rattle.msr_words.proofs.Plain.{difference_of, length-differences}
 use Rattle.msr_words.proofs.steim1_filling.sizes_of.Goals as goal
 
 pub loop-at-init : goal.loop-at-init
 loop-at-init c =
     let ds = differences c.args.before c.args.run.now in
-    let long = length_differences c.args.before c.args.run.now in
+    let long = length-differences c.args.before c.args.run.now in
     let none = c.nothing-following.ensures.few in
     record {
       low = c.requires.some;
@@ -29,7 +29,7 @@ pub behind-following-requires-clause-fits : goal.behind-following-requires-claus
 behind-following-requires-clause-fits c =
     let ds = differences c.args.before c.args.run.now in
     let at = c.loop-at.at - 1 in
-    let long = length_differences c.args.before c.args.run.now in
+    let long = length-differences c.args.before c.args.run.now in
     let diff : SFits w64 c.difference_inside.result = search rules in
     let here : get_or (differences c.args.before c.args.run.now) (c.loop-at.at - 1) (pos 0)
     ≡ c.difference_inside.result =
@@ -43,7 +43,7 @@ pub loop-at-preserved : goal.loop-at-preserved
 loop-at-preserved c =
     let ds = differences c.args.before c.args.run.now in
     let at = c.loop-at.at - 1 in
-    let long = length_differences c.args.before c.args.run.now in
+    let long = length-differences c.args.before c.args.run.now in
     let diff : SFits w64 c.difference_inside.result = search rules in
     let d : c.difference_inside.result ≡ difference_from c.args.before c.args.run.now (c.loop-at.at - 1) =
     c.difference_inside.ensures ∙ from_inside c.args.before c.args.run.now at (omega arith) in
@@ -73,7 +73,7 @@ loop-at-preserved c =
 pub returns : goal.returns
 returns c =
     let ds = differences c.args.before c.args.run.now in
-    let long = length_differences c.args.before c.args.run.now in
+    let long = length-differences c.args.before c.args.run.now in
     let some = c.requires.some in
     let low = c.loop-at.invariant.low in
     let one : 1 ≡ c.loop-at.at = omega (arith, c.loop-at-test.false) in

@@ -3,7 +3,7 @@ use Rattle.std.proofs.Common.{rules, arith, ◌≡◌, ◌<◌, ◌-◌, ℕ, �
 use Rattle.msr_words.specs.FirstGroup.{AreSizes, IsCanonicalFirst}
 use Rattle.msr_words.specs.Segment.{differences}
 use Rattle.msr_words.specs.Window.{AreSeen}
-use Rattle.msr_words.proofs.Plain.{length_differences}
+use Rattle.msr_words.proofs.Plain.{length-differences}
 use Rattle.msr_words.proofs.Steim1Next.{IsSizeThere, size_there, word_none, word_there}
 use Rattle.msr_words.proofs.Windows.{window_seen}
 use Rattle.msr_words.proofs.steim1_filling.steim1_word.Goals as goal
@@ -12,7 +12,7 @@ given : (before : Option ℤ) (run : List ℤ) (at size : ℕ) (sizes : List ℕ
     → AreSizes (differences before run) 0 sizes → at < length run → size ≡ get_or sizes at 0
     → IsSizeThere before run at size
 given before run at size sizes are less size_is =
-    let m = length_differences before run in
+    let m = length-differences before run in
     size_there before run at size less (subst (IsCanonicalFirst (drop at (differences before run))) (sym size_is)
     (are.each at (omega arith) (omega arith)))
 
@@ -33,7 +33,7 @@ there c = given c.args.before c.args.run.now c.args.at c.from-2.result c.args.si
 pub bounds-sizes-at : goal.bounds-sizes-at
 bounds-sizes-at c =
     let long = c.requires.sizes.long in
-    let m = length_differences c.args.before c.args.run.now in
+    let m = length-differences c.args.before c.args.run.now in
     let within = c.reaches.ensures.window.within in
     let less : c.args.at < length c.args.sizes.now = omega (arith, c.reaches.ensures.seven c.if-reaches.true) in
     search (rules, less)
@@ -41,7 +41,7 @@ bounds-sizes-at c =
 pub bounds-sizes-at-2 : goal.bounds-sizes-at-2
 bounds-sizes-at-2 c =
     let long = c.requires.sizes.long in
-    let m = length_differences c.args.before c.args.run.now in
+    let m = length-differences c.args.before c.args.run.now in
     let less : c.args.at < length c.args.sizes.now = omega (arith, c.requires.within, c.if-at-run.false) in
     search (rules, less)
 

@@ -6,20 +6,20 @@ use Rattle.msr_header.specs.declared.header.Header.{Header}
 use Rattle.msr_input.specs.Reading.{HoldsRecord}
 use Rattle.msr_input.proofs.record_reader.RecordReader.holds_record.Goals as goal
 
-ok-header : (bytes : List ℕ) (read : Result Header HeaderFault) → read ≡ header_of bytes → IsTrue (is_ok read)
+ok_header : (bytes : List ℕ) (read : Result Header HeaderFault) → read ≡ header_of bytes → IsTrue (is_ok read)
     → HoldsRecord bytes
-ok-header bytes (Ok header) same is = (header, sym same)
-ok-header bytes (Err fault) same is = absurd cc
+ok_header bytes (Ok header) same is = (header, sym same)
+ok_header bytes (Err fault) same is = absurd cc
 
-header-ok : (bytes : List ℕ) (read : Result Header HeaderFault) → read ≡ header_of bytes → HoldsRecord bytes
+header_ok : (bytes : List ℕ) (read : Result Header HeaderFault) → read ≡ header_of bytes → HoldsRecord bytes
     → IsTrue (is_ok read)
-header-ok bytes read same holds = rw (same ∙ holds.1) refl
+header_ok bytes read same holds = rw (same ∙ holds.1) refl
 
 pub returns : goal.returns
 returns c =
     let same = rw c.bytes.ensures at c.read_header.ensures.header in
     rw (c.is_ok.ensures.value, ← c.self.view_is) (
-      ok-header c.self.inside.buffer.bytes c.read_header.result same,
-      header-ok c.self.inside.buffer.bytes
+      ok_header c.self.inside.buffer.bytes c.read_header.result same,
+      header_ok c.self.inside.buffer.bytes
           c.read_header.result same,
     )

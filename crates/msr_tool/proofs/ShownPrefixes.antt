@@ -105,13 +105,13 @@ cut_division tolerance rows parts front c d =
     }
 
 -- The segment is a prefix of the other.
-pub record IsFrontOf (front whole : Segment) : Type 0 where
+pub record IsPrefixOf (front whole : Segment) : Type 0 where
   pub key : front.key ≡ whole.key
   pub start : front.start ≡ whole.start
   pub fewer : length front.samples ≤ length whole.samples
 
 kept_front : (part : Part) (kept left : List Row) → part.1 ≡ kept ++ left
-    → IsFrontOf (segment_of (part.0, kept)) (segment_of part)
+    → IsPrefixOf (segment_of (part.0, kept)) (segment_of part)
 unfolding segment_of
 kept_front part kept left e =
     let samples = λ (r : Row). r.samples in
@@ -128,7 +128,7 @@ pub record BeginsOne (last : Segment) (parts : List Part) : Type 0 where
   pub after : List Part
   pub part : Part
   pub whole : parts ≡ before ++ part ∷ after
-  pub is_front : IsFrontOf last (segment_of part)
+  pub is_front : IsPrefixOf last (segment_of part)
 
 pub last_of_front : (tolerance : ℕ) (rows : List Row) (parts : List Part) (first : Row) (front rest : List Row)
     (segments : List Segment) (last : Segment) → IsDivision tolerance rows parts → rows ≡ first ∷ (front ++ rest)
@@ -148,6 +148,6 @@ last_of_front tolerance rows parts first front rest segments last d e a =
       after = c.after;
       part = c.part;
       whole = c.whole;
-      is_front = subst (λ (s : Segment). IsFrontOf s (segment_of c.part)) (sym same)
+      is_front = subst (λ (s : Segment). IsPrefixOf s (segment_of c.part)) (sym same)
           (kept_front c.part c.kept c.left c.rows);
     }

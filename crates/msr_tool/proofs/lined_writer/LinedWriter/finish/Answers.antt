@@ -1,6 +1,6 @@
 use Rattle.std.proofs.lemmas.Result.{err_from_is_err_and}
 use Rattle.msr_tool.proofs.Lines.{lined_none, stops_finishing}
-use Rattle.msr_tool.proofs.output.LinedWriter.finish.Goals as goal
+use Rattle.msr_tool.proofs.lined_writer.LinedWriter.finish.Goals as goal
 
 pub returns-in_err-finish-clause-written : goal.returns-in_err-finish-clause-written
 returns-in_err-finish-clause-written g c = λ start packed current h.

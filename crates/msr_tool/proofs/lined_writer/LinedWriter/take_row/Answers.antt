@@ -2,7 +2,7 @@ use Rattle.std.proofs.Common.{Some, ◌∙◌}
 use Rattle.std.proofs.lemmas.Result.{err_from_is_err_and}
 use Rattle.msr_output.specs.Opened.{empty_segment}
 use Rattle.msr_tool.proofs.Lines.{stops_ending, took_first}
-use Rattle.msr_tool.proofs.output.LinedWriter.take_row.Goals as goal
+use Rattle.msr_tool.proofs.lined_writer.LinedWriter.take_row.Goals as goal
 
 pub returns-in_err-end_last-in-Begins-clause-written : goal.returns-in_err-end_last-in-Begins-clause-written
 returns-in_err-end_last-in-Begins-clause-written g c = λ start packed current h.

@@ -1,7 +1,7 @@
 use Rattle.std.proofs.Common.{rules, FitsSigned, w64, to_z-of_z}
 use Rattle.msr_output.specs.Opened.{empty_segment}
 use Rattle.msr_tool.proofs.Lines.{grows_new, lined_begun}
-use Rattle.msr_tool.proofs.output.LinedWriter.begin.Goals as goal
+use Rattle.msr_tool.proofs.lined_writer.LinedWriter.begin.Goals as goal
 
 pub returns-clause-begun : goal.returns-clause-begun
 returns-clause-begun c = λ start now packed h.

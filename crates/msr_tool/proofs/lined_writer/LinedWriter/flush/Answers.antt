@@ -1,7 +1,7 @@
 use Rattle.std.proofs.lemmas.Result.{err_from_is_err_and}
 use Rattle.msr_tool.specs.Writing.{Lined}
 use Rattle.msr_tool.proofs.Lines.{lined_flushed, stops_flushing}
-use Rattle.msr_tool.proofs.output.LinedWriter.flush.Goals as goal
+use Rattle.msr_tool.proofs.lined_writer.LinedWriter.flush.Goals as goal
 
 pub returns-in_err-flush-clause-written : goal.returns-in_err-flush-clause-written
 returns-in_err-flush-clause-written g c =

@@ -16,9 +16,9 @@ use Rattle.msr_tool.proofs.Lines.{can_take_row, front_lined}
 use Rattle.msr_tool.proofs.RowsSoFar.{RecordMore, more_read, no_rows, record_more, rows_end, rows_read, rows_stop}
 use Rattle.msr_tool.proofs.StoppedRepacks.{read_failed, write_failed, read_tells_source, lined_tells_source, lined_tells_sink, ok_tells, as_answer}
 use Rattle.msr_tool.proofs.RepackUnderWay.{UnderWay, done, flush_stops, flushed, lining_unread, live, more}
-use Rattle.msr_tool.proofs.engine.repack_with.Given as given
-use Rattle.msr_tool.proofs.engine.repack_with.Goals as goal
-use Rattle.msr_tool.proofs.engine.repack_with.Goals.{After-must_flush, After-take, In_err-next}
+use Rattle.msr_tool.proofs.repack.repack_with.Given as given
+use Rattle.msr_tool.proofs.repack.repack_with.Goals as goal
+use Rattle.msr_tool.proofs.repack.repack_with.Goals.{After-must_flush, After-take, In_err-next}
 
 pub records-init : goal.records-init
 records-init g c =
@@ -40,12 +40,12 @@ records-init g c =
     }
 
 -- why no record was read
-why-stopped : (g : given.Over) (c : In_err-next g)
+why_stopped : (g : given.Over) (c : In_err-next g)
     → StopsReading (settings_of c.args.options) (g.R.Source.device c.args.source.now)
     (g.R.Source.device c.next_record.new.source)
     (map segment_of_packed c.records.invariant.under.packed
     ++ option_to_list c.records.invariant.under.joining.current) c.in_err-next.field-0.0
-why-stopped g c =
+why_stopped g c =
     let u = c.records.invariant.under in
     rows_stop (settings_of c.args.options) (g.R.Source.device c.args.source.now)
     (g.R.Source.device c.records.source) (g.R.Source.device c.next_record.new.source) c.records.reader
@@ -53,11 +53,11 @@ why-stopped g c =
     (c.in_err-next.ensures.read (g.R.Source.device c.args.source.now) u.rows.records u.rows.answers u.rows.has_read)
 
 -- one more record is read
-one-read : (g : given.Over) (c : After-take g)
+one_read : (g : given.Over) (c : After-take g)
     → RecordMore (settings_of c.args.options) (g.R.Source.device c.args.source.now)
     (g.R.Source.device c.next_record.new.source) c.next_record.new.self
     (map segment_of_packed c.records.invariant.under.packed) c.records.invariant.under.joining c.in-Some.next.row
-one-read g c =
+one_read g c =
     let u = c.records.invariant.under in
     let reads = rw c.in-Some.is at (c.in_ok-next.ensures.read
     (g.R.Source.device c.args.source.now) u.rows.records u.rows.answers u.rows.has_read) in
@@ -71,13 +71,13 @@ one-read g c =
     bounds row
 
 -- and its samples are written
-one-taken : (g : given.Over) (c : After-must_flush g)
+one_taken : (g : given.Over) (c : After-must_flush g)
     → RecordMore (settings_of c.args.options) (g.R.Source.device c.args.source.now)
     (g.R.Source.device c.next_record.new.source) c.next_record.new.self
     (map segment_of_packed c.records.invariant.under.packed) c.records.invariant.under.joining c.in-Some.next.row
     → UnderWay c.args.options (g.R.Source.device c.args.source.now) (g.R.Source.device c.next_record.new.source)
     (g.W.Sink.device c.args.sink.now) (g.W.Sink.device c.take.new.sink) c.next_record.new.self c.take.new.self
-one-taken g c m =
+one_taken g c m =
     let u = c.records.invariant.under in
     more c.args.options (g.R.Source.device c.args.source.now) (g.R.Source.device c.next_record.new.source)
     (g.W.Sink.device c.args.sink.now)
@@ -92,7 +92,7 @@ returns-in_err-next-clause-answer g c =
     let p = err_from_is_err_and c.from_residual.result c.from_residual.ensures.1 in
     let u = c.records.invariant.under in
     let why = c.in_err-next.field-0.0 in
-    let stops = why-stopped g (goal.at.returns-in_err-next-clause-answer g c).In_err-next in
+    let stops = why_stopped g (goal.at.returns-in_err-next-clause-answer g c).In_err-next in
     let front = rw u.size at (front_lined (g.W.Sink.device c.args.sink.now)
     (g.W.Sink.device c.records.sink) c.records.writer u.packed u.joining.current u.goes_on u.lined) in
     rw (p.1, p.2) (as_answer _ _ _ _ _ (read_failed c.args.options (g.R.Source.device c.args.source.now)
@@ -105,7 +105,7 @@ returns-in_err-next-clause-read g c =
     let p = err_from_is_err_and c.from_residual.result c.from_residual.ensures.1 in
     let u = c.records.invariant.under in
     let why = c.in_err-next.field-0.0 in
-    let stops = why-stopped g (goal.at.returns-in_err-next-clause-read g c).In_err-next in
+    let stops = why_stopped g (goal.at.returns-in_err-next-clause-read g c).In_err-next in
     rw (p.1, p.2) (read_tells_source _ (g.R.Source.device c.args.source.now)
     (g.R.Source.device c.next_record.new.source) _ why stops)
 
@@ -114,7 +114,7 @@ returns-in_err-next-clause-live g c =
     let p = err_from_is_err_and c.from_residual.result c.from_residual.ensures.1 in
     let u = c.records.invariant.under in
     let why = c.in_err-next.field-0.0 in
-    let stops = why-stopped g (goal.at.returns-in_err-next-clause-live g c).In_err-next in
+    let stops = why_stopped g (goal.at.returns-in_err-next-clause-live g c).In_err-next in
     rw (p.1, p.2) (λ is_live e.
     let same : fault_of_reading why ≡ fault.Read = cc in
     live c.args.options (g.R.Source.device c.args.source.now) (g.R.Source.device c.records.source)
@@ -140,7 +140,7 @@ pub returns-in_err-take-clause-answer : goal.returns-in_err-take-clause-answer
 returns-in_err-take-clause-answer g c =
     let p = err_from_is_err_and c.from_residual-in_err-take.result c.from_residual-in_err-take.ensures.1 in
     let u = c.records.invariant.under in
-    let m = one-read g (goal.at.returns-in_err-take-clause-answer g c).After-take in
+    let m = one_read g (goal.at.returns-in_err-take-clause-answer g c).After-take in
     let stops = rw u.size at (c.in_err-take.ensures.written
     (g.W.Sink.device c.args.sink.now) u.packed u.joining.current u.lined) in
     let after = more_read (settings_of c.args.options) (g.R.Source.device c.args.source.now)
@@ -155,7 +155,7 @@ pub returns-in_err-take-clause-read : goal.returns-in_err-take-clause-read
 returns-in_err-take-clause-read g c =
     let p = err_from_is_err_and c.from_residual-in_err-take.result c.from_residual-in_err-take.ensures.1 in
     let u = c.records.invariant.under in
-    let m = one-read g (goal.at.returns-in_err-take-clause-read g c).After-take in
+    let m = one_read g (goal.at.returns-in_err-take-clause-read g c).After-take in
     rw (p.1, p.2) (lined_tells_source _ (g.R.Source.device c.args.source.now)
     (g.R.Source.device c.next_record.new.source) (g.W.Sink.device c.args.sink.now)
     (g.W.Sink.device c.take.new.sink) _ c.in_err-take.field-0.0 m.rows.has_read.came.steady
@@ -182,7 +182,7 @@ pub returns-in_err-flush-clause-answer : goal.returns-in_err-flush-clause-answer
 returns-in_err-flush-clause-answer g c =
     let p = err_from_is_err_and c.from_residual-in_err-flush.result c.from_residual-in_err-flush.ensures.1 in
     let at = goal.at.returns-in_err-flush-clause-answer g c in
-    let taken = one-taken g at.After-must_flush (one-read g at.After-take) in
+    let taken = one_taken g at.After-must_flush (one_read g at.After-take) in
     rw (p.1, p.2) (as_answer _ _ _ _ _ (flush_stops c.args.options (g.R.Source.device c.args.source.now)
     (g.R.Source.device c.next_record.new.source) (g.W.Sink.device c.args.sink.now)
     (g.W.Sink.device c.take.new.sink)
@@ -194,7 +194,7 @@ pub returns-in_err-flush-clause-read : goal.returns-in_err-flush-clause-read
 returns-in_err-flush-clause-read g c =
     let p = err_from_is_err_and c.from_residual-in_err-flush.result c.from_residual-in_err-flush.ensures.1 in
     let at = goal.at.returns-in_err-flush-clause-read g c in
-    let taken = one-taken g at.After-must_flush (one-read g at.After-take) in
+    let taken = one_taken g at.After-must_flush (one_read g at.After-take) in
     rw (p.1, p.2) (lined_tells_source _ (g.R.Source.device c.args.source.now)
     (g.R.Source.device c.next_record.new.source) (g.W.Sink.device c.args.sink.now)
     (g.W.Sink.device c.flush.new.sink) _ c.in_err-flush.field-0.0 taken.rows.has_read.came.steady
@@ -205,7 +205,7 @@ pub returns-in_err-flush-clause-write : goal.returns-in_err-flush-clause-write
 returns-in_err-flush-clause-write g c =
     let p = err_from_is_err_and c.from_residual-in_err-flush.result c.from_residual-in_err-flush.ensures.1 in
     let at = goal.at.returns-in_err-flush-clause-write g c in
-    let taken = one-taken g at.After-must_flush (one-read g at.After-take) in
+    let taken = one_taken g at.After-must_flush (one_read g at.After-take) in
     rw (p.1, p.2) (lined_tells_sink _ (g.W.Sink.device c.args.sink.now)
     (g.W.Sink.device c.flush.new.sink) _ c.in_err-flush.field-0.0
     (c.in_err-flush.ensures.written
@@ -215,7 +215,7 @@ pub returns-in_err-flush-clause-live : goal.returns-in_err-flush-clause-live
 returns-in_err-flush-clause-live g c =
     let p = err_from_is_err_and c.from_residual-in_err-flush.result c.from_residual-in_err-flush.ensures.1 in
     let at = goal.at.returns-in_err-flush-clause-live g c in
-    let taken = one-taken g at.After-must_flush (one-read g at.After-take) in
+    let taken = one_taken g at.After-must_flush (one_read g at.After-take) in
     rw (p.1, p.2) (λ live e. let same : c.in_err-flush.field-0.0 ≡ fault.Read = cc in
     absurd (lining_unread _ (g.W.Sink.device c.args.sink.now)
     (g.W.Sink.device c.flush.new.sink) _ c.in_err-flush.field-0.0
@@ -225,7 +225,7 @@ returns-in_err-flush-clause-live g c =
 pub flush-requires-clause-count : goal.flush-requires-clause-count
 flush-requires-clause-count g c =
     let at = goal.at.flush-requires-clause-count g c in
-    let taken = one-taken g at.After-must_flush (one-read g at.After-take) in
+    let taken = one_taken g at.After-must_flush (one_read g at.After-take) in
     steady_can_count (g.W.Sink.device c.args.sink.now)
     (g.W.Sink.device c.take.new.sink) taken.calm.steady c.requires.sink
 
@@ -238,14 +238,14 @@ returns-in_err-flush-clause-few_source g c =
 pub returns-in_err-flush-clause-few_sink : goal.returns-in_err-flush-clause-few_sink
 returns-in_err-flush-clause-few_sink g c =
     let at = goal.at.returns-in_err-flush-clause-few_sink g c in
-    let taken = one-taken g at.After-must_flush (one-read g at.After-take) in
+    let taken = one_taken g at.After-must_flush (one_read g at.After-take) in
     steady_then_few (g.W.Sink.device c.args.sink.now) (g.W.Sink.device c.take.new.sink)
     (g.W.Sink.device c.flush.new.sink) taken.calm.steady c.flush.ensures.few
 
 pub records-preserved-in-Continue-branch-4 : goal.records-preserved-in-Continue-branch-4
 records-preserved-in-Continue-branch-4 g c =
     let at = goal.at.records-preserved-in-Continue-branch-4 g c in
-    let taken = one-taken g at.After-must_flush (one-read g at.After-take) in
+    let taken = one_taken g at.After-must_flush (one_read g at.After-take) in
     record {
       under = flushed c.args.options (g.R.Source.device c.args.source.now)
           (g.R.Source.device c.next_record.new.source) (g.W.Sink.device c.args.sink.now)
@@ -260,7 +260,7 @@ records-preserved-in-Continue-branch-4 g c =
 pub records-preserved : goal.records-preserved
 records-preserved g c =
     let at = goal.at.records-preserved g c in
-    let taken = one-taken g at.After-must_flush (one-read g at.After-take) in
+    let taken = one_taken g at.After-must_flush (one_read g at.After-take) in
     record { under = taken; ready = λ is_live. inl ((c.must_flush.ensures.live is_live).0 c.if-must_flush.false) }
 
 pub returns-in_err-segments-clause-answer : goal.returns-in_err-segments-clause-answer

@@ -3,7 +3,7 @@ use Rattle.std.proofs.lemmas.Result.{err_from_is_err_and}
 use Rattle.msr_tool.specs.declared.fault.ToolFault.TheVariants.{Memory}
 use Rattle.msr_tool.specs.Writing.{GoesOn}
 use Rattle.msr_tool.proofs.Lines.{last_of, line_proper, lines_more, more_at_last, stops_at_last, stops_pushing}
-use Rattle.msr_tool.proofs.output.LinedWriter.end_last.Goals as goal
+use Rattle.msr_tool.proofs.lined_writer.LinedWriter.end_last.Goals as goal
 
 pub returns-in_err-push-clause-written : goal.returns-in_err-push-clause-written
 returns-in_err-push-clause-written g c = λ start packed current h.

@@ -7,7 +7,7 @@ ghost use Rattle.msr_tool.specs.Live.{IsLive};
 
 use crate::fault::ToolFault;
 use crate::options::Options;
-use crate::output::LinedWriter;
+use crate::lined_writer::LinedWriter;
 use msr_devices::{Sink, Source};
 use msr_input::RowReader;
 use msr_output::{output_has_size, output_keeps_segments};
