@@ -1,9 +1,6 @@
 -- The numbers of an area, one after the other.
-use Rattle.std.proofs.Common.{◌≡◌, ℕ, zero, suc, ◌+◌, ◌-◌, ◌*◌, ◌<◌, ◌≤◌, ℤ, pos, List, ◌∷◌, length, take, drop, get_or, refl, sym, ap, ◌∙◌, subst, arith}
+use Rattle.std.proofs.Common.{◌≡◌, ℕ, zero, suc, ◌+◌, ◌-◌, ◌*◌, ◌<◌, ◌≤◌, pos, List, ◌∷◌, length, take, drop, get_or, refl, sym, ap, ◌∙◌, subst, arith}
 use Rattle.std.proofs.lemmas.List.{length-drop, take_all, drop-drop}
-use Rattle.std.specs.Prelude.{⊤}
-use Rattle.std.specs.Iterator.{MakesProgress, item_count}
-use Rattle.std.specs.Prelude.{Some}
 use Rattle.msr_base.specs.declared.order.Order.{Order}
 use Rattle.msr_plain.specs.Plain.{CarriesPlain, number_in, numbers_in, sample_at, size_of}
 use Rattle.msr_plain.specs.declared.Width.{Width}
@@ -46,12 +43,3 @@ first_number width order bytes (suc count) size some e =
     ∙ ap (λ (n : ℕ). drop n bytes) e in
     let one_less : suc count - 1 ≡ count = omega arith in
     rw (rest, one_less) refl
-
--- a call of `next` that gave the first item
-pub goes_on : (s t : List ℤ) (x : ℤ) → s ≡ x ∷ t
-    → MakesProgress (λ _. ⊤) (item_count {A = ℤ} (λ left. left)) s (Some x) t
-goes_on s t x e = record {
-  on = λ _. (tt, tt, subst (λ l. length t < length l) (sym e) (omega arith));
-  keeps = tt;
-  rests = λ _. tt;
-}

@@ -63,7 +63,7 @@ impl<'a> Clone for PlainSamples<'a> {
     }
 }
 
-/// The first `count` samples that the area carries, as `decode_plain` gives them, or `None` where the area
+/// The first `count` samples that the area carries, as `decode_plain` gives them, or `None` if the area
 /// is too short for so many. Bytes after them are not looked at. Takes no memory.
 pub fn plain_samples<'a>(
     width: Width,

@@ -15,11 +15,14 @@ pub use msr_base::Samples;
 use std::alloc::{AllocError, Global};
 use thiserror::Error;
 
-/// How many bytes a number takes: SEED's encodings 1 (16-bit integers), 2 (24-bit integers) and 3 (32-bit integers).
+/// How many bytes a number takes: SEED's encodings 1, 2 and 3.
 #[derive(Clone, Copy, Debug, PartialEq, Eq)]
 pub enum Width {
+    /// 16-bit integers.
     Two,
+    /// 24-bit integers.
     Three,
+    /// 32-bit integers.
     Four,
 }
 
@@ -71,7 +74,7 @@ fn read_number(width: Width, order: Order, bytes: &[u8]) -> i32
     }
 }
 
-/// Reads a number for each place. Inlined where width and order are literals, LLVM reads several at once.
+/// Reads a number for each place. Inlined with literals for width and order, LLVM reads several at once.
 #[inline(always)]
 fn read_numbers(width: Width, order: Order, area: &[u8], out: &mut [i32])
     requires { size_of width * length out.old ≤ length area.now }
@@ -83,7 +86,7 @@ fn read_numbers(width: Width, order: Order, area: &[u8], out: &mut [i32])
 }
 
 /// Fills `out` with the first samples that the area carries. Bytes after them are not looked at. Takes
-/// no memory, and where the area is too short `out` is left as it was.
+/// no memory, and if the area is too short `out` is left as it was.
 pub fn decode_plain_into(
     width: Width,
     order: Order,
@@ -121,7 +124,7 @@ pub fn decode_plain(
     ensures samples { IfOk result (λ samples. CarriesPlain width order area.now samples) }
     ensures count { IfOk result (λ samples. length samples ≡ count) }
 
-    // Running out of memory comes only where the area is long enough.
+    // Running out of memory comes only if the area is long enough.
     ensures short { IsErrOf result PlainFault.DataShort ↔ (length area.now < size_of width * count) }
 {
     let count = usize::from(count);

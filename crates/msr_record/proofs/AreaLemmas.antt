@@ -4,7 +4,6 @@ use Rattle.std.specs.Prelude.{All, slice_get, slice_index_or}
 use Rattle.std.specs.Int.{w16, w32}
 use Rattle.std.proofs.lemmas.Int.{ints}
 use Rattle.std.proofs.lemmas.List.Elements.{All-map, All-weaker, All-same}
-use Rattle.std.proofs.lemmas.List.{length-map}
 use Rattle.std.proofs.Math.Pow.{pow_mono}
 use Rattle.std.proofs.Common.{inl, inr}
 use Rattle.std.proofs.lemmas.Bool.{cases_lt}
@@ -19,6 +18,7 @@ use Rattle.msr_words.specs.Fit.{Fits}
 use Rattle.msr_words.specs.RecordLength.{least_exponent, most_exponent, words_of}
 use Rattle.msr_words.specs.Segment.{differences, points, points_after}
 use Rattle.msr_words.specs.declared.kinds.Kind.{Kind}
+use Rattle.msr_words.proofs.Runs.{length-points_before}
 
 -- the points of some samples have the samples
 after_samples : (before : ℤ) (xs : List ℤ) → map (λ (p : ℤ × ℤ). p.0) (points_after before xs) ≡ xs
@@ -29,10 +29,6 @@ pub points_samples : (before : Option ℤ) (xs : List ℤ) → map (λ (p : ℤ 
 points_samples None [] = refl
 points_samples None (x ∷ xs) = ap (λ (ys : List ℤ). x ∷ ys) (after_samples x xs)
 points_samples (Some before) xs = after_samples before xs
-
-pub length-points : (before : Option ℤ) (xs : List ℤ) → length (points before xs) ≡ length xs
-length-points before xs = sym (length-map (points before xs) (λ (p : ℤ × ℤ). p.0))
-    ∙ ap length (points_samples before xs)
 
 fits_16 : (z : ℤ) → FitsBits 16 z → FitsSigned w16 z
 fits_16 (pos n) h = omega (arith, ints, h)
@@ -79,7 +75,7 @@ differences_from_base (Some before) xs = after_differences before xs
 -- the header of a record can count the samples that fit it
 pub few_samples : (kind : Kind) (size : ℕ) (before : Option ℤ) (xs : List ℤ) → Fits kind size (points before xs)
     → length xs < 2 ^ 16
-few_samples kind size before xs fits = omega (arith, fits.0, length-points before xs)
+few_samples kind size before xs fits = omega (arith, fits.0, length-points_before before xs)
 
 -- a record's data area is whole frames
 pub whole_frames : (exponent : ℕ) → least_exponent ≤ exponent → exponent ≤ most_exponent

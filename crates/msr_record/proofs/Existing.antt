@@ -30,11 +30,12 @@ use Rattle.msr_words.specs.Segment.{differences, points}
 use Rattle.msr_words.specs.declared.kinds.Kind.{Kind}
 use Rattle.msr_words.specs.declared.kinds.Kind.TheVariants.{Int16, Int24, Int32, Steim1, Steim2}
 use Rattle.msr_words.proofs.DivisionsExist.{has_division}
+use Rattle.msr_words.proofs.Runs.{length-points_before}
 use Rattle.msr_record.specs.Area.{Carries, ReverseAgrees}
 use Rattle.msr_record.specs.Correction.{is_pending}
 use Rattle.msr_record.specs.Written.{AppendsRecord, AreFrames, AreNumbers, IsKey, IsWrittenArea, frame_count, header_for}
 use Rattle.msr_record.specs.declared.row.Key.{Key}
-use Rattle.msr_record.proofs.AreaLemmas.{all_16, all_24, few_samples, frames_carry, frames_end, length-points, room_for, whole_frames}
+use Rattle.msr_record.proofs.AreaLemmas.{all_16, all_24, few_samples, frames_carry, frames_end, room_for, whole_frames}
 use Rattle.msr_record.proofs.WritingLemmas.{appends_record}
 
 -- ---- the data area
@@ -119,14 +120,14 @@ area_of : (kind : Kind) (before : Option ℤ) (samples : List ℤ) (size : ℕ) 
     → HasArea kind before samples (size - 64)
 area_of Int16 before samples size power some fit fits =
     let n = numbers_of TwoBytes samples (size - 64) (all_16 before samples fits.1.0)
-    (omega (arith, fits.1.1, length-points before samples)) in
+    (omega (arith, fits.1.1, length-points_before before samples)) in
     record { frames = 0; area = n.area; is_area = n.are; long = n.long; carries = n.carries; agrees = tt }
 area_of Int24 before samples size power some fit fits =
     let n = numbers_of ThreeBytes samples (size - 64) (all_24 before samples fits.1.0)
-    (omega (arith, fits.1.1, length-points before samples)) in
+    (omega (arith, fits.1.1, length-points_before before samples)) in
     record { frames = 0; area = n.area; is_area = n.are; long = n.long; carries = n.carries; agrees = tt }
 area_of Int32 before samples size power some fit fits =
-    let n = numbers_of FourBytes samples (size - 64) fit (omega (arith, fits.1, length-points before samples)) in
+    let n = numbers_of FourBytes samples (size - 64) fit (omega (arith, fits.1, length-points_before before samples)) in
     record { frames = 0; area = n.area; is_area = n.are; long = n.long; carries = n.carries; agrees = tt }
 area_of Steim1 before samples size power some fit fits =
     let f = frames_of One before samples size power some fit fits.1 in

@@ -1,7 +1,6 @@
 -- Bytes begin with a record of one row, or are refused with one fault, and never both.
-use Rattle.std.proofs.Common.{◌≡◌, ◌≢◌, ℕ, ◌*◌, ◌^◌, ◌<◌, Bool, true, false, ℤ, pos, List, length, refl, sym, ap, ◌∙◌, arith, Option, Some, None, Ok, Err}
+use Rattle.std.proofs.Common.{◌≡◌, ◌≢◌, ℕ, ◌*◌, ◌^◌, ◌<◌, Bool, true, false, ℤ, List, length, refl, sym, ap, ◌∙◌, arith, Option, Some, None, Ok, Err}
 use Rattle.std.specs.Prelude.{◌↔◌, IsTrue, IfNone, IfSome}
-use Rattle.std.proofs.lemmas.List.{ext_get_or}
 use Rattle.msr_header.specs.Reading.{header_of}
 use Rattle.msr_header.specs.declared.header.Header.{Header}
 use Rattle.msr_base.specs.declared.order.Order.{Order}
@@ -12,6 +11,7 @@ use Rattle.msr_plain.specs.declared.Width.TheVariants.{Two as TwoBytes, Three as
 use Rattle.msr_steim.specs.Area.{CarriesSteim, EndsBefore, IsUndefinedBefore}
 use Rattle.msr_steim.specs.declared.word.Version.{Version}
 use Rattle.msr_steim.specs.declared.word.Version.TheVariants.{One, Two}
+use Rattle.msr_plain.proofs.CarriedLemmas.{carries_one as integers_one}
 use Rattle.msr_steim.proofs.OneOutcome.{carries_one, not_short, not_undefined, one_undefined, short_or_undefined}
 use Rattle.msr_record.specs.Kinds.{kind_of_code}
 use Rattle.msr_record.specs.Correction.{key_of, start_of}
@@ -26,11 +26,6 @@ use Rattle.msr_record.specs.declared.row.Record.{Record}
 use Rattle.msr_record.specs.declared.fault.FaultKind.{FaultKind}
 use Rattle.msr_record.specs.declared.fault.FaultKind.TheVariants.{Header as HeaderRefused, NoRate, OtherEncoding, BadDataOffset, DataShort, BadCode, TimeRange, ReverseMismatch, Memory}
 use Rattle.msr_record.proofs.HeaderFacts.{one_header, not_both}
-
-integers_one : (width : Width) (order : Order) (area : List ℕ) (xs ys : List ℤ) → CarriesPlain width order area xs
-    → CarriesPlain width order area ys → length xs ≡ length ys → xs ≡ ys
-integers_one width order area xs ys p q e = ext_get_or (pos 0) xs ys e
-    (λ i h. p.each i h ∙ sym (q.each i (omega (arith, h, e))))
 
 samples_one : (kind : Kind) (order : Order) (area : List ℕ) (xs ys : List ℤ) → Carries kind order area xs
     → Carries kind order area ys → length xs ≡ length ys → xs ≡ ys
@@ -126,7 +121,8 @@ faulty_by bytes g h kind kind' n fault e d c p =
     let q = rw c at p in
     rw (← e, ← d) q
 
-rows_equal : (row other : Row) → row.key ≡ other.key → row.start ≡ other.start → row.kind ≡ other.kind
+-- rows are equal when their fields are
+pub rows_equal : (row other : Row) → row.key ≡ other.key → row.start ≡ other.start → row.kind ≡ other.kind
     → row.samples ≡ other.samples → row ≡ other
 rows_equal row other k s d x =
     same_row row.key other.key row.start other.start row.kind other.kind row.samples other.samples k s d x
@@ -243,7 +239,7 @@ only_time bytes row fault p (by_fields q) = absurd (fields_not bytes p.header ro
 only_time bytes row fault p (by_area q) = absurd (row_not bytes row fault p q)
 only_time bytes row fault p (by_time e q) = (e, q)
 
--- and not where that is in range
+-- and not if that is in range
 row_passes : (bytes : List ℕ) (row : Row) (fault : FaultKind) → IsRowOf bytes row → RowIsInTime row
     → Stage bytes fault → ⊥
 row_passes bytes row fault p t s =

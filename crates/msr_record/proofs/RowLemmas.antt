@@ -91,7 +91,7 @@ second_true : (a b : Bool) → (a && b) ≡ true → b ≡ true
 second_true true b e = e
 second_true false b e = cc
 
--- where the fields have no fault, the data area begins within the record
+-- if the fields have no fault, the data area begins within the record
 pub begins_within : (h : Header) → has_area h ≡ true → h.data_at ≤ 2 ^ h.exponent
 begins_within h e = leb-true h.data_at (2 ^ h.exponent)
     (second_true (nat_le h.chain_end h.data_at) (nat_le h.data_at (2 ^ h.exponent)) e)

@@ -7,7 +7,7 @@ use Rattle.msr_record.specs.Records.{IsRowOf}
 use Rattle.msr_record.specs.declared.row.Row.{Row}
 use Rattle.msr_header.proofs.FoundLemmas.{header_sound}
 
--- where the bit is set nothing is pending
+-- if the bit is set nothing is pending
 set_bit : (activity : ℕ) (correction : ℤ) → is_pending (bit_or activity 2) correction ≡ false
 set_bit activity correction = rw (and_or_self 2 activity) refl
 

@@ -169,7 +169,7 @@ appends_record old new front area key start sequence before samples kind size ex
 
 -- ---- a record in its place
 
--- what stands after the header, where all after it was written
+-- what stands after the header, once all after it is written
 pub behind_header : (bytes area : List ℕ) → 64 ≤ length bytes
     → drop 64 (put_mid 64 (length bytes - 64) bytes area) ≡ area
 behind_header bytes area enough =

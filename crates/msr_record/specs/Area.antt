@@ -39,7 +39,7 @@ AreaHasFault Int32 order area count fault = IntegersHaveFault FourBytes area cou
 AreaHasFault Steim1 order area count fault = FramesHaveFault One order area count fault
 AreaHasFault Steim2 order area count fault = FramesHaveFault Two order area count fault
 
--- the last sample is the reverse constant, where the kind has one
+-- the last sample is the reverse constant, if the kind has one
 abbrev pub ReverseAgrees : Kind → Order → List ℕ → List ℤ → Type 0
 ReverseAgrees Int16 order area samples = Unit {0}
 ReverseAgrees Int24 order area samples = Unit {0}

@@ -20,7 +20,7 @@ abbrev pub correction_micros : ℕ → ℤ → ℤ
 correction_micros activity correction =
     if is_pending activity correction then pos 100 *ℤ correction else pos 0
 
--- the microseconds and the quality of blockette 1001, both 0 where there is none
+-- the microseconds and the quality of blockette 1001, both 0 if there is none
 abbrev pub timing_micros : Option Timing → ℤ
 timing_micros None = pos 0
 timing_micros (Some timing) = timing.micros

@@ -23,7 +23,7 @@ has_rate h = not (int_eq h.factor (pos 0)) && not (int_eq h.multiplier (pos 0))
 abbrev pub has_area : Header → Bool
 has_area h = nat_le h.chain_end h.data_at && nat_le h.data_at (2 ^ h.exponent)
 
--- the faults of the fields that samples need, in their order, each where its test fails
+-- the faults of the fields that samples need, in their order, each if its test fails
 unfoldable pub field_faults : Header → List (Option FaultKind)
 field_faults h =
     unless (has_rate h) NoRate
@@ -97,8 +97,8 @@ pub record IsOutOfTime (bytes : List ℕ) : Type 0 where
 
 -- The record that the bytes begin with is refused so, by itself. Each needs that those before it do not
 -- apply: first the header's, then those of the fields that samples need, then those of the data area, then
--- the time's. A reverse constant that does not agree refuses no record by itself, and running out of memory is no fault of
--- the bytes.
+-- the time's. A reverse constant that does not agree refuses no record by itself, and running out of memory is
+-- no fault of the bytes.
 abbrev pub IsRefused : List ℕ → FaultKind → Type 0
 IsRefused bytes (HeaderRefused fault) = header_of bytes ≡ Err fault
 IsRefused bytes NoRate = FieldsAreRefused bytes NoRate
@@ -110,7 +110,7 @@ IsRefused bytes TimeRange = IsOutOfTime bytes
 IsRefused bytes ReverseMismatch = ⊥
 IsRefused bytes Memory = ⊥
 
--- the last sample is the reverse constant of the record that the bytes begin with, where it has one
+-- the last sample is the reverse constant of the record that the bytes begin with, if it has one
 pub record AgreesAtEnd (bytes : List ℕ) (row : Row) : Type 0 where
   pub header : Header
   pub read : header_of bytes ≡ Ok header

@@ -1,5 +1,5 @@
--- Whether the last sample of a record is its reverse constant, whatever its time (SEED Reference Manual 2.4, appendix B:
--- the second constant of the first frame).
+-- Whether the last sample of a record is its reverse constant, whatever its time (SEED Reference Manual 2.4,
+-- appendix B: the second constant of the first frame).
 use Rattle.std.specs.Prelude.{◌≡◌, ◌≢◌, ◌↔◌, ℕ, Bool, List, Option, Ok, IsTrue, IfNone, IfSome}
 use Rattle.msr_header.specs.Reading.{header_of}
 use Rattle.msr_header.specs.declared.header.Header.{Header}
@@ -8,8 +8,8 @@ use Rattle.msr_record.specs.declared.row.Row.{Row}
 use Rattle.msr_record.specs.declared.fault.FaultKind.{FaultKind}
 use Rattle.msr_record.specs.declared.fault.FaultKind.TheVariants.{TimeRange}
 
--- No fault but that of its time refuses the record that the bytes begin with, and this says whether its reverse constant
--- agrees; a record without samples has none, and agrees.
+-- No fault but that of its time refuses the record that the bytes begin with, and this says whether its reverse
+-- constant agrees; a record without samples has none, and agrees.
 pub record HasReverse (bytes : List ℕ) (agrees : Bool) : Type 0 where
   pub header : Header
   pub read : header_of bytes ≡ Ok header

@@ -54,7 +54,7 @@ header_for key time micros sequence count kind exponent frames = record {
 }
 
 -- The frame count of blockette 1001, for so many data words: the frames that these and the two constants
--- need, of fifteen words each beside their codes, or 0 where a byte does not hold the number.
+-- need, of fifteen words each beside their codes, or 0 if a byte does not hold the number.
 abbrev pub frame_count : ℕ → ℕ
 frame_count words = let frames = (words + 2 + 14) / 15 in if nat_le frames 255 then frames else 0
 

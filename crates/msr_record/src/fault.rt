@@ -3,8 +3,8 @@ use msr_header::HeaderFault;
 use thiserror::Error;
 
 /// Why a record is refused: the first of these that applies. Those of the header come first, then
-/// `NoRate`, `OtherEncoding`, `BadDataOffset`, then `DataShort` or `BadCode`, then `ReverseMismatch` where the reader is
-/// strict, then `TimeRange`.
+/// `NoRate`, `OtherEncoding`, `BadDataOffset`, then `DataShort` or `BadCode`, then `ReverseMismatch` if the reader
+/// is strict, then `TimeRange`.
 #[derive(Clone, Copy, Debug, PartialEq, Eq, Error)]
 pub enum FaultKind {
     /// The header has this fault.

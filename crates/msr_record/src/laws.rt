@@ -24,8 +24,8 @@ pub fn one_answer()
         → IsRefused bytes fault → ⊥ }
 {}
 
-/// Bytes say one thing of the reverse constant of the record that they begin with, be it in time or not: what the record
-/// says, where it is read. They say nothing where another fault than that of its time refuses it.
+/// Bytes say one thing of the reverse constant of the record that they begin with, be it in time or not: what the
+/// record says, if it is read. They say nothing if another fault than that of its time refuses it.
 pub fn one_reverse()
     ensures one { (bytes : List ℕ) (agrees other : Bool) → HasReverse bytes agrees → HasReverse bytes other
         → agrees ≡ other }
@@ -33,8 +33,8 @@ pub fn one_reverse()
     ensures not_both { (bytes : List ℕ) (agrees : Bool) → HasReverse bytes agrees → IsRefusedBeforeTime bytes → ⊥ }
 {}
 
-/// A record's own bytes decide: where as many bytes as it has are the same, all that is read of it is
-/// the same, whatever stands after them and also where nothing does.
+/// A record's own bytes decide: if as many bytes as it has are the same, all that is read of it is
+/// the same, whatever stands after them and also if nothing does.
 pub fn own_bytes_decide()
     ensures found { (bytes others : List ℕ) (found : Record) → IsRecordOf bytes found
         → take found.length others ≡ take found.length bytes → IsRecordOf others found }

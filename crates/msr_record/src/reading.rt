@@ -1,5 +1,5 @@
 //! Reading a record.
-ghost use Rattle.std.specs.Prelude.{take, ◌≡◌, ◌≢◌, ◌↔◌, IsTrue, ◌≤◌, ◌^◌, Some, None, true, false, length, vec_len, MatchResult, IfOk, IfErr, IfSome, IsSome, OnErr, OnOk, IsErrOf, Ok, pos, ◌+ℤ◌, ◌*ℤ◌};
+ghost use Rattle.std.specs.Prelude.{take, ◌≡◌, ◌≢◌, ◌↔◌, IsTrue, ◌≤◌, Some, None, true, false, length, MatchResult, IfOk, IfErr, IfSome, IsSome, OnErr, OnOk, IsErrOf, Ok};
 ghost use Rattle.msr_time.specs.Instant.{IsTime};
 ghost use Rattle.msr_header.specs.Reading.{header_of};
 ghost use Rattle.msr_record.specs.Kinds.{kind_of_code};
@@ -11,7 +11,7 @@ ghost use Rattle.msr_record.specs.Opening.{IsOpened};
 use crate::area::decode_area;
 use crate::fault::FaultKind;
 use crate::row::{Key, Record, Row};
-use msr_header::{Header, Timing, read_header};
+use msr_header::{Header, Timing, read_header, record_length};
 use msr_time::{Rate, is_instant};
 use msr_words::Kind;
 use std::alloc::Global;
@@ -99,14 +99,6 @@ fn key_of(header: &Header, rate: Rate) -> Key
     }
 }
 
-/// The number of bytes of a record with that exponent.
-fn record_length(exponent: u8) -> u32
-    requires { exponent ≤ 20 }
-    ensures { result ≡ 2 ^ exponent }
-{
-    1 << exponent
-}
-
 /// Whether the data area begins after the blockettes and within the record.
 fn has_area(header: &Header) -> bool
     requires { header.now.exponent ≤ 20 }
@@ -116,7 +108,7 @@ fn has_area(header: &Header) -> bool
     header.chain_end <= data_at && data_at <= record_length(header.exponent)
 }
 
-/// The rate and the kind of samples, where the fields have no fault.
+/// The rate and the kind of samples, if the fields have no fault.
 fn read_fields(header: &Header) -> Result<(Rate, Kind), FaultKind>
     requires { header.now.exponent ≤ 20 }
     ensures fields { MatchResult result
@@ -153,9 +145,11 @@ fn is_in_time(rate: &Rate, start: i64, count: u16) -> bool
 /// A record whose header and fields have no fault.
 #[derive(Clone, Copy, Debug)]
 pub(crate) struct Opened {
+    /// Its header.
     pub header: Header,
+    /// How many bytes it has.
     pub length: u32,
-    /// The rate and the kind of its samples, where it has any.
+    /// The rate and the kind of its samples, if it has any.
     pub fields: Option<(Rate, Kind)>,
 }
 
@@ -191,7 +185,7 @@ pub(crate) fn area_of<'a>(opened: &Opened, rest: &'a [u8]) -> &'a [u8]
     &rest[opened.header.data_at as usize..opened.length as usize]
 }
 
-/// The key of a record with samples, and the instant of the first, where the first and the last are in
+/// The key of a record with samples, and the instant of the first, if the first and the last are in
 /// time.
 pub(crate) fn place_in_time(header: &Header, rate: Rate) -> Result<(Key, i64), FaultKind>
     requires factor { rate.factor ≡ header.now.factor }
@@ -254,7 +248,7 @@ pub fn decode_record(alloc: Global, rest: &[u8]) -> Result<Record, FaultKind>
     ensures refused { IfErr result (λ fault. fault ≢ FaultKind.Memory → IsRefused rest.now fault) }
     ensures count { IfOk result (λ found. IfSome found.row (λ row. length row.samples ≤ 65_535)) }
 
-    // Running out of memory comes only where no field of the record has a fault.
+    // Running out of memory comes only if no field of the record has a fault.
     ensures memory { IsErrOf result FaultKind.Memory → TakesMemory rest.now }
 
     // The first bytes decide.

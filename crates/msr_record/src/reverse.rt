@@ -6,7 +6,7 @@ use crate::reading::{area_of, open_record};
 use crate::samples::view_area;
 
 /// Whether the last sample of the record that the bytes begin with is its reverse constant, as `Record` says, or would
-/// say of one that is out of time; `None` where another fault refuses it. Takes no memory.
+/// say of one that is out of time; `None` if another fault refuses it. Takes no memory.
 pub fn reverse_in(rest: &[u8]) -> Option<bool>
     ensures some { IfSome result (HasReverse rest.now) }
     ensures none { IfNone result (IsRefusedBeforeTime rest.now) }

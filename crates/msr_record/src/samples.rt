@@ -14,6 +14,7 @@ use msr_words::Kind;
 use std::alloc::AllocError;
 use std::marker::Model;
 
+/// The samples that are left, by how they are stored.
 #[derive(Debug, Drop)]
 enum Numbers<'a> {
     Plain(PlainSamples<'a>),
@@ -49,6 +50,7 @@ impl<'a> Samples<'a> {
         }
     }
 
+    /// The same samples again.
     pub(crate) fn copy(&self) -> Samples<'a>
         ensures { result ≡ self.now }
     {

@@ -56,7 +56,7 @@ impl<'a> RecordView<'a> {
         &self.header
     }
 
-    /// Its data area, from the beginning of data to the record's end; empty where it has no samples.
+    /// Its data area, from the beginning of data to the record's end; empty if it has no samples.
     pub fn area(&self) -> &'a [u8]
         ensures { result.now ≡ self.now.area }
     {
@@ -66,7 +66,7 @@ impl<'a> RecordView<'a> {
         }
     }
 
-    /// Its key and the instant of its first sample, where it has samples.
+    /// Its key and the instant of its first sample, if it has samples.
     pub fn place(&self) -> Option<(Key, i64)>
         ensures { result ≡ place_of self.now.found.row }
     {

@@ -1,18 +1,14 @@
 //! The data area of a written record.
-ghost use Rattle.std.specs.Prelude.{◌≡◌, ◌+◌, ◌-◌, ◌*◌, ◌/◌, ◌%◌, ◌^◌, ◌<◌, ◌≤◌, ◌++◌, ◌∷◌, ℤ, pos, List, Some, All, FitsSigned, IfOk, OnOk, length, map, slice_index_or};
+ghost use Rattle.std.specs.Prelude.{◌≡◌, ◌-◌, ◌^◌, ◌<◌, ◌≤◌, All, FitsSigned, IfOk, OnOk, length};
 ghost use Rattle.std.specs.Int.{w32};
-ghost use Rattle.msr_plain.specs.Plain.{CarriesPlain, FitsWidth, size_of};
 ghost use Rattle.msr_steim.specs.Area.{CarriesSteim, ReverseAgrees as FramesAgree};
-ghost use Rattle.msr_steim.specs.Frames.{frame_bytes};
-ghost use Rattle.msr_steim.specs.Word.{AreGroups};
-ghost use Rattle.msr_words.specs.Canonical.{IsCanonicalDivision};
 ghost use Rattle.msr_words.specs.Division.{CanDivide};
 ghost use Rattle.msr_words.specs.Fit.{Fits};
 ghost use Rattle.msr_words.specs.RecordLength.{words_of};
 ghost use Rattle.msr_words.specs.Lengths.{bytes_of};
 ghost use Rattle.msr_words.specs.Segment.{differences, points};
 ghost use Rattle.msr_record.specs.Area.{Carries, ReverseAgrees};
-ghost use Rattle.msr_record.specs.Written.{AreFrames, AreNumbers, IsWrittenArea, frame_count};
+ghost use Rattle.msr_record.specs.Written.{AreFrames, IsWrittenArea, frame_count};
 
 use msr_header::Order;
 use msr_plain::{Width, fill_plain};

@@ -137,7 +137,7 @@ module _ (version : Version) (order : Order) (area : List ℕ) (number count lef
   length-all : length all ≡ length passed.samples + next.place
   length-all = length-append passed.samples sums ∙ ap (λ n. length passed.samples + n) length-sums
 
-  -- the last sample, where the word has one
+  -- the last sample, if the word has one
   last_new : 0 < next.place → next.last ≡ get_or all (length all - 1) (pos 0)
   last_new some =
       let place : length all - 1 ≡ length passed.samples + (next.place - 1) = omega (arith, length-all, some) in
@@ -147,7 +147,7 @@ module _ (version : Version) (order : Order) (area : List ℕ) (number count lef
       ∙ sym (get_or-append-add passed.samples sums (next.place - 1) (pos 0))
       ∙ ap (λ k. get_or all k (pos 0)) (sym place)
 
-  -- and where it has none
+  -- and if it has none
   last_kept : next ≡ at → 0 < length all → next.last ≡ get_or all (length all - 1) (pos 0)
   last_kept same some =
       let none : next.place ≡ 0 = ap (λ (p : Place). p.place) same ∙ looked.zeroth in

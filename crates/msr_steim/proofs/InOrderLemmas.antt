@@ -1,15 +1,12 @@
 -- The samples of an area in order are those that it carries.
-use Rattle.std.proofs.Common.{◌≡◌, ◌<◌, ◌≤◌, ℕ, zero, suc, ◌+◌, ◌-◌, ◌*◌, ◌/◌, ◌%◌, ◌^◌, ℤ, pos, ◌+ℤ◌, List, [], ◌∷◌, ◌++◌, length, take, get_or, refl, sym, ap, ◌∙◌, subst, arith, w32, to_z, of_z, SFits, Some, lit<}
+use Rattle.std.proofs.Common.{◌≡◌, ◌<◌, ◌≤◌, ℕ, zero, suc, ◌+◌, ◌-◌, ◌*◌, ◌/◌, ◌%◌, ◌^◌, ℤ, pos, ◌+ℤ◌, List, [], ◌∷◌, ◌++◌, length, take, get_or, refl, sym, ap, ◌∙◌, subst, arith, w32, to_z, of_z, SFits, lit<}
 use Rattle.std.specs.Int.{int_wrap}
-use Rattle.std.specs.Iterator.{MakesProgress, item_count}
-use Rattle.std.specs.Prelude.{⊤}
 use Rattle.std.proofs.Math.Nat.{pow-zero, mod-lt}
 use Rattle.msr_base.specs.declared.order.Order.{Order}
 use Rattle.msr_steim.specs.declared.borrowed.Fields.{Fields}
 use Rattle.msr_steim.specs.declared.word.Version.{Version}
 use Rattle.msr_steim.specs.Area.{IsUndefined, arranged_word, code_of, samples_of, sums_after, word_count}
 use Rattle.msr_steim.specs.InOrder.{HasFields, differences_from, differences_of, numbers_of, word_differences}
-use Rattle.msr_steim.specs.Left.{SamplesLeft}
 use Rattle.msr_steim.specs.Word.{AreFields, numbers_in, signed_of}
 use Rattle.msr_steim.proofs.Reading.{first_sums}
 use Rattle.msr_steim.proofs.Shifts.{are_fields}
@@ -102,24 +99,6 @@ begins_so first difference ds constant_is same some is_first fits fits_too =
     (first_sums first ds ds refl some fits (subst (SFits w32) (sym is_first) fits_too)))
 
 -- ---- one call of `next`
-
--- a call that gave the first difference
-pub difference_given : (s t : List ℤ) (x : ℤ) → s ≡ x ∷ t
-    → MakesProgress (λ _. ⊤) (item_count {A = ℤ} (λ left. left)) s (Some x) t
-difference_given s t x e = record {
-  on = λ _. (tt, tt, subst (λ l. length t < length l) (sym e) (omega arith));
-  keeps = tt;
-  rests = λ _. tt;
-}
-
--- a call that gave the first sample
-pub sample_given : (s t : SamplesLeft) (x : ℤ) → s.samples ≡ x ∷ t.samples
-    → MakesProgress (λ _. ⊤) (item_count {A = ℤ} (λ (left : SamplesLeft). left.samples)) s (Some x) t
-sample_given s t x e = record {
-  on = λ _. (tt, tt, subst (λ l. length t.samples < length l) (sym e) (omega arith));
-  keeps = tt;
-  rests = λ _. tt;
-}
 
 -- the first sum, and those after it
 pub first_sum : (before : ℤ) (ds rest : List ℤ) (d : ℤ) (left : ℕ) → 0 < left → ds ≡ d ∷ rest

@@ -12,7 +12,7 @@ use Rattle.msr_steim.specs.Word.{AreFields, FitsBits, Holds, IsUndefinedWord, la
 use Rattle.std.proofs.Math.Nat.{pow-zero, pow-suc}
 use Rattle.msr_steim.proofs.Fields.{power_is_half, joined_fields_lt, pow_pow}
 
--- a field has some bits, where there is one
+-- a field has some bits, if there is one
 unfoldable pub HasBits : WordLayout → Type 0
 HasBits d = 0 < d.count → 0 < d.width
 

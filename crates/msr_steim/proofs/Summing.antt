@@ -99,7 +99,7 @@ pub divided : (version other : Version) (code top c t : ℕ) → version ≡ oth
 divided version other code top c t e f g = ap (λ v. layout_of v code top) e ∙ ap (λ n. layout_of other n top) f
     ∙ ap (layout_of other c) g
 
--- a word that is divided so was written
+-- a word that is laid out so was written
 pub group_written : (version : Version) (code word : ℕ) (at : Place) (old new : List ℤ) (next : Place) (count width : ℕ)
     → layout_of version code (word / 2 ^ 30) ≡ Some (record { count = count; width = width }) → 0 < width
     → next.place ≤ length old
@@ -122,7 +122,7 @@ pub divided_by : (version : Version) (code word key : ℕ) → version ≡ Two �
 divided_by version code word key e small key_is =
     divided version Two code (word / 1073741824) (key / 4) (key % 4) e (omega arith) (omega arith)
 
--- and a place is left after it, where it was written whole
+-- and a place is left after it, if it was written whole
 pub inner_group_written : (version : Version) (code word : ℕ) (at : Place) (old new : List ℤ) (count width : ℕ)
     (result : Option Place)
     → layout_of version code (word / 2 ^ 30) ≡ Some (record { count = count; width = width }) → 0 < count → 0 < width

@@ -27,38 +27,41 @@ word_holds version code top fields count width word zs is same number all spelle
           (λ d. IfSome d (λ d. word % 2 ^ 30 < 2 ^ (d.count * d.width))) (sym divided) others,
     )
 
--- the word that the row and the fields of a group make
-pub layout_word : (version : Version) (zs : List ℤ) (row : GroupLayout) (fields word : ℕ) → IsLayoutFor version (length zs) row
-    → AllByRecursion (FitsBits row.width) zs → fields ≡ joined_fields row.width zs
-    → word ≡ row.top * 1073741824 % 4294967296 + fields * 2 ^ (row.padding * row.width) % 4294967296
-    → (word < 2 ^ 32) × Holds version row.code word (as_read version zs) × HasNoOtherBits version row.code word
-    × (word ≡ row.top * 2 ^ 30 + joined_fields row.width (as_read version zs))
-layout_word version zs row fields word is all spelled same =
-    let spelling = fields * 2 ^ (row.padding * row.width) in
-    let read : as_read version zs ≡ zs ++ replicate row.padding (pos 0) =
+-- the word that the layout and the fields of a group make
+pub layout_word : (version : Version) (zs : List ℤ) (layout : GroupLayout) (fields word : ℕ)
+    → IsLayoutFor version (length zs) layout
+    → AllByRecursion (FitsBits layout.width) zs → fields ≡ joined_fields layout.width zs
+    → word ≡ layout.top * 1073741824 % 4294967296 + fields * 2 ^ (layout.padding * layout.width) % 4294967296
+    → (word < 2 ^ 32) × Holds version layout.code word (as_read version zs) × HasNoOtherBits version layout.code word
+    × (word ≡ layout.top * 2 ^ 30 + joined_fields layout.width (as_read version zs))
+layout_word version zs layout fields word is all spelled same =
+    let spelling = fields * 2 ^ (layout.padding * layout.width) in
+    let read : as_read version zs ≡ zs ++ replicate layout.padding (pos 0) =
     ap (λ p. zs ++ replicate p (pos 0)) (sym is.padding) in
-    let zeros : joined_fields row.width (zs ++ replicate row.padding (pos 0))
-    ≡ joined_fields row.width zs * 2 ^ (row.padding * row.width) = joined_fields_zeros row.width row.padding zs in
-    let spelled_so : spelling ≡ joined_fields row.width (as_read version zs) =
-    ap (λ n. n * 2 ^ (row.padding * row.width)) spelled ∙ sym zeros ∙ ap (joined_fields row.width) (sym read) in
-    let fit : AllByRecursion (FitsBits row.width) (as_read version zs) =
-    subst (AllByRecursion (FitsBits row.width)) (sym read) (all_fit_zeros row.width row.padding zs all) in
-    let number : length (as_read version zs) ≡ length zs + row.padding = ap length read
-    ∙ length-append zs (replicate row.padding (pos 0))
-    ∙ ap (λ n. length zs + n) (length-replicate row.padding (pos 0)) in
-    let bound : joined_fields row.width (as_read version zs) < 2 ^ (length (as_read version zs) * row.width) =
-    joined_fields_lt row.width (as_read version zs) is.positive fit in
-    let few : spelling < 2 ^ ((length zs + row.padding) * row.width) = rw (spelled_so, ← number) bound in
+    let zeros : joined_fields layout.width (zs ++ replicate layout.padding (pos 0))
+    ≡ joined_fields layout.width zs * 2 ^ (layout.padding * layout.width) =
+    joined_fields_zeros layout.width layout.padding zs in
+    let spelled_so : spelling ≡ joined_fields layout.width (as_read version zs) =
+    ap (λ n. n * 2 ^ (layout.padding * layout.width)) spelled ∙ sym zeros
+    ∙ ap (joined_fields layout.width) (sym read) in
+    let fit : AllByRecursion (FitsBits layout.width) (as_read version zs) =
+    subst (AllByRecursion (FitsBits layout.width)) (sym read) (all_fit_zeros layout.width layout.padding zs all) in
+    let number : length (as_read version zs) ≡ length zs + layout.padding = ap length read
+    ∙ length-append zs (replicate layout.padding (pos 0))
+    ∙ ap (λ n. length zs + n) (length-replicate layout.padding (pos 0)) in
+    let bound : joined_fields layout.width (as_read version zs) < 2 ^ (length (as_read version zs) * layout.width) =
+    joined_fields_lt layout.width (as_read version zs) is.positive fit in
+    let few : spelling < 2 ^ ((length zs + layout.padding) * layout.width) = rw (spelled_so, ← number) bound in
     let made = is.words spelling few in
-    let sum : word ≡ row.top * 2 ^ 30 + spelling = omega (arith, made.small) in
-    let holds = word_holds version row.code row.top spelling (length zs + row.padding) row.width word
+    let sum : word ≡ layout.top * 2 ^ 30 + spelling = omega (arith, made.small) in
+    let holds = word_holds version layout.code layout.top spelling (length zs + layout.padding) layout.width word
     (as_read version zs) made sum number fit spelled_so in
-    (omega (arith, made.small), holds.0, holds.1, sum ∙ ap (λ n. row.top * 2 ^ 30 + n) spelled_so)
+    (omega (arith, made.small), holds.0, holds.1, sum ∙ ap (λ n. layout.top * 2 ^ 30 + n) spelled_so)
 
 -- the same word by the tables
-pub group_word_is : (version : Version) (zs : List ℤ) (row : GroupLayout) (word : ℕ)
-    → group_width version (length zs) ≡ Some row.width → group_top version (length zs) ≡ row.top
-    → word ≡ row.top * 2 ^ 30 + joined_fields row.width (as_read version zs) → word ≡ group_word version zs
-group_word_is version zs row word width top same =
-    same ∙ ap (λ t. t * 2 ^ 30 + joined_fields row.width (as_read version zs)) (sym top)
+pub group_word_is : (version : Version) (zs : List ℤ) (layout : GroupLayout) (word : ℕ)
+    → group_width version (length zs) ≡ Some layout.width → group_top version (length zs) ≡ layout.top
+    → word ≡ layout.top * 2 ^ 30 + joined_fields layout.width (as_read version zs) → word ≡ group_word version zs
+group_word_is version zs layout word width top same =
+    same ∙ ap (λ t. t * 2 ^ 30 + joined_fields layout.width (as_read version zs)) (sym top)
     ∙ ap (λ w. group_top version (length zs) * 2 ^ 30 + joined_fields (unwrap_or w 0) (as_read version zs)) (sym width)

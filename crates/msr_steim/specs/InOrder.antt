@@ -7,12 +7,12 @@ use Rattle.msr_steim.specs.declared.word.Version.{Version}
 use Rattle.msr_steim.specs.Area.{CarriesSteim, ReverseAgrees, arranged_word, code_of, constant, samples_of, sums_after, word_count}
 use Rattle.msr_steim.specs.Word.{layout_of, numbers_in}
 
--- the numbers in the fields of a word that is divided so; an undefined word has none
+-- the numbers in the fields of a word that is laid out so; an undefined word has none
 abbrev pub numbers_of : Option WordLayout → ℕ → List ℤ
 numbers_of None word = []
 numbers_of (Some layout) word = numbers_in word layout.width layout.count
 
--- how the word with this number is divided
+-- how the word with this number is laid out
 abbrev pub word_layout : Version → Order → List ℕ → ℕ → Option WordLayout
 word_layout version order area number =
     layout_of version (code_of order area number)

@@ -23,7 +23,7 @@ pub record IsGroupWritten (word count width : ℕ) (at : Place) (old new : List 
       (take at.place old ++ sums_after at.last (numbers_in word width count))
   pub last : next.last ≡ slice_index_or new (next.place - 1) (pos 0)
 
--- the samples of a word were written, and a place is left after them; where there are none, nothing has changed
+-- the samples of a word were written, and a place is left after them; if there are none, nothing has changed
 pub record IsInnerWritten (version : Version) (code word : ℕ) (at : Place) (old new : List ℤ)
     (next : Place) : Type 0 where
   pub written : IsWritten version code word at old new next

@@ -31,8 +31,8 @@ numbers_in word width (suc below) = signed_of width
 abbrev pub joined_fields : ℕ → List ℤ → ℕ
 joined_fields width numbers = number_from_digits (2 ^ width) (map (twos_complement width) numbers)
 
--- How a word with this code and these top two bits (in Steim-2 the manual's decode nibble) is divided
--- into fields of equal width, by the tables of appendix B. Code 0 has no field. A pair that is not in
+-- How a word with this code and these top two bits (in Steim-2 the manual's decode nibble) is laid out
+-- in fields of equal width, by the tables of appendix B. Code 0 has no field. A pair that is not in
 -- the table has no layout.
 abbrev pub layout_of : Version → ℕ → ℕ → Option WordLayout
 layout_of One code top =
@@ -126,7 +126,7 @@ group_code Two n =
     else if n == 4 then 1 else if n == 5 then 3 else if n == 6 then 3
     else if n == 7 then 3 else 0
 
--- the top two bits of the word of a group of so many differences, where they are no part of its fields
+-- the top two bits of the word of a group of so many differences, if they are no part of its fields
 abbrev pub group_top : Version → ℕ → ℕ
 group_top One n = 0
 group_top Two n =
@@ -148,11 +148,11 @@ pub record IsWordOf (version : Version) (code top fields count width : ℕ) : Ty
   pub lowest : (top * 2 ^ 30 + fields) % 2 ^ (count * width) ≡ fields
   pub others : (top * 2 ^ 30 + fields) % 2 ^ 30 < 2 ^ (count * width)
 
--- the row of the table for a group of `count` differences: whatever the fields are, the word is read so
-pub record IsLayoutFor (version : Version) (count : ℕ) (row : GroupLayout) : Type 0 where
-  pub code : row.code < 4
-  pub padding : row.padding ≡ padding_of version count
-  pub positive : 0 < row.width
-  pub within : (count + row.padding) * row.width ≤ 32
-  pub words : (fields : ℕ) → fields < 2 ^ ((count + row.padding) * row.width)
-      → IsWordOf version row.code row.top fields (count + row.padding) row.width
+-- the layout of a group of `count` differences: whatever the fields are, the word is read so
+pub record IsLayoutFor (version : Version) (count : ℕ) (layout : GroupLayout) : Type 0 where
+  pub code : layout.code < 4
+  pub padding : layout.padding ≡ padding_of version count
+  pub positive : 0 < layout.width
+  pub within : (count + layout.padding) * layout.width ≤ 32
+  pub words : (fields : ℕ) → fields < 2 ^ ((count + layout.padding) * layout.width)
+      → IsWordOf version layout.code layout.top fields (count + layout.padding) layout.width

@@ -16,6 +16,7 @@ use thiserror::Error;
 /// What a data area carries.
 #[derive(Debug, Drop, PartialEq, Eq)]
 pub struct Decoded {
+    /// The samples, in order.
     pub samples: Samples,
     /// Whether the last sample is the reverse constant.
     pub reverse_agrees: bool,
@@ -103,7 +104,7 @@ pub(crate) fn is_last(samples: &[i32], sample: i32) -> bool
     samples.last().copied() == Some(sample)
 }
 
-/// Reads word after word until `out` is full. Inlined where version and order are literals, each word is
+/// Reads word after word until `out` is full. Inlined with literals for version and order, each word is
 /// read without a test of them.
 #[inline(always)]
 fn decode_words(
@@ -177,7 +178,7 @@ pub fn decode_steim_into(
     }
 }
 
-/// The first `count` samples that the area carries, by `decode_steim_into`. Where memory is not refused,
+/// The first `count` samples that the area carries, by `decode_steim_into`. If memory is not refused,
 /// there is one outcome: `one_outcome`.
 pub fn decode_steim(
     alloc: Global,

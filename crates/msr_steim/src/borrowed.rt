@@ -1,6 +1,6 @@
 //! The samples of a data area of Steim frames, one after the other, without memory.
 
-ghost use Rattle.std.specs.Prelude.{◌≡◌, ◌<◌, ◌≤◌, ◌↔◌, ◌++◌, ◌-◌, ◌*◌, ◌/◌, ◌%◌, ◌^◌, ℕ, ℤ, List, ⊤, IfOk, IfSome, IsErrOf, IsNone, IsSome, IsTrue, [], length};
+ghost use Rattle.std.specs.Prelude.{◌≡◌, ◌<◌, ◌≤◌, ◌↔◌, ◌++◌, ◌-◌, ◌*◌, ◌/◌, ◌%◌, ◌^◌, ℕ, ℤ, List, ⊤, IfOk, IfSome, IsErrOf, IsNone, IsTrue, [], length};
 ghost use Rattle.std.specs.Iterator.{YieldsFirst, item_count};
 ghost use Rattle.msr_steim.specs.Area.{CarriesSteim, EndsBefore, IsUndefined, IsUndefinedBefore, ReverseAgrees, code_of, word_count};
 ghost use Rattle.msr_steim.specs.InOrder.{BeginsAfter, HasFields, differences_from};
@@ -95,7 +95,7 @@ fn code_at(order: Order, area: &[u8], number: usize) -> u8
     code_in(whole_word_at(order, area, number / 16 * 16), number % 16)
 }
 
-/// The fields of the word with this number, or `None` where it is undefined.
+/// The fields of the word with this number, or `None` if it is undefined.
 #[inline(always)]
 fn fields_at(version: Version, order: Order, area: &[u8], number: usize) -> Option<Fields>
     requires { number < word_count area.now }

@@ -1,6 +1,6 @@
 //! Whether an area carries so many samples, told without memory for them.
 
-ghost use Rattle.std.specs.Prelude.{◌≡◌, ◌≤◌, ℕ, IfOk, IsErrOf, length};
+ghost use Rattle.std.specs.Prelude.{◌≤◌, ℕ, IfOk, IsErrOf, length};
 ghost use Rattle.msr_steim.specs.Area.{EndsBefore, IsUndefinedBefore};
 ghost use Rattle.msr_steim.specs.InOrder.{HasSamples};
 
@@ -10,8 +10,8 @@ use crate::sums::{Place, write_inner_word};
 use crate::word::Version;
 use msr_base::Order;
 
-/// Reads word after word until `count` samples were there, and holds those of one word. Inlined where
-/// version and order are literals, each word is read without a test of them.
+/// Reads word after word until `count` samples were there, and holds those of one word. Inlined with
+/// literals for version and order, each word is read without a test of them.
 #[inline(always)]
 fn check_words(version: Version, order: Order, area: &[u8], count: u16) -> Result<bool, SteimFault>
     requires some { 1 ≤ count }

@@ -11,7 +11,7 @@ ghost use Rattle.msr_steim.specs.Frames.{code_in, codes_word, differences_after,
 use crate::word::{Group, Version, layout_of_group, write_word};
 use byteorder::{BigEndian, ByteOrder};
 
-/// The group in the word with this number, where it has one.
+/// The group in the word with this number, if it has one.
 fn group_in(groups: &[Group], number: usize) -> Option<&Group>
     ensures { MatchOption result
         (group_in (map (λ g. g.items) groups.now) number ≡ [])
@@ -32,7 +32,7 @@ fn code_in(version: Version, groups: &[Group], number: usize) -> u8
         return 0;
     };
     match layout_of_group(version, group.len()) {
-        Some(row) => row.code,
+        Some(layout) => layout.code,
         None => 0,
     }
 }
@@ -97,7 +97,7 @@ pub fn fill_steim(version: Version, first: i32, last: i32, groups: &[Group], are
 
 /// An area that is filled with the groups of some samples' differences, and with the first of these
 /// samples, carries the samples, whatever the first difference is. Its reverse constant is the one
-/// that was given, so it agrees where that is the last sample.
+/// that was given, so it agrees if that is the last sample.
 pub fn filled_area_carries()
     ensures samples { (version : Version) (before last : ℤ) (groups : List (List ℤ)) (samples : List ℤ) (frames : ℕ)
         → AreGroups version groups → length groups + 2 ≤ 15 * frames

@@ -7,16 +7,17 @@ ghost use Rattle.msr_steim.specs.Word.{IsUndefinedWord, numbers_in};
 
 use crate::word::{Version, difference_at, layout_for};
 
-/// How far the samples are written: the next sample's place, and the sample that its difference is added
-/// to.
+/// How far the samples are written.
 #[derive(Clone, Copy, Debug, PartialEq, Eq)]
 pub(crate) struct Place {
+    /// The next sample's place.
     pub place: usize,
+    /// The sample that the next one's difference is added to.
     pub last: i32,
 }
 
-/// Fills `out` with the sums of the first fields of a word. Inlined where count, width and length are
-/// literals, no loop is left.
+/// Fills `out` with the sums of the first fields of a word. Inlined with literals for count, width and length,
+/// no loop is left.
 #[inline(always)]
 fn write_sums(word: u32, count: u32, width: u32, before: i32, out: &mut [i32]) -> i32
     requires positive { 0 < width }
@@ -34,7 +35,7 @@ fn write_sums(word: u32, count: u32, width: u32, before: i32, out: &mut [i32]) -
     last
 }
 
-/// Writes the samples of a word that is divided so, where a place is left after them. Else nothing is written.
+/// Writes the samples of a word that is laid out so, if a place is left after them. Else nothing is written.
 #[inline(always)]
 fn write_group(word: u32, count: u32, width: u32, at: Place, out: &mut [i32]) -> Option<Place>
     requires some { 0 < count }
@@ -54,7 +55,7 @@ fn write_group(word: u32, count: u32, width: u32, at: Place, out: &mut [i32]) ->
     Some(Place { place: end, last })
 }
 
-/// Writes the samples of a word, where a place is left after them. Else nothing is written: the word reaches the end,
+/// Writes the samples of a word, if a place is left after them. Else nothing is written: the word reaches the end,
 /// or it is undefined. The word is as a big-endian frame has it.
 #[inline(always)]
 pub(crate) fn write_inner_word(
@@ -101,7 +102,7 @@ pub(crate) fn write_inner_word(
     }
 }
 
-/// Writes the samples of a word, as far as there are places, or gives `None` where it is undefined. The
+/// Writes the samples of a word, as far as there are places, or gives `None` if it is undefined. The
 /// word is as a big-endian frame has it.
 #[cold]
 #[inline(never)]

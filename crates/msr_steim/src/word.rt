@@ -11,27 +11,34 @@ use thiserror::Error;
 /// The version of the compression: SEED's encodings 10 (Steim-1) and 11 (Steim-2).
 #[derive(Clone, Copy, Debug, PartialEq, Eq)]
 pub enum Version {
+    /// Steim-1.
     One,
+    /// Steim-2.
     Two,
 }
 
 /// The differences of one word.
 pub type Group = ArrayVec<i32, 7>;
 
-/// How a word is divided: `count` fields of `width` bits each, in its lowest bits.
+/// How a word is laid out: `count` fields of `width` bits each, in its lowest bits.
 #[derive(Clone, Copy, Debug, PartialEq, Eq)]
 pub(crate) struct WordLayout {
+    /// The number of fields.
     pub count: u32,
+    /// The bits of each.
     pub width: u32,
 }
 
-/// How a group is written: its word's code and top two bits, the bits of each of its fields, and how
-/// many fields below them are left 0.
+/// How a group is written.
 #[derive(Clone, Copy, Debug, PartialEq, Eq)]
 pub(crate) struct GroupLayout {
+    /// The code of its word.
     pub code: u8,
+    /// The top two bits of its word.
     pub top: u32,
+    /// The bits of each of its fields.
     pub width: u32,
+    /// How many fields below them are left 0.
     pub padding: u32,
 }
 
@@ -40,7 +47,7 @@ pub(crate) struct GroupLayout {
 #[error("the word is undefined")]
 pub struct BadCode;
 
-/// How a word with this code and these top two bits is divided.
+/// How a word with this code and these top two bits is laid out.
 pub(crate) fn layout_for(version: Version, code: u8, top: u32) -> Option<WordLayout>
     ensures { result ≡ layout_of version code top }
 {
@@ -113,12 +120,12 @@ pub fn read_word(version: Version, code: u8, word: u32) -> Result<Group, BadCode
 /// How a group of so many differences is written.
 pub(crate) fn layout_of_group(version: Version, count: usize) -> Option<GroupLayout>
     ensures some { IsSome result ↔ IsSome (group_width version count) }
-    ensures width { IfSome result (λ row. group_width version count ≡ Some row.width) }
-    ensures row { IfSome result (IsLayoutFor version count) }
+    ensures width { IfSome result (λ layout. group_width version count ≡ Some layout.width) }
+    ensures layout { IfSome result (IsLayoutFor version count) }
     ensures code { MatchOption result
         (group_code version count ≡ 0)
-        (λ row. group_code version count ≡ row.code) }
-    ensures top { IfSome result (λ row. group_top version count ≡ row.top) }
+        (λ layout. group_code version count ≡ layout.code) }
+    ensures top { IfSome result (λ layout. group_top version count ≡ layout.top) }
 {
     let (code, top, width, padding) = match (version, count) {
         (Version::One, 1) => (3, 0, 32, 0),
@@ -141,7 +148,7 @@ pub(crate) fn layout_of_group(version: Version, count: usize) -> Option<GroupLay
     })
 }
 
-/// The field of `width` bits that a number is in two's complement, where it fits.
+/// The field of `width` bits that a number is in two's complement, if it fits.
 fn field_of(number: i32, width: u32) -> Option<u32>
     requires positive { 0 < width }
     requires small { width ≤ 32 }
@@ -159,7 +166,7 @@ fn field_of(number: i32, width: u32) -> Option<u32>
     }
 }
 
-/// The fields of some numbers side by side, where each number fits its field.
+/// The fields of some numbers side by side, if each number fits its field.
 fn fields_from(numbers: &[i32], width: u32) -> Option<u32>
     requires positive { 0 < width }
     requires within { length numbers.now * width ≤ 32 }
@@ -173,7 +180,7 @@ fn fields_from(numbers: &[i32], width: u32) -> Option<u32>
     Some(fields as u32)
 }
 
-/// The code and the word that hold these differences, where one word can; three of Steim-1 are
+/// The code and the word that hold these differences, if one word can; three of Steim-1 are
 /// followed by a 0. The word is as a big-endian frame has it, and all bits that are not used are 0.
 pub fn write_word(version: Version, differences: &[i32]) -> Option<(u8, u32)>
     ensures group { IsSome result ↔ IsGroup version differences.now }
@@ -184,16 +191,16 @@ pub fn write_word(version: Version, differences: &[i32]) -> Option<(u8, u32)>
     ensures same { IfSome result (λ written. (written.0 ≡ group_code version (length differences.now))
         × (written.1 ≡ group_word version differences.now)) }
 {
-    let row = layout_of_group(version, differences.len())?;
-    let fields = fields_from(differences, row.width)?;
+    let layout = layout_of_group(version, differences.len())?;
+    let fields = fields_from(differences, layout.width)?;
     Some((
-        row.code,
-        (row.top << 30) + (fields << (row.padding * row.width)),
+        layout.code,
+        (layout.top << 30) + (fields << (layout.padding * layout.width)),
     ))
 }
 
 /// No word holds two lists, and an undefined word holds none. So a group that was written is read back,
-/// followed by a 0 where it is three of Steim-1.
+/// followed by a 0 if it is three of Steim-1.
 pub fn holds_one_list()
     ensures one { (version : Version) (code word : ℕ) (xs ys : List ℤ)
         → Holds version code word xs → Holds version code word ys → xs ≡ ys }

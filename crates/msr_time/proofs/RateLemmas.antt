@@ -69,8 +69,9 @@ sum_from_bits t0 q f h = omega (arith, ints)
 pub gap_from_bits : (t t0 : ℤ) (den span : ℕ) → FitsSigned w64 t → FitsSigned w64 t0 → den < 2 ^ 30
     → span < 2 ^ 114 → (let gap = to_z w128 (of_z w128
     (to_z w128 (of_z w128 (to_z w128 (of_z w128 (to_z w64 (of_z w64 t))) -ℤ to_z w128
-    (of_z w128 (to_z w64 (of_z w64
-    t0))))) *ℤ to_z w128 den)) -ℤ to_z w128 span in (gap ≡ ((t -ℤ t0) *ℤ pos den) -ℤ pos span) × FitsSigned w128 gap × (to_z w128 (of_z w128 gap) ≡ (t *ℤ pos den) -ℤ ((t0 *ℤ pos den) +ℤ pos span)))
+    (of_z w128 (to_z w64 (of_z w64 t0))))) *ℤ to_z w128 den)) -ℤ to_z w128 span in
+    (gap ≡ ((t -ℤ t0) *ℤ pos den) -ℤ pos span) × FitsSigned w128 gap
+    × (to_z w128 (of_z w128 gap) ≡ (t *ℤ pos den) -ℤ ((t0 *ℤ pos den) +ℤ pos span)))
 gap_from_bits t t0 den span f g h k =
     let diff : to_z w128 (of_z w128 (to_z w128 (of_z w128 (to_z w64 (of_z w64 t))) -ℤ to_z w128
     (of_z w128 (to_z w64 (of_z w64 t0))))) ≡ t -ℤ t0 = omega (arith, ints) in

@@ -1,5 +1,5 @@
 //! Instants: microseconds of the years 1900 to 2100.
-ghost use Rattle.std.specs.Prelude.{◌≡◌, ◌↔◌, IsTrue};
+ghost use Rattle.std.specs.Prelude.{◌↔◌, IsTrue};
 ghost use Rattle.msr_time.specs.Instant.{IsInstant};
 
 /// 1900-01-01 00:00:00.000000.

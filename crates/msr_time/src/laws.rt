@@ -5,7 +5,7 @@ ghost use Rattle.msr_time.specs.SampleRate.{OneNominalInstant};
 ghost use Rattle.msr_time.specs.declared.btime.BTime.{BTime};
 
 /// A sample has at most one rounded nominal instant, which [`Rate::nominal`](crate::Rate::nominal)
-/// gives where it is in range.
+/// gives if it is in range.
 pub fn one_nominal_instant()
     ensures { OneNominalInstant }
 {}

@@ -1,5 +1,5 @@
 //! Sample rates, and the instants of samples.
-ghost use Rattle.std.specs.Prelude.{◌≡◌, ◌≢◌, ℕ, ℤ, ◌<◌, ◌≤◌, ◌^◌, ◌↔◌, IsSome, IsTrue, SomeIff, pos};
+ghost use Rattle.std.specs.Prelude.{◌≡◌, ◌≢◌, ℤ, ◌<◌, ◌≤◌, ◌^◌, ◌↔◌, IsSome, IsTrue, SomeIff, pos};
 ghost use Rattle.msr_time.specs.Instant.{IsInstant};
 ghost use Rattle.msr_time.specs.SampleRate.{SampleRate, period_of, IsRoundedNominal, IsNear};
 
@@ -26,7 +26,7 @@ impl Model for Rate {
 }
 
 impl Rate {
-    /// The rate, or `None` where a part of it is 0, which is how records without a rate are marked.
+    /// The rate, or `None` if a part of it is 0, which is how records without a rate are marked.
     pub fn new(factor: i16, multiplier: i16) -> Option<Rate>
         ensures { SomeIff result ((factor ≢ pos 0) × (multiplier ≢ pos 0))
             (record { factor = factor; multiplier = multiplier }) }
@@ -81,7 +81,7 @@ impl Rate {
     }
 
     /// The nominal instant of sample `n` counted from `t0`, rounded to the nearest microsecond,
-    /// ties to the later one. `None` where that is outside the years 1900 to 2100.
+    /// ties to the later one. `None` if that is outside the years 1900 to 2100.
     pub fn nominal(&self, t0: i64, n: u64) -> Option<i64>
         ensures found { (r : ℤ) × IsRoundedNominal self.now t0 n r × SomeIff result (IsInstant r) r }
         ensures only { (r : ℤ) → IsRoundedNominal self.now t0 n r → SomeIff result (IsInstant r) r }

@@ -1,5 +1,6 @@
 use Rattle.std.proofs.Common.{arith}
-use Rattle.msr_record.proofs.AreaLemmas.{all_16, all_24, length-points}
+use Rattle.msr_words.proofs.Runs.{length-points_before}
+use Rattle.msr_record.proofs.AreaLemmas.{all_16, all_24}
 use Rattle.msr_record.proofs.written_area.fill_area.Goals as goal
 
 pub fill_plain-requires-clause-fit : goal.fill_plain-requires-clause-fit
@@ -10,7 +11,7 @@ fill_plain-requires-clause-fit c =
 pub fill_plain-requires-clause-room : goal.fill_plain-requires-clause-room
 fill_plain-requires-clause-room c =
     let fits = rw c.in-Int16.is at c.requires.fits in
-    omega (arith, fits.1.1, length-points c.args.before c.args.run.now, c.requires.size)
+    omega (arith, fits.1.1, length-points_before c.args.before c.args.run.now, c.requires.size)
 
 pub fill_plain-requires-in-Int24-clause-fit : goal.fill_plain-requires-in-Int24-clause-fit
 fill_plain-requires-in-Int24-clause-fit c =
@@ -20,9 +21,9 @@ fill_plain-requires-in-Int24-clause-fit c =
 pub fill_plain-requires-in-Int24-clause-room : goal.fill_plain-requires-in-Int24-clause-room
 fill_plain-requires-in-Int24-clause-room c =
     let fits = rw c.in-Int24.is at c.requires.fits in
-    omega (arith, fits.1.1, length-points c.args.before c.args.run.now, c.requires.size)
+    omega (arith, fits.1.1, length-points_before c.args.before c.args.run.now, c.requires.size)
 
 pub fill_plain-requires-in-Int32-clause-room : goal.fill_plain-requires-in-Int32-clause-room
 fill_plain-requires-in-Int32-clause-room c =
     let fits = rw c.in-Int32.is at c.requires.fits in
-    omega (arith, fits.1, length-points c.args.before c.args.run.now, c.requires.size)
+    omega (arith, fits.1, length-points_before c.args.before c.args.run.now, c.requires.size)

@@ -15,7 +15,8 @@ use Rattle.msr_steim.proofs.sums.write_group.Goals as goal
 abbrev Last : goal.After-out-1 → Type 0
 Last c = to_z w32 (of_z w32 c.write_sums-last.result)
     ≡ get_or (put_mid c.args.at.place (c.args.at.place
-    + c.args.count - c.args.at.place) c.args.out.now c.write_sums-last.new.out) (c.args.at.place + c.args.count - 1) (pos 0)
+    + c.args.count - c.args.at.place) c.args.out.now c.write_sums-last.new.out)
+    (c.args.at.place + c.args.count - 1) (pos 0)
 
 last_is : (c : goal.After-out-1) → Last c
 last_is c = grind (arith, common_steps)

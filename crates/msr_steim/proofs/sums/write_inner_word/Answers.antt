@@ -1,4 +1,4 @@
--- By the arms: the code and the top two bits say how the word is divided.
+-- By the arms: the code and the top two bits say how the word is laid out.
 use Rattle.std.proofs.Common.{◌≡◌, ◌+◌, ◌*◌, ◌/◌, refl, arith, lit<}
 use Rattle.msr_steim.specs.declared.word.Version.TheVariants.{One}
 use Rattle.msr_steim.proofs.Summing.{divided, divided_by, inner_group_written, inner_none_written}

@@ -1,8 +1,9 @@
 -- The first number is given, and the others are left.
 use Rattle.std.proofs.Common.{rules, ◌≡◌, ◌<◌, ◌∷◌, ◌-◌, [], length, take, drop, w32, SFits, sym, ap, ◌∙◌, arith}
 use Rattle.std.proofs.lemmas.Int.{to_z-of_z}
+use Rattle.msr_base.proofs.IteratorLemmas.{first_given}
 use Rattle.msr_plain.specs.Plain.{numbers_in}
-use Rattle.msr_plain.proofs.InOrder.{first_number, goes_on}
+use Rattle.msr_plain.proofs.InOrder.{first_number}
 use Rattle.msr_plain.proofs.borrowed.PlainSamplesIterator.next.Goals as goal
 
 pub returns-then-self-eq0-clause-steps : goal.returns-then-self-eq0-clause-steps
@@ -24,4 +25,4 @@ returns-clause-steps c =
     (to_z-of_z w32 given fits ∙ c.read_number-sample.ensures))
 
 pub returns-clause-goes : goal.returns-clause-goes
-returns-clause-goes c = goes_on _ _ _ (returns-clause-steps c)
+returns-clause-goes c = first_given (λ left. left) _ _ _ (returns-clause-steps c)

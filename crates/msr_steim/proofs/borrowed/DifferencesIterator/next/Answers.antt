@@ -2,9 +2,10 @@
 use Rattle.std.proofs.Common.{rules, ◌≡◌, ◌<◌, ◌∷◌, ◌++◌, ◌-◌, [], Option, w32, SFits, sym, ap, ◌∙◌, subst, arith, refl, ℤ}
 use Rattle.std.specs.Iterator.{YieldsFirst}
 use Rattle.std.proofs.lemmas.Int.{to_z-of_z}
+use Rattle.msr_base.proofs.IteratorLemmas.{first_given}
 use Rattle.msr_steim.specs.InOrder.{differences_from}
 use Rattle.msr_steim.specs.Word.{numbers_in}
-use Rattle.msr_steim.proofs.InOrderLemmas.{difference_given, first_of_numbers, no_numbers}
+use Rattle.msr_steim.proofs.InOrderLemmas.{first_of_numbers, no_numbers}
 use Rattle.msr_steim.proofs.borrowed.DifferencesIterator.next.Goals.{then-self-eq0+in_ok-fields, else-self-eq0}
 use Rattle.msr_steim.proofs.borrowed.DifferencesIterator.next.Goals as goal
 
@@ -44,4 +45,4 @@ returns-clause-steps c =
     (sym (to_z-of_z w32 given fits ∙ c.difference_at.ensures))
 
 pub returns-clause-goes : goal.returns-clause-goes
-returns-clause-goes c = difference_given _ _ _ (returns-clause-steps c)
+returns-clause-goes c = first_given (λ left. left) _ _ _ (returns-clause-steps c)

@@ -2,8 +2,10 @@
 use Rattle.std.proofs.Common.{rules, ◌≡◌, ◌<◌, ◌∷◌, ◌-◌, ◌+◌, ◌%◌, to_z, of_z, w32, SFits, ◌+ℤ◌, sym, ap, ◌∙◌, arith, take}
 use Rattle.std.specs.Int.{int_wrap}
 use Rattle.std.proofs.lemmas.Int.{to_z-of_z, wrapping_add_is}
+use Rattle.msr_base.proofs.IteratorLemmas.{first_given}
 use Rattle.msr_steim.specs.Area.{sums_after}
-use Rattle.msr_steim.proofs.InOrderLemmas.{first_sum, sample_given}
+use Rattle.msr_steim.specs.Left.{SamplesLeft}
+use Rattle.msr_steim.proofs.InOrderLemmas.{first_sum}
 use Rattle.msr_steim.proofs.borrowed.SteimSamplesIterator.next.Goals as goal
 
 pub returns-clause-steps : goal.returns-clause-steps
@@ -24,4 +26,4 @@ returns-clause-steps c =
     )
 
 pub returns-clause-goes : goal.returns-clause-goes
-returns-clause-goes c = sample_given _ _ _ (returns-clause-steps c).0
+returns-clause-goes c = first_given (λ (left : SamplesLeft). left.samples) _ _ _ (returns-clause-steps c).0
