@@ -14,7 +14,7 @@ struct FirstGroup {
 }
 
 /// What is known of the differences from some place to the end: how many the first group has, the least numbers of
-/// groups, and how large the first three are, or `u64::MAX` where there are fewer.
+/// groups, and how large the first three are, or `u64::MAX` if there are fewer.
 #[derive(Clone, Copy, Debug)]
 pub(crate) struct Following {
     /// How many differences the first group has.
@@ -52,7 +52,7 @@ impl Following {
         }
     }
 
-    /// The first group of a difference and these, where that one and the next, the next two, and the next three are
+    /// The first group of a difference and these, if that one and the next, the next two, and the next three are
     /// so large.
     fn first_group(self, pair: u64, triple: u64, four: u64) -> FirstGroup
         requires pair { pair ≤ triple }

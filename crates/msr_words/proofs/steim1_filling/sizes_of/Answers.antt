@@ -30,12 +30,12 @@ behind-following-requires-clause-fits c =
     let ds = differences c.args.before c.args.run.now in
     let at = c.loop-at.at - 1 in
     let long = length-differences c.args.before c.args.run.now in
-    let diff : SFits w64 c.difference_inside.result = search rules in
+    let diff : SFits w64 c.difference.result = search rules in
     let here : get_or (differences c.args.before c.args.run.now) (c.loop-at.at - 1) (pos 0)
-    ≡ c.difference_inside.result =
+    ≡ c.difference.result =
     difference_of c.args.before c.args.run.now at (omega arith)
-    ∙ sym (c.difference_inside.ensures ∙ from_inside c.args.before c.args.run.now at (omega arith)) in
-    let fits : FitsBits 32 c.difference_inside.result =
+    ∙ sym (c.difference.ensures ∙ from_inside c.args.before c.args.run.now at (omega arith)) in
+    let fits : FitsBits 32 c.difference.result =
     subst (FitsBits 32) here (all_at (FitsBits 32) ds at (pos 0) (omega arith) c.requires.fits) in
     simp to_z-of_z fits
 
@@ -44,17 +44,17 @@ loop-at-preserved c =
     let ds = differences c.args.before c.args.run.now in
     let at = c.loop-at.at - 1 in
     let long = length-differences c.args.before c.args.run.now in
-    let diff : SFits w64 c.difference_inside.result = search rules in
-    let d : c.difference_inside.result ≡ difference_from c.args.before c.args.run.now (c.loop-at.at - 1) =
-    c.difference_inside.ensures ∙ from_inside c.args.before c.args.run.now at (omega arith) in
-    let cut : c.difference_inside.result ∷ drop c.loop-at.at (differences c.args.before c.args.run.now)
+    let diff : SFits w64 c.difference.result = search rules in
+    let d : c.difference.result ≡ difference_from c.args.before c.args.run.now (c.loop-at.at - 1) =
+    c.difference.ensures ∙ from_inside c.args.before c.args.run.now at (omega arith) in
+    let cut : c.difference.result ∷ drop c.loop-at.at (differences c.args.before c.args.run.now)
     ≡ drop (c.loop-at.at - 1) (differences c.args.before c.args.run.now) =
     ap (λ z. z ∷ drop c.loop-at.at ds) d ∙ sym (front_at c.args.before c.args.run.now at c.loop-at.at (omega arith)
     (omega arith)) in
-    let following : IsFollowing (c.difference_inside.result ∷ drop c.loop-at.at
+    let following : IsFollowing (c.difference.result ∷ drop c.loop-at.at
     (differences c.args.before c.args.run.now)) c.behind-following.result =
     simp to_z-of_z at (c.behind-following.ensures.following (drop c.loop-at.at ds) c.loop-at.invariant.following) in
-    let group : IsFirstGroup (c.difference_inside.result ∷ drop c.loop-at.at
+    let group : IsFirstGroup (c.difference.result ∷ drop c.loop-at.at
     (differences c.args.before c.args.run.now)) c.behind-following.result.group (c.behind-following.result.all
     - 1) =
     simp to_z-of_z at (c.behind-following.ensures.group (drop c.loop-at.at ds) c.loop-at.invariant.following) in
