@@ -1,6 +1,6 @@
 //! The trackers of all kinds, side by side.
 
-ghost use Rattle.std.specs.Prelude.{◌≡◌, ℕ, ◌+◌, ◌≤◌, ◌↔◌, ◌++◌, ◌∷◌, ℤ, List, [], IsTrue, map};
+ghost use Rattle.std.specs.Prelude.{map};
 ghost use Rattle.msr_words.specs.RecordLength.{words_of};
 ghost use Rattle.msr_words.specs.Fit.{FitsAny};
 ghost use Rattle.msr_words.specs.Laws.{most_any};

@@ -1,8 +1,6 @@
 //! Trackers: whether the samples pushed so far fit one record, for each kind of record.
 
 ghost use Rattle.std.specs.Prelude.{◌≡◌, ℕ, ◌+◌, ◌^◌, ◌<◌, ◌≤◌, ◌↔◌, ◌++◌, ◌∷◌, ℤ, List, [], IsTrue, map};
-ghost use Rattle.msr_steim.specs.declared.word.Version.TheVariants.{One, Two};
-ghost use Rattle.msr_steim.specs.Word.{FitsBits};
 ghost use Rattle.msr_words.specs.declared.kinds.Kind.{Kind};
 ghost use Rattle.msr_words.specs.declared.kinds.Kind.TheVariants.{Steim1, Steim2};
 ghost use Rattle.msr_words.specs.Lengths.{bytes_of};

@@ -1,6 +1,6 @@
 //! The kinds of records, and which runs fit them.
 
-ghost use Rattle.std.specs.Prelude.{◌≡◌, All, ℕ, ◌+◌, ◌*◌, ◌^◌, ◌<◌, ◌≤◌, ◌↔◌, [], IsTrue, IsSome, IfSome, Some, drop, length};
+ghost use Rattle.std.specs.Prelude.{◌≡◌, All, ℕ, ◌^◌, ◌<◌, ◌≤◌, ◌↔◌, IsTrue, Some, drop, length};
 ghost use Rattle.msr_steim.specs.Word.{FitsBits};
 ghost use Rattle.msr_words.specs.Lengths.{bytes_of};
 ghost use Rattle.msr_steim.specs.declared.word.Version.TheVariants.{One, Two};
@@ -10,7 +10,6 @@ ghost use Rattle.msr_words.specs.Division.{CanDivide};
 ghost use Rattle.msr_words.specs.Groups.{IsCapacity, IsLongestGroup};
 ghost use Rattle.msr_words.specs.Laws.{DominanceLaw, look_back_of, most_of};
 ghost use Rattle.msr_words.specs.Fit.{Fits, FitsAny, IsRun, IsFirstKind, code_of};
-ghost use Rattle.msr_words.specs.RecordLength.{words_of};
 
 use crate::counts::{LeastCounts, magnitude};
 use crate::lengths::Length;

@@ -1,7 +1,7 @@
 //! Differences with their sizes, taken a stretch at a time: a loop over places that are there takes a fraction of the
 //! instructions of one difference after another.
 
-ghost use Rattle.std.specs.Prelude.{◌≡◌, ◌<◌, ◌≤◌, ◌+◌, ◌-◌, ◌-ℤ◌, ℕ, ℤ, List, None, IfSome, IsNone, IsTrue, drop, length};
+ghost use Rattle.std.specs.Prelude.{◌≡◌, ◌<◌, ◌≤◌, ◌+◌, ◌-ℤ◌, ℕ, ℤ, List, None, IfSome, IsNone, IsTrue, drop, length};
 ghost use Rattle.std.specs.List.{AllByRecursion};
 ghost use Rattle.msr_steim.specs.Word.{FitsBits};
 ghost use Rattle.msr_words.specs.Bounds.{BeginsWithFour};
