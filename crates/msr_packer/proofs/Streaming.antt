@@ -81,7 +81,7 @@ begun bytes enough samples start tracker follows = record {
   fits = rw run_points_none (empty_kind (kind_of_tracker tracker) bytes (omega arith));
 }
 
--- where the step is found that ends with the samples
+-- when the step is found that ends with the samples
 pub live_of : (bytes : ℕ) → 256 ≤ bytes → (samples : List ℤ) (g h a : ℕ) (live : Live) → g ≤ h → h ≡ length samples
     → IsStep (FitsAny bytes) samples g h a → live.start ≡ a
     → IsTracked bytes samples a (length samples) live.tracker → IsLive bytes samples g (length samples) live
