@@ -27,6 +27,11 @@ pub record AreSizes (ds : List ℤ) (from : ℕ) (sizes : List ℕ) : Type 0 whe
   pub long : length sizes ≡ length ds
   pub each : (at : ℕ) → from ≤ at → at < length ds → IsCanonicalFirst (drop at ds) (slice_index sizes at)
 
+-- these are the differences that are given by their places, so many
+pub record AreGiven (gives : ℕ → ℤ → Type 0) (count : ℕ) (ds : List ℤ) : Type 0 where
+  pub long : length ds ≡ count
+  pub each : (at : ℕ) (d : ℤ) → at < count → gives at d → d ≡ slice_index_or ds at (pos 0)
+
 -- how large the difference at this place is, from 0: a number of `width` bits is below half the power; if there
 -- is none, the size is above all of these
 abbrev pub IsSizeAt : List ℤ → ℕ → ℕ → Type 0

@@ -14,24 +14,18 @@ ghost use Rattle.msr_words.specs.Canonical.{IsCanonicalDivision};
 ghost use Rattle.msr_words.specs.FirstGroup.{AreSizes};
 
 use crate::counts::steim2_capacity;
-use crate::first_group::Following;
+use crate::first_group::sizes_of;
 use crate::kinds::MOST_COUNTED;
 use crate::lengths::Length;
 use msr_steim::{Group, Version, all_fit_bits};
 use std::alloc::{AllocError, Global};
 
 /// For each difference the size of the group that begins there in the division that is written.
-fn sizes_of(alloc: Global, differences: &[i64]) -> Result<Vec<u8>, AllocError>
+fn group_sizes(alloc: Global, differences: &[i64]) -> Result<Vec<u8>, AllocError>
     requires { AllByRecursion (FitsBits 32) differences.now }
     ensures { IfOk result (λ sizes. AreSizes differences.now 0 sizes.items) }
 {
-    let mut sizes = vec![in alloc; 0u8; differences.len()]?;
-    let mut following = Following::nothing();
-    for at in (0..differences.len()).rev() {
-        following = following.behind(differences[at]);
-        sizes[at] = following.group;
-    }
-    Ok(sizes)
+    sizes_of(alloc, differences.len(), |at| differences[at])
 }
 
 /// A group of these differences.
@@ -61,7 +55,7 @@ fn steim1_groups(
     if !all_fit_bits(differences, 32) {
         return Ok(None);
     }
-    let sizes = sizes_of(alloc, differences)?;
+    let sizes = group_sizes(alloc, differences)?;
     let mut groups = Vec::new(alloc);
     let mut at = 0;
     while at < differences.len() {

@@ -14,27 +14,11 @@ ghost use Rattle.msr_words.specs.Window.{AreSeen, IsWindow};
 
 use crate::counts::magnitude;
 use crate::filling::{NextWord, fields_from, fields_seen};
-use crate::first_group::Following;
+use crate::first_group::sizes_of;
 use crate::frames::{Sizing, fill_frames};
-use crate::kinds::{difference, difference_after};
+use crate::kinds::difference_after;
 use crate::window::Window;
 use std::alloc::{AllocError, Global};
-
-/// For each difference of the run the size of the group that begins there in the division that is written.
-fn sizes_of(alloc: Global, before: Option<i32>, run: &[i32]) -> Result<Vec<u8>, AllocError>
-    requires some { 1 ≤ length run.now }
-    requires fits { AllByRecursion (FitsBits 32) (differences before run.now) }
-    ensures { IfOk result (λ sizes. AreSizes (differences before run.now) 0 sizes.items) }
-{
-    let mut sizes = vec![in alloc; 0u8; run.len()]?;
-    let mut following = Following::nothing();
-    for at in (1..run.len()).rev() {
-        following = following.behind(difference(run, at));
-        sizes[at] = following.group;
-    }
-    sizes[0] = following.behind(difference_after(before, run, 0)).group;
-    Ok(sizes)
-}
 
 /// How a group of so many differences is written: the code of its word, of how many bits each is, and how many bits
 /// below them are left 0.
@@ -270,7 +254,7 @@ fn fill_by_sizes(
     requires fits { CanDivide One (15 * (length area.old / 64) - 2) (differences before run.now) }
     ensures { IfOk result (IsFilledArea One before run.now (length area.old / 64) area.new) }
 {
-    let sizes = sizes_of(alloc, before, run)?;
+    let sizes = sizes_of(alloc, run.len(), |at| difference_after(before, run, at))?;
     Ok(fill_frames(Sizing::Given, before, run, &sizes, area).unwrap())
 }
 
