@@ -308,8 +308,8 @@ module _ (bytes : ℕ) (samples : List ℤ) (g end : ℕ) (ends : Ends) (are : A
   none_first Int24 low c past le = omega arith
   none_first Int32 low c past le = omega arith
 
-  -- a run that starts before the frontier is of no kind before Steim-1, if that of Steim-2 from the frontier ends before
-  -- it
+  -- a run that starts before the frontier is of no kind before Steim-1, if that of Steim-2 from the frontier ends
+  -- before it
   pub not_before : (s c : ℕ) → s ≤ g → end ≤ c + 1 → c ≤ length samples → ends.steim2 < c
       → Fits Steim1 bytes (run_points samples s c) → IsFirstKind bytes (run_points samples s c) Steim1
   not_before s c before near within past fits = (fits, λ other lower room. none other lower room)

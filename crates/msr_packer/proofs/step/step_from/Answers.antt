@@ -57,8 +57,8 @@ with_wide_integers-requires-2-clause-step c =
     c.steim2_reach-reach.result.end refl one c.integers_end-int16.ensures.fits (inl refl)
     c.steim2_reach-reach.ensures.fits c.integers_end-int16.ensures.past
     c.or-best.ensures.one c.or-best.ensures.first c.or-best.ensures.second in
-    one_more bytes samples g Steim1 (Int16 ∷ Steim2 ∷ []) c.or-best.result c.steim1_step-by_steim1.result c.or.result two
-    c.steim1_step-by_steim1.ensures c.or.ensures.one c.or.ensures.first c.or.ensures.second
+    one_more bytes samples g Steim1 (Int16 ∷ Steim2 ∷ []) c.or-best.result c.steim1_step-by_steim1.result c.or.result
+    two c.steim1_step-by_steim1.ensures c.or.ensures.one c.or.ensures.first c.or.ensures.second
 
 pub with_wide_integers-requires-2-clause-ends : goal.with_wide_integers-requires-2-clause-ends
 with_wide_integers-requires-2-clause-ends c =
