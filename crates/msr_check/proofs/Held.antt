@@ -65,7 +65,7 @@ module _ (bytes : ℕ) (samples : List ℤ) (first second : ℕ) (order : first 
   Says : Bool → Kind → Type 0
   Says answer kind = IsTrue answer ↔ Holds kind bytes samples first second
 
-  -- none of the answers for each kind is yes exactly where no run holds both
+  -- none of the answers for each kind is yes exactly when no run holds both
   pub none_says : (two one short middle long : Bool) → (IsTrue two ↔ Holds Steim2 bytes samples first second)
       → (IsTrue one ↔ Holds Steim1 bytes samples first second) →
       (IsTrue short ↔ Holds Int16 bytes samples first second)

@@ -39,7 +39,7 @@ module _ (bytes : ℕ) (samples : List ℤ) (g : ℕ) where
   pub empty_run : (kind : Kind) → 64 ≤ bytes → g ≤ length samples → IsRun (Fits kind bytes) samples g g
   empty_run kind header within = (omega arith, within, rw run_points_none (empty_kind kind bytes header))
 
-  -- where each part after a cut fits by itself, no earlier start reaches further
+  -- if each part after a cut fits by itself, no earlier start reaches further
   pub none_past : (kind : Kind) (h : ℕ) → BackStepLaw 0 (Fits kind bytes) → IsRun (Fits kind bytes) samples g h
       → ((b : ℕ) → IsRun (Fits kind bytes) samples g b → b ≤ h) → (s b : ℕ) → s ≤ g
       → IsRun (Fits kind bytes) samples s b → b ≤ h
@@ -87,7 +87,7 @@ module _ (bytes : ℕ) (samples : List ℤ) (g : ℕ) where
             omega arith;
       }
 
-  -- no record has room for more wide differences than two a word, where that holds of its kind
+  -- no record has room for more wide differences than two a word, if that holds of its kind
   pub none_with_wide : (kind : Kind) → ((run : List (ℤ × ℤ)) → Fits kind bytes run
       → count_by is_wide (map (λ p. p.1) run) ≤ 2 * words_of bytes) → (e : ℕ) → g ≤ e →
       2 * words_of bytes < count_by is_wide (map (λ p. p.1) (run_points samples g e)) → (s b : ℕ) → s ≤ g
@@ -308,7 +308,8 @@ module _ (bytes : ℕ) (samples : List ℤ) (g end : ℕ) (ends : Ends) (are : A
   none_first Int24 low c past le = omega arith
   none_first Int32 low c past le = omega arith
 
-  -- a run that starts before the frontier is of no kind before Steim-1, where that of Steim-2 from the frontier ends before it
+  -- a run that starts before the frontier is of no kind before Steim-1, if that of Steim-2 from the frontier ends
+  -- before it
   pub not_before : (s c : ℕ) → s ≤ g → end ≤ c + 1 → c ≤ length samples → ends.steim2 < c
       → Fits Steim1 bytes (run_points samples s c) → IsFirstKind bytes (run_points samples s c) Steim1
   not_before s c before near within past fits = (fits, λ other lower room. none other lower room)

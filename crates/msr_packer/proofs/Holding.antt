@@ -243,7 +243,7 @@ leaves bytes samples runs separators held offset (Some c) w = record {
   from_there = ap (drop c.start) w.window ∙ drop-drop c.start offset samples;
 }
 
--- and that of all samples, where none follows
+-- and that of all samples, if none follows
 pub begins_rest : (bytes : ℕ) → 256 ≤ bytes → (samples : List ℤ) (runs : List Run) (separators : List ℕ)
     (held : List ℤ) (offset : ℕ) (current : Option Current)
     → IsWindow bytes samples runs separators held offset current → HasRest bytes samples runs separators
@@ -255,7 +255,7 @@ begins_rest bytes enough samples runs separators held offset (Some c) w =
     rest_of bytes samples enough (length samples) runs separators (offset + c.frontier) (offset + c.end)
     (offset + c.start) c.whole w.at.so_far (omega arith)
 
--- where a longest run at most is held after the frontier
+-- if a longest run at most is held after the frontier
 pub leaves_few : (bytes : ℕ) (samples : List ℤ) (runs : List Run) (separators : List ℕ) (held : List ℤ)
     (offset : ℕ) (current : Option Current) → IsWindow bytes samples runs separators held offset current
     → length held ≤ frontier_of current + most_any bytes → LeavesFew bytes samples runs
@@ -285,7 +285,7 @@ ends_empty bytes samples runs separators held offset (Some c) w empty =
     let last = w.at.so_far.within in
     absurd (omega arith)
 
--- the piece of the last step is the last of the packing, where no sample stands after it
+-- the piece of the last step is the last of the packing, if no sample stands after it
 pub ends_with : (bytes : ℕ) (samples : List ℤ) (runs : List Run) (separators : List ℕ) (held : List ℤ) (offset : ℕ)
     (current : Option Current) → IsWindow bytes samples runs separators held offset current
     → length held ≤ frontier_of current
@@ -352,7 +352,7 @@ pub shown_if_any : (samples shown : List ℤ) (before : Option ℤ) (piece : Opt
 shown_if_any samples shown before None shows none = none refl
 shown_if_any samples shown before (Some piece) shows none = shows.run
 
--- where no piece was given, the same runs and separators were
+-- if no piece was given, the same runs and separators were
 pub holds_still : (old mid : Held) (samples : List ℤ) (runs : List Run) (separators : List ℕ)
     → GivesPiece old mid None → Holds samples runs separators old → Holds samples runs separators mid
 holds_still old mid samples runs separators first h =

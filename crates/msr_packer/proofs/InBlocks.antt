@@ -105,6 +105,19 @@ module _ (bytes : ℕ) (samples : List ℤ) (runs : List Run) (separators : List
             (holds_in bytes samples runs separators old p.size p.left)));
       }
 
+-- the same, after the samples were forgotten that no step needs any more
+pub packs_pushed : (bytes : ℕ) (samples : List ℤ) (runs : List Run) (separators : List ℕ) (old held new : Held)
+    (more : List ℤ) (ended : Bool) → held.record_length ≡ old.record_length
+    → (Holds samples runs separators old → Holds samples runs separators held)
+    → Stays held.current (length held.samples.items) → new.record_length ≡ held.record_length
+    → new.offset ≡ held.offset → new.current ≡ held.current → new.samples.items ≡ held.samples.items ++ more
+    → Packs bytes samples runs separators (holding_of old ended)
+    → Packs bytes (samples ++ more) runs separators (holding_of new ended)
+packs_pushed bytes samples runs separators old held new more ended forgot holds stays same offset current items p =
+    let q = packs_held bytes samples runs separators old held ended forgot holds (λ _. stays) p in
+    packs_more bytes samples runs separators held new more ended (rw q.size at held.record_length.least) same offset
+    current items q
+
 -- no further piece was given
 pub all_given : (bytes : ℕ) (samples : List ℤ) (runs : List Run) (separators : List ℕ) (piece : Option Piece)
     → IsNone piece → IsCanonical bytes samples (runs ++ runs_of (pieces_of piece))

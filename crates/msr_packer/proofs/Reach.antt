@@ -105,13 +105,13 @@ narrow_through samples start at le within all there = elim (cases_lt at (length 
 
 -- ---- where the walk ends
 
--- the walk ends at the greatest end of a run; and, where that is told, all its differences and the one after it are narrow
+-- the walk ends at the greatest end of a run; and, if that is told, all its differences and the one after it are narrow
 pub record IsWalkedOut (bytes : ℕ) (samples : List ℤ) (start end : ℕ) (told : Bool) : Type 0 where
   pub fits : IsRun (Fits Steim2 bytes) samples start end
   pub furthest : (b : ℕ) → IsRun (Fits Steim2 bytes) samples start b → b ≤ end
   pub narrow : IsTrue told → AreNarrowThrough samples start end
 
--- Where no more is reached of the samples up to the latest end of a record.
+-- If no more is reached of the samples up to the latest end of a record.
 module _ (bytes words left : ℕ) (samples : List ℤ) (start latest at : ℕ) (le : start ≤ length samples)
     (law : GreedyLaw) (words_is : words ≡ words_of bytes)
     (latest_is : latest ≡ latest_end Steim2 bytes samples start)

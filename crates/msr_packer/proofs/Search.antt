@@ -7,7 +7,8 @@ use Rattle.msr_words.proofs.Runs.{back_step_run}
 use Rattle.msr_words.specs.Packing.{IsStep}
 
 module _ (fits : List (ℤ × ℤ) → Type 0) (samples : List ℤ) (frontier : ℕ) where
-  -- of the starts in the last `back` places up to the frontier, h is the greatest end and a the last start that reaches it
+  -- of the starts in the last `back` places up to the frontier, h is the greatest end and a the last start that reaches
+  -- it
   pub record IsBest (back h a : ℕ) : Type 0 where
     pub before : a ≤ frontier
     pub among : frontier < a + back

@@ -104,7 +104,7 @@ module _ (bytes : ℕ) (samples : List ℤ) (g : ℕ) where
     ];
   }
 
-  -- The better of a step and one from the frontier itself, where each run of one kind more ends no later than that one, or
+  -- The better of a step and one from the frontier itself, if each run of one kind more ends no later than that one, or
   -- than a run from the frontier that the step's kinds know.
   pub one_covered : (kind : Kind) (tried : List Kind) (step other result : Step) (known : Kind) (e : ℕ)
       → other.start ≡ g → IsStepAmong tried bytes samples g step

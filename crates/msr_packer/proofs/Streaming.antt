@@ -81,7 +81,7 @@ begun bytes enough samples start tracker follows = record {
   fits = rw run_points_none (empty_kind (kind_of_tracker tracker) bytes (omega arith));
 }
 
--- where the step is found that ends with the samples
+-- when the step is found that ends with the samples
 pub live_of : (bytes : ℕ) → 256 ≤ bytes → (samples : List ℤ) (g h a : ℕ) (live : Live) → g ≤ h → h ≡ length samples
     → IsStep (FitsAny bytes) samples g h a → live.start ≡ a
     → IsTracked bytes samples a (length samples) live.tracker → IsLive bytes samples g (length samples) live
@@ -170,11 +170,12 @@ take_behind (x ∷ xs) ys zero n e = absurd (omega arith)
 take_behind (x ∷ xs) ys (suc m) n e = ap (λ l. x ∷ l) (take_behind xs ys m n (omega arith))
 
 -- so many of the samples are held then
-pub held_there : (held samples : List ℤ) (count from end : ℕ) → from ≡ length held → from ≤ end
-    → end ≤ length (held ++ take count samples) → take end (held ++ take count samples) ≡ held
-    ++ take (end - from) samples
-held_there held samples count from end is past within =
-    let whole = length-append held (take count samples) in
+pub held_there : (held samples whole cut : List ℤ) (count from end : ℕ) → whole ≡ held ++ take count samples
+    → cut ≡ take end whole → from ≡ length held → from ≤ end → end ≤ length whole
+    → cut ≡ held ++ take (end - from) samples
+held_there held samples whole cut count from end all cut_is is past within =
+    let number = ap length all in
+    let long = length-append held (take count samples) in
     let some = length-take count samples in
-    take_behind held (take count samples) end (end - from) (omega arith)
+    cut_is ∙ ap (take end) all ∙ take_behind held (take count samples) end (end - from) (omega arith)
     ∙ ap (λ l. held ++ l) (take-take (end - from) count samples (omega arith))

@@ -78,7 +78,7 @@ end_of bytes enough samples (run ∷ runs) (s ∷ separators) from g e b chosen 
     let start : run.start ≡ e = joined.0 in
     omega arith
 
--- where a step of samples starts at most one before its frontier
+-- a step of samples starts at most one before its frontier
 pub near_by_one : (fits : List (ℤ × ℤ) → Type 0) → BackStepLaw 1 fits → (samples : List ℤ) (g h a : ℕ) → g ≤ h
     → IsStep fits samples g h a → g ≤ a + 1
 near_by_one fits law samples g h a order step =
@@ -190,7 +190,8 @@ module _ (fits : List (ℤ × ℤ) → Type 0) (samples : List ℤ) (o : ℕ) (w
         (sym (run_points_window samples o a b at)) run.2,
   )
 
--- the step from a frontier in the last samples is the step of the segment, where two samples stand before the frontier, or all do
+-- the step from a frontier in the last samples is the step of the segment, if two samples stand before the frontier, or
+-- all do
 pub step_of_window : (bytes : ℕ) → 256 ≤ bytes → (samples : List ℤ) (o g h a : ℕ) → o ≤ length samples
     → o + g < length samples → (o ≡ 0) ⊎ (2 ≤ g) → IsStep (FitsAny bytes) (drop o samples) g h a
     → IsStep (FitsAny bytes) samples (o + g) (o + h) (o + a)

@@ -43,7 +43,7 @@ pub record Packs (bytes : ℕ) (samples : List ℤ) (runs : List Run) (separator
   pub stays : Stays packer.current (length packer.held)
   pub goes_on : packer.ended ≡ false
 
--- what is left, where no sample follows
+-- what is left, if no sample follows
 abbrev pub LeftAt : Bool → ℕ → List ℤ → List Run → List ℕ → Holding → Type 0
 LeftAt false bytes samples runs separators packer =
     IsWindow bytes samples runs separators packer.held packer.offset packer.current
@@ -68,18 +68,18 @@ abbrev pub BlocksBeginAll : Type 0
 BlocksBeginAll = (bytes : ℕ) (samples : List ℤ) (runs : List Run) (separators : List ℕ) (packer : Holding)
     → 256 ≤ bytes → Packs bytes samples runs separators packer → BeginsAll bytes samples runs separators
 
--- where no sample follows, the pieces that were given begin the canonical packing of all
+-- if no sample follows, the pieces that were given begin the canonical packing of all
 abbrev pub LastBlocksBegin : Type 0
 LastBlocksBegin = (bytes : ℕ) (samples : List ℤ) (runs : List Run) (separators : List ℕ) (packer : Holding)
     → 256 ≤ bytes → PacksLast bytes samples runs separators packer
     → (others : List Run) × (places : List ℕ) × IsCanonical bytes samples (runs ++ others) (separators ++ places)
 
--- where no piece is decided, at most two longest runs of samples were pushed and not given
+-- if no piece is decided, at most two longest runs of samples were pushed and not given
 abbrev pub BlocksLeaveFew : Type 0
 BlocksLeaveFew = (bytes : ℕ) (samples : List ℤ) (runs : List Run) (separators : List ℕ) (packer : Holding)
     → Packs bytes samples runs separators packer → HoldsFew packer → LeavesFew bytes samples runs
 
--- where no sample follows
+-- if no sample follows, the last pieces may be given
 abbrev pub BlocksEnd : Type 0
 BlocksEnd = (bytes : ℕ) (samples : List ℤ) (runs : List Run) (separators : List ℕ) (packer : Holding)
     → Packs bytes samples runs separators packer → PacksLast bytes samples runs separators packer

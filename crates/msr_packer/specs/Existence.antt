@@ -9,7 +9,7 @@ abbrev pub PackingExists : Type 0
 PackingExists = (bytes : ℕ) (samples : List ℤ) → 256 ≤ bytes
     → (runs : List Run) × (separators : List ℕ) × IsCanonical bytes samples runs separators
 
--- The step from a frontier g in the samples from o on is the step of the whole segment, where two of them at least
+-- The step from a frontier g in the samples from o on is the step of the whole segment, if two of them at least
 -- stand before g, or all samples do.
 abbrev pub StepOfWindow : Type 0
 StepOfWindow = (bytes : ℕ) → 256 ≤ bytes → (samples : List ℤ) (o g h a : ℕ) → o ≤ length samples

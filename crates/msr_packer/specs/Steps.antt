@@ -14,7 +14,8 @@ abbrev pub Among : List Kind → Kind → Type 0
 Among [] kind = ⊥
 Among (first ∷ kinds) kind = (kind ≡ first) ⊎ Among kinds kind
 
--- with records of these kinds the step reaches as far as any run that starts at or before the frontier g, from the last start that does
+-- with records of these kinds the step reaches as far as any run that starts at or before the frontier g, from the last
+-- start that does
 pub record IsStepAmong (kinds : List Kind) (bytes : ℕ) (samples : List ℤ) (g : ℕ) (step : Step) : Type 0 where
   pub before : step.start ≤ g
   pub past : g ≤ step.end
@@ -24,7 +25,7 @@ pub record IsStepAmong (kinds : List Kind) (bytes : ℕ) (samples : List ℤ) (g
   pub last : (kind : Kind) → Among kinds kind → (s : ℕ) → s ≤ g → IsRun (Fits kind bytes) samples s step.end
       → s ≤ step.start
 
--- a step reaches at least as far as another, and starts no earlier where it reaches as far
+-- a step reaches at least as far as another, and starts no earlier if it reaches as far
 pub record NotLess (step other : Step) : Type 0 where
   pub further : (other.end < step.end) ⊎ ((other.end ≡ step.end) × (other.start ≤ step.start))
 
@@ -32,7 +33,7 @@ pub record NotLess (step other : Step) : Type 0 where
 abbrev pub AreNarrow : List ℤ → ℕ → ℕ → Type 0
 AreNarrow samples a b = All (λ p. IsNarrow p.1) (run_points samples a b)
 
--- and that of the sample b, where there is one
+-- and that of the sample b, if there is one
 abbrev pub AreNarrowThrough : List ℤ → ℕ → ℕ → Type 0
 AreNarrowThrough samples a b = AreNarrow samples a (min (b + 1) (length samples))
 
@@ -49,8 +50,8 @@ end_of ends Int16 = ends.int16
 end_of ends Int24 = ends.int24
 end_of ends Int32 = ends.int32
 
--- Runs of these kinds from the frontier g to their ends fit. Where a step reaches to `end`, a run from g to there, or to
--- the sample before it, fits one of them only where it ends at or before the end of that kind, or of one that is tried
+-- Runs of these kinds from the frontier g to their ends fit. If a step reaches to `end`, a run from g to there, or to
+-- the sample before it, fits one of them only if it ends at or before the end of that kind, or of one that is tried
 -- before it.
 pub record AreEndsAmong (kinds : List Kind) (bytes : ℕ) (samples : List ℤ) (g end : ℕ) (ends : Ends) : Type 0 where
   pub fit : (kind : Kind) → Among kinds kind → IsRun (Fits kind bytes) samples g (end_of ends kind)

@@ -13,7 +13,7 @@ use msr_words::{AnyKind, Length, Tracker};
 use std::alloc::{AllocError, Global};
 use std::marker::Model;
 
-/// Takes the samples of a segment in blocks, and gives the runs of the packing one after another: each where so many
+/// Takes the samples of a segment in blocks, and gives the runs of the packing one after another: each when so many
 /// samples are there that its step ends before the last, whatever their kind. Each step is found once, over all that
 /// is held.
 #[derive(Drop)]
@@ -47,8 +47,8 @@ impl BlockPacker {
         }
     }
 
-    /// Takes more samples. First it forgets those that no step needs any more, where they are at least as many as those
-    /// that it needs, so that in all no more samples are moved than pushed. Where memory is refused, no sample was
+    /// Takes more samples. First it forgets those that no step needs any more, if they are at least as many as those
+    /// that it needs, so that in all no more samples are moved than pushed. If memory is refused, no sample was
     /// taken.
     pub fn push_all(&mut self, samples: &[i32]) -> Result<(), AllocError>
         requires { pushed self.old + length samples.now < 2 ^ 64 }
@@ -66,7 +66,7 @@ impl BlockPacker {
         Ok(())
     }
 
-    /// The next piece, where it is decided whatever samples follow.
+    /// The next piece, if it is decided whatever samples follow.
     pub fn next_piece(&mut self) -> Option<Piece>
         ensures given { (bytes : ℕ) (samples : List ℤ) (runs : List Run) (separators : List ℕ)
             → Packs bytes samples runs separators self.old
@@ -83,7 +83,7 @@ impl BlockPacker {
         self.held.next_piece(most)
     }
 
-    /// The next piece, where no sample follows. Where there is none, all pieces were given.
+    /// The next piece, if no sample follows. If there is none, all pieces were given.
     pub fn last_piece(&mut self) -> Option<Piece>
         ensures given { (bytes : ℕ) (samples : List ℤ) (runs : List Run) (separators : List ℕ)
             → PacksLast bytes samples runs separators self.old
@@ -135,17 +135,17 @@ pub fn blocks_begin_all()
     ensures { BlocksBeginAll }
 {}
 
-/// Where no sample follows, the pieces that were given begin the canonical packing of all.
+/// If no sample follows, the pieces that were given begin the canonical packing of all.
 pub fn last_blocks_begin()
     ensures { LastBlocksBegin }
 {}
 
-/// Where no piece is decided, at most two longest runs of samples were pushed and not given.
+/// If no piece is decided, at most two longest runs of samples were pushed and not given.
 pub fn blocks_leave_few()
     ensures { BlocksLeaveFew }
 {}
 
-/// Where no sample follows, the last pieces may be given.
+/// If no sample follows, the last pieces may be given.
 pub fn blocks_end()
     ensures { BlocksEnd }
 {}

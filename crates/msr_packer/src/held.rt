@@ -2,11 +2,10 @@
 
 ghost use Rattle.std.specs.Prelude.{◌≡◌, ℕ, ℤ, List, [], ◌++◌, ◌+◌, ◌-◌, ◌*◌, ◌<◌, ◌≤◌, ◌⊎◌, length, drop, IfSome, IsNone, IsSome, Some};
 ghost use Rattle.msr_words.specs.declared.kinds.Run.{Run};
-ghost use Rattle.msr_words.specs.Fit.{Fits, FitsAny, IsFirstKind, IsRun};
+ghost use Rattle.msr_words.specs.Fit.{Fits, FitsAny, IsRun};
 ghost use Rattle.msr_words.specs.Laws.{most_any};
 ghost use Rattle.msr_words.specs.Lengths.{bytes_of};
 ghost use Rattle.msr_words.specs.Packing.{IsCanonical, IsStep};
-ghost use Rattle.msr_words.specs.Segment.{run_points};
 ghost use Rattle.msr_packer.specs.Held.{GivesPiece, HasPlaces, Holds, IsNext, IsSound, Shows, Stays, before_shown, frontier_of, piece_of, pieces_of, runs_of, separators_of, shown_by, start_of};
 ghost use Rattle.msr_packer.specs.Steps.{AreEnds};
 
@@ -199,8 +198,8 @@ impl Held {
         piece
     }
 
-    /// Where more samples than this stand after the frontier, the piece before the next step, which has none where it
-    /// is the first.
+    /// If more samples than this stand after the frontier, the piece before the next step, which has none if it is the
+    /// first.
     pub fn step_past(&mut self, behind: usize) -> Option<Piece>
         requires { IsSound self.old }
         ensures given { GivesPiece self.old self.new result }
@@ -225,7 +224,7 @@ impl Held {
         self.go_on(step)
     }
 
-    /// The next piece, where more samples than this stand after the frontier. It is shown.
+    /// The next piece, if more samples than this stand after the frontier. It is shown.
     pub fn next_piece(&mut self, behind: usize) -> Option<Piece>
         requires { IsSound self.old }
         ensures given { GivesPiece self.old self.new result }
@@ -242,7 +241,7 @@ impl Held {
         self.step_past(behind)
     }
 
-    /// The piece of the last step, where no sample stands after it; none where there are no samples. It is shown.
+    /// The piece of the last step, if no sample stands after it; none if there are no samples. It is shown.
     pub fn last_piece(&mut self) -> Option<Piece>
         requires sound { IsSound self.old }
         requires end { length self.old.samples.items ≤ frontier_of self.old.current }
@@ -311,7 +310,7 @@ impl Held {
         });
     }
 
-    /// Takes the samples away that no step needs any more, where they are at least as many as the others: then each
+    /// Takes the samples away that no step needs any more, if they are at least as many as the others: then each
     /// sample that is moved is paid for by one that goes.
     pub fn make_room(&mut self)
         requires { IsSound self.old }

@@ -38,7 +38,7 @@ fn difference_between(before: i32, sample: i32) -> i64
     sample as i64 - before as i64
 }
 
-/// The tracker after the samples from one on, where it takes them all.
+/// The tracker after the samples from one on, if it takes them all.
 fn all_taken<C: Tracker + Drop>(mut tracker: C, samples: &[i32], from: usize) -> Option<C>
     requires { from ≤ length samples.now }
     ensures all { (bytes start : ℕ) → start ≤ from → C.follows bytes (run_points samples.now start from) tracker
@@ -75,7 +75,7 @@ impl KindTracker {
         }
     }
 
-    /// The tracker after the samples from one on, where it takes them all.
+    /// The tracker after the samples from one on, if it takes them all.
     fn after(self, samples: &[i32], from: usize) -> Option<KindTracker>
         requires { from ≤ length samples.now }
         ensures all { (bytes start : ℕ) → start ≤ from → IsTracked bytes samples.now start from self
@@ -128,7 +128,7 @@ impl Live {
         }
     }
 
-    /// Of the one sample after a frontier, Steim-2 where that takes it.
+    /// Of the one sample after a frontier, Steim-2 if that takes it.
     pub fn first(samples: &[i32], record_length: Length, frontier: usize) -> Live
         requires { length samples.now ≡ frontier + 1 }
         ensures { IsLive (bytes_of record_length) samples.now frontier (length samples.now) result }
@@ -153,7 +153,7 @@ impl Live {
         }
     }
 
-    /// The step from the frontier, where the samples from `from` on decide it. Else the run stays, or is one of
+    /// The step from the frontier, if the samples from `from` on decide it. Else the run stays, or is one of
     /// another kind that all samples fit.
     pub fn decide(
         &mut self,

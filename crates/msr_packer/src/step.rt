@@ -1,7 +1,6 @@
 //! One record more: how far a record reaches that starts at or before a frontier.
 
-ghost use Rattle.std.specs.Prelude.{pos, slice_index_or, ◌≡◌, ℕ, ◌+◌, ◌<◌, ◌≤◌, ◌⊎◌, ◌∷◌, [], length, List, IsTrue, IsFalse, IfSome, map, count_by};
-ghost use Rattle.msr_words.specs.declared.kinds.Kind.{Kind};
+ghost use Rattle.std.specs.Prelude.{pos, slice_index_or, ◌≡◌, ℕ, ◌+◌, ◌<◌, ◌≤◌, ◌⊎◌, ◌∷◌, [], length, IsTrue, IsFalse, IfSome, map, count_by};
 ghost use Rattle.msr_words.specs.declared.kinds.Kind.TheVariants.{Int32 as Integers32, Steim1 as FirstSteim, Steim2 as SecondSteim};
 ghost use Rattle.msr_words.specs.Bounds.{AreIntegers, BeginsWithFour, IsEnd, IsOfBits, is_wide};
 ghost use Rattle.msr_words.specs.Lengths.{bytes_of};
@@ -51,21 +50,21 @@ pub struct Ends {
     pub int32: usize,
 }
 
-/// A step, with the ends that tell the kind of its run where that is cut.
+/// A step, with the ends that tell the kind of its run when that is cut.
 #[derive(Clone, Copy, Debug, PartialEq, Eq)]
 pub struct Found {
     pub step: Step,
     pub ends: Ends,
 }
 
-/// The greatest end of a run; and, where it is set, all differences of the run and the one after it are narrow.
+/// The greatest end of a run; and, if it is set, all differences of the run and the one after it are narrow.
 #[derive(Clone, Copy, Debug)]
 struct Reach {
     end: usize,
     narrow: bool,
 }
 
-/// What Steim-2 reaches, where the least of its groups has so many differences: those of a group of two or more
+/// What Steim-2 reaches, if the least of its groups has so many differences: those of a group of two or more
 /// are narrow.
 fn reach_to(samples: &[i32], end: usize, least: usize) -> Reach
     ensures end { result.end ≡ end }
@@ -105,7 +104,7 @@ fn steim2_reach(samples: &[i32], record_length: Length, start: usize) -> Reach
     reach_to(samples, at, least)
 }
 
-/// How far a sample is from 0, or from -1 where it is negative, in 32 bits, of which a vector holds most.
+/// How far a sample is from 0, or from -1 if it is negative, in 32 bits, of which a vector holds most.
 fn size_of(sample: i32) -> u32
     ensures { IsSize sample result }
 {
@@ -186,8 +185,8 @@ fn furthest_integers(
     end
 }
 
-/// The end of a run of integers of that many bits from the frontier on; where none is long enough to reach past `end`, the
-/// frontier.
+/// The end of a run of integers of that many bits from the frontier on; if none is long enough to reach past `end`,
+/// the frontier.
 fn integers_end(
     samples: &[i32],
     record_length: Length,
@@ -221,7 +220,7 @@ fn int32_end(samples: &[i32], record_length: Length, frontier: usize) -> usize
 }
 
 /// Whether no Steim-1 record that starts at or before the frontier reaches past the end of Steim-2 and close to `end`.
-/// It does not where the differences are narrow, and where there are too many: each takes a quarter of a word at least.
+/// It does not if the differences are narrow, nor if there are too many: each takes a quarter of a word at least.
 fn steim1_is_short(
     samples: &[i32],
     record_length: Length,
@@ -262,8 +261,8 @@ fn begins_with_four(samples: &[i32], start: usize) -> bool
     true
 }
 
-/// The step from a frontier with records of Steim-1, where the end of its run from there is known. One that starts
-/// before the frontier can reach further only where its first difference shares a word with three others.
+/// The step from a frontier with records of Steim-1, if the end of its run from there is known. One that starts
+/// before the frontier can reach further only if its first difference shares a word with three others.
 fn steim1_step(samples: &[i32], record_length: Length, frontier: usize, end: usize) -> Step
     requires within { frontier ≤ length samples.now }
     requires end { IsEnd FirstSteim (bytes_of record_length) samples.now frontier end }
@@ -304,7 +303,7 @@ fn has_more_wide(samples: &[i32], start: usize, end: usize, most: usize) -> bool
     wide > most
 }
 
-/// The better of a step and those with records of 24-bit and 32-bit integers, where the ends of the kinds of which records
+/// The better of a step and those with records of 24-bit and 32-bit integers, if the ends of the kinds of which records
 /// are longer are known.
 fn with_wide_integers(
     samples: &[i32],
@@ -346,7 +345,7 @@ fn with_wide_integers(
     }
 }
 
-/// The step from a frontier with records of integers alone, where those of 16 bits reach so far that too many of the
+/// The step from a frontier with records of integers alone, if those of 16 bits reach so far that too many of the
 /// differences up to there are of more than 10 bits for a record of differences.
 fn integers_alone(samples: &[i32], record_length: Length, frontier: usize) -> Option<Found>
     requires { frontier ≤ length samples.now }
@@ -380,7 +379,8 @@ fn integers_alone(samples: &[i32], record_length: Length, frontier: usize) -> Op
     Some(with_wide_integers(samples, record_length, frontier, by_int16, ends))
 }
 
-/// The step from a frontier. `likely` is the kind that is tried first where it is Int16; the step is the same whatever it is.
+/// The step from a frontier. `likely` is the kind that is tried first if it is Int16; the step is the same whatever it
+/// is.
 pub fn next_step(samples: &[i32], record_length: Length, frontier: usize, likely: Kind) -> Found
     requires { frontier ≤ length samples.now }
     ensures step { IsStep (FitsAny (bytes_of record_length)) samples.now frontier result.step.end result.step.start }

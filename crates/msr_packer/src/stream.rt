@@ -96,14 +96,15 @@ impl StreamPacker {
         }
     }
 
-    /// Takes one sample more, and gives a piece where one is decided. Where memory is refused it is as it was, but
+    /// Takes one sample more, and gives a piece when one is decided. If memory is refused it is as it was, but
     /// shows no samples.
     pub fn push(&mut self, sample: i32) -> Result<Option<Piece>, AllocError>
         requires { pushed self.old + 1 < 2 ^ 64 }
         ensures given { (bytes : ℕ) (samples : List ℤ) (runs : List Run) (separators : List ℕ)
             → Streams bytes samples runs separators self.old
             → MatchResult result
-            (λ piece. Streams bytes (samples ++ sample ∷ []) (runs ++ runs_of (pieces_of piece)) (separators ++ separators_of (pieces_of piece)) self.new)
+            (λ piece. Streams bytes (samples ++ sample ∷ []) (runs ++ runs_of (pieces_of piece))
+            (separators ++ separators_of (pieces_of piece)) self.new)
             (λ _. Streams bytes samples runs separators self.new) }
         ensures shown { (bytes : ℕ) (samples : List ℤ) (runs : List Run) (separators : List ℕ)
             → Streams bytes samples runs separators self.old
@@ -117,14 +118,15 @@ impl StreamPacker {
         Ok(taken.piece)
     }
 
-    /// Takes samples up to the one that decides the next step, or all of them where none does, as so many single pushes
-    /// would, of which only the last gives a piece. Where memory is refused none was taken, and no samples are shown.
+    /// Takes samples up to the one that decides the next step, or all of them if none does, as so many single pushes
+    /// would, of which only the last gives a piece. If memory is refused none was taken, and no samples are shown.
     pub fn push_some(&mut self, samples: &[i32]) -> Result<Taken, AllocError>
         requires { pushed self.old + length samples.now < 2 ^ 64 }
         ensures given { (bytes : ℕ) (before : List ℤ) (runs : List Run) (separators : List ℕ)
             → Streams bytes before runs separators self.old
             → MatchResult result
-            (λ taken. Streams bytes (before ++ take taken.count samples.now) (runs ++ runs_of (pieces_of taken.piece)) (separators ++ separators_of (pieces_of taken.piece)) self.new)
+            (λ taken. Streams bytes (before ++ take taken.count samples.now) (runs ++ runs_of (pieces_of taken.piece))
+            (separators ++ separators_of (pieces_of taken.piece)) self.new)
             (λ _. Streams bytes before runs separators self.new) }
         ensures shown { (bytes : ℕ) (before : List ℤ) (runs : List Run) (separators : List ℕ)
             → Streams bytes before runs separators self.old
@@ -167,14 +169,14 @@ impl StreamPacker {
         Ok(Taken { count, piece })
     }
 
-    /// The samples of the piece that the last push gave, none where it gave none.
+    /// The samples of the piece that the last push gave, none if it gave none.
     pub fn run_samples(&self) -> &[i32]
         ensures { result.now ≡ self.now.shown }
     {
         self.held.shown()
     }
 
-    /// The pieces that were not given, where no sample follows: at most two. It takes no memory.
+    /// The pieces that were not given, if no sample follows: at most two. It takes no memory.
     pub fn end(self) -> Last
         ensures { (bytes : ℕ) (samples : List ℤ) (runs : List Run) (separators : List ℕ)
             → Streams bytes samples runs separators self

@@ -163,8 +163,8 @@ fn which_packings_are_shown_to_be_least(rt: HostRuntime) -> Result<(), Fail> {
     Ok(())
 }
 
-/// 65 samples, 8388607 and -8388608 in turn: a record of 256 bytes holds 64 of them as 24-bit integers, and 48 as 32-bit
-/// ones.
+/// 65 samples, 8388607 and -8388608 in turn: a record of 256 bytes holds 64 of them as 24-bit integers, and 48 as
+/// 32-bit ones.
 #[test]
 fn samples_of_24_bits(rt: HostRuntime) -> Result<(), Fail> {
     let record_length = Length::new(256).ok_or("a length")?;

@@ -85,7 +85,7 @@ fn how_many_samples_a_record_holds(rt: HostRuntime) -> Result<(), Fail> {
 }
 
 /// Forty differences of 70000 fill forty words. 200, then four zeros, then 70000 fill three more, but four
-/// where the largest group is taken first.
+/// if the largest group is taken first.
 #[test]
 fn steim1_takes_the_least_number_of_words(rt: HostRuntime) -> Result<(), Fail> {
     let mut tracker = Steim1::start(shortest()?);
@@ -345,7 +345,7 @@ fn a_swing_of_24_bits(rt: HostRuntime) -> Result<(), Fail> {
     Ok(())
 }
 
-/// The groups of some differences in a record of 256 bytes, none where there is no room.
+/// The groups of some differences in a record of 256 bytes, none if there is no room.
 fn divided(
     alloc: Global,
     version: Version,
@@ -511,7 +511,7 @@ fn steim1_area(alloc: Global, before: Option<i32>, run: &[i32]) -> Result<[u8; 1
     Err("no room")?
 }
 
-/// Groups of one, four, two and one difference; and one before four, where two would leave three for
+/// Groups of one, four, two and one difference; and one before four, if two would leave three for
 /// two words.
 #[test]
 fn areas_of_steim1(rt: HostRuntime) -> Result<(), Fail> {

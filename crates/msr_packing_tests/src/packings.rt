@@ -59,7 +59,7 @@ impl Made {
         }
     }
 
-    /// The sample at a place, where the row of chance has that number.
+    /// The sample at a place, if the row of chance has that number.
     fn sample(self, place: usize, number: u64) -> i32 {
         let even = place % 2 == 0;
         match self {
@@ -124,7 +124,7 @@ const ROWS: [Row; 24] = [
     (256, Signs(97), &[(96, Int16), (97, Steim2)], &[0, 96]),
     // 64 places of 24 bits
     (256, Bounds(65), &[(64, Int24), (65, Steim2)], &[0, 64]),
-    // where each record starts at the frontier, three are needed
+    // if each record starts at the frontier, three are needed
     (
         256,
         Swings(173, 1_000_000),
@@ -445,7 +445,7 @@ fn add_last(packer: &mut BlockPacker, given: &mut Streamed) -> Result<(), AllocE
     Ok(())
 }
 
-/// What a packer gives, where so many samples are pushed at a time.
+/// What a packer gives, if so many samples are pushed at a time.
 fn in_blocks(
     alloc: Global,
     samples: &[i32],

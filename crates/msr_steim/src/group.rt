@@ -24,7 +24,7 @@ pub fn fits_bits(number: i64, width: u32) -> bool
 }
 
 /// Whether each number is one of `width` bits.
-fn all_fit_bits(numbers: &[i64], width: u32) -> bool
+pub fn all_fit_bits(numbers: &[i64], width: u32) -> bool
     requires positive { 0 < width }
     requires small { width ≤ 32 }
     ensures { IsTrue result ↔ AllByRecursion (FitsBits width) numbers.now }

@@ -1,4 +1,4 @@
--- Where all differences are narrow, each group of Steim-1 is one of Steim-2.
+-- If all differences are narrow, each group of Steim-1 is one of Steim-2.
 use Rattle.std.specs.Prelude.{◌≡◌, ◌↔◌, ◌⊎◌, ◌<◌, ◌-◌, ◌^◌, ℕ, suc, ◌≤◌, ℤ, List, [], ◌∷◌, ◌++◌, length, map, flat_map, All}
 use Rattle.std.specs.List.{AllByRecursion}
 use Rattle.std.proofs.Common.{arith, refl, sym, subst, inl, inr, length-append, lit≤}

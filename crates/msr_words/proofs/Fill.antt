@@ -161,7 +161,7 @@ next_is gs (x ∷ xs) size chosen longest = elim (cases_lt 0 size) [
       }
 ]
 
--- where differences are left, a group is
+-- if differences are left, a group is
 pub some_next : (version : Version) (gs : List (List ℤ)) (ds : List ℤ) (size : ℕ)
     → IsCanonicalDivision version gs ds → IsNext version gs ds size → size ≡ 0 → length ds ≡ 0
 some_next version gs ds size chosen next none =

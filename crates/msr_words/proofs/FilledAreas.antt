@@ -11,7 +11,7 @@ use Rattle.msr_words.specs.Lemmas.SteimLaws.{size_law}
 use Rattle.msr_words.proofs.DivisionsExist.{has_division}
 use Rattle.msr_words.proofs.Plain.{length-differences}
 
--- with the groups of the division that is written, which has room where any division has
+-- with the groups of the division that is written, which has room if any division has
 pub area_filled : (version : Version) (before : Option ℤ) (run : List ℤ) (frames : ℕ) (area : List ℕ) (number : ℕ)
     → 1 ≤ length run → CanDivide version (15 * frames - 2) (differences before run)
     → ((groups : List (List ℤ)) → IsCanonicalDivision version groups (differences before run)

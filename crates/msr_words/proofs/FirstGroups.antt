@@ -1,5 +1,5 @@
 -- The first Steim-1 group of some differences, by the least number of groups after it.
-use Rattle.std.proofs.Common.{◌≡◌, ◌↔◌, ◌<◌, ◌≤◌, ℕ, zero, suc, ◌+◌, ◌-◌, ℤ, pos, Bool, true, false, eqb, List, [], ◌∷◌, ◌++◌, length, take, drop, get_or, refl, sym, ap, ◌∙◌, subst, arith, inl, inr, append_assoc, length-append, set, ◌≢◌, get_or-set_other, get_or-set_same, length-set, drop-cons, Option}
+use Rattle.std.proofs.Common.{◌≡◌, ◌↔◌, ◌<◌, ◌≤◌, ℕ, zero, suc, ◌+◌, ◌-◌, ℤ, pos, Bool, true, false, eqb, List, [], ◌∷◌, ◌++◌, length, take, drop, get_or, refl, sym, ap, ◌∙◌, subst, arith, inl, inr, append_assoc, length-append, set, ◌≢◌, get_or-set_other, get_or-set_same, length-set, drop-cons}
 use Rattle.std.specs.List.{AllByRecursion}
 use Rattle.std.proofs.lemmas.Bool.{cases_lt, eq-eqb, ne_eqb}
 use Rattle.std.proofs.lemmas.List.{append-nil, nil_from_length, take-append-drop, take_at, drop_at, drop_all, drop-drop, length-drop, length-take-le}
@@ -7,14 +7,12 @@ use Rattle.msr_steim.specs.declared.word.Version.TheVariants.{One}
 use Rattle.msr_steim.specs.Area.{differences}
 use Rattle.msr_steim.specs.Word.{AreGroups, FitsBits, IsGroup, IsGroupAt}
 use Rattle.msr_words.specs.Division.{CanDivide}
-use Rattle.msr_words.specs.Segment.{difference_from, differences as run_differences}
 use Rattle.msr_words.specs.Canonical.{DividesFrom, IsCanonicalDivision}
-use Rattle.msr_words.specs.FirstGroup.{AreSizes, IsBest, IsCanonicalFirst, IsFirstGroup, IsLeast}
+use Rattle.msr_words.specs.FirstGroup.{AreGiven, AreSizes, IsBest, IsCanonicalFirst, IsFirstGroup, IsLeast}
 use Rattle.msr_words.specs.Lemmas.LeastCounts.{a_group_has_few}
 use Rattle.msr_words.specs.Lemmas.SteimLaws.{head_group, none_divides, one_has_few, size_law, tail_groups}
 use Rattle.msr_words.proofs.WrittenDivision.{at_place_is, divides_can, group_fits, no_groups, starts_with, tail_chosen, with_first}
 use Rattle.msr_words.specs.NextWord.{IsNext}
-use Rattle.msr_words.proofs.Plain.{difference_of, length-differences}
 
 -- ---- the best size
 
@@ -323,19 +321,15 @@ all_at P [] i d less all = absurd (omega arith)
 all_at P (x ∷ xs) zero d less all = all.0
 all_at P (x ∷ xs) (suc i) d less all = all_at P xs i d (omega arith) all.1
 
-pub front_at : (before : Option ℤ) (run : List ℤ) (at end : ℕ) → at + 1 ≡ end → at < length run
-    → drop at (run_differences before run) ≡ difference_from before run at ∷ drop end (run_differences before run)
-front_at before run at end one less =
-    let ds = run_differences before run in
-    let long = length-differences before run in
-    let there : at < length (run_differences before run) = omega arith in
+-- a difference that is given stands before those after its place
+pub given_at : (gives : ℕ → ℤ → Type 0) (count : ℕ) (ds : List ℤ) → AreGiven gives count ds → (at end : ℕ) (d : ℤ)
+    → at + 1 ≡ end → end ≤ count → gives at d → d ∷ drop end ds ≡ drop at ds
+given_at gives count ds given at end d one less here =
+    let long = given.long in
+    let there : at < length ds = omega arith in
     let next : suc at ≡ end = omega arith in
-    drop-cons ds at (pos 0) there ∙ ap (λ x. x ∷ drop (suc at) ds) (difference_of before run at less)
-    ∙ ap (λ n. difference_from before run at ∷ drop n ds) next
-
-pub no_sizes : (ds : List ℤ) (from : ℕ) (sizes : List ℕ) → length sizes ≡ length ds → length ds ≤ from
-    → AreSizes ds from sizes
-no_sizes ds from sizes long end = record { long = long; each = λ at low less. absurd (omega arith) }
+    ap (λ z. z ∷ drop end ds) (given.each at d (omega arith) here)
+    ∙ sym (drop-cons ds at (pos 0) there ∙ ap (λ n. get_or ds at (pos 0) ∷ drop n ds) next)
 
 pub sizes_more : (ds : List ℤ) (at end size : ℕ) (sizes : List ℕ) → at + 1 ≡ end → AreSizes ds end sizes
     → at < length ds → IsCanonicalFirst (drop at ds) size → AreSizes ds at (set sizes at size)
@@ -357,7 +351,8 @@ sizes_more ds at end size sizes one are less is = record { long = length-set siz
 
 -- ---- each difference of a division is one of 32 bits
 
-all_joined : {X : Type 0} (P : X → Type 0) (xs ys : List X) → AllByRecursion P xs → AllByRecursion P ys
+-- what holds of each of two lists, side by side
+pub all_joined : {X : Type 0} (P : X → Type 0) (xs ys : List X) → AllByRecursion P xs → AllByRecursion P ys
     → AllByRecursion P (xs ++ ys)
 all_joined P [] ys front back = back
 all_joined P (x ∷ xs) ys front back = (front.0, all_joined P xs ys front.1 back)

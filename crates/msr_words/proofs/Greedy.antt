@@ -15,7 +15,7 @@ use Rattle.msr_words.proofs.WrittenDivision.{inner_first}
 use Rattle.msr_words.proofs.Parts.{HasDivision, cut, division_back, division_rest, first_fits, none_left}
 use Rattle.msr_words.proofs.Steim2Groups.{IsOfBits, IsSteim2Group, capacity_at, division_from, division_to, group_from, group_to, steim2_bits, steim2_parts}
 
--- ---- one group more in front
+-- ---- one group more before the others
 
 -- the group has no room for the next difference
 pub record IsFull (group rest : List ℤ) : Type 0 where

@@ -172,7 +172,7 @@ greedy_law bytes samples g reach le is =
 
 -- ---- word after word
 
--- where no group begins, no word is filled
+-- if no group begins, no word is filled
 pub none_reached : (words : ℕ) (ds : List ℤ) → IsLongestGroup ds 0 → IsGreedyReach words ds 0
 none_reached zero ds is = refl
 none_reached (suc words) ds is = (0, 0, is, none_reached words ds is, refl)

@@ -12,7 +12,7 @@ pub record IsDivision (is_group : List ℤ → Type 0) (most : ℕ) (ds : List �
 abbrev pub HasDivision : (List ℤ → Type 0) → ℕ → List ℤ → Type 0
 HasDivision is_group most ds = (groups : List (List ℤ)) × IsDivision is_group most ds groups
 
--- where a list is cut in two ways, one cut is at or before the other
+-- if a list is cut in two ways, one cut is at or before the other
 abbrev pub Cut : List ℤ → List ℤ → List ℤ → List ℤ → Type 0
 Cut xs ys us vs =
     ((m : List ℤ) × (xs ≡ us ++ m) × (vs ≡ m ++ ys)) ⊎ ((m : List ℤ) × (us ≡ xs ++ m) × (ys ≡ m ++ vs))
@@ -28,7 +28,7 @@ cut (x ∷ xs) ys (u ∷ us) vs e =
       | inr c ↦ inr (c.0, (let p = c.1 in cc), c.2)
     ]
 
--- each part of a group, from its front or from its back, is a group
+-- each part of a group, from its start or from its end, is a group
 pub record HasParts (is_group : List ℤ → Type 0) : Type 0 where
   pub front : (xs ys : List ℤ) → 0 < length xs → is_group (xs ++ ys) → is_group xs
   pub back : (xs ys : List ℤ) → 0 < length ys → is_group (xs ++ ys) → is_group ys

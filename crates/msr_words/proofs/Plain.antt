@@ -236,7 +236,7 @@ pub all_fits : (left : ℕ) (rest : List ℤ) → length rest ≡ 0 → CanDivid
 all_fits left [] none = division_from left [] (no_groups IsSteim2Group left)
 all_fits left (d ∷ ds) none = absurd (omega arith)
 
--- where the walk stops, all fits exactly where nothing is left
+-- where the walk stops, all fits exactly when nothing is left
 pub stops : (words left at size : ℕ) (ds : List ℤ) → length ds ≡ size → at ≤ size
     → IsLeft words left ds (drop at ds) → (left ≡ 0) ⊎ IsLongestGroup (drop at ds) 0 →
     (IsTrue (eqb at size) → CanDivide Two words ds) × (CanDivide Two words ds → IsTrue (eqb at size))

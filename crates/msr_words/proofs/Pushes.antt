@@ -11,7 +11,7 @@ use Rattle.msr_words.specs.Laws.{most_of}
 use Rattle.msr_words.specs.Trackers.{FollowsIntegers, IsInteger, integers_of}
 use Rattle.msr_words.specs.Lemmas.KindLaws.{int16_by_bits, int24_by_bits, of_integers, prefix_kind, size_kind}
 
--- one integer more fits after a run that fits, where the record has room; and what fits is such an integer
+-- one integer more fits after a run that fits, if the record has room; and what fits is such an integer
 pub record TakesIntegers (kind : Kind) (bytes : ℕ) : Type 0 where
   pub takes : (run : List (ℤ × ℤ)) (x d : ℤ) → Fits kind bytes run → length run + 1 ≤ most_of kind bytes
       → IsInteger kind x → Fits kind bytes (run ++ (x, d) ∷ [])
@@ -84,7 +84,7 @@ module _ (kind : Kind) (bytes : ℕ) (are : TakesIntegers kind bytes) (run : Lis
         (λ _. more, λ _. refl),
       )
 
--- the run fits a record of some kind exactly where one of the trackers says so
+-- the run fits a record of some kind exactly when one of the trackers says so
 pub any_of : (bytes : ℕ) (run : List (ℤ × ℤ)) (int16 int24 int32 steim1 steim2 : Bool)
     → (IsTrue int16 ↔ Fits Int16 bytes run) → (IsTrue int24 ↔ Fits Int24 bytes run)
     → (IsTrue int32 ↔ Fits Int32 bytes run) →

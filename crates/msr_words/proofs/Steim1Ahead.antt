@@ -1,8 +1,8 @@
--- The first Steim-1 group by the differences that follow, where four of 8 bits do not stand in the way.
+-- The first Steim-1 group by the differences that follow, if four of 8 bits do not stand in the way.
 use Rattle.std.proofs.Common.{◌≡◌, ◌<◌, ◌≤◌, ℕ, zero, suc, ◌+◌, ◌-◌, ℤ, pos, Bool, true, false, eqb, List, [], ◌∷◌, length, take, drop, get_or, sym, ◌∙◌, subst, arith, inl, inr, lit<, lit≤, bit_or}
 use Rattle.std.specs.List.{AllByRecursion}
 use Rattle.std.proofs.lemmas.Bool.{cases_lt, eq-eqb}
-use Rattle.std.proofs.lemmas.Bool.Decides.{nat_tests}
+use Rattle.std.proofs.lemmas.Map.Views.{exact_unsigned_eq}
 use Rattle.std.proofs.lemmas.List.{drop_all, length-drop, length-take-le}
 use Rattle.std.proofs.lemmas.Nat.{le_or_l, le_or_r, or_lt}
 use Rattle.msr_steim.specs.declared.word.Version.TheVariants.{One}
@@ -38,7 +38,7 @@ one_before n size ds within is three can =
       can = subst (λ m. CanDivide One m (drop size ds)) same can;
     })
 
--- the same, where so many words are left
+-- the same, if so many words are left
 after_one : (n size : ℕ) (ds : List ℤ) → 0 < n → size ≤ length ds → IsGroup One (take size ds) → (size ≡ 3 → ⊥)
     → CanDivide One (n - 1) (drop size ds) → CanDivide One n ds
 after_one n size ds some within is three can =
@@ -52,7 +52,7 @@ record FirstOf (n size : ℕ) (ds : List ℤ) : Type 0 where
   group : IsGroup One (take size ds)
   can : CanDivide One (n - 1) (drop size ds)
 
--- where a division begins with one, two, three or four differences
+-- if a division begins with one, two, three or four differences
 by_first : (P : Type 0) (n : ℕ) (ds : List ℤ) → 0 < length ds → CanDivide One n ds → (FirstOf n 1 ds → P)
     → (FirstOf n 2 ds → P) → (FirstOf n 3 ds → P) → (FirstOf n 4 ds → P) → P
 by_first P n ds some can p1 p2 p3 p4 = let first = first_size One n ds some can in go first.0 first.2
@@ -186,7 +186,7 @@ at_any : (last : Bool) (g : List ℤ) → IsInnerGroup One g → IsGroupAt One l
 at_any true g is = is.0
 at_any false g is = is
 
--- without the second, where it does not begin four of 8 bits
+-- without the second, if it does not begin four of 8 bits
 without_next : (n : ℕ) (ds : List ℤ) → 2 ≤ length ds → (BeginsWithFour (drop 1 ds) → ⊥)
     → CanDivide One n (drop 1 ds) → CanDivide One n (drop 2 ds)
 without_next n [] some apart can = absurd (omega arith)
@@ -207,12 +207,8 @@ after_four (a ∷ b ∷ c ∷ d ∷ ds) enough (suc (suc (suc zero))) n some mos
 after_four (a ∷ b ∷ c ∷ d ∷ ds) enough (suc (suc (suc (suc zero)))) n some most three can = can
 after_four (a ∷ b ∷ c ∷ d ∷ ds) enough (suc (suc (suc (suc (suc other))))) n some most three can = absurd (omega arith)
 
--- a test that two numbers are the same
-same_end : (m n : ℕ) → eqb m n ≡ true → m ≡ n
-same_end m n is = grind (arith, nat_tests)
-
 module _ (ds : List ℤ) (fits : AllByRecursion (FitsBits 32) ds) where
-  -- a first group of this size, where no other has more differences or leaves fewer groups
+  -- a first group of this size, if no other has more differences or leaves fewer groups
   first_where : (size : ℕ) → size ≤ length ds → IsGroupAt One (eqb size (length ds)) (take size ds)
       → ((other n : ℕ) → other ≤ length ds → IsGroupAt One (eqb other (length ds)) (take other ds)
       → Shares ds 0 other → CanDivide One n (drop other ds) → (other ≤ size) × CanDivide One n (drop size ds))
@@ -239,7 +235,7 @@ module _ (ds : List ℤ) (fits : AllByRecursion (FitsBits 32) ds) where
       go [] all h = absurd (omega arith)
       go (x ∷ xs) all h = all.0
 
-  -- one difference, where the first two do not stand together
+  -- one difference, if the first two do not stand together
   single_first : 0 < length ds → (IsOfBitsAt ds 0 16 → IsOfBitsAt ds 1 16 → ⊥) → IsCanonicalFirst ds 1
   single_first some apart = first_where 1 some
       (at_any (eqb 1 (length ds)) (take 1 ds) (group_one ds (some, some_of some)))
@@ -251,7 +247,7 @@ module _ (ds : List ℤ) (fits : AllByRecursion (FitsBits 32) ds) where
       ] in
       (omega arith, subst (λ k. CanDivide One n (drop k ds)) one can))
 
-  -- two, where neither they nor the second begin four of 8 bits, and they are not two of three of 8 bits that are left
+  -- two, if neither they nor the second begin four of 8 bits, and they are not two of three of 8 bits that are left
   two_first : IsOfBitsAt ds 0 16 → IsOfBitsAt ds 1 16 → (BeginsWithFour ds → ⊥) → (BeginsWithFour (drop 1 ds) → ⊥)
       → (length ds ≡ 3 → BeginsWithThree ds → ⊥) → IsCanonicalFirst ds 2
   two_first first second here next three = first_where 2 (omega (arith, second.0))
@@ -277,12 +273,12 @@ module _ (ds : List ℤ) (fits : AllByRecursion (FitsBits 32) ds) where
               | inr last ↦
                   let long : length (take other ds) ≡ 3 = length-take-le other ds within ∙ omega arith in
                   let end = at_end (eqb other (length ds)) (take other ds) group long in
-                  absurd (three (sym (same_end other (length ds) end) ∙ omega arith)
+                  absurd (three (sym (exact_unsigned_eq other (length ds) end) ∙ omega arith)
                   (of_8 0 (omega arith), of_8 1 (omega arith), of_8 2 (omega arith)))
             ]
       ])
 
-  -- three, where they are all that is left
+  -- three, if they are all that is left
   three_first : length ds ≡ 3 → BeginsWithThree ds → IsCanonicalFirst ds 3
   three_first all three = first_where 3 (omega arith)
       (subst (λ b. IsGroupAt One b (take 3 ds)) (sym (eq-eqb 3 (length ds) (sym all))) (group_three ds three))
@@ -299,7 +295,7 @@ module _ (ds : List ℤ) (fits : AllByRecursion (FitsBits 32) ds) where
       (λ other n within group shares can.
       let not_three : other ≡ 3 → ⊥ = λ e.
       let long : length (take other ds) ≡ 3 = length-take-le other ds within ∙ e in
-      let end = same_end other (length ds) (at_end (eqb other (length ds)) (take other ds) group long) in
+      let end = exact_unsigned_eq other (length ds) (at_end (eqb other (length ds)) (take other ds) group long) in
       omega (arith, fourth.0) in
       (shares.most, after_four ds (omega (arith, fourth.0)) other n shares.some shares.most not_three can))
 
@@ -355,7 +351,7 @@ module _ (ds : List ℤ) (one two three : ℕ) (h1 : IsSizeAt ds 0 one) (h2 : Is
       (λ same t. let below = or_lt 7 one three ((h1 8 (lit≤ tt)).1 t.0) ((h3 8 (lit≤ tt)).1 t.2) in
       let never : ⊥ = omega arith in never)
 
--- where there may be four of 8 bits
+-- if there may be four of 8 bits
 module _ (ds : List ℤ) (one two three four : ℕ) (h1 : IsSizeAt ds 0 one) (h2 : IsSizeAt ds 1 two)
     (h3 : IsSizeAt ds 2 three) (h4 : IsSizeAt ds 3 four) where
   middle_small : IsOfBitsAt ds 1 8 → IsOfBitsAt ds 2 8 → IsOfBitsAt ds 3 8 → bit_or (bit_or two three) four < 128
@@ -385,7 +381,7 @@ module _ (ds : List ℤ) (one two three four : ℕ) (h1 : IsSizeAt ds 0 one) (h2
   four_small fits small middle = let bits = middle_bits middle in
       four_first ds fits ((h1 8 (lit≤ tt)).0 small, bits.0, bits.1) bits.2
 
--- where four of 8 bits may begin after the first
+-- if four of 8 bits may begin after the first
 module _ (ds : List ℤ) (one two three four five : ℕ) (h1 : IsSizeAt ds 0 one) (h2 : IsSizeAt ds 1 two)
     (h3 : IsSizeAt ds 2 three) (h4 : IsSizeAt ds 3 four) (h5 : IsSizeAt ds 4 five) where
   pub two_before : AllByRecursion (FitsBits 32) ds → bit_or one two < 32768 → 128 ≤ one → 128 ≤ five

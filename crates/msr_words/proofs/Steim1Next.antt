@@ -1,4 +1,4 @@
--- The next Steim-1 word, where the size of its group is known.
+-- The next Steim-1 word, if the size of its group is known.
 use Rattle.std.proofs.Common.{◌≡◌, ◌<◌, ◌≤◌, ◌+◌, ℕ, ℤ, List, Option, drop, take, length, refl, sym, subst, arith}
 use Rattle.std.proofs.lemmas.List.{length-drop}
 use Rattle.msr_steim.specs.declared.word.Version.TheVariants.{One}
@@ -56,7 +56,7 @@ word_there before run at size next less is size_is empty code_is small word_is =
       empty_is = λ none. absurd (omega arith);
     }
 
--- where no difference is left
+-- if no difference is left
 pub word_none : (before : Option ℤ) (run : List ℤ) (at : ℕ) → at ≡ length run
     → IsNextWord One (drop at (differences before run)) (record { size = 0; code = 0; word = 0; empty = 1 })
 word_none before run at end =

@@ -1,4 +1,4 @@
--- How far Steim-1 words reach: one word more, the last word, and where none is filled.
+-- How far Steim-1 words reach: one word more, the last word, and when none is filled.
 use Rattle.std.specs.Prelude.{◌≡◌, ◌<◌, ◌≤◌, ◌+◌, ◌-◌, ◌↔◌, ℕ, zero, suc, ℤ, pos, Bool, true, false, IsTrue, List, [], ◌∷◌, ◌++◌, length, take, drop, reverse, get_or}
 use Rattle.std.specs.List.{AllByRecursion}
 use Rattle.std.proofs.Common.{arith, lit≤, refl, sym, ap, ◌∙◌, subst, inl, inr, length-append, length-drop}
@@ -329,7 +329,7 @@ module _ (words : ℕ) (ds : List ℤ) (m : ℕ) (spare : Bool) (is : IsSteim1Re
   starts : (last : Bool) (n : ℕ) → n ≤ length ds → (e : EndsWith last words ds n) → e.from ≤ m
   starts last n within e = let sum = e.sum in is.furthest e.from (omega arith) e.stand
 
-  -- no further than that, where no last word reaches further
+  -- no further than that, if no last word reaches further
   bounded : (reach n : ℕ) → ((e : EndsWith false words ds n) → reach < n → ⊥) → n ≤ length ds
       → StandIn (suc words) ds n → n ≤ reach
   bounded reach n none within stand = elim (cases_lt reach n) [
@@ -493,7 +493,7 @@ module _ (words : ℕ) (ds : List ℤ) (m : ℕ) (spare : Bool) (is : IsSteim1Re
 
   -- ---- the last word
 
-  -- no further than that, where no last word reaches further
+  -- no further than that, if no last word reaches further
   last_bounded : (reach n : ℕ) → ((e : EndsWith true words ds n) → reach < n → ⊥) → n ≤ length ds
       → CanDivide One (suc words) (take n ds) → n ≤ reach
   last_bounded reach n none within can = elim (cases_lt reach n) [
@@ -501,7 +501,7 @@ module _ (words : ℕ) (ds : List ℤ) (m : ℕ) (spare : Bool) (is : IsSteim1Re
     | inr not ↦ not
   ]
 
-  -- where the next difference stands in no word
+  -- if the next difference stands in no word
   pub stopped : (more : ℕ) → words ≤ more → (IsOfBitsAt ds m 32 → ⊥) → IsSteim1End more ds m
   stopped more le barred = record {
     within = is.within;

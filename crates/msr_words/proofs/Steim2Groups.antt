@@ -131,7 +131,7 @@ step d (suc (suc (suc (suc zero)))) h = (omega (arith, ints), omega (arith, ints
 step d (suc (suc (suc (suc (suc zero))))) h = (omega (arith, ints), omega (arith, ints))
 step d (suc (suc (suc (suc (suc (suc n)))))) h = h
 
--- what fits where more differences share a word fits where fewer do
+-- what fits if more differences share a word fits if fewer do
 pub fewer_wider : (d : ℤ) (m n : ℕ) → 1 ≤ m → m ≤ n → IsOfBits (steim2_bits n) d → IsOfBits (steim2_bits m) d
 fewer_wider d m zero l h bits = absurd (omega arith)
 fewer_wider d m (suc zero) l h bits = let e : 1 ≡ m = omega arith in subst (λ k. IsOfBits (steim2_bits k) d) e bits

@@ -149,7 +149,7 @@ module _ (words left count most : ℕ) (ds : List ℤ) (state : IsOpen words ds 
       let b = (bits_more (length (state.group ++ d ∷ [])) group.some group.most).0 group.bits in
       full (omega arith)
 
-  -- what is left behind a closed group
+  -- what is left after a closed group
   rest : (tail : List ℤ) → (count < min most capacity → ⊥) → 0 < capacity
       → HasDivision IsSteim2Group (suc left) (state.group ++ d ∷ tail) → HasDivision IsSteim2Group left (d ∷ tail)
   rest tail full some h =

@@ -31,7 +31,7 @@ pub record BeginsWithFour (ds : List ℤ) : Type 0 where
   pub enough : 4 ≤ length ds
   pub small : AllByRecursion (FitsBits 8) (take 4 ds)
 
--- the first difference of a Steim-1 record can be left out, but where it shares a word with three others
+-- the first difference of a Steim-1 record can be left out, unless it shares a word with three others
 abbrev pub LookBackLaw : Type 0
 LookBackLaw = (words : ℕ) (d : ℤ) (ds : List ℤ) → (BeginsWithFour (d ∷ ds) → ⊥) → CanDivide One words (d ∷ ds)
     → CanDivide One words ds
@@ -46,7 +46,8 @@ abbrev pub EndLaw : Type 0
 EndLaw = (kind : Kind) (bytes : ℕ) (samples : List ℤ) (a end : ℕ) → IsEnd kind bytes samples a end → (c : ℕ)
     → a ≤ c → (IsRun (Fits kind bytes) samples a c ↔ c ≤ end)
 
--- so many differences stand in as many words as there are, each with the longest group from where the one before it ended
+-- so many differences stand in as many words as there are, each with the longest group from where the one before it
+-- ended
 abbrev pub IsGreedyReach : ℕ → List ℤ → ℕ → Type 0
 IsGreedyReach zero ds reach = reach ≡ 0
 IsGreedyReach (suc words) ds reach = (count : ℕ) × (rest : ℕ) × IsLongestGroup ds count
@@ -56,8 +57,8 @@ IsGreedyReach (suc words) ds reach = (count : ℕ) × (rest : ℕ) × IsLongestG
 abbrev pub latest_end : Kind → ℕ → List ℤ → ℕ → ℕ
 latest_end kind bytes samples g = min (length samples) (g + most_of kind bytes)
 
--- no Steim-2 record that starts at or before g reaches further than the longest groups from g on, of no more differences
--- than a record has
+-- no Steim-2 record that starts at or before g reaches further than the longest groups from g on, of no more
+-- differences than a record has
 abbrev pub GreedyLaw : Type 0
 GreedyLaw = (bytes : ℕ) (samples : List ℤ) (g reach : ℕ) → g ≤ length samples
     → IsGreedyReach (words_of bytes) (map (λ p. p.1) (run_points samples g (latest_end Steim2 bytes samples g))) reach →

@@ -14,7 +14,8 @@ BeginLongest version (group ∷ groups) =
     → length other ≤ length group)
     × BeginLongest version groups
 
--- these groups divide the differences, no division has fewer, and each group in turn is the longest with which there are no more
+-- these groups divide the differences, no division has fewer, and each group in turn is the longest with which there
+-- are no more
 pub record IsCanonicalDivision (version : Version) (groups : List (List ℤ)) (ds : List ℤ) : Type 0 where
   pub are_groups : AreGroups version groups
   pub join : differences groups ≡ ds

@@ -27,7 +27,12 @@ pub record AreSizes (ds : List ℤ) (from : ℕ) (sizes : List ℕ) : Type 0 whe
   pub long : length sizes ≡ length ds
   pub each : (at : ℕ) → from ≤ at → at < length ds → IsCanonicalFirst (drop at ds) (slice_index sizes at)
 
--- how large the difference at this place is, from 0: a number of `width` bits is below half the power; where there
+-- these are the differences that are given by their places, so many
+pub record AreGiven (gives : ℕ → ℤ → Type 0) (count : ℕ) (ds : List ℤ) : Type 0 where
+  pub long : length ds ≡ count
+  pub each : (at : ℕ) (d : ℤ) → at < count → gives at d → d ≡ slice_index_or ds at (pos 0)
+
+-- how large the difference at this place is, from 0: a number of `width` bits is below half the power; if there
 -- is none, the size is above all of these
 abbrev pub IsSizeAt : List ℤ → ℕ → ℕ → Type 0
 IsSizeAt ds at size = (width : ℕ) → width ≤ 32
@@ -43,7 +48,7 @@ pub record IsBest (all one two three pair triple four size after : ℕ) : Type 0
   pub which : ((size ≡ 1) × (after ≡ all)) ⊎ (((size ≡ 2) × (pair < 32768) × (after ≡ one))
       ⊎ (((size ≡ 3) × (triple < 128) × (two ≡ 0) × (after ≡ 0)) ⊎ ((size ≡ 4) × (four < 128) × (after ≡ three))))
 
--- The least number of groups before the newest, which is one difference, two of this size, or four of this size; where
+-- The least number of groups before the newest, which is one difference, two of this size, or four of this size; if
 -- there is none, so many as there are words.
 pub record AreFewest (now one three size pair four words fewest : ℕ) : Type 0 where
   pub of_one : size < 2147483648 → fewest ≤ now

@@ -14,7 +14,7 @@ pub record IsLongestGroup (ds : List ℤ) (count : ℕ) : Type 0 where
   pub group : 0 < count → IsGroup Two (take count ds)
   pub no_more : count < length ds → IsGroup Two (take (count + 1) ds) → ⊥
 
--- r is 1 where the size is below the limit, else 0
+-- r is 1 if the size is below the limit, else 0
 pub record IsOneBelow (size limit r : ℕ) : Type 0 where
   pub most : r ≤ 1
   pub below : 1 ≤ r ↔ size < limit

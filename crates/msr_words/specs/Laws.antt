@@ -6,17 +6,17 @@ use Rattle.msr_words.specs.declared.kinds.Kind.TheVariants.{Int16, Int24, Int32,
 use Rattle.msr_words.specs.Fit.{most_counted}
 use Rattle.msr_words.specs.RecordLength.{words_of}
 
--- what a run begins with fits where the run does
+-- what a run begins with fits if the run does
 abbrev pub PrefixLaw : (List (ℤ × ℤ) → Type 0) → Type 0
 PrefixLaw fits = (front back : List (ℤ × ℤ)) → fits (front ++ back) → fits front
 
--- where a run is cut, the part after the cut fits with at most so many of the samples before it
+-- if a run is cut, the part after the cut fits with at most so many of the samples before it
 abbrev pub BackStepLaw : ℕ → (List (ℤ × ℤ) → Type 0) → Type 0
 BackStepLaw places fits =
     (front back : List (ℤ × ℤ)) → fits (front ++ back) →
     (k : ℕ) × (k ≤ length front) × (length front ≤ k + places) × fits (drop k front ++ back)
 
--- where a run is cut, the part after the cut fits by itself
+-- if a run is cut, the part after the cut fits by itself
 abbrev pub SuffixLaw : (List (ℤ × ℤ) → Type 0) → Type 0
 SuffixLaw fits = (front back : List (ℤ × ℤ)) → fits (front ++ back) → fits back
 
@@ -24,7 +24,7 @@ SuffixLaw fits = (front back : List (ℤ × ℤ)) → fits (front ++ back) → f
 abbrev pub IsNarrow : ℤ → Type 0
 IsNarrow d = (FitsBits 16 d → FitsBits 15 d) × FitsBits 30 d
 
--- where a run fits the one and is cut, and each difference after the cut is narrow, the part after the cut fits the other
+-- if a run fits the one and is cut, and each difference after the cut is narrow, the part after the cut fits the other
 abbrev pub DominanceLaw : (List (ℤ × ℤ) → Type 0) → (List (ℤ × ℤ) → Type 0) → Type 0
 DominanceLaw one other = (front back : List (ℤ × ℤ)) → All (λ p. IsNarrow p.1) back → one (front ++ back) → other back
 
@@ -32,7 +32,7 @@ DominanceLaw one other = (front back : List (ℤ × ℤ)) → All (λ p. IsNarro
 abbrev pub SizeLaw : ℕ → (List (ℤ × ℤ) → Type 0) → Type 0
 SizeLaw most fits = (run : List (ℤ × ℤ)) → fits run → length run ≤ most
 
--- where there is room for a header, no samples fit
+-- if there is room for a header, no samples fit
 abbrev pub EmptyLaw : (ℕ → List (ℤ × ℤ) → Type 0) → Type 0
 EmptyLaw fits = (bytes : ℕ) → 64 ≤ bytes → fits bytes []
 
@@ -57,7 +57,8 @@ look_back_of Int32 = 0
 look_back_of Steim1 = 1
 look_back_of Steim2 = 0
 
--- for how many samples a record of each kind has room at most: two bytes each, three, four, a quarter of a word, a seventh
+-- for how many samples a record of each kind has room at most: two bytes each, three, four, a quarter of a word, a
+-- seventh
 abbrev pub room_of : Kind → ℕ → ℕ
 room_of Int16 bytes = (bytes - 64) / 2
 room_of Int24 bytes = (bytes - 64) / 3

@@ -34,7 +34,8 @@ pub record IsSeparating (bytes : ℕ) (samples : List ℤ) (separators : List �
   pub apart : (i j : ℕ) → i < j → j < length separators
       → NoneHolds bytes samples (slice_index separators i) (slice_index separators j)
 
--- from the frontier g one record more reaches h, and no run that starts at or before g reaches further; a is the last start from which h is reached
+-- from the frontier g one record more reaches h, and no run that starts at or before g reaches further; a is the last
+-- start from which h is reached
 pub record IsStep (fits : List (ℤ × ℤ) → Type 0) (samples : List ℤ) (g h a : ℕ) : Type 0 where
   pub before : a ≤ g
   pub reached : IsRun fits samples a h

@@ -1,4 +1,4 @@
--- How the size of the next group is found where the words of a run are written.
+-- How the size of the next group is found when the words of a run are written.
 use Rattle.std.specs.Prelude.{◌≡◌, ℕ, ℤ, List, drop}
 use Rattle.msr_steim.specs.declared.word.Version.{Version}
 use Rattle.msr_steim.specs.declared.word.Version.TheVariants.{One, Two}

@@ -53,7 +53,7 @@ abbrev pub Steim1LastLaw : Type 0
 Steim1LastLaw = (words : ℕ) (ds : List ℤ) (reach size : ℕ) (spare after : Bool) → IsSteim1Reach words ds reach spare
     → IsSteim1Word (drop reach ds) true size after → IsSteim1End (suc words) ds (reach + size)
 
--- where the next word reaches no further, more words do not either
+-- if the next word reaches no further, more words do not either
 abbrev pub Steim1StopLaw : Type 0
 Steim1StopLaw = (words more : ℕ) (ds : List ℤ) (reach : ℕ) (spare after : Bool) → IsSteim1Reach words ds reach spare
     → IsSteim1Word (drop reach ds) spare 0 after → words ≤ more → IsSteim1End more ds reach

@@ -27,8 +27,8 @@ pub record FollowsIntegers (kind : Kind) (bytes : ℕ) (run : List (ℤ × ℤ))
   pub room : IsTrue fits → length run + left ≡ most_of kind bytes
   pub past : IsFalse fits → Fits kind bytes run → ⊥
 
--- What still fits depends on the open group alone: its differences, of which as many as `most` have room in one word, and the words left.
--- A record has `more` samples more at most.
+-- What still fits depends on the open group alone: its differences, of which as many as `most` have room in one word,
+-- and the words left. A record has `more` samples more at most.
 pub record FollowsSteim2 (bytes : ℕ) (run : List (ℤ × ℤ)) (left count most more : ℕ) (fits : Bool) : Type 0 where
   pub group : List ℤ
   pub size : length group ≡ count

@@ -5,11 +5,11 @@ use Rattle.msr_steim.specs.Word.{FitsBits}
 use Rattle.msr_words.specs.Segment.{difference_at}
 use Rattle.msr_words.specs.declared.window.Window.{Window}
 
--- so much is the size of a number: it is one of `width` bits where the size is below half the power
+-- so much is the size of a number: it is one of `width` bits if the size is below half the power
 abbrev pub IsSize : ℤ → ℕ → Type 0
 IsSize d size = (width : ℕ) → (FitsBits width d ↔ size < 2 ^ (width - 1))
 
--- what is kept of a difference: its size and, where it is of 32 bits, itself
+-- what is kept of a difference: its size and, if it is of 32 bits, itself
 pub record IsTaken (d : ℤ) (size : ℕ) (kept : ℤ) : Type 0 where
   pub size_is : IsSize d size
   pub same : FitsSigned w32 d → kept ≡ d

@@ -1,6 +1,6 @@
 //! The trackers of all kinds, side by side.
 
-ghost use Rattle.std.specs.Prelude.{◌≡◌, ℕ, ◌+◌, ◌≤◌, ◌↔◌, ◌++◌, ◌∷◌, ℤ, List, [], IsTrue, map};
+ghost use Rattle.std.specs.Prelude.{map};
 ghost use Rattle.msr_words.specs.RecordLength.{words_of};
 ghost use Rattle.msr_words.specs.Fit.{FitsAny};
 ghost use Rattle.msr_words.specs.Laws.{most_any};
@@ -25,7 +25,11 @@ pub struct AnyKind {
 impl Tracker for AnyKind {
     ghost fits = { FitsAny };
 
-    ghost follows = { λ bytes run it. FollowsIntegers Int16 bytes run it.int16.left it.int16.fits × FollowsIntegers Int24 bytes run it.int24.left it.int24.fits × FollowsIntegers Int32 bytes run it.int32.left it.int32.fits × FollowsSteim1 (words_of bytes) (map (λ p. p.1) run) it.steim1.words it.steim1.counts it.steim1.fits × FollowsSteim2 bytes run it.steim2.left it.steim2.count it.steim2.most it.steim2.more it.steim2.fits };
+    ghost follows = { λ bytes run it. FollowsIntegers Int16 bytes run it.int16.left it.int16.fits
+        × FollowsIntegers Int24 bytes run it.int24.left it.int24.fits
+        × FollowsIntegers Int32 bytes run it.int32.left it.int32.fits
+        × FollowsSteim1 (words_of bytes) (map (λ p. p.1) run) it.steim1.words it.steim1.counts it.steim1.fits
+        × FollowsSteim2 bytes run it.steim2.left it.steim2.count it.steim2.most it.steim2.more it.steim2.fits };
 
     ghost LOOK_BACK = { 1 };
 

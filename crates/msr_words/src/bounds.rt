@@ -8,12 +8,12 @@ pub fn two_wide_in_a_word()
     ensures { WideLaw }
 {}
 
-/// The first difference of a Steim-1 record can be left out where it does not share a word with three others of 8 bits.
+/// The first difference of a Steim-1 record can be left out if it does not share a word with three others of 8 bits.
 pub fn steim1_look_back()
     ensures { LookBackLaw }
 {}
 
-/// A run of a kind fits exactly where it ends at or before the greatest end from its start.
+/// A run of a kind fits exactly when it ends at or before the greatest end from its start.
 pub fn fits_up_to_its_end()
     ensures { EndLaw }
 {}

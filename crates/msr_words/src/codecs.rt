@@ -1,8 +1,6 @@
 //! Trackers: whether the samples pushed so far fit one record, for each kind of record.
 
 ghost use Rattle.std.specs.Prelude.{◌≡◌, ℕ, ◌+◌, ◌^◌, ◌<◌, ◌≤◌, ◌↔◌, ◌++◌, ◌∷◌, ℤ, List, [], IsTrue, map};
-ghost use Rattle.msr_steim.specs.declared.word.Version.TheVariants.{One, Two};
-ghost use Rattle.msr_steim.specs.Word.{FitsBits};
 ghost use Rattle.msr_words.specs.declared.kinds.Kind.{Kind};
 ghost use Rattle.msr_words.specs.declared.kinds.Kind.TheVariants.{Steim1, Steim2};
 ghost use Rattle.msr_words.specs.Lengths.{bytes_of};
@@ -30,8 +28,8 @@ pub trait Tracker {
     /// How many samples a record of that many bytes has at most.
     ghost most: { ℕ → ℕ };
 
-    /// How many starts before a cut may be needed where a run is cut: the part after the cut fits with
-    /// at most so many of the samples before it. Where it is 0, each part after a cut fits by itself.
+    /// How many starts before a cut may be needed when a run is cut: the part after the cut fits with
+    /// at most so many of the samples before it. If it is 0, each part after a cut fits by itself.
     const LOOK_BACK: usize;
 
     /// How many samples a record of that length has at most.
@@ -104,7 +102,7 @@ fn is_integer(sample: i32, bits: u32) -> bool
     }
 }
 
-/// Whether a sample is taken after others that fit, where there is room for `left` more.
+/// Whether a sample is taken after others that fit, if there is room for `left` more.
 fn is_taken(sample: i32, bits: u32, left: usize, fits: bool) -> bool
     ensures { IsTrue result ↔ IsTrue fits × (0 < left) × IsInteger (integers_of bits) sample }
 {
@@ -155,10 +153,10 @@ impl<const BITS: u32> Codec for Integers<BITS> {
     }
 }
 
-/// The tracker of Steim-2: it closes a word where the next difference no longer has room in it.
+/// The tracker of Steim-2: it closes a word when the next difference no longer has room in it.
 #[derive(Clone, Copy, Debug, PartialEq, Eq)]
 pub struct Steim2 {
-    /// Words left behind the open one.
+    /// Words left after the open one.
     left: u32,
     /// Differences in the open word.
     count: u8,
@@ -169,7 +167,7 @@ pub struct Steim2 {
     fits: bool,
 }
 
-/// No word where one difference more stays in the open one, of which `most` have room there, else one.
+/// No word if one difference more stays in the open one, of which `most` have room there, else one.
 fn words_opened(count: u8, most: u8) -> u32
     ensures stays { count < most → result ≡ 0 }
     ensures opens { most ≤ count → result ≡ 1 }

@@ -1,6 +1,6 @@
 //! How many differences share a word, and the least number of Steim-1 groups, as differences come.
 
-ghost use Rattle.std.specs.Prelude.{◌≡◌, ◌<◌, ◌≤◌, ◌↔◌, ◌∷◌, [], ℕ, ℤ, List, ◌+◌, ◌-◌, ◌^◌, bit_or, IsTrue, cond, true, length};
+ghost use Rattle.std.specs.Prelude.{◌≡◌, ◌<◌, ◌≤◌, ◌↔◌, ◌∷◌, [], ℕ, ℤ, List, ◌-◌, ◌^◌, bit_or, IsTrue, cond, true, length};
 ghost use Rattle.msr_steim.specs.declared.word.Version.TheVariants.{One};
 ghost use Rattle.msr_steim.specs.Word.{FitsBits};
 ghost use Rattle.msr_words.specs.Counts.{EndsIn};
@@ -29,8 +29,8 @@ fn has_word_left(count: u32, words: u32) -> bool
 }
 
 /// What is left of a run that grows: the least numbers of groups that others may follow, each exact up to
-/// the number of words and greater where there is none so small, and how large its newest differences are, or
-/// `u64::MAX` where there are fewer.
+/// the number of words and greater if there is none so small, and how large its newest differences are, or
+/// `u64::MAX` if there are fewer.
 #[derive(Clone, Copy, Debug, PartialEq, Eq)]
 pub struct LeastCounts {
     /// Of all differences.
@@ -64,8 +64,8 @@ impl LeastCounts {
         }
     }
 
-    /// The least number of groups before the newest one, which ends in a difference of this size, where that one and
-    /// the one before it, and it and the three before it, are so large; where there is none, so many as there are words.
+    /// The least number of groups before the newest one, which ends in a difference of this size, if that one and the
+    /// one before it, and it and the three before it, are so large; if there is none, so many as there are words.
     fn fewest_before(self, size: u64, pair: u64, four: u64, words: u32) -> u32
         requires pair { size ≤ pair }
         requires four { pair ≤ four }
@@ -125,7 +125,7 @@ impl LeastCounts {
     }
 }
 
-/// How far a number is from 0, or from -1 where it is negative.
+/// How far a number is from 0, or from -1 if it is negative.
 pub fn magnitude(number: i64) -> u64
     ensures { (width : ℕ) → (FitsBits width number ↔ result < 2 ^ (width - 1)) }
 {
@@ -136,7 +136,7 @@ pub fn magnitude(number: i64) -> u64
     }
 }
 
-/// One where the size is below the limit, else none.
+/// One if the size is below the limit, else none.
 fn one_below(size: u64, limit: u64) -> u8
     ensures { IsOneBelow size limit result }
 {
@@ -165,7 +165,7 @@ pub fn is_narrow(diff: i64) -> bool
     size < 536_870_912
 }
 
-/// One where a difference is of more than 10 bits, else none.
+/// One if a difference is of more than 10 bits, else none.
 pub fn wide_one(diff: i64) -> u8
     ensures { result ≡ cond (is_wide diff) 1 0 }
 {

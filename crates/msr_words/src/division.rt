@@ -1,6 +1,6 @@
 //! The division of differences that is written.
 
-ghost use Rattle.std.specs.Prelude.{◌≡◌, ◌<◌, ◌≤◌, ◌↔◌, ℤ, List, IfOk, IfSome, IsNone, IsTrue, length, map};
+ghost use Rattle.std.specs.Prelude.{◌≡◌, ◌<◌, ◌≤◌, ℤ, List, IfOk, IfSome, IsNone, length, map};
 ghost use Rattle.msr_steim.specs.declared.word.Version.{Version};
 ghost use Rattle.msr_steim.specs.declared.word.Version.TheVariants.{One, Two};
 ghost use Rattle.std.specs.List.{AllByRecursion};
@@ -14,36 +14,18 @@ ghost use Rattle.msr_words.specs.Canonical.{IsCanonicalDivision};
 ghost use Rattle.msr_words.specs.FirstGroup.{AreSizes};
 
 use crate::counts::steim2_capacity;
-use crate::first_group::Following;
+use crate::first_group::sizes_of;
 use crate::kinds::MOST_COUNTED;
 use crate::lengths::Length;
-use msr_steim::{Group, Version, fits_bits};
+use msr_steim::{Group, Version, all_fit_bits};
 use std::alloc::{AllocError, Global};
 
-/// Whether each difference is one of 32 bits.
-fn are_32_bit(differences: &[i64]) -> bool
-    ensures { IsTrue result ↔ AllByRecursion (FitsBits 32) differences.now }
-{
-    for difference in differences {
-        if !fits_bits(*difference, 32) {
-            return false;
-        }
-    }
-    true
-}
-
 /// For each difference the size of the group that begins there in the division that is written.
-fn sizes_of(alloc: Global, differences: &[i64]) -> Result<Vec<u8>, AllocError>
+fn group_sizes(alloc: Global, differences: &[i64]) -> Result<Vec<u8>, AllocError>
     requires { AllByRecursion (FitsBits 32) differences.now }
     ensures { IfOk result (λ sizes. AreSizes differences.now 0 sizes.items) }
 {
-    let mut sizes = vec![in alloc; 0u8; differences.len()]?;
-    let mut following = Following::nothing();
-    for at in (0..differences.len()).rev() {
-        following = following.behind(differences[at]);
-        sizes[at] = following.group;
-    }
-    Ok(sizes)
+    sizes_of(alloc, differences.len(), |at| differences[at])
 }
 
 /// A group of these differences.
@@ -70,10 +52,10 @@ fn steim1_groups(
     ensures few { IfOk result (λ o. IfSome o (λ groups. length groups.items ≤ words)) }
     ensures none { IfOk result (λ o. IsNone o → CanDivide One words differences.now → ⊥) }
 {
-    if !are_32_bit(differences) {
+    if !all_fit_bits(differences, 32) {
         return Ok(None);
     }
-    let sizes = sizes_of(alloc, differences)?;
+    let sizes = group_sizes(alloc, differences)?;
     let mut groups = Vec::new(alloc);
     let mut at = 0;
     while at < differences.len() {
@@ -98,7 +80,7 @@ fn word_part(difference: i64, capacity: u8) -> i32
 }
 
 /// The groups of Steim-2. Each part of a group is a group, so it is enough to take the longest one from
-/// the front on: a group ends where the next difference has no room in its word.
+/// the first difference on: a group ends where the next difference has no room in its word.
 fn steim2_groups(
     alloc: Global,
     words: u32,
@@ -136,7 +118,7 @@ fn steim2_groups(
     Ok(Some(groups))
 }
 
-/// The groups in which a record of this length has these differences, where it has room and can count them: no division
+/// The groups in which a record of this length has these differences, if it has room and can count them: no division
 /// has fewer groups, and each group in turn is the longest with which there are no more.
 pub fn groups(
     alloc: Global,

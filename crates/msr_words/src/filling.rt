@@ -21,7 +21,7 @@ pub(crate) struct NextWord {
     pub size: usize,
     pub code: u32,
     pub word: u32,
-    /// 1 where no difference is left, else 0.
+    /// 1 if no difference is left, else 0.
     pub empty: usize,
 }
 
@@ -223,7 +223,7 @@ pub(crate) fn steim2_word(
 }
 
 /// Fills the area, of whole frames, with the words of the run's differences, big-endian: each group in turn is the
-/// longest, and the constants are the first and the last sample. Gives the number of groups. Where there is no room for
+/// longest, and the constants are the first and the last sample. Gives the number of groups. If there is no room for
 /// these, nothing is said of the area.
 #[inline(never)]
 pub fn fill_steim2(before: Option<i32>, run: &[i32], area: &mut [u8]) -> usize

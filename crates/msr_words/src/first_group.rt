@@ -1,10 +1,11 @@
 //! The first Steim-1 group of a run's last differences, from its end on.
 
-ghost use Rattle.std.specs.Prelude.{◌≡◌, ◌<◌, ◌≤◌, ◌+◌, ◌-◌, ◌^◌, ◌∷◌, [], ℤ, List};
+ghost use Rattle.std.specs.Prelude.{◌≡◌, ◌<◌, ◌≤◌, ◌+◌, ◌-◌, ◌^◌, ◌∷◌, [], ℕ, ℤ, IfOk, List};
 ghost use Rattle.msr_steim.specs.Word.{FitsBits};
-ghost use Rattle.msr_words.specs.FirstGroup.{IsBest, IsFirstGroup};
+ghost use Rattle.msr_words.specs.FirstGroup.{AreGiven, AreSizes, IsBest, IsFirstGroup};
 
 use crate::counts::magnitude;
+use std::alloc::{AllocError, Global};
 
 /// How many differences the first group has, and the least number of groups after it.
 #[derive(Clone, Copy, Debug)]
@@ -14,7 +15,7 @@ struct FirstGroup {
 }
 
 /// What is known of the differences from some place to the end: how many the first group has, the least numbers of
-/// groups, and how large the first three are, or `u64::MAX` where there are fewer.
+/// groups, and how large the first three are, or `u64::MAX` if there are fewer.
 #[derive(Clone, Copy, Debug)]
 pub(crate) struct Following {
     /// How many differences the first group has.
@@ -52,7 +53,7 @@ impl Following {
         }
     }
 
-    /// The first group of a difference and these, where that one and the next, the next two, and the next three are
+    /// The first group of a difference and these, if that one and the next, the next two, and the next three are
     /// so large.
     fn first_group(self, pair: u64, triple: u64, four: u64) -> FirstGroup
         requires pair { pair ≤ triple }
@@ -106,4 +107,25 @@ impl Following {
             third: self.second,
         }
     }
+}
+
+/// For each of so many differences, which are given by their places, the size of the group that begins there in the
+/// division that is written.
+pub(crate) fn sizes_of<F: Fn(usize) -> i64>(
+    alloc: Global,
+    count: usize,
+    difference: F,
+) -> Result<Vec<u8>, AllocError>
+    requires given { (at : ℕ) → at < count → F.pre difference at }
+    requires fits { (at : ℕ) (d : ℤ) → at < count → F.post difference at d → FitsBits 32 d }
+    ensures { IfOk result (λ sizes. (ds : List ℤ) → AreGiven (F.post difference) count ds
+        → AreSizes ds 0 sizes.items) }
+{
+    let mut sizes = vec![in alloc; 0u8; count]?;
+    let mut following = Following::nothing();
+    for at in (0..count).rev() {
+        following = following.behind(difference(at));
+        sizes[at] = following.group;
+    }
+    Ok(sizes)
 }

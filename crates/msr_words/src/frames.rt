@@ -22,7 +22,7 @@ use byteorder::{BigEndian, ByteOrder};
 pub(crate) enum Sizing {
     /// A group of Steim-2 is the longest.
     Longest,
-    /// Of Steim-1, by the next differences, where they tell it.
+    /// Of Steim-1, by the next differences, if they tell it.
     Ahead,
     /// Of Steim-1, it is given.
     Given,
@@ -42,7 +42,8 @@ fn put_constants(area: &mut [u8], frame: usize, first: u32, last: u32) -> usize
     ensures most { result ≤ 2 }
     ensures first { frame ≡ 0 → let one = take (4 * (16 * frame + 1)) area.old
         ++ (big_bytes 4 first ++ drop (4 * (16 * frame + 1) + 4) area.old) in
-        (result ≡ 2) × (area.new ≡ take (4 * (16 * frame + 2)) one ++ (big_bytes 4 last ++ drop (4 * (16 * frame + 2) + 4) one)) }
+        (result ≡ 2) × (area.new ≡ take (4 * (16 * frame + 2)) one
+        ++ (big_bytes 4 last ++ drop (4 * (16 * frame + 2) + 4) one)) }
     ensures others { 0 < frame → (result ≡ 0) × (area.new ≡ area.old) }
 {
     if frame > 0 {
@@ -53,7 +54,7 @@ fn put_constants(area: &mut [u8], frame: usize, first: u32, last: u32) -> usize
     2
 }
 
-/// The word of the group that begins with that difference, where its size is told.
+/// The word of the group that begins with that difference, if its size is told.
 #[inline(always)]
 fn next_word(
     sizing: Sizing,
@@ -80,7 +81,7 @@ fn next_word(
 
 /// Fills the area, of whole frames, with the words of the run's differences, big-endian: the groups
 /// of the division that is written, and as constants the first and the last sample. Gives the number
-/// of groups, or none where the next differences do not tell the size of each. Inlined where the
+/// of groups, or none if the next differences do not tell the size of each. Inlined where the
 /// sizing is a literal, it is not tested for each word.
 #[inline(always)]
 pub(crate) fn fill_frames(

@@ -1,6 +1,6 @@
 //! The kinds of records, and which runs fit them.
 
-ghost use Rattle.std.specs.Prelude.{◌≡◌, All, ℕ, ◌+◌, ◌*◌, ◌^◌, ◌<◌, ◌≤◌, ◌↔◌, [], IsTrue, IsSome, IfSome, Some, drop, length};
+ghost use Rattle.std.specs.Prelude.{◌≡◌, All, ℕ, ◌^◌, ◌<◌, ◌≤◌, ◌↔◌, IsTrue, Some, drop, length};
 ghost use Rattle.msr_steim.specs.Word.{FitsBits};
 ghost use Rattle.msr_words.specs.Lengths.{bytes_of};
 ghost use Rattle.msr_steim.specs.declared.word.Version.TheVariants.{One, Two};
@@ -10,7 +10,6 @@ ghost use Rattle.msr_words.specs.Division.{CanDivide};
 ghost use Rattle.msr_words.specs.Groups.{IsCapacity, IsLongestGroup};
 ghost use Rattle.msr_words.specs.Laws.{DominanceLaw, look_back_of, most_of};
 ghost use Rattle.msr_words.specs.Fit.{Fits, FitsAny, IsRun, IsFirstKind, code_of};
-ghost use Rattle.msr_words.specs.RecordLength.{words_of};
 
 use crate::counts::{LeastCounts, magnitude};
 use crate::lengths::Length;
@@ -60,7 +59,7 @@ impl Kind {
         }
     }
 
-    /// How many starts before a cut may be needed where a run of this kind is cut.
+    /// How many starts before a cut may be needed when a run of this kind is cut.
     pub fn look_back(self) -> usize
         ensures { result ≡ look_back_of self }
     {
@@ -102,7 +101,7 @@ impl Kind {
 }
 
 /// The differences of the run, the first of them from `before`, can be divided into so many Steim-1 groups.
-/// It stops where the differences up to one cannot.
+/// It stops when the differences up to one cannot.
 fn fits_steim1(before: Option<i32>, run: &[i32], words: u32) -> bool
     requires { words < 2 ^ 31 }
     ensures { IsTrue result ↔ CanDivide One words (differences before run.now) }
@@ -250,8 +249,8 @@ pub fn difference(samples: &[i32], at: usize) -> i64
     }
 }
 
-/// Where no difference after a cut is of exactly 16 bits, or of more than 30, the part after the cut fits
-/// Steim-2 where the run fits Steim-1: each group of Steim-1 is then one of Steim-2.
+/// If no difference after a cut is of exactly 16 bits, or of more than 30, the part after the cut fits
+/// Steim-2 if the run fits Steim-1: each group of Steim-1 is then one of Steim-2.
 pub fn steim2_dominates()
     ensures { (bytes : ℕ) → DominanceLaw (Fits FirstSteim bytes) (Fits SecondSteim bytes) }
 {}

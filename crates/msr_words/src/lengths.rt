@@ -19,6 +19,7 @@ impl Length {
     ghost use Rattle.msr_words.specs.Lengths.{bytes_of};
     ghost use Rattle.msr_words.specs.RecordLength.{frames_of, words_of};
 
+    /// The length of that many bytes, if records have it.
     pub fn new(bytes: u32) -> Option<Length>
         ensures some { IsSome result ↔ IsRecordLength bytes }
         ensures same { IfSome result (λ l. bytes_of l ≡ bytes) }
@@ -60,7 +61,7 @@ impl Length {
         self.bytes / 64 - 1
     }
 
-    /// How many words of the record hold differences, where it is one of Steim-1 or Steim-2.
+    /// How many words of the record hold differences, if it is one of Steim-1 or Steim-2.
     pub fn data_words(self) -> u32
         ensures same { result ≡ words_of (bytes_of self) }
         ensures some { 43 ≤ result }

@@ -1,49 +1,24 @@
 //! The Steim-1 words of a run, written in place.
 
-ghost use Rattle.std.specs.Prelude.{◌≡◌, ◌<◌, ◌≤◌, ◌+◌, ◌-◌, ◌*◌, ◌/◌, ◌%◌, ◌^◌, ℕ, ℤ, List, IfOk, IfSome, IsNone, None, Some, length, drop, take};
+ghost use Rattle.std.specs.Prelude.{◌≡◌, ◌<◌, ◌≤◌, ◌+◌, ◌-◌, ◌*◌, ◌/◌, ◌%◌, ℤ, List, IfOk, IfSome, IsNone, Some, length, drop, take};
 ghost use Rattle.std.specs.List.{AllByRecursion};
 ghost use Rattle.msr_steim.specs.declared.word.Version.TheVariants.{One};
-ghost use Rattle.msr_steim.specs.Word.{FitsBits, IsGroup, group_code, group_width, group_word, joined_fields, padding_of};
+ghost use Rattle.msr_steim.specs.Word.{FitsBits, IsGroup, group_code, group_width, group_word, padding_of};
 ghost use Rattle.msr_words.specs.Bounds.{BeginsWithFour};
 ghost use Rattle.msr_words.specs.Division.{CanDivide};
 ghost use Rattle.msr_words.specs.Filled.{IsFilledArea};
 ghost use Rattle.msr_words.specs.FirstGroup.{AreSizes, IsCanonicalFirst, IsSizeAt};
 ghost use Rattle.msr_words.specs.NextWord.{IsNextWord};
-ghost use Rattle.msr_words.specs.Segment.{difference_at, differences};
+ghost use Rattle.msr_words.specs.Segment.{differences};
 ghost use Rattle.msr_words.specs.Window.{AreSeen, IsWindow};
 
 use crate::counts::magnitude;
 use crate::filling::{NextWord, fields_from, fields_seen};
-use crate::first_group::Following;
+use crate::first_group::sizes_of;
 use crate::frames::{Sizing, fill_frames};
 use crate::kinds::difference_after;
 use crate::window::Window;
 use std::alloc::{AllocError, Global};
-
-/// The difference of a sample that is not the first.
-fn difference_inside(run: &[i32], at: usize) -> i64
-    requires some { 0 < at }
-    requires within { at < length run.now }
-    ensures { result ≡ difference_at run.now at }
-{
-    run[at] as i64 - run[at - 1] as i64
-}
-
-/// For each difference of the run the size of the group that begins there in the division that is written.
-fn sizes_of(alloc: Global, before: Option<i32>, run: &[i32]) -> Result<Vec<u8>, AllocError>
-    requires some { 1 ≤ length run.now }
-    requires fits { AllByRecursion (FitsBits 32) (differences before run.now) }
-    ensures { IfOk result (λ sizes. AreSizes (differences before run.now) 0 sizes.items) }
-{
-    let mut sizes = vec![in alloc; 0u8; run.len()]?;
-    let mut following = Following::nothing();
-    for at in (1..run.len()).rev() {
-        following = following.behind(difference_inside(run, at));
-        sizes[at] = following.group;
-    }
-    sizes[0] = following.behind(difference_after(before, run, 0)).group;
-    Ok(sizes)
-}
 
 /// How a group of so many differences is written: the code of its word, of how many bits each is, and how many bits
 /// below them are left 0.
@@ -145,7 +120,7 @@ fn word_outside(before: Option<i32>, run: &[i32], at: usize, size: usize) -> Nex
     }
 }
 
-/// The word of the group that begins with that difference, or 0 where none is left.
+/// The word of the group that begins with that difference, or 0 if none is left.
 #[inline(always)]
 pub(crate) fn steim1_word(
     before: Option<i32>,
@@ -174,7 +149,7 @@ pub(crate) fn steim1_word(
     word_outside(before, run, at, usize::from(sizes[at]))
 }
 
-/// The size of the difference so many places ahead of one, or the greatest where none is left there.
+/// The size of the difference so many places ahead of one, or the greatest if none is left there.
 fn size_ahead(before: Option<i32>, run: &[i32], at: usize, ahead: usize) -> u64
     requires few { ahead ≤ 4 }
     requires within { at < length run.now }
@@ -221,7 +196,7 @@ fn first_group_outside(before: Option<i32>, run: &[i32], at: usize) -> Option<us
     }
 }
 
-/// The word of the group that begins with that difference, where the next ones tell its size, of
+/// The word of the group that begins with that difference, if the next ones tell its size, of
 /// differences taken one after another. It is kept out of the loop over words.
 #[inline(never)]
 fn word_outside_ahead(before: Option<i32>, run: &[i32], at: usize) -> Option<NextWord>
@@ -234,7 +209,7 @@ fn word_outside_ahead(before: Option<i32>, run: &[i32], at: usize) -> Option<Nex
     Some(word_outside(before, run, at, size))
 }
 
-/// The word of the group that begins with that difference, or 0 where none is left; none where the
+/// The word of the group that begins with that difference, or 0 if none is left; none if the
 /// next differences do not tell its size.
 #[inline(always)]
 pub(crate) fn steim1_word_ahead(
@@ -279,13 +254,13 @@ fn fill_by_sizes(
     requires fits { CanDivide One (15 * (length area.old / 64) - 2) (differences before run.now) }
     ensures { IfOk result (IsFilledArea One before run.now (length area.old / 64) area.new) }
 {
-    let sizes = sizes_of(alloc, before, run)?;
+    let sizes = sizes_of(alloc, run.len(), |at| difference_after(before, run, at))?;
     Ok(fill_frames(Sizing::Given, before, run, &sizes, area).unwrap())
 }
 
 /// Fills the area, of whole frames, with the words of the run's differences, big-endian: the groups
 /// of the division that is written, and as constants the first and the last sample. Gives the number
-/// of groups. Memory is taken only where the next differences do not tell the size of each group.
+/// of groups. Memory is taken only if the next differences do not tell the size of each group.
 pub fn fill_steim1(
     alloc: Global,
     before: Option<i32>,

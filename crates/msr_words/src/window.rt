@@ -1,7 +1,7 @@
 //! Differences with their sizes, taken a stretch at a time: a loop over places that are there takes a fraction of the
 //! instructions of one difference after another.
 
-ghost use Rattle.std.specs.Prelude.{◌≡◌, ◌<◌, ◌≤◌, ◌+◌, ◌-◌, ◌-ℤ◌, ℕ, ℤ, List, None, IfSome, IsNone, IsTrue, drop, length};
+ghost use Rattle.std.specs.Prelude.{◌≡◌, ◌<◌, ◌≤◌, ◌+◌, ◌-ℤ◌, ℕ, ℤ, List, None, IfSome, IsNone, IsTrue, drop, length};
 ghost use Rattle.std.specs.List.{AllByRecursion};
 ghost use Rattle.msr_steim.specs.Word.{FitsBits};
 ghost use Rattle.msr_words.specs.Bounds.{BeginsWithFour};
@@ -22,9 +22,9 @@ pub struct Window {
     pub(crate) end: usize,
     /// Before this sample the window has the difference of each and those of the next six.
     pub(crate) until: usize,
-    /// How far each is from 0, or from -1 where it is negative.
+    /// How far each is from 0, or from -1 if it is negative.
     pub(crate) sizes: [u32; 64],
-    /// Each itself, where it is of 32 bits.
+    /// Each itself, if it is of 32 bits.
     pub(crate) kept: [i32; 64],
 }
 
@@ -97,7 +97,7 @@ impl Window {
         self.until = self.end - 6;
     }
 
-    /// Whether the window has the differences of a sample and of the next six. It moves on where it has not, and
+    /// Whether the window has the differences of a sample and of the next six. It moves on if it has not, and
     /// there are samples enough.
     #[inline(always)]
     pub(crate) fn reaches(&mut self, samples: &[i32], at: usize) -> bool
@@ -153,7 +153,7 @@ impl Window {
     }
 
     /// How many differences, from a place on, the first Steim-1 group has in the division that is
-    /// written. It is not told where four of 8 bits come after a larger one that has room for the
+    /// written. It is not told if four of 8 bits come after a larger one that has room for the
     /// first of them beside it: whether it takes that one depends on all that follow.
     #[inline(always)]
     pub(crate) fn first_steim1_group(&self, place: usize) -> Option<usize>

@@ -6,6 +6,7 @@ use Rattle.std.proofs.lemmas.List.{append-nil, length-reverse, reverse-append, r
 use Rattle.msr_steim.specs.declared.word.Version.{Version}
 use Rattle.msr_steim.specs.declared.word.Version.TheVariants.{One, Two}
 use Rattle.msr_steim.specs.Word.{AreGroups, FitsBits, IsGroup, IsInnerGroup, group_width}
+use Rattle.msr_steim.proofs.Fields.{all_fit_push}
 use Rattle.msr_words.specs.Division.{CanDivide}
 use Rattle.msr_words.specs.Counts.{AtMost, EndsIn, IsLeastUpTo, Parts}
 
@@ -38,15 +39,10 @@ none_least version words n few = (λ le. record { number = 0; few = le; parts = 
 
 -- ---- turned round
 
-all_append : {X : Type 0} (P : X → Type 0) (xs : List X) (x : X) → AllByRecursion P xs → P x
-    → AllByRecursion P (xs ++ x ∷ [])
-all_append P [] x all here = (here, tt)
-all_append P (y ∷ xs) x all here = (all.0, all_append P xs x all.1 here)
-
 all_reverse : {X : Type 0} (P : X → Type 0) (xs : List X) → AllByRecursion P xs → AllByRecursion P (reverse xs)
 all_reverse P [] all = tt
 all_reverse P (x ∷ xs) all = subst (AllByRecursion P) (sym (reverse-append (x ∷ []) xs))
-    (all_append P (reverse xs) x (all_reverse P xs all.1) all.0)
+    (all_fit_push P (reverse xs) x (all_reverse P xs all.1) all.0)
 
 some_and : {X : Type 0} (o : Option X) (P Q : X → Type 0) → ((x : X) → P x → Q x) → IsSomeAnd o P → IsSomeAnd o Q
 some_and None P Q f h = h
@@ -138,7 +134,7 @@ gather version (suc n) past next tail parts are =
       number_is = g.number_is ∙ omega arith;
     }
 
--- a run ends in a last group exactly where it can be divided
+-- a run ends in a last group exactly when it can be divided
 pub ends_is_division : (version : Version) (words : ℕ) (d : ℤ) (ds : List ℤ)
     → (EndsIn version true words (reverse (ds ++ d ∷ [])) → CanDivide version words (ds ++ d ∷ []))
     × (CanDivide version words (ds ++ d ∷ []) → EndsIn version true words (reverse (ds ++ d ∷ [])))

@@ -18,7 +18,7 @@ use Rattle.msr_words.specs.Bounds.{AreIntegers}
 use Rattle.msr_words.specs.Fit.{FitsIntegers, FitsInt32, FitsSteim, HasRoom, Fits, FitsAny}
 use Rattle.msr_words.specs.RecordLength.{words_of}
 
--- where each part after a cut fits by itself, none of the samples before it is needed; and the other way round
+-- if each part after a cut fits by itself, none of the samples before it is needed; and the other way round
 pub back_step_by_suffix : (fits : List (ℤ × ℤ) → Type 0) → SuffixLaw fits → BackStepLaw 0 fits
 back_step_by_suffix fits suffix front back h =
     let none : drop (length front) front ≡ [] = drop_all (length front) front (omega arith) in
@@ -44,7 +44,7 @@ prefix_int32 bytes front back h = omega (arith, length-append front back)
 pub back_step_int32 : (bytes : ℕ) → BackStepLaw 0 (FitsInt32 bytes)
 back_step_int32 bytes = back_step_by_suffix (FitsInt32 bytes) (λ front back h. omega (arith, length-append front back))
 
--- where many samples of so many bytes have room, fewer do
+-- if many samples of so many bytes have room, fewer do
 fewer_have_room : (size bytes few many : ℕ) → few ≤ many → size * many + 64 ≤ bytes → size * few + 64 ≤ bytes
 fewer_have_room size bytes few many less room = let bytes_less = mul-le-mul_left size less in omega arith
 
@@ -174,7 +174,7 @@ empty_room Int32 = empty_int32
 empty_room Steim1 = empty_steim One
 empty_room Steim2 = empty_steim Two
 
--- the laws, for each kind: where a run is cut, each part has no more samples to count
+-- the laws, for each kind: if a run is cut, each part has no more samples to count
 pub prefix_kind : (kind : Kind) (bytes : ℕ) → PrefixLaw (Fits kind bytes)
 prefix_kind kind bytes front back h = (
   omega

@@ -34,8 +34,8 @@ loop-word-preserved c =
     let left : words - c.loop-word._word ≡ suc (words - (c.loop-word._word + 1)) = omega arith in
     let walked = c.loop-word.invariant.walked in
     record {
-      walked = walk_more words (words - (c.loop-word._word
-          + 1)) seen c.args.start c.loop-word.at c.longest_steim2_group-size.result c.longest_steim2_group-size.ensures.longest
+      walked = walk_more words (words - (c.loop-word._word + 1)) seen c.args.start c.loop-word.at
+          c.longest_steim2_group-size.result c.longest_steim2_group-size.ensures.longest
           (subst (λ n. IsWalked words n seen c.args.start c.loop-word.at) left walked);
       window = window_on seen c.loop-word.at (c.loop-word.at
           + c.longest_steim2_group-size.result) c.longest_steim2_group-size.new.self (omega

@@ -18,8 +18,9 @@ with_wide_integers-requires-clause-step c =
     let by_int16 : Step = record { start = c.args.frontier; end = c.integers_end-int16.result; kind = Int16 } in
     let one = longest_step bytes samples g Steim2 c.steim2_reach-reach.result.end refl
     (record { fits = c.steim2_reach-reach.ensures.fits; furthest = c.steim2_reach-reach.ensures.furthest }) in
-    let two = one_covered bytes samples g Int16 (Steim2 ∷
-    []) by_steim2 by_int16 c.or-best.result Steim2 c.steim2_reach-reach.result.end refl one c.integers_end-int16.ensures.fits (inl refl) c.steim2_reach-reach.ensures.fits c.integers_end-int16.ensures.past
+    let two = one_covered bytes samples g Int16 (Steim2 ∷ []) by_steim2 by_int16 c.or-best.result Steim2
+    c.steim2_reach-reach.result.end refl one c.integers_end-int16.ensures.fits (inl refl)
+    c.steim2_reach-reach.ensures.fits c.integers_end-int16.ensures.past
     c.or-best.ensures.one c.or-best.ensures.first c.or-best.ensures.second in
     let over = not_shorter c.or-best.result by_steim2 c.or-best.ensures.first in
     skipped bytes samples g Steim1 (Int16 ∷ Steim2 ∷ []) c.or-best.result
@@ -52,11 +53,12 @@ with_wide_integers-requires-2-clause-step c =
     let by_int16 : Step = record { start = c.args.frontier; end = c.integers_end-int16.result; kind = Int16 } in
     let one = longest_step bytes samples g Steim2 c.steim2_reach-reach.result.end refl
     (record { fits = c.steim2_reach-reach.ensures.fits; furthest = c.steim2_reach-reach.ensures.furthest }) in
-    let two = one_covered bytes samples g Int16 (Steim2 ∷
-    []) by_steim2 by_int16 c.or-best.result Steim2 c.steim2_reach-reach.result.end refl one c.integers_end-int16.ensures.fits (inl refl) c.steim2_reach-reach.ensures.fits c.integers_end-int16.ensures.past
+    let two = one_covered bytes samples g Int16 (Steim2 ∷ []) by_steim2 by_int16 c.or-best.result Steim2
+    c.steim2_reach-reach.result.end refl one c.integers_end-int16.ensures.fits (inl refl)
+    c.steim2_reach-reach.ensures.fits c.integers_end-int16.ensures.past
     c.or-best.ensures.one c.or-best.ensures.first c.or-best.ensures.second in
-    one_more bytes samples g Steim1 (Int16 ∷ Steim2 ∷
-    []) c.or-best.result c.steim1_step-by_steim1.result c.or.result two c.steim1_step-by_steim1.ensures c.or.ensures.one c.or.ensures.first c.or.ensures.second
+    one_more bytes samples g Steim1 (Int16 ∷ Steim2 ∷ []) c.or-best.result c.steim1_step-by_steim1.result c.or.result
+    two c.steim1_step-by_steim1.ensures c.or.ensures.one c.or.ensures.first c.or.ensures.second
 
 pub with_wide_integers-requires-2-clause-ends : goal.with_wide_integers-requires-2-clause-ends
 with_wide_integers-requires-2-clause-ends c =

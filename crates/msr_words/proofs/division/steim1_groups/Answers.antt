@@ -1,4 +1,4 @@
--- The groups so far are those of the division that is written; there is none where they are too many.
+-- The groups so far are those of the division that is written; there is none if they are too many.
 use Rattle.std.proofs.Common.{arith, ◌≡◌, ◌<◌, ◌≤◌, ◌+◌, ◌-◌, ◌++◌, [], ◌∷◌, length, map, take, drop, get_or, sym, ap, ◌∙◌, subst}
 use Rattle.std.specs.List.{AllByRecursion}
 use Rattle.std.proofs.lemmas.List.{get_or_read, length-append, length-drop, length-map, length-take-le}
@@ -9,10 +9,10 @@ use Rattle.msr_words.proofs.WrittenDivision.{group_fits, items_push, rest_is}
 use Rattle.msr_words.proofs.FirstGroups.{AreGroupsBefore, all_before, divided_fit, first_at, first_few, first_is_group, first_some, one_before, too_many}
 use Rattle.msr_words.proofs.division.steim1_groups.Goals as goal
 
-pub returns-then-not-are_32_bit-clause-none : goal.returns-then-not-are_32_bit-clause-none
-returns-then-not-are_32_bit-clause-none c = λ none can.
-    let t = c.are_32_bit.ensures.1 (divided_fit c.args.words c.args.differences.now can) in
-    let f = c.if-not-are_32_bit.true in
+pub returns-then-not-all_fit_bits-clause-none : goal.returns-then-not-all_fit_bits-clause-none
+returns-then-not-all_fit_bits-clause-none c = λ none can.
+    let t = c.all_fit_bits.ensures.1 (divided_fit c.args.words c.args.differences.now can) in
+    let f = c.if-not-all_fit_bits.true in
     cc
 
 pub returns-then-len-words-clause-none : goal.returns-then-len-words-clause-none
@@ -41,7 +41,8 @@ slice_bounds-group_of-end c =
     c.args.differences.now) = ap length (rest_is at ds) in
     let within : c.from-size.result ≤ length (drop c.loop-at.at c.args.differences.now) = is.1.within in
     let taken : length (take c.from-size.result (take (length c.args.differences.now - c.loop-at.at)
-    (drop c.loop-at.at c.args.differences.now))) ≡ c.from-size.result = length-take-le c.from-size.result (take (length ds - at) (drop at ds)) (omega arith) in
+    (drop c.loop-at.at c.args.differences.now))) ≡ c.from-size.result =
+    length-take-le c.from-size.result (take (length ds - at) (drop at ds)) (omega arith) in
     sym taken
 
 pub group_of-requires-clause-few : goal.group_of-requires-clause-few
@@ -62,7 +63,8 @@ group_of-requires-clause-few c =
     c.args.differences.now) = ap length (rest_is at ds) in
     let within : c.from-size.result ≤ length (drop c.loop-at.at c.args.differences.now) = is.1.within in
     let taken : length (take c.from-size.result (take (length c.args.differences.now - c.loop-at.at)
-    (drop c.loop-at.at c.args.differences.now))) ≡ c.from-size.result = length-take-le c.from-size.result (take (length ds - at) (drop at ds)) (omega arith) in
+    (drop c.loop-at.at c.args.differences.now))) ≡ c.from-size.result =
+    length-take-le c.from-size.result (take (length ds - at) (drop at ds)) (omega arith) in
     let few = first_few (drop at ds) c.from-size.result is.0 is.1 in
     omega arith
 

@@ -136,8 +136,8 @@ loop-slot-preserved c =
           group_more (version_of c.args.sizing) gs (differences c.args.before c.args.run.now)
           (slice_index_or c.args.run.now 0 (pos 0)) (slice_index_or c.args.run.now (length c.args.run.now - 1)
           (pos 0))
-          c.loop-frame.frame c.loop-slot.at (c.loop-slot.used
-          + c.loop-slot.slot - 15) c.args.area.now c.loop-slot.area c.put_word-in-loop-slot.new.area c.loop-slot.slot c.loop-slot.codes
+          c.loop-frame.frame c.loop-slot.at (c.loop-slot.used + c.loop-slot.slot - 15) c.args.area.now
+          c.loop-slot.area c.put_word-in-loop-slot.new.area c.loop-slot.slot c.loop-slot.codes
           before c.loop-slot-test.true c.in-Some.next.word c.in-Some.next.code c.in-Some.next.size
           (c.loop-slot.used - c.in-Some.next.empty + (c.loop-slot.slot + 1) - 15)
           high (λ left. next.follows _ left) in' next.code_is next.word_is
@@ -166,8 +166,8 @@ loop-frame-preserved c =
           (frame_ends (version_of c.args.sizing) gs (differences c.args.before c.args.run.now)
           (slice_index_or c.args.run.now 0 (pos 0)) (slice_index_or c.args.run.now (length c.args.run.now - 1)
           (pos 0))
-          c.loop-frame.frame c.loop-slot.at (c.loop-slot.used
-          + c.loop-slot.slot - 15) c.args.area.now c.loop-slot.area c.put_word-in-loop-frame.new.area c.loop-slot.slot c.loop-slot.codes all
+          c.loop-frame.frame c.loop-slot.at (c.loop-slot.used + c.loop-slot.slot - 15) c.args.area.now
+          c.loop-slot.area c.put_word-in-loop-frame.new.area c.loop-slot.slot c.loop-slot.codes all
           (inv.filled gs chosen) c.put_word-in-loop-frame.ensures);
     }
 

@@ -1,5 +1,5 @@
--- Whatever the groups of the division that is written are, their words stand in the area so far. The words of a frame are
--- counted before they are found, so those after this slot are not groups yet.
+-- Whatever the groups of the division that is written are, their words stand in the area so far. The words of a frame
+-- are counted before they are found, so those after this slot are not groups yet.
 use Rattle.std.proofs.Common.{◌<◌, ◌≤◌, ◌+◌, ◌-◌, ◌*◌, ◌^◌, ℤ, List, length, pos, slice_index_or}
 use Rattle.msr_words.specs.Canonical.{IsCanonicalDivision}
 use Rattle.msr_words.specs.Segment.{differences}

@@ -3,7 +3,7 @@ use Rattle.std.proofs.lemmas.Result.{err_from_is_err_and}
 use Rattle.msr_packer.specs.Held.{Stays, frontier_of}
 use Rattle.msr_packer.specs.declared.held.Held.{Held}
 use Rattle.msr_packer.proofs.Holding.{shown_if_any, sound_more, stays_at}
-use Rattle.msr_packer.proofs.InBlocks.{holds_in, packs_held, packs_more, packs_next}
+use Rattle.msr_packer.proofs.InBlocks.{holds_in, packs_held, packs_next, packs_pushed}
 use Rattle.msr_packer.proofs.Streaming.{decided_there, held_there, live_few, live_more}
 use Rattle.msr_packer.proofs.stream.StreamPacker.push_some.Goals as goal
 
@@ -41,8 +41,6 @@ returns-in_default-clause-given c = λ bytes before runs separators s.
     let own = c.self.inside.held in
     let held = c.forget.new.held in
     let t = c.forget.ensures.streaming in
-    let q = packs_held bytes before runs separators own held false c.forget.ensures.size
-    (c.forget.ensures.holds before runs separators) (λ _. t.stays) (rw (← c.self.view_is) at s).packs in
     let new : Held = record {
       record_length = held.record_length;
       samples = c.extend_from_slice.new.self;
@@ -51,8 +49,9 @@ returns-in_default-clause-given c = λ bytes before runs separators s.
       from = held.from;
       to = held.to;
     } in
-    let m = packs_more bytes before runs separators held new (take c.min-count.result c.args.samples.now) false
-    (rw q.size at held.record_length.least) refl refl refl c.in_ok-extend_from_slice.ensures.items q in
+    let m = packs_pushed bytes before runs separators own held new (take c.min-count.result c.args.samples.now) false
+    c.forget.ensures.size (c.forget.ensures.holds before runs separators) t.stays refl refl refl
+    c.in_ok-extend_from_slice.ensures.items (rw (← c.self.view_is) at s).packs in
     let live = rw (c.as_slice-seen.ensures.value, c.frontier_of-frontier.ensures) at c.in_default.ensures.open refl in
     let behind = live_few held.record_length.bytes new.samples.items
     (frontier_of held.current) c.decide.new.self live in
@@ -110,13 +109,10 @@ go_on-piece-requires-clause-sound c =
     let d = rw (c.as_slice-seen.ensures.value, c.frontier_of-frontier.ensures) at c.in-Some.ensures.decided in
     let last = d.before_last in
     let past = d.past in
-    let items = c.in_ok-extend_from_slice.ensures.items in
-    let all = ap length items in
-    let now : c.truncate.new.self.items ≡ held.samples.items
-    ++ take (found.step.end + 1 - c.len-from.result) c.args.samples.now =
-    c.truncate.ensures.items ∙ ap (take (found.step.end + 1)) items
-    ∙ held_there held.samples.items c.args.samples.now c.min-count.result c.len-from.result
-    (found.step.end + 1) from (omega arith) (omega arith) in
+    let now = held_there held.samples.items c.args.samples.now c.extend_from_slice.new.self.items
+    c.truncate.new.self.items c.min-count.result c.len-from.result (found.step.end + 1)
+    c.in_ok-extend_from_slice.ensures.items c.truncate.ensures.items from (omega arith) (omega arith) in
+    let all = ap length c.in_ok-extend_from_slice.ensures.items in
     let number = c.forget.ensures.number in
     let allowed = rw (← c.self.view_is) at c.requires in
     let long = ap length c.truncate.ensures.items
@@ -131,20 +127,15 @@ returns-clause-given c = λ bytes before runs separators s.
     let own = c.self.inside.held in
     let held = c.forget.new.held in
     let t = c.forget.ensures.streaming in
-    let q = packs_held bytes before runs separators own held false c.forget.ensures.size
-    (c.forget.ensures.holds before runs separators) (λ _. t.stays) (rw (← c.self.view_is) at s).packs in
     let found = c.in-Some.found in
     let from : c.len-from.result ≡ length held.samples.items = search rules in
     let d = rw (c.as_slice-seen.ensures.value, c.frontier_of-frontier.ensures) at c.in-Some.ensures.decided in
     let last = d.before_last in
     let past = d.past in
-    let items = c.in_ok-extend_from_slice.ensures.items in
-    let all = ap length items in
-    let now : c.truncate.new.self.items ≡ held.samples.items
-    ++ take (found.step.end + 1 - c.len-from.result) c.args.samples.now =
-    c.truncate.ensures.items ∙ ap (take (found.step.end + 1)) items
-    ∙ held_there held.samples.items c.args.samples.now c.min-count.result c.len-from.result
-    (found.step.end + 1) from (omega arith) (omega arith) in
+    let now = held_there held.samples.items c.args.samples.now c.extend_from_slice.new.self.items
+    c.truncate.new.self.items c.min-count.result c.len-from.result (found.step.end + 1)
+    c.in_ok-extend_from_slice.ensures.items c.truncate.ensures.items from (omega arith) (omega arith) in
+    let all = ap length c.in_ok-extend_from_slice.ensures.items in
     let mid : Held = record {
       record_length = held.record_length;
       samples = c.truncate.new.self;
@@ -154,8 +145,8 @@ returns-clause-given c = λ bytes before runs separators s.
       to = held.to;
     } in
     let taken = take (found.step.end + 1 - c.len-from.result) c.args.samples.now in
-    let m = packs_more bytes before runs separators held mid taken false
-    (rw q.size at held.record_length.least) refl refl refl now q in
+    let m = packs_pushed bytes before runs separators own held mid taken false c.forget.ensures.size
+    (c.forget.ensures.holds before runs separators) t.stays refl refl refl now (rw (← c.self.view_is) at s).packs in
     let g = c.go_on-piece.ensures in
     let end : frontier_of c.go_on-piece.new.self.current ≡ found.step.end = ap frontier_of g.current
     ∙ c.of-next.ensures.end in
@@ -188,20 +179,14 @@ returns-clause-shown c = λ bytes before runs separators s.
     let own = c.self.inside.held in
     let held = c.forget.new.held in
     let t = c.forget.ensures.streaming in
-    let q = packs_held bytes before runs separators own held false c.forget.ensures.size
-    (c.forget.ensures.holds before runs separators) (λ _. t.stays) (rw (← c.self.view_is) at s).packs in
     let found = c.in-Some.found in
     let from : c.len-from.result ≡ length held.samples.items = search rules in
     let d = rw (c.as_slice-seen.ensures.value, c.frontier_of-frontier.ensures) at c.in-Some.ensures.decided in
     let last = d.before_last in
     let past = d.past in
-    let items = c.in_ok-extend_from_slice.ensures.items in
-    let all = ap length items in
-    let now : c.truncate.new.self.items ≡ held.samples.items
-    ++ take (found.step.end + 1 - c.len-from.result) c.args.samples.now =
-    c.truncate.ensures.items ∙ ap (take (found.step.end + 1)) items
-    ∙ held_there held.samples.items c.args.samples.now c.min-count.result c.len-from.result
-    (found.step.end + 1) from (omega arith) (omega arith) in
+    let now = held_there held.samples.items c.args.samples.now c.extend_from_slice.new.self.items
+    c.truncate.new.self.items c.min-count.result c.len-from.result (found.step.end + 1)
+    c.in_ok-extend_from_slice.ensures.items c.truncate.ensures.items from (omega arith) (omega arith) in
     let mid : Held = record {
       record_length = held.record_length;
       samples = c.truncate.new.self;
@@ -211,8 +196,8 @@ returns-clause-shown c = λ bytes before runs separators s.
       to = held.to;
     } in
     let taken = take (found.step.end + 1 - c.len-from.result) c.args.samples.now in
-    let m = packs_more bytes before runs separators held mid taken false
-    (rw q.size at held.record_length.least) refl refl refl now q in
+    let m = packs_pushed bytes before runs separators own held mid taken false c.forget.ensures.size
+    (c.forget.ensures.holds before runs separators) t.stays refl refl refl now (rw (← c.self.view_is) at s).packs in
     let g = c.go_on-piece.ensures in
     shown_if_any (before ++ taken) _ _ c.go_on-piece.result
     (g.given.shows (before ++ taken) runs separators

@@ -13,6 +13,6 @@ returns c bytes run h =
     let steim1 = simp to_z-of_z at (c.push-steim1.ensures bytes run h.3) in
     let steim2 = simp to_z-of_z at (c.push-steim2.ensures bytes run h.4) in (
       (int16.0, int24.0, int32.0, steim1.0, steim2.0),
-      any_of bytes (run ++ (c.args.sample, c.args.diff) ∷
-          []) c.push-int16.result c.push-int24.result c.push-int32.result c.push-steim1.result c.push-steim2.result int16.1 int24.1 int32.1 steim1.1 steim2.1,
+      any_of bytes (run ++ (c.args.sample, c.args.diff) ∷ []) c.push-int16.result c.push-int24.result
+          c.push-int32.result c.push-steim1.result c.push-steim2.result int16.1 int24.1 int32.1 steim1.1 steim2.1,
     )
