@@ -4,19 +4,15 @@ ghost use Rattle.std.specs.Prelude.{◌<◌, ◌^◌, All, IfOk, IfSome, IsTrue}
 ghost use Rattle.msr_header.specs.Reading.{is_quality};
 ghost use Rattle.msr_report.specs.Proper.{IsProper, IsProperLine, records_of};
 
-use msr_devices::{Behavior, TestSink};
+use msr_devices::{Behavior, TestSink, WriteFault};
+use msr_fixtures::START;
 use msr_record::Key;
-use msr_report::{
-    Counts, Report, SegmentLine, TextFault, has_text, one_text, push_counts, push_list_line,
-};
+use msr_report::{Counts, Report, SegmentLine, has_text, one_text, push_counts, push_list_line};
 use msr_time::{Rate, is_instant};
 use msr_words::Length;
 use std::alloc::{AllocError, Global};
 use std::process::Abort;
 use std::test::Fail;
-
-/// 2020-01-01 00:00:00.
-const START: i64 = 1_577_836_800_000_000;
 
 const NO_RECORDS: Counts = Counts {
     read: 0,
@@ -176,7 +172,7 @@ fn reports(rt: HostRuntime) -> Result<(), Fail> {
 
 /// The text has 233 bytes, so twelve writes.
 #[test]
-fn a_sink_that_fails_took_a_front(rt: HostRuntime) -> Result<(), Fail> {
+fn a_sink_that_fails_took_a_prefix(rt: HostRuntime) -> Result<(), Fail> {
     let alloc = rt.alloc();
     let key = key(20, 1).ok_or("no rate")?;
     let counts = Counts {
@@ -186,7 +182,7 @@ fn a_sink_that_fails_took_a_front(rt: HostRuntime) -> Result<(), Fail> {
     let report = report(256, counts, segments(alloc, key, false)?).ok_or("no report")?;
     for fails_at in 0u64..12 {
         let mut sink = TestSink::new(Vec::new(alloc), behavior(20, Some(fails_at)));
-        assert_eq!(rt; report.write_text(alloc, &mut sink), Err(TextFault::Write));
+        assert_eq!(rt; report.write_text(alloc, &mut sink), Err(WriteFault::Write));
         assert_eq!(rt; sink.bytes().len() as u64, 20 * fails_at);
         assert!(rt; ONE_SEGMENT.as_bytes().starts_with(sink.bytes()));
     }
@@ -246,15 +242,6 @@ fn fields(rt: HostRuntime) -> Result<(), Fail> {
         push_list_line(alloc, &mut out, &key, start, samples)?;
         assert_eq!(rt; out.as_slice(), line.as_bytes());
     }
-    Ok(())
-}
-
-#[test]
-fn faults_have_texts(rt: HostRuntime) -> Result<(), Fail> {
-    let alloc = rt.alloc();
-    let (write, memory) = (TextFault::Write, TextFault::Memory);
-    let text = format!(in alloc; "{write}, {memory}")?;
-    assert_eq!(rt; text.as_str(), "write fault, out of memory");
     Ok(())
 }
 

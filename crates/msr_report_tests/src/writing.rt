@@ -6,9 +6,9 @@ ghost use Rattle.msr_record.specs.Correction.{is_pending};
 ghost use Rattle.msr_segments.specs.Segments.{SegmentIsInTime};
 
 use msr_base::Samples;
-use msr_devices::{Behavior, Sink, TestSink};
+use msr_devices::{Behavior, Sink, TestSink, WriteFault};
 use msr_fixtures::{Edit, START, record, steim_record};
-use msr_output::{SegmentWriter, WriteFault, one_output, output_has_size, output_keeps_segments};
+use msr_output::{SegmentWriter, one_output, output_has_size, output_keeps_segments};
 use msr_record::Key;
 use msr_report::SegmentLine;
 use msr_segments::Segment;
