@@ -45,13 +45,15 @@ pub one_report_text : (report : Report) (text other : List ℕ) → IsReportText
     → IsReportText report other → text ≡ other
 one_report_text report text other h k =
     h.is ∙ ap (λ (t : List ℕ). first_lines report
-    ++ (t ++ end_line (length report.segments.items)
-    (records_of report.segments.items))) (one_segments_text report.segments.items h.segments k.segments h.are k.are) ∙ sym k.is
+    ++ (t ++ end_line (length report.segments.items) (records_of report.segments.items)))
+    (one_segments_text report.segments.items h.segments k.segments h.are k.are) ∙ sym k.is
 
 pub has_time_text : (t : ℤ) → IsInstant t → (text : List ℕ) × IsTimeText t text
 has_time_text t h =
-    let found = has_split t h in
-    (split_text found.time found.micros, record { time = found.time; micros = found.micros; split = found.split; is = refl })
+    let found = has_split t h in (
+      split_text found.time found.micros,
+      record { time = found.time; micros = found.micros; split = found.split; is = refl },
+    )
 
 pub has_segment_text : (line : SegmentLine) → IsProperLine line → (text : List ℕ) × IsSegmentText line text
 has_segment_text line h =

@@ -33,7 +33,8 @@ msrepack 1
 length 256
 tolerance 1000
 read 1 empty 0 mismatched 0
-segment XX.TEST_.00.BHZ D rate 20 1 flags 00 00 00 correction 0 timing 0 start 2020,001,00:00:00.000000 samples 302 records 2
+segment XX.TEST_.00.BHZ D rate 20 1 flags 00 00 00 correction 0 timing 0 start 2020,001,00:00:00.000000 \
+samples 302 records 2
 separators 0 301
 end 1 segments 2 records
 ";
@@ -43,9 +44,11 @@ msrepack 1
 length 256
 tolerance 1000
 read 3 empty 1 mismatched 2
-segment XX.TEST_.00.BHZ D rate 20 1 flags 00 00 00 correction 0 timing 0 start 2020,001,00:00:00.000000 samples 302 records 2
+segment XX.TEST_.00.BHZ D rate 20 1 flags 00 00 00 correction 0 timing 0 start 2020,001,00:00:00.000000 \
+samples 302 records 2
 separators 0 301
-segment XX.TEST_.00.BHZ D rate 20 1 flags 00 00 00 correction 0 timing 0 start 2020,001,00:00:10.001400 samples 0 records 0
+segment XX.TEST_.00.BHZ D rate 20 1 flags 00 00 00 correction 0 timing 0 start 2020,001,00:00:10.001400 \
+samples 0 records 0
 separators
 end 2 segments 2 records
 ";
@@ -210,7 +213,8 @@ fn fields(rt: HostRuntime) -> Result<(), Fail> {
             },
             START,
             1,
-            "segment X_.a%25%00%ff%5f.__.B%2eZ D rate 20 1 flags 00 00 00 correction 0 timing 0 start 2020,001,00:00:00.000000 samples 1\n",
+            "segment X_.a%25%00%ff%5f.__.B%2eZ D rate 20 1 flags 00 00 00 correction 0 timing 0 \
+            start 2020,001,00:00:00.000000 samples 1\n",
         ),
         Case(
             Key {
@@ -224,7 +228,8 @@ fn fields(rt: HostRuntime) -> Result<(), Fail> {
             },
             -2_208_988_800_000_000,
             u64::MAX,
-            "segment XX.TEST_.00.BHZ M rate -10 -2 flags 1f a0 05 correction -2147483648 timing 100 start 1900,001,00:00:00.000000 samples 18446744073709551615\n",
+            "segment XX.TEST_.00.BHZ M rate -10 -2 flags 1f a0 05 correction -2147483648 timing 100 \
+            start 1900,001,00:00:00.000000 samples 18446744073709551615\n",
         ),
         Case(
             Key {
@@ -234,7 +239,8 @@ fn fields(rt: HostRuntime) -> Result<(), Fail> {
             },
             4_133_980_799_999_999,
             302,
-            "segment XX.TEST_.00.BHZ Q rate 20 -10 flags 00 00 00 correction 12 timing 0 start 2100,365,23:59:59.999999 samples 302\n",
+            "segment XX.TEST_.00.BHZ Q rate 20 -10 flags 00 00 00 correction 12 timing 0 \
+            start 2100,365,23:59:59.999999 samples 302\n",
         ),
     ] {
         assert!(rt; is_instant(start));
