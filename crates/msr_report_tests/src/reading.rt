@@ -11,8 +11,7 @@ use std::alloc::{AllocError, Global};
 const EMPTY: &str =
     "msrepack 1\nlength 512\ntolerance 1000\nread 0 empty 0 mismatched 0\nend 0 segments 0 records\n";
 
-const SEGMENT: &str =
-    "msrepack 1\nlength 256\ntolerance 1000\nread 1 empty 0 mismatched 0\n\
+const SEGMENT: &str = "msrepack 1\nlength 256\ntolerance 1000\nread 1 empty 0 mismatched 0\n\
     segment XX.TEST_.00.BHZ D rate 20 1 flags 00 00 00 correction 0 timing 0 start 2020,001,00:00:00.000000 \
     samples 302 records 2\nseparators 0 301\nend 1 segments 2 records\n";
 
