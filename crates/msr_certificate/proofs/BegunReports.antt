@@ -176,7 +176,7 @@ more_shown text bytes tolerance counts lines rest body more shown is =
     shown ∙ ap (first_then bytes tolerance counts) (ap (λ (l : List ℕ). lines ++ l) is ∙ sym (one_more lines body more))
     ∙ sym (first_append bytes tolerance counts (lines ++ (body ++ (10 ∷ []))) more)
 
--- where the first line of a segment was read
+-- when the first line of a segment was read
 pub before_second : (text : List ℕ) (bytes tolerance : ℕ) (counts : Counts) (segments : List SegmentLine)
     (rest more : List ℕ) (line : FormLine) → Going text bytes tolerance counts segments rest
     → IsFormLine line → IsOpening line.key line.start line.samples line.records more rest
@@ -214,7 +214,7 @@ before_second text bytes tolerance counts segments rest more line going is_line 
       records = λ none. absurd (not_empty _ _ none);
     }
 
--- where the last line was read
+-- when the last line was read
 pub before_behind : (text : List ℕ) (bytes tolerance : ℕ) (counts : Counts) (segments : List SegmentLine)
     (rest more : List ℕ) → Going text bytes tolerance counts segments rest
     → records_of segments < 2 ^ 64 → rest ≡ end_line (length segments) (records_of segments) ++ more

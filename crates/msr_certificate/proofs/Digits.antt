@@ -52,7 +52,7 @@ parts text a rest front back count is_count is_front is_back is all ends =
     let many : count ≡ length a = is_count ∙ ap (prefix_len is_ascii_digit) is ∙ digits_front a rest all ends in
     (rw (is_front, is, many) (take-append_seam a rest), rw (is_back, is, many) (drop-append_seam a rest))
 
--- the same with a `-` in front
+-- the same with a `-` before it
 not_minus : (d : ℕ) → is_ascii_digit d ≡ true → (d == 45) ≡ false
 not_minus d h = grind (arith, nat_tests)
 

@@ -3,9 +3,9 @@ pub mod Padded
 pub mod Bytes
 pub mod Instants
 pub mod Separators
-pub mod Sums
 pub mod LineFeeds
 pub mod RestOfText
+pub mod FirstLines
 pub mod Segments
 pub mod SegmentsRead
 pub mod OneLines

@@ -1,4 +1,4 @@
--- Where two texts are the same, so are the fields at their prefixes, and the texts after these.
+-- If two texts are the same, so are the fields at their prefixes, and the texts after these.
 use Rattle.std.proofs.Common.{◌≡◌, ◌∙◌, ap, sym, refl, arith, ℕ, suc, ◌+◌, ◌*◌, ◌/◌, ◌%◌, ◌<◌, ◌≤◌, ◌^◌, ◌==◌, Bool, true, false, cond, List, [], ◌∷◌, ◌++◌, append_assoc, length, take, drop, decimal, slice_index, ℤ, pos, ◌+ℤ◌}
 use Rattle.std.specs.Char.{is_ascii_digit, is_ascii_alphanumeric}
 use Rattle.std.specs.Fmt.{signed_decimal, digit_glyph}

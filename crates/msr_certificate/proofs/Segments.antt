@@ -26,7 +26,7 @@ pub record Second (segments records : ℕ) (w : List ℕ) (P : Type 0) : Type 0 
   pub is : w ≡ separators_line separators ++ more
   pub tail : Tail (suc segments) records more P
 
--- after the last line, or after the first line of a segment of n records, where the value is n + 1
+-- after the last line, when the value is 0, or after the first line of a segment of n records, when it is n + 1
 abbrev pub Next : ℕ → ℕ → ℕ → List ℕ → Type 0 → Type 0
 Next segments records zero w P = w ≡ []
 Next segments records (suc n) w P = Second segments (records + n) w P

@@ -7,12 +7,12 @@ use Rattle.msr_report.specs.Text.{separators_line, end_line, first_lines, AreSeg
 use Rattle.msr_base.specs.declared.counts.Counts.{Counts}
 use Rattle.msr_report.specs.declared.report.SegmentLine.{SegmentLine}
 use Rattle.msr_report.specs.declared.report.Report.{Report}
+use Rattle.msr_report.proofs.Written.{records_append}
 use Rattle.msr_certificate.specs.Form.{FormLine, IsFirst, IsFormLine, IsFormLineText, AreFormLineTexts, IsOpening, form_records, form_line, first_then}
 use Rattle.msr_certificate.specs.Reading.{IsReadFrom}
 use Rattle.msr_certificate.specs.Rest.{AtLine, InFirst, tail_5}
 use Rattle.msr_certificate.proofs.Segments.{first_line_then, Tail, tail_from_first, at_map, texts_long}
 use Rattle.msr_certificate.proofs.LineFeeds.{same_cons}
-use Rattle.msr_certificate.proofs.Sums.{records_append}
 
 -- the lines of so many segments stand after the first four
 pub record Going (text : List ℕ) (bytes tolerance : ℕ) (counts : Counts) (segments : List SegmentLine)

@@ -71,7 +71,7 @@ none_from rest more (n ∷ ns) none each is =
     absurd (none n (flat_map spaced ns ++ (10 ∷ more)) (each 0 0 (omega arith)) (ends_number ns more)
     (is ∙ append_assoc (spaced n) (flat_map spaced ns) (10 ∷ more)))
 
--- where no further number stands, the line ends
+-- if no further number stands, the line ends
 pub left_none : (rest more : List ℕ) → AreLeft rest more
     → ((n : ℕ) (behind : List ℕ) → n < 2 ^ 64 → EndsNumber behind → rest ≡ 32 ∷ (decimal n ++ behind) → ⊥)
     → rest ≡ 10 ∷ more

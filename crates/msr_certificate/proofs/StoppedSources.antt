@@ -1,4 +1,4 @@
--- What is answered where a source was not read to its end.
+-- What is answered when a source was not read to its end.
 use Rattle.std.proofs.Common.{List, ℕ, [], ◌++◌, ◌↔◌, Err, IsErrOf}
 use Rattle.msr_devices.specs.Device.{Device, Gives, HasFailed, HasLeft, IsSteady}
 use Rattle.msr_devices.specs.declared.read_buffer.FillFault.{FillFault}

@@ -20,7 +20,7 @@ pub record HasLines (text : List ℕ) (n : ℕ) : Type 0 where
   pub lines : AreLines n first
   pub whole : text ≡ first ++ behind
 
--- The first n lines of the text, each with its line feed, begin the text of a report of the right form. Where they
+-- The first n lines of the text, each with its line feed, begin the text of a report of the right form. If they
 -- are all its lines, its records fit 64 bits: that is a matter of the last line, which tells their number.
 pub record BeginsReport (text : List ℕ) (n : ℕ) : Type 0 where
   pub form : Form

@@ -21,7 +21,7 @@ pub record IsReadFrom (report : Report) (text : List ℕ) : Type 0 where
   pub is_form : IsForm (form_of report)
   pub is_text : IsReportText report text
 
--- The report whose text it is, or the line at fault in it. Where the source failed, or memory was refused, the text
+-- The report whose text it is, or the line at fault in it. When the source failed, or memory was refused, the text
 -- is judged no further.
 abbrev pub ReadsReport : List ℕ → Result Report ReportFault → Type 0
 ReadsReport text (Ok report) = IsReadFrom report text

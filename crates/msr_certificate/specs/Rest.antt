@@ -6,7 +6,7 @@ use Rattle.msr_base.specs.declared.counts.Counts.{Counts}
 use Rattle.msr_certificate.specs.Form.{Form, IsForm, IsFormText, AreFormLineTexts, form_records}
 use Rattle.msr_certificate.specs.Fault.{AreLines, BeginsReport}
 
--- The first n lines begin a text of the language; where they are all of it, P holds.
+-- The first n lines begin a text of the language; if they are all of it, P holds.
 pub record Begins (L : List ℕ → Type 0 → Type 0) (text : List ℕ) (n : ℕ) : Type 0 where
   pub first : List ℕ
   pub behind : List ℕ

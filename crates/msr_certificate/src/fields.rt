@@ -1,5 +1,5 @@
 //! The fields at the start of a text: each reader answers the field and the text after it.
-ghost use Rattle.std.specs.Prelude.{◌≡◌, ◌<◌, ◌≤◌, ◌^◌, ◌++◌, ◌∷◌, [], ℕ, ℤ, List, IfSome, IsSomeAnd, false, true, length, drop};
+ghost use Rattle.std.specs.Prelude.{◌≡◌, ◌<◌, ◌≤◌, ◌^◌, ◌++◌, ◌∷◌, [], ℕ, ℤ, List, IfSome, IsSomeAnd, false, length};
 ghost use Rattle.std.specs.Fmt.{decimal, signed_decimal, digit_glyph};
 ghost use Rattle.std.specs.Int.{w16, w32};
 ghost use Rattle.std.specs.Int.RustNames.{FitsSigned};
@@ -61,6 +61,7 @@ pub(crate) fn number(text: &[u8]) -> Option<(u64, &[u8])>
     Some((n, rest))
 }
 
+/// A lower-case hexadecimal digit.
 fn hex_digit(byte: u8) -> Option<u8>
     ensures found { IfSome result (λ n. (n < 16) × (byte ≡ digit_glyph false n)) }
     ensures only { (n : ℕ) → n < 16 → byte ≡ digit_glyph false n → IsSomeAnd result (λ x. x ≡ n) }
@@ -107,6 +108,7 @@ fn name_byte(text: &[u8]) -> Option<(u8, &[u8])>
     }
 }
 
+/// Two bytes of a name.
 pub(crate) fn two_bytes(text: &[u8]) -> Option<([u8; 2], &[u8])>
     ensures found { IfSome result (λ x. text.now ≡ field_text x.0 ++ x.1.now) }
     ensures only { (a b : ℕ) (rest : List ℕ) → a < 256 → b < 256 → text.now ≡ byte_text a ++ (byte_text b ++ rest)
@@ -117,6 +119,7 @@ pub(crate) fn two_bytes(text: &[u8]) -> Option<([u8; 2], &[u8])>
     Some(([first, second], text))
 }
 
+/// Three bytes of a name.
 pub(crate) fn three_bytes(text: &[u8]) -> Option<([u8; 3], &[u8])>
     ensures found { IfSome result (λ x. text.now ≡ field_text x.0 ++ x.1.now) }
     ensures only { (a b c : ℕ) (rest : List ℕ) → a < 256 → b < 256 → c < 256
@@ -128,6 +131,7 @@ pub(crate) fn three_bytes(text: &[u8]) -> Option<([u8; 3], &[u8])>
     Some(([first, second, third], text))
 }
 
+/// Five bytes of a name.
 pub(crate) fn five_bytes(text: &[u8]) -> Option<([u8; 5], &[u8])>
     ensures found { IfSome result (λ x. text.now ≡ field_text x.0 ++ x.1.now) }
     ensures only { (a b c d e : ℕ) (rest : List ℕ) → a < 256 → b < 256 → c < 256 → d < 256 → e < 256

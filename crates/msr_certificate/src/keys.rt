@@ -1,5 +1,5 @@
 //! What the records of a segment have in common, at the start of a text.
-ghost use Rattle.std.specs.Prelude.{◌≡◌, ◌≢◌, ◌<◌, ◌++◌, ◌∷◌, ℕ, ℤ, List, IfSome, IsSomeAnd, IsTrue, pos, codes};
+ghost use Rattle.std.specs.Prelude.{◌≡◌, ◌<◌, ◌++◌, ◌∷◌, ℕ, ℤ, List, IfSome, IsSomeAnd, IsTrue, codes};
 ghost use Rattle.std.specs.Fmt.{decimal, signed_decimal};
 ghost use Rattle.std.specs.Int.{w16, w32};
 ghost use Rattle.std.specs.Int.RustNames.{FitsSigned};
@@ -46,6 +46,7 @@ struct ChannelName {
     channel: [u8; 3],
 }
 
+/// Network, station, location and channel, with dots between them.
 fn channel_name(text: &[u8]) -> Option<(ChannelName, &[u8])>
     ensures found { IfSome result (λ x. text.now ≡ name_then x.0.network x.0.station x.0.location x.0.channel x.1.now) }
     ensures only { (network station location channel rest : List ℕ)
@@ -116,6 +117,7 @@ fn flags(text: &[u8]) -> Option<(u8, u8, u8, &[u8])>
     Some((activity, clock, quality, text))
 }
 
+/// The time correction.
 fn correction(text: &[u8]) -> Option<(i32, &[u8])>
     ensures found { IfSome result (λ x. text.now ≡ codes " correction " ++ (signed_decimal x.0 ++ x.1.now)) }
     ensures only { (z : ℤ) (rest : List ℕ) → FitsSigned w32 z → EndsNumber rest
@@ -126,6 +128,7 @@ fn correction(text: &[u8]) -> Option<(i32, &[u8])>
     signed(text)
 }
 
+/// The timing quality.
 fn timing(text: &[u8]) -> Option<(u8, &[u8])>
     ensures found { IfSome result (λ x. text.now ≡ codes " timing " ++ (decimal x.0 ++ x.1.now)) }
     ensures only { (n : ℕ) (rest : List ℕ) → n < 256 → EndsNumber rest
@@ -158,6 +161,7 @@ fn named(text: &[u8]) -> Option<(ChannelName, u8, &[u8])>
     Some((name, quality, text))
 }
 
+/// The quality indicator.
 fn quality(text: &[u8]) -> Option<(u8, &[u8])>
     ensures found { IfSome result (λ x. text.now ≡ x.0 ∷ x.1.now) }
     ensures quality { IfSome result (λ x. IsTrue (is_quality x.0)) }

@@ -13,14 +13,15 @@ pub fn one_report()
     ensures { OneReport }
 {}
 
-/// The text of a report has no line at fault, so it is read as that report where no source fails and no memory is
+/// The text of a report has no line at fault, so it is read as that report if no source fails and no memory is
 /// refused.
 pub fn text_is_read_back()
     ensures no_fault { NoLineAtFault }
     ensures back { TextIsReadBack }
 {}
 
-/// Each field of a report is in the range of its type, so what is said of reports in that form is so of each proper one.
+/// Each field of a report is in the range of its type, so what is said of reports in that form is so of each proper
+/// one.
 pub fn report_has_form(report: &Report)
     ensures { IsProper report.now → IsForm (form_of report.now) }
 {

@@ -1,14 +1,13 @@
 //! The lines of a report at the start of a text: each reader answers what the line says and the text after it.
-ghost use Rattle.std.specs.Prelude.{◌≡◌, ◌<◌, ◌≤◌, ◌^◌, ◌++◌, ◌∷◌, [], ℕ, ℤ, List, IfSome, IsSomeAnd, IsTrue, codes};
+ghost use Rattle.std.specs.Prelude.{◌≡◌, ◌<◌, ◌≤◌, ◌^◌, ◌++◌, ◌∷◌, ℕ, ℤ, List, IfSome, IsSomeAnd, codes};
 ghost use Rattle.std.specs.Fmt.{decimal};
 ghost use Rattle.msr_time.specs.Instant.{IsInstant};
-ghost use Rattle.msr_header.specs.Reading.{is_quality};
 ghost use Rattle.msr_words.specs.Lengths.{bytes_of};
 ghost use Rattle.msr_words.specs.RecordLength.{IsRecordLength};
 ghost use Rattle.msr_report.specs.Text.{IsTimeText};
 ghost use Rattle.msr_record.specs.declared.row.Key.{Key as ChannelKey};
 ghost use Rattle.msr_certificate.specs.Fields.{EndsNumber};
-ghost use Rattle.msr_certificate.specs.Form.{IsKey, key_then, IsOpening};
+ghost use Rattle.msr_certificate.specs.Form.{IsKey, IsOpening};
 
 use crate::fields::{after, number};
 use crate::keys::channel_key;
@@ -17,6 +16,7 @@ use msr_record::Key;
 use msr_report::Counts;
 use msr_words::Length;
 
+/// The start of a segment.
 fn start(text: &[u8]) -> Option<(i64, &[u8])>
     ensures range { IfSome result (λ x. IsInstant x.0) }
     ensures found { IfSome result (λ x. (word : List ℕ)
@@ -28,6 +28,7 @@ fn start(text: &[u8]) -> Option<(i64, &[u8])>
     instant(text)
 }
 
+/// The number of a segment's samples.
 fn samples(text: &[u8]) -> Option<(u64, &[u8])>
     ensures found { IfSome result (λ x. text.now ≡ codes " samples " ++ (decimal x.0 ++ x.1.now)) }
     ensures only { (n : ℕ) (rest : List ℕ) → n < 2 ^ 64 → EndsNumber rest
@@ -50,6 +51,7 @@ fn numbered<'a>(text: &'a [u8], word: &[u8]) -> Option<(u64, &'a [u8])>
     Some((n, text))
 }
 
+/// The first line.
 pub(crate) fn title(text: &[u8]) -> Option<&[u8]>
     ensures found { IfSome result (λ x. text.now ≡ codes "msrepack 1" ++ (10 ∷ x.now)) }
     ensures only { (rest : List ℕ) → text.now ≡ codes "msrepack 1" ++ (10 ∷ rest)
@@ -58,6 +60,7 @@ pub(crate) fn title(text: &[u8]) -> Option<&[u8]>
     after(text, b"msrepack 1\n")
 }
 
+/// The line of the length.
 pub(crate) fn record_length(text: &[u8]) -> Option<(Length, &[u8])>
     ensures found { IfSome result (λ x. text.now ≡ codes "length " ++ (decimal (bytes_of x.0) ++ (10 ∷ x.1.now))) }
     ensures is_length { IfSome result (λ x. IsRecordLength (bytes_of x.0)) }
@@ -72,6 +75,7 @@ pub(crate) fn record_length(text: &[u8]) -> Option<(Length, &[u8])>
     Some((length, text))
 }
 
+/// The line of the tolerance.
 pub(crate) fn tolerance(text: &[u8]) -> Option<(u32, &[u8])>
     ensures found { IfSome result (λ x. text.now ≡ codes "tolerance " ++ (decimal x.0 ++ (10 ∷ x.1.now))) }
     ensures range { IfSome result (λ x. (1 ≤ x.0) × (x.0 ≤ 1_000_000)) }
@@ -96,6 +100,7 @@ pub(crate) fn counted<'a>(text: &'a [u8], word: &[u8]) -> Option<(u64, &'a [u8])
     number(text)
 }
 
+/// The line of the counts.
 pub(crate) fn counts(text: &[u8]) -> Option<(Counts, &[u8])>
     ensures found { IfSome result (λ x. text.now ≡ codes "read "
         ++ (decimal x.0.read ++ (codes " empty " ++ (decimal x.0.empty
@@ -131,7 +136,7 @@ pub(crate) fn end(text: &[u8]) -> Option<(u64, u64, &[u8])>
     Some((segments, records, text))
 }
 
-/// The first line of a segment.
+/// What the first line of a segment says.
 #[derive(Clone, Copy)]
 pub(crate) struct FirstLine {
     pub key: Key,
@@ -140,6 +145,7 @@ pub(crate) struct FirstLine {
     pub records: u64,
 }
 
+/// The first line of a segment.
 pub(crate) fn opening(text: &[u8]) -> Option<(FirstLine, &[u8])>
     ensures is_key { IfSome result (λ x. IsKey x.0.key) }
     ensures range { IfSome result (λ x. IsInstant x.0.start) }

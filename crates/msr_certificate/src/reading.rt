@@ -37,7 +37,7 @@ fn judge_lines(alloc: Global, text: &[u8]) -> Result<(), ReportFault>
 
 /// A buffer with all bytes that the source has left, unless a line of them is at fault: then none after it are asked
 /// for. Each turn wants twice as many as stand there and one more, so that none is moved often, and the lines are
-/// judged again only where they are twice as many.
+/// judged again only when they are twice as many.
 fn read_all<Q: Source>(alloc: Global, source: &mut Q) -> Result<ReadBuffer, ReportFault>
     requires { CanCountCall (Q.device source.old) }
     ensures all { IfOk result (λ buffer. HasLeft (Q.device source.old) buffer.bytes) }

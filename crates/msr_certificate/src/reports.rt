@@ -1,9 +1,8 @@
 //! A whole report.
-ghost use Rattle.std.specs.Prelude.{◌≡◌, ◌<◌, ◌≤◌, ◌^◌, ◌++◌, ◌∷◌, [], ℕ, List, IfOk, IfErr, OnOk, IfSome, IsSomeAnd, SomeIff, All, codes, length, slice_index};
+ghost use Rattle.std.specs.Prelude.{◌≡◌, ◌<◌, ◌^◌, ◌++◌, [], ℕ, List, IfOk, IfErr, OnOk, IfSome, IsSomeAnd, SomeIff, All, slice_index};
 ghost use Rattle.msr_words.specs.Lengths.{bytes_of};
-ghost use Rattle.msr_words.specs.RecordLength.{IsRecordLength};
 ghost use Rattle.msr_report.specs.Proper.{records_of};
-ghost use Rattle.msr_report.specs.Text.{separators_line, end_line};
+ghost use Rattle.msr_report.specs.Text.{separators_line};
 ghost use Rattle.msr_certificate.specs.Form.{first_then, IsFirst};
 ghost use Rattle.msr_certificate.specs.Rest.{AtLine, InFirst, tail_5};
 ghost use Rattle.msr_certificate.specs.Fault.{IsFaultLine};
@@ -41,7 +40,7 @@ fn push_separators<'a>(
     Ok(after(rest, b"\n"))
 }
 
-/// How many records the segments have in all, where that fits 64 bits.
+/// How many records the segments have in all, if that fits 64 bits.
 fn all_records(segments: &[SegmentLine]) -> Option<u64>
     ensures { SomeIff result (records_of segments.now < 2 ^ 64) (records_of segments.now) }
 {
@@ -63,6 +62,7 @@ struct FirstLines {
 /// The number of the first of these lines that is at fault, from 1.
 struct FaultAt(u64);
 
+/// The lines before the segments.
 fn first_lines(text: &[u8]) -> Result<(FirstLines, &[u8]), FaultAt>
     ensures found { IfOk result (λ x. text.now ≡ first_then (bytes_of x.0.length) x.0.tolerance x.0.counts x.1.now) }
     ensures is_first { IfOk result (λ x. IsFirst (bytes_of x.0.length) x.0.tolerance x.0.counts) }
@@ -91,14 +91,15 @@ fn first_lines(text: &[u8]) -> Result<(FirstLines, &[u8]), FaultAt>
 
 /// What stands after the segments of a report.
 pub(crate) enum Ending {
-    // The last line.
+    /// The last line.
     Last,
-    // The last line, and more text.
+    /// The last line, and more text.
     More,
-    // Another line, or none.
+    /// Another line, or none.
     Other,
 }
 
+/// Judges what stands after these segments.
 fn read_end(text: &[u8], segments: &[SegmentLine]) -> Ending
     ensures { IsEnding segments.now text.now result }
 {

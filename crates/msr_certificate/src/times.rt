@@ -1,5 +1,5 @@
 //! Times at the start of a text.
-ghost use Rattle.std.specs.Prelude.{◌≡◌, ◌<◌, ◌≤◌, ◌^◌, ◌++◌, ◌∷◌, ◌+◌, ◌*◌, ℕ, ℤ, List, IfSome, IsSomeAnd, SomeIff, true, length};
+ghost use Rattle.std.specs.Prelude.{◌≡◌, ◌<◌, ◌≤◌, ◌^◌, ◌++◌, ◌+◌, ◌*◌, ℕ, ℤ, List, IfSome, IsSomeAnd, SomeIff, true, length};
 ghost use Rattle.std.specs.Str.{all_ascii_digits};
 ghost use Rattle.msr_report.specs.Text.{padded_decimal};
 ghost use Rattle.msr_certificate.specs.Fields.{number_after, date_then, clock_then, split_then};
@@ -10,7 +10,7 @@ ghost use Rattle.msr_time.specs.declared.btime.BTime.{BTime as Time};
 use crate::fields::after;
 use msr_time::BTime;
 
-/// The number that so few digits give, where all bytes are digits.
+/// The number that so few digits give, if all bytes are digits.
 fn value_of(digits: &[u8]) -> Option<u32>
     requires { length digits.now ≤ 6 }
     ensures { SomeIff result (all_ascii_digits digits.now ≡ true) (number_after 0 digits.now) }
@@ -42,6 +42,7 @@ fn padded(text: &[u8], width: usize) -> Option<(u32, &[u8])>
     Some((value, rest))
 }
 
+/// The year and the day of the year.
 fn date(text: &[u8]) -> Option<(u16, u16, &[u8])>
     ensures found { IfSome result (λ x. text.now ≡ date_then x.0 x.1 x.2.now) }
     ensures only { (year day : ℕ) (rest : List ℕ) → year < 10 ^ 4 → day < 10 ^ 3 → text.now ≡ date_then year day rest
@@ -53,6 +54,7 @@ fn date(text: &[u8]) -> Option<(u16, u16, &[u8])>
     Some((year as u16, day as u16, text))
 }
 
+/// The hour, the minute and the second.
 fn clock(text: &[u8]) -> Option<(u8, u8, u8, &[u8])>
     ensures found { IfSome result (λ x. text.now ≡ clock_then x.0 x.1 x.2 x.3.now) }
     ensures only { (hour minute second : ℕ) (rest : List ℕ) → hour < 10 ^ 2 → minute < 10 ^ 2 → second < 10 ^ 2

@@ -59,7 +59,7 @@ fills a b before ended s e f n m grown first room back bytes_is room_is ordered 
       keeps = rw (written n room back size) (omega arith);
     }
 
--- a window after its front was consumed
+-- a window after its first n bytes were consumed
 pub consumed : (s e n : ℕ) (m : List ℕ) → s + n ≤ e → slice_range m (s + n) e ≡ drop n (slice_range m s e)
 consumed s e n m within =
     let rest : e - s ≡ n + (e - (s + n)) = omega arith in

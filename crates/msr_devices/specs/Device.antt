@@ -4,7 +4,7 @@ use Rattle.std.specs.IoError.{error_kind}
 use Rattle.std.specs.declared.io.Error.{Error}
 use Rattle.std.specs.declared.io.ErrorKind.TheVariants.{Interrupted}
 
--- the bytes that a source has left or a sink holds, where they are known; how many bytes went through
+-- the bytes that a source has left or a sink holds, if they are known; how many bytes went through
 -- the device; how often it failed; and how often in a row it was last interrupted
 pub record Device : Type 0 where
   pub bytes : Option (List ℕ)
@@ -12,7 +12,7 @@ pub record Device : Type 0 where
   pub failures : ℕ
   pub interruptions : ℕ
 
--- the source's bytes are these, where they are known
+-- the source's bytes are these, if they are known
 abbrev pub HasLeft : Device → List ℕ → Type 0
 HasLeft source bytes = IfSome source.bytes (λ known. known ≡ bytes)
 
@@ -61,7 +61,7 @@ pub record CountsError (old new : Device) (error : Error) : Type 0 where
   pub interrupted : error_kind error ≡ Interrupted → WasInterrupted old new
   pub failed : error_kind error ≢ Interrupted → Fails old new
 
--- one read: the bytes that came are at the start of the buffer, and none come only at the end or where
+-- one read: the bytes that came are at the start of the buffer, and none come only at the end or if
 -- there is no room; an error gives none
 pub record Reads (old new : Device) (result : Result ℕ Error) (buffer : List ℕ) : Type 0 where
   pub within : IfOk result (λ n. n ≤ length buffer)
@@ -78,7 +78,7 @@ pub record Writes (old new : Device) (result : Result ℕ Error) (buffer : List 
   pub empty : IfOk result (λ n. n ≡ 0 → length buffer ≡ 0 → Moves old new 0)
   pub refused : IfOk result (λ n. n ≡ 0 → 0 < length buffer → Fails old new)
 
--- Between two states the device failed, or was interrupted 64 times in a row: since the first state where
+-- Between two states the device failed, or was interrupted 64 times in a row: since the first state if
 -- nothing went through, and else since bytes last went through.
 abbrev pub HasFailed : Device → Device → Type 0
 HasFailed old new = (old.failures < new.failures)

@@ -4,14 +4,14 @@ use Rattle.msr_devices.specs.Device.{Device, HasLeft, GivesOnto, HasFailed, IsCa
 use Rattle.msr_devices.specs.declared.read_buffer.FillFault.{FillFault}
 use Rattle.msr_devices.specs.declared.read_buffer.FillFault.TheVariants.{Read, Memory}
 
--- the bytes that were read and not yet consumed; whether none are left behind them; and for how many bytes
+-- the bytes that were read and not yet consumed; whether none are left after them; and for how many bytes
 -- there is memory
 pub record Window : Type 0 where
   pub bytes : List ℕ
   pub ended : Bool
   pub room : ℕ
 
--- for how many bytes there is memory once so many are wanted: it grows only where they do not fit, then to 64 KiB
+-- for how many bytes there is memory once so many are wanted: it grows only if they do not fit, then to 64 KiB
 -- at least and to twice as much
 abbrev pub room_for : ℕ → ℕ → ℕ
 room_for want room = if nat_le want room then room else max want (max (2 * room) 65_536)
@@ -31,8 +31,8 @@ pub record IsFilled (want : ℕ) (old new : Device) (before after : Window) : Ty
   pub calm : after.ended ≡ false → IsCalm old new
   pub steady : IsSteady old new
 
--- The source failed: what came before it did stands there, and is less than was wanted. Or the memory was refused that the bytes wanted take:
--- then nothing was read.
+-- The source failed: what came before it did stands there, and is less than was wanted. Or the memory was refused
+-- that the bytes wanted take: then nothing was read.
 abbrev pub StopsFilling : ℕ → Device → Device → Window → Window → FillFault → Type 0
 StopsFilling want old new before after Read =
     HasFailed old new × Fills old new before after × (before.ended ≡ false) × (after.ended ≡ false)

@@ -3,7 +3,7 @@ use Rattle.std.specs.Prelude.{◌≡◌, ℕ, ◌+◌, ◌<◌, ◌^◌, List, �
 use Rattle.msr_devices.specs.Device.{Device, Takes}
 
 -- The sink accepted a prefix of what waited and was pushed, and the rest waits. No other bytes went through it,
--- and where some did it has accepted fewer than 2^64 in all.
+-- and if some did it has accepted fewer than 2^64 in all.
 pub record Passes (old new : Device) (waited pushed waits : List ℕ) : Type 0 where
   pub taken : List ℕ
   pub takes : Takes old new taken

@@ -1,8 +1,8 @@
 //! Readers and writers of std as sources and sinks, which count.
-ghost use Rattle.std.specs.Prelude.{◌≡◌, ◌≢◌, ◌<◌, ◌+◌, ◌^◌, ◌-◌, Option, List, ℕ, take};
+ghost use Rattle.std.specs.Prelude.{◌≡◌, ◌≢◌, ◌<◌, ◌+◌, ◌^◌, ◌-◌, take};
 ghost use Rattle.std.specs.IoError.{error_kind};
 ghost use Rattle.std.specs.Option.{option_map};
-ghost use Rattle.msr_devices.specs.Device.{Device, unused};
+ghost use Rattle.msr_devices.specs.Device.{unused};
 
 use crate::device::{Sink, Source};
 use std::io;

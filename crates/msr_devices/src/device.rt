@@ -1,5 +1,5 @@
 //! A source and a sink of bytes.
-ghost use Rattle.std.specs.Prelude.{ℕ, ◌^◌, ◌<◌};
+ghost use Rattle.std.specs.Prelude.{◌^◌, ◌<◌};
 ghost use Rattle.msr_devices.specs.Device.{Device, CanCount, Reads, Writes};
 
 use std::io;

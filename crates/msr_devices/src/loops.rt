@@ -1,5 +1,5 @@
 //! The loops over a source and a sink: 64 interruptions in a row are a failure.
-ghost use Rattle.std.specs.Prelude.{◌≡◌, ◌+◌, ◌<◌, ◌≤◌, ◌^◌, ℕ, List, [], length, take, IfOk, IfErr, OnOk, OnErr, MatchResult, true, false};
+ghost use Rattle.std.specs.Prelude.{◌≡◌, ◌+◌, ◌<◌, ◌≤◌, ◌^◌, ℕ, [], length, take, IfOk, IfErr, OnOk, OnErr, MatchResult, true, false};
 ghost use Rattle.msr_devices.specs.Device.{CanCountCall, HasLeft, Gives, GivesOnto, Takes, Moves, HasFailed, IsCalm, IsSteady, CountsFew};
 
 use crate::device::{Sink, Source};

@@ -1,6 +1,6 @@
 //! Devices in memory, for tests: they move few bytes in a call, are interrupted, and fail once.
-ghost use Rattle.std.specs.Prelude.{◌≡◌, ◌-◌, ◌<◌, ◌≤◌, List, ℕ, length, drop, Some};
-ghost use Rattle.msr_devices.specs.Device.{Device, unused};
+ghost use Rattle.std.specs.Prelude.{◌≡◌, ◌-◌, ◌<◌, ◌≤◌, length, drop, Some};
+ghost use Rattle.msr_devices.specs.Device.{unused};
 
 use crate::device::{Sink, Source};
 use std::io;

@@ -8,29 +8,19 @@ use crate::device::Source;
 use crate::failure::SourceFailed;
 use crate::loops::read_until;
 use std::alloc::{AllocError, Global};
-use std::error::Error;
-use std::fmt;
 use std::marker::Model;
+use thiserror::Error;
 
 /// Why a read buffer was not filled.
-#[derive(Clone, Copy, Debug, PartialEq, Eq)]
+#[derive(Clone, Copy, Debug, PartialEq, Eq, Error)]
 pub enum FillFault {
     /// The source failed, or was interrupted 64 times in a row.
+    #[error("the source failed")]
     Read,
     /// The buffer could not grow.
+    #[error("out of memory")]
     Memory,
 }
-
-impl fmt::Display for FillFault {
-    fn fmt<W: fmt::Write>(&self, f: &mut fmt::Formatter<W>) -> fmt::Result {
-        match self {
-            FillFault::Read => write!(f, "the source failed"),
-            FillFault::Memory => write!(f, "out of memory"),
-        }
-    }
-}
-
-impl Error for FillFault {}
 
 impl From<SourceFailed> for FillFault {
     ghost from_gives = { λ _ e. e ≡ Read };
@@ -66,7 +56,11 @@ impl Model for ReadBuffer {
 
     ghost Value = { Window };
 
-    ghost view = { λ b. record { bytes = slice_range b.memory.items b.start b.end; ended = b.ended; room = length b.memory.items } };
+    ghost view = { λ b. record {
+      bytes = slice_range b.memory.items b.start b.end;
+      ended = b.ended;
+      room = length b.memory.items;
+    } };
 
     ghost invariant = { λ b. (b.start ≤ b.end) × (b.end ≤ length b.memory.items) };
 }
@@ -91,7 +85,7 @@ impl ReadBuffer {
         &self.memory.as_slice()[self.start..self.end]
     }
 
-    /// Whether the source has no bytes left behind them. Before the last byte was read this may still be false.
+    /// Whether the source has no bytes left after them. Before the last byte was read this may still be false.
     pub fn has_ended(&self) -> bool
         ensures { result ≡ self.now.ended }
     {
@@ -99,7 +93,7 @@ impl ReadBuffer {
     }
 
     /// Reads until at least `want` bytes stand there or no more are left, and makes no further read then. Each
-    /// read may bring as many as there is room for, and this grows only where those wanted do not fit. At an
+    /// read may bring as many as there is room for, and this grows only if those wanted do not fit. At an
     /// `Err` the bytes that came stand there, and a further call goes on.
     pub fn fill<R: Source>(&mut self, source: &mut R, want: usize) -> Result<(), FillFault>
         requires { CanCountCall (R.device source.old) }
@@ -131,7 +125,7 @@ impl ReadBuffer {
     }
 }
 
-/// Makes the memory long enough for so many bytes, where it is not: at least twice as long, so that few bytes are
+/// Makes the memory long enough for so many bytes, if it is not: at least twice as long, so that few bytes are
 /// moved.
 fn grow(memory: &mut Vec<u8>, want: usize) -> Result<(), AllocError>
     ensures keeps { take (length memory.old.items) memory.new.items ≡ memory.old.items }
@@ -148,7 +142,7 @@ fn grow(memory: &mut Vec<u8>, want: usize) -> Result<(), AllocError>
     Ok(())
 }
 
-/// Moves the bytes between these places to the front. Those of a record that comes in many small reads are moved
+/// Moves the bytes between these places to the start. Those of a record that comes in many small reads are moved
 /// once, and not at each read.
 fn move_to_front(memory: &mut Vec<u8>, start: usize, end: usize)
     requires ordered { start ≤ end }

@@ -8,13 +8,13 @@ use crate::failure::SinkFailed;
 use crate::loops::{FailedAfter, write_counted};
 use std::alloc::Global;
 
-/// So many bytes wait at most where a call has ended well.
+/// So many bytes wait at most when a call has ended well.
 const PIECE: usize = 65_536;
 
 /// Bytes that wait to be written to a sink. All calls take the same sink.
 #[derive(Drop)]
 pub struct WriteBuffer {
-    /// The bytes that wait. More may be put after them; `flush_full` then writes them where they are many.
+    /// The bytes that wait. More may be put after them; `flush_full` then writes them if they are many.
     pub bytes: Vec<u8>,
 }
 
@@ -28,7 +28,7 @@ impl WriteBuffer {
         }
     }
 
-    /// Writes all that waits where it is 64 KiB or more.
+    /// Writes all that waits if it is 64 KiB or more.
     pub fn flush_full<W: Sink>(&mut self, sink: &mut W) -> Result<(), SinkFailed>
         requires { CanCountCall (W.device sink.old) }
         ensures passes { Passes (W.device sink.old) (W.device sink.new) self.old.bytes.items [] self.new.bytes.items }

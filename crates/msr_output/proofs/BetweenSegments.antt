@@ -7,7 +7,7 @@ use Rattle.msr_devices.proofs.Chaining.{takes_append, calm_calm, calm_failed}
 use Rattle.msr_record.specs.declared.row.Row.{Row}
 use Rattle.msr_output.specs.Output.{Packed, segment_of_packed}
 use Rattle.msr_output.specs.Writing.{Writing, HasWritten, HasWrittenAll, StopsWriting}
-use Rattle.msr_output.specs.declared.fault.WriteFault.TheVariants.{Write}
+use Rattle.msr_devices.specs.declared.failure.WriteFault.TheVariants.{Write}
 
 pub all_one : {X : Type 0} (P : X → Type 0) (x : X) → P x → All P (x ∷ [])
 all_one {X} P x p k d h = let e : k ≡ 0 = omega arith in subst (λ (m : ℕ). P (get_or (x ∷ []) m d)) (sym e) p

@@ -1,12 +1,10 @@
 //! Segments written in the fewest records of one length.
 #![tactic(auto)]
 
-mod fault;
 mod laws;
 mod opened;
 mod writer;
 
-pub use fault::WriteFault;
 pub use laws::{one_output, output_has_size, output_keeps_segments, segments_have_output};
 pub use opened::OpenSegment;
 pub use writer::SegmentWriter;

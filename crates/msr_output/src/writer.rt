@@ -1,7 +1,6 @@
 //! A writer of segments.
-use crate::fault::WriteFault;
 use crate::opened::OpenSegment;
-use msr_devices::{Sink, WriteBuffer};
+use msr_devices::{Sink, WriteBuffer, WriteFault};
 use msr_record::{Key, are_32_bit};
 use msr_report::SegmentLine;
 use msr_words::Length;

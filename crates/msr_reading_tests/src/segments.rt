@@ -3,6 +3,7 @@
 ghost use Rattle.std.specs.Prelude.{◌≡◌, IfOk, length};
 
 use msr_base::Samples;
+use msr_fixtures::START;
 use msr_record::{Key, Kind, Row};
 use msr_segments::{
     Follow, JoinKind, Joiner, OutOfRange, Step, cuts_grow_by_rows, cuts_keep_segments,
@@ -16,9 +17,7 @@ use std::test::Fail;
 
 const TOLERANCE: u32 = 1000;
 
-/// 2020-01-01 00:00:00, and 2101-01-01 00:00:00, the first instant that is out of range.
-const START: i64 = 1_577_836_800_000_000;
-
+/// 2101-01-01 00:00:00, the first instant that is out of range.
 const END: i64 = 4_133_980_800_000_000;
 
 const BEGINS: Result<Step, OutOfRange> = Ok(Step::Begins);

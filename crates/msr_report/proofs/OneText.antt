@@ -3,13 +3,13 @@ use Rattle.std.proofs.Common.{◌≡◌, ℕ, ℤ, List, [], ◌∷◌, ◌++◌
 use Rattle.std.proofs.lemmas.List.Elements.{All-head, All-tail}
 use Rattle.msr_time.specs.Instant.{IsInstant}
 use Rattle.msr_time.specs.declared.btime.BTime.{BTime}
+use Rattle.msr_time.proofs.Existing.{has_split}
 use Rattle.msr_time.proofs.TimeLemmas.{split_one}
 use Rattle.msr_record.specs.declared.row.Key.{Key}
 use Rattle.msr_report.specs.Proper.{IsProper, IsProperLine, records_of}
 use Rattle.msr_report.specs.Text.{IsTimeText, split_text, segment_words, segment_line, separators_line, IsListLine, IsSegmentText, AreSegmentTexts, first_lines, end_line, IsReportText}
 use Rattle.msr_report.specs.declared.report.SegmentLine.{SegmentLine}
 use Rattle.msr_report.specs.declared.report.Report.{Report}
-use Rattle.msr_report.proofs.Days.{has_split}
 
 same_split_text : (a b : BTime) (m k : ℕ) → a ≡ b → m ≡ k → split_text a m ≡ split_text b k
 same_split_text a b m k e f = rw (e, f) refl
@@ -45,13 +45,15 @@ pub one_report_text : (report : Report) (text other : List ℕ) → IsReportText
     → IsReportText report other → text ≡ other
 one_report_text report text other h k =
     h.is ∙ ap (λ (t : List ℕ). first_lines report
-    ++ (t ++ end_line (length report.segments.items)
-    (records_of report.segments.items))) (one_segments_text report.segments.items h.segments k.segments h.are k.are) ∙ sym k.is
+    ++ (t ++ end_line (length report.segments.items) (records_of report.segments.items)))
+    (one_segments_text report.segments.items h.segments k.segments h.are k.are) ∙ sym k.is
 
 pub has_time_text : (t : ℤ) → IsInstant t → (text : List ℕ) × IsTimeText t text
 has_time_text t h =
-    let found = has_split t h in
-    (split_text found.0 found.1.0, record { time = found.0; micros = found.1.0; split = found.1.1; is = refl })
+    let found = has_split t h in (
+      split_text found.time found.micros,
+      record { time = found.time; micros = found.micros; split = found.split; is = refl },
+    )
 
 pub has_segment_text : (line : SegmentLine) → IsProperLine line → (text : List ℕ) × IsSegmentText line text
 has_segment_text line h =

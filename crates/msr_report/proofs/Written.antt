@@ -81,7 +81,7 @@ written_next old new next report i line waits text pushed left within item w is_
     subst P (one_more items i line within item) (written_more old new next report
     (take i items) line waits text pushed left w is_text is p)
 
--- Where some segments are written, a prefix of the report's text is taken.
+-- When some segments are written, a prefix of the report's text is taken.
 pub written_front : (old new : Device) (report : Report) (lines others : List SegmentLine) (waits : List ℕ)
     → lines ++ others ≡ report.segments.items → (others_text : List ℕ) → AreSegmentTexts others others_text
     → IsWritten old new report lines waits → (text : List ℕ) × (IsReportText report text × TakesPrefix old new text)
@@ -119,7 +119,7 @@ written_front_of old new report i waits proper w =
     written_front old new report (take i report.segments.items) others waits
     (take-append-drop i report.segments.items) more.0 more.1 w
 
--- Where all segments and the last line are put down, a prefix of the report's text is taken, and the rest waits.
+-- When all segments and the last line are put down, a prefix of the report's text is taken, and the rest waits.
 pub written_end : (old new next : Device) (report : Report) (lines : List SegmentLine) (waits pushed left : List ℕ)
     (segments records : ℕ)
     → lines ≡ report.segments.items → segments ≡ length report.segments.items
@@ -178,7 +178,8 @@ nothing_taken device report proper =
     (whole.0, (whole.1, record { taken = []; rest = whole.0; takes = takes_none device; whole = refl }))
 
 -- records of more segments
-records_append : (lines others : List SegmentLine) → records_of (lines ++ others) ≡ records_of lines + records_of others
+pub records_append : (lines others : List SegmentLine)
+    → records_of (lines ++ others) ≡ records_of lines + records_of others
 records_append [] others = omega arith
 records_append (line ∷ lines) others = omega (arith, records_append lines others)
 

@@ -1,5 +1,5 @@
 //! The texts of a segment's fields.
-ghost use Rattle.std.specs.Prelude.{◌≡◌, ◌++◌, ◌≤◌, ◌<◌, ◌∷◌, IfOk, OnOk, string_bytes};
+ghost use Rattle.std.specs.Prelude.{◌≡◌, ◌++◌, ◌≤◌, ◌<◌, IfOk, OnOk, string_bytes};
 ghost use Rattle.msr_time.specs.Instant.{IsInstant};
 ghost use Rattle.msr_report.specs.Text.{hex_text, byte_text, field_text, name_text, rate_text, flags_text, padded_decimal, date_text, clock_text, split_text, IsTimeText, settings_text};
 
@@ -51,6 +51,7 @@ pub(crate) fn name_string(alloc: Global, key: &Key) -> Result<String, AllocError
     format!(in alloc; "{network}.{station}.{location}.{channel}")
 }
 
+/// The factor and the multiplier of a rate.
 fn rate_string(alloc: Global, rate: Rate) -> Result<String, AllocError>
     ensures { IfOk result (λ text. string_bytes text ≡ rate_text rate) }
 {
@@ -59,6 +60,7 @@ fn rate_string(alloc: Global, rate: Rate) -> Result<String, AllocError>
     format!(in alloc; "{factor} {multiplier}")
 }
 
+/// The activity, clock and data quality flags.
 fn flags_string(alloc: Global, key: &Key) -> Result<String, AllocError>
     ensures { IfOk result (λ text. string_bytes text ≡ flags_text key.now) }
 {

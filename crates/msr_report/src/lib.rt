@@ -11,4 +11,3 @@ pub use laws::{has_text, one_text};
 pub use lines::{push_counts, push_list_line};
 pub use msr_base::Counts;
 pub use report::{Report, SegmentLine};
-pub use text::TextFault;

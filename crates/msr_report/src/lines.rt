@@ -1,7 +1,7 @@
 //! The lines of a list and of a report.
-ghost use Rattle.std.specs.Prelude.{◌≡◌, ◌++◌, ◌∷◌, [], ◌<◌, ℕ, List, IfOk, OnOk, OnErr, string_bytes, codes, decimal, length};
+ghost use Rattle.std.specs.Prelude.{◌≡◌, ◌++◌, ◌∷◌, ◌<◌, ℕ, List, IfOk, OnOk, OnErr, string_bytes, decimal, length};
 ghost use Rattle.msr_time.specs.Instant.{IsInstant};
-ghost use Rattle.msr_report.specs.Text.{IsTimeText, words_after_quality, segment_words, IsListLine, separators_line, IsSegmentText, counts_line, first_lines, end_line};
+ghost use Rattle.msr_report.specs.Text.{words_after_quality, segment_words, IsListLine, separators_line, IsSegmentText, counts_line, first_lines, end_line};
 
 use crate::fields::{name_string, settings_string, time_string};
 use crate::report::{Report, SegmentLine};
@@ -44,7 +44,7 @@ fn push_words(
     out.extend_from_slice(line.as_slice())
 }
 
-/// Appends the line of a segment, as a list has it. Where memory is refused nothing is appended.
+/// Appends the line of a segment, as a list has it. If memory is refused, nothing is appended.
 pub fn push_list_line(
     alloc: Global,
     out: &mut Vec<u8>,
@@ -61,6 +61,7 @@ pub fn push_list_line(
     push_words(alloc, out, key, time.as_str(), samples, "\n")
 }
 
+/// The line of the counts.
 fn counts_string(alloc: Global, counts: &Counts) -> Result<String, AllocError>
     ensures { IfOk result (λ text. string_bytes text ≡ counts_line counts.now) }
 {
@@ -72,7 +73,7 @@ fn counts_string(alloc: Global, counts: &Counts) -> Result<String, AllocError>
     format!(in alloc; "read {read} empty {empty} mismatched {mismatched}\n")
 }
 
-/// Appends the line of the counts. Where memory is refused nothing is appended.
+/// Appends the line of the counts. If memory is refused, nothing is appended.
 pub fn push_counts(alloc: Global, out: &mut Vec<u8>, counts: &Counts) -> Result<(), AllocError>
     ensures pushed { OnOk result (out.new.items ≡ out.old.items ++ counts_line counts.now) }
     ensures refused { OnErr result (out.new.items ≡ out.old.items) }

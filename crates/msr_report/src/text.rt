@@ -1,53 +1,24 @@
 //! The text of a report, written to a sink.
-ghost use Rattle.std.specs.Prelude.{◌≡◌, ◌↔◌, ℕ, List, MatchResult, OnOk, IsErrOf};
+ghost use Rattle.std.specs.Prelude.{◌↔◌, ℕ, List, MatchResult, OnOk, IsErrOf};
 ghost use Rattle.msr_devices.specs.Device.{CanCountCall, CountsFew, HasFailed, IsCalm, Takes};
 ghost use Rattle.msr_report.specs.Proper.{IsProper};
 ghost use Rattle.msr_report.specs.Text.{IsReportText};
 ghost use Rattle.msr_report.specs.Writing.{TakesPrefix};
-ghost use Rattle.msr_report.specs.declared.text.TextFault.TheVariants.{Write, Memory};
 
 use crate::lines::{push_end_line, push_first_lines, push_segment};
 use crate::report::Report;
-use msr_devices::{Sink, SinkFailed, WriteBuffer};
-use std::alloc::{AllocError, Global};
-use thiserror::Error;
-
-/// Why a text was not written whole.
-#[derive(Clone, Copy, Debug, PartialEq, Eq, Error)]
-pub enum TextFault {
-    /// The sink failed.
-    #[error("write fault")]
-    Write,
-    /// There is no memory for a line.
-    #[error("out of memory")]
-    Memory,
-}
-
-impl From<SinkFailed> for TextFault {
-    ghost from_gives = { λ _ e. e ≡ Write };
-
-    fn from(_: SinkFailed) -> TextFault {
-        TextFault::Write
-    }
-}
-
-impl From<AllocError> for TextFault {
-    ghost from_gives = { λ _ e. e ≡ Memory };
-
-    fn from(_: AllocError) -> TextFault {
-        TextFault::Memory
-    }
-}
+use msr_devices::{Sink, WriteBuffer, WriteFault};
+use std::alloc::Global;
 
 impl Report {
     /// Writes the text of the report. At an `Err` the sink took a prefix of it.
-    pub fn write_text<W: Sink>(&self, alloc: Global, sink: &mut W) -> Result<(), TextFault>
+    pub fn write_text<W: Sink>(&self, alloc: Global, sink: &mut W) -> Result<(), WriteFault>
         requires report { IsProper self.now }
         requires count { CanCountCall (W.device sink.old) }
         ensures text { (text : List ℕ) × (IsReportText self.now text
             × MatchResult result (λ _. Takes (W.device sink.old) (W.device sink.new) text)
             (λ _. TakesPrefix (W.device sink.old) (W.device sink.new) text)) }
-        ensures write { IsErrOf result TextFault.Write ↔ HasFailed (W.device sink.old) (W.device sink.new) }
+        ensures write { IsErrOf result WriteFault.Write ↔ HasFailed (W.device sink.old) (W.device sink.new) }
         ensures calm { OnOk result (IsCalm (W.device sink.old) (W.device sink.new)) }
         ensures few { CountsFew (W.device sink.old) (W.device sink.new) }
     {

@@ -11,10 +11,11 @@ use std::alloc::{AllocError, Global};
 const EMPTY: &str =
     "msrepack 1\nlength 512\ntolerance 1000\nread 0 empty 0 mismatched 0\nend 0 segments 0 records\n";
 
-const SEGMENT: &str =
-    "msrepack 1\nlength 256\ntolerance 1000\nread 1 empty 0 mismatched 0\nsegment XX.TEST_.00.BHZ D rate 20 1 flags 00 00 00 correction 0 timing 0 start 2020,001,00:00:00.000000 samples 302 records 2\nseparators 0 301\nend 1 segments 2 records\n";
+const SEGMENT: &str = "msrepack 1\nlength 256\ntolerance 1000\nread 1 empty 0 mismatched 0\n\
+    segment XX.TEST_.00.BHZ D rate 20 1 flags 00 00 00 correction 0 timing 0 start 2020,001,00:00:00.000000 \
+    samples 302 records 2\nseparators 0 301\nend 1 segments 2 records\n";
 
-/// The fault of a text: the number of its line, 0 where it is a report.
+/// The fault of a text: the number of its line, 0 if it is a report.
 fn fault_line(alloc: Global, text: &str) -> u64 {
     match report_of(alloc, text.as_bytes()) {
         Ok(_) => 0,
@@ -105,7 +106,7 @@ fn reads_from_a_source(rt: HostRuntime) {
     );
 }
 
-/// Where a line at fault has come, nothing after it is read: the source would fail there.
+/// When a line at fault has come, nothing after it is read: the source would fail there.
 #[test]
 fn stops_at_the_line_at_fault(rt: HostRuntime) {
     let alloc = rt.alloc();

@@ -4,19 +4,15 @@ ghost use Rattle.std.specs.Prelude.{◌<◌, ◌^◌, All, IfOk, IfSome, IsTrue}
 ghost use Rattle.msr_header.specs.Reading.{is_quality};
 ghost use Rattle.msr_report.specs.Proper.{IsProper, IsProperLine, records_of};
 
-use msr_devices::{Behavior, TestSink};
+use msr_devices::{Behavior, TestSink, WriteFault};
+use msr_fixtures::START;
 use msr_record::Key;
-use msr_report::{
-    Counts, Report, SegmentLine, TextFault, has_text, one_text, push_counts, push_list_line,
-};
+use msr_report::{Counts, Report, SegmentLine, has_text, one_text, push_counts, push_list_line};
 use msr_time::{Rate, is_instant};
 use msr_words::Length;
 use std::alloc::{AllocError, Global};
 use std::process::Abort;
 use std::test::Fail;
-
-/// 2020-01-01 00:00:00.
-const START: i64 = 1_577_836_800_000_000;
 
 const NO_RECORDS: Counts = Counts {
     read: 0,
@@ -37,7 +33,8 @@ msrepack 1
 length 256
 tolerance 1000
 read 1 empty 0 mismatched 0
-segment XX.TEST_.00.BHZ D rate 20 1 flags 00 00 00 correction 0 timing 0 start 2020,001,00:00:00.000000 samples 302 records 2
+segment XX.TEST_.00.BHZ D rate 20 1 flags 00 00 00 correction 0 timing 0 start 2020,001,00:00:00.000000 \
+samples 302 records 2
 separators 0 301
 end 1 segments 2 records
 ";
@@ -47,9 +44,11 @@ msrepack 1
 length 256
 tolerance 1000
 read 3 empty 1 mismatched 2
-segment XX.TEST_.00.BHZ D rate 20 1 flags 00 00 00 correction 0 timing 0 start 2020,001,00:00:00.000000 samples 302 records 2
+segment XX.TEST_.00.BHZ D rate 20 1 flags 00 00 00 correction 0 timing 0 start 2020,001,00:00:00.000000 \
+samples 302 records 2
 separators 0 301
-segment XX.TEST_.00.BHZ D rate 20 1 flags 00 00 00 correction 0 timing 0 start 2020,001,00:00:10.001400 samples 0 records 0
+segment XX.TEST_.00.BHZ D rate 20 1 flags 00 00 00 correction 0 timing 0 start 2020,001,00:00:10.001400 \
+samples 0 records 0
 separators
 end 2 segments 2 records
 ";
@@ -176,7 +175,7 @@ fn reports(rt: HostRuntime) -> Result<(), Fail> {
 
 /// The text has 233 bytes, so twelve writes.
 #[test]
-fn a_sink_that_fails_took_a_front(rt: HostRuntime) -> Result<(), Fail> {
+fn a_sink_that_fails_took_a_prefix(rt: HostRuntime) -> Result<(), Fail> {
     let alloc = rt.alloc();
     let key = key(20, 1).ok_or("no rate")?;
     let counts = Counts {
@@ -186,7 +185,7 @@ fn a_sink_that_fails_took_a_front(rt: HostRuntime) -> Result<(), Fail> {
     let report = report(256, counts, segments(alloc, key, false)?).ok_or("no report")?;
     for fails_at in 0u64..12 {
         let mut sink = TestSink::new(Vec::new(alloc), behavior(20, Some(fails_at)));
-        assert_eq!(rt; report.write_text(alloc, &mut sink), Err(TextFault::Write));
+        assert_eq!(rt; report.write_text(alloc, &mut sink), Err(WriteFault::Write));
         assert_eq!(rt; sink.bytes().len() as u64, 20 * fails_at);
         assert!(rt; ONE_SEGMENT.as_bytes().starts_with(sink.bytes()));
     }
@@ -214,7 +213,8 @@ fn fields(rt: HostRuntime) -> Result<(), Fail> {
             },
             START,
             1,
-            "segment X_.a%25%00%ff%5f.__.B%2eZ D rate 20 1 flags 00 00 00 correction 0 timing 0 start 2020,001,00:00:00.000000 samples 1\n",
+            "segment X_.a%25%00%ff%5f.__.B%2eZ D rate 20 1 flags 00 00 00 correction 0 timing 0 \
+            start 2020,001,00:00:00.000000 samples 1\n",
         ),
         Case(
             Key {
@@ -228,7 +228,8 @@ fn fields(rt: HostRuntime) -> Result<(), Fail> {
             },
             -2_208_988_800_000_000,
             u64::MAX,
-            "segment XX.TEST_.00.BHZ M rate -10 -2 flags 1f a0 05 correction -2147483648 timing 100 start 1900,001,00:00:00.000000 samples 18446744073709551615\n",
+            "segment XX.TEST_.00.BHZ M rate -10 -2 flags 1f a0 05 correction -2147483648 timing 100 \
+            start 1900,001,00:00:00.000000 samples 18446744073709551615\n",
         ),
         Case(
             Key {
@@ -238,7 +239,8 @@ fn fields(rt: HostRuntime) -> Result<(), Fail> {
             },
             4_133_980_799_999_999,
             302,
-            "segment XX.TEST_.00.BHZ Q rate 20 -10 flags 00 00 00 correction 12 timing 0 start 2100,365,23:59:59.999999 samples 302\n",
+            "segment XX.TEST_.00.BHZ Q rate 20 -10 flags 00 00 00 correction 12 timing 0 \
+            start 2100,365,23:59:59.999999 samples 302\n",
         ),
     ] {
         assert!(rt; is_instant(start));
@@ -246,15 +248,6 @@ fn fields(rt: HostRuntime) -> Result<(), Fail> {
         push_list_line(alloc, &mut out, &key, start, samples)?;
         assert_eq!(rt; out.as_slice(), line.as_bytes());
     }
-    Ok(())
-}
-
-#[test]
-fn faults_have_texts(rt: HostRuntime) -> Result<(), Fail> {
-    let alloc = rt.alloc();
-    let (write, memory) = (TextFault::Write, TextFault::Memory);
-    let text = format!(in alloc; "{write}, {memory}")?;
-    assert_eq!(rt; text.as_str(), "write fault, out of memory");
     Ok(())
 }
 

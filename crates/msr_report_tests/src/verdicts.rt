@@ -25,7 +25,7 @@ const WHOLE: Behavior = Behavior {
     fails_at: None,
 };
 
-/// Only where the second record begins one sample before the first place that the first record does not reach,
+/// Only if the second record begins one sample before the first place that the first record does not reach,
 /// do two records hold these 173 samples.
 fn samples() -> [i32; 173] {
     let mut samples = [1_000_000; 173];

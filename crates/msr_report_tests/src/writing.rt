@@ -6,9 +6,9 @@ ghost use Rattle.msr_record.specs.Correction.{is_pending};
 ghost use Rattle.msr_segments.specs.Segments.{SegmentIsInTime};
 
 use msr_base::Samples;
-use msr_devices::{Behavior, Sink, TestSink};
+use msr_devices::{Behavior, Sink, TestSink, WriteFault};
 use msr_fixtures::{Edit, START, record, steim_record};
-use msr_output::{SegmentWriter, WriteFault, one_output, output_has_size, output_keeps_segments};
+use msr_output::{SegmentWriter, one_output, output_has_size, output_keeps_segments};
 use msr_record::Key;
 use msr_report::SegmentLine;
 use msr_segments::Segment;
@@ -133,11 +133,12 @@ fn two_records(rt: HostRuntime) -> Result<(), Fail> {
     Ok(())
 }
 
+/// The sequence number of a record.
 fn digits(rt: &impl Abort, record: &[u8]) -> [u8; 6] {
-    let Some(front) = record.first_chunk::<6>() else {
+    let Some(number) = record.first_chunk::<6>() else {
         panic!(rt; "no record")
     };
-    *front
+    *number
 }
 
 /// What a sink of that behavior holds after two segments of so many samples, and why it does not hold all.
@@ -179,7 +180,7 @@ fn numbers_go_on(rt: HostRuntime) -> Result<(), Fail> {
 
 /// Each call that writes is refused in turn. All waits until the end, or much is written with its segment.
 #[test]
-fn failing_sinks_hold_a_front(rt: HostRuntime) -> Result<(), Fail> {
+fn failing_sinks_hold_a_prefix(rt: HostRuntime) -> Result<(), Fail> {
     for (count, most, size, calls) in [
         (302usize, 100usize, 1024usize, 11u64),
         (80_000, 30_000, 136_192, 7),

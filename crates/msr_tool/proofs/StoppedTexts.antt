@@ -6,13 +6,13 @@ use Rattle.msr_devices.proofs.Chaining.{takes_none}
 use Rattle.msr_report.specs.Text.{IsReportText}
 use Rattle.msr_report.specs.Writing.{TakesPrefix}
 use Rattle.msr_report.specs.declared.report.Report.{Report}
-use Rattle.msr_report.specs.declared.text.TextFault.{TextFault}
-use Rattle.msr_report.specs.declared.text.TextFault.TheVariants as text_fault
+use Rattle.msr_devices.specs.declared.failure.WriteFault.{WriteFault}
+use Rattle.msr_devices.specs.declared.failure.WriteFault.TheVariants as write
 use Rattle.msr_verdict.specs.declared.verdict.Verdict.{Verdict}
 use Rattle.msr_tool.specs.Answer.{Answers, IsRepacked}
 use Rattle.msr_tool.specs.Checking.{CheckAnswers, IsChecked}
 use Rattle.msr_tool.specs.Choice.{Choice}
-use Rattle.msr_tool.specs.Fault.{fault_of_text}
+use Rattle.msr_tool.specs.Fault.{fault_of_writing}
 use Rattle.msr_tool.specs.Tasks.{IsReportedInPart, ReportAnswers, Reports, Tells, VerdictAnswers, verdict_line}
 use Rattle.msr_tool.specs.declared.fault.ToolFault.{ToolFault}
 use Rattle.msr_tool.specs.declared.fault.ToolFault.TheVariants as fault
@@ -50,34 +50,34 @@ repack_stops choice source records0 records text input written fault.Memory left
     (inl (record { stopped = a; untold = refl }))
 
 in_part : (choice : Choice) (input written : List ℕ) (report : Report) (text0 text : Device) (whole : List ℕ) →
-    IsRepacked choice input written report → IsReportText report whole → (front : TakesPrefix text0 text whole) →
-    IsReportedInPart choice input written front.taken
-in_part choice input written report text0 text whole repacked is_text front = record {
+    IsRepacked choice input written report → IsReportText report whole → (prefix : TakesPrefix text0 text whole) →
+    IsReportedInPart choice input written prefix.taken
+in_part choice input written report text0 text whole repacked is_text prefix = record {
   report = report;
-  rest = front.rest;
-  reported = record { repacked = repacked; text = rw front.whole at is_text };
+  rest = prefix.rest;
+  reported = record { repacked = repacked; text = rw prefix.whole at is_text };
 }
 
-cut_answers : (choice : Choice) (input written told : List ℕ) (why : TextFault) →
-    IsReportedInPart choice input written told → ReportAnswers choice input written told (Err (fault_of_text why))
-cut_answers choice input written told text_fault.Write part = inr part
-cut_answers choice input written told text_fault.Memory part = inr part
+cut_answers : (choice : Choice) (input written told : List ℕ) (why : WriteFault) →
+    IsReportedInPart choice input written told → ReportAnswers choice input written told (Err (fault_of_writing why))
+cut_answers choice input written told write.Write part = inr part
+cut_answers choice input written told write.Memory part = inr part
 
 -- the text of the report is not written whole
 pub text_stops : (choice : Choice) (source records0 records text0 text : Device) (input written whole : List ℕ)
-    (report : Report) (why : TextFault) → HasLeft source input → Takes records0 records written →
+    (report : Report) (why : WriteFault) → HasLeft source input → Takes records0 records written →
     IsRepacked choice input written report → IsReportText report whole → TakesPrefix text0 text whole →
-    Reports choice source records0 records text0 text (Err (fault_of_text why))
+    Reports choice source records0 records text0 text (Err (fault_of_writing why))
 text_stops choice source records0 records text0 text input written whole report why left wrote repacked is_text
     prefix = record {
       input = input;
       written = written;
-      told = front.taken;
+      told = prefix.taken;
       left = left;
       wrote = wrote;
-      told_all = front.takes;
-      answers = cut_answers choice input written front.taken why
-          (in_part choice input written report text0 text whole repacked is_text front);
+      told_all = prefix.takes;
+      answers = cut_answers choice input written prefix.taken why
+          (in_part choice input written report text0 text whole repacked is_text prefix);
     }
 
 -- no call was made for the verdict

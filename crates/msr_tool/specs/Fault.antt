@@ -3,10 +3,8 @@ use Rattle.msr_certificate.specs.declared.fault.ReportFault.{ReportFault}
 use Rattle.msr_certificate.specs.declared.fault.ReportFault.TheVariants as report
 use Rattle.msr_input.specs.declared.fault.ReadFault.{ReadFault}
 use Rattle.msr_input.specs.declared.fault.ReadFault.TheVariants as read
-use Rattle.msr_output.specs.declared.fault.WriteFault.{WriteFault}
-use Rattle.msr_output.specs.declared.fault.WriteFault.TheVariants as write
-use Rattle.msr_report.specs.declared.text.TextFault.{TextFault}
-use Rattle.msr_report.specs.declared.text.TextFault.TheVariants as text
+use Rattle.msr_devices.specs.declared.failure.WriteFault.{WriteFault}
+use Rattle.msr_devices.specs.declared.failure.WriteFault.TheVariants as write
 use Rattle.msr_tool.specs.declared.fault.ToolFault.{ToolFault}
 use Rattle.msr_tool.specs.declared.fault.ToolFault.TheVariants.{Input, Report, Read, Write, Memory}
 
@@ -23,7 +21,3 @@ fault_of_report report.Memory = Memory
 abbrev pub fault_of_writing : WriteFault → ToolFault
 fault_of_writing write.Write = Write
 fault_of_writing write.Memory = Memory
-
-abbrev pub fault_of_text : TextFault → ToolFault
-fault_of_text text.Write = Write
-fault_of_text text.Memory = Memory

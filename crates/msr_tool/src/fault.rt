@@ -1,13 +1,11 @@
 //! Why the tool stops.
 ghost use Rattle.std.specs.Prelude.{◌≡◌};
-ghost use Rattle.msr_tool.specs.Fault.{fault_of_reading, fault_of_report, fault_of_text, fault_of_writing};
+ghost use Rattle.msr_tool.specs.Fault.{fault_of_reading, fault_of_report, fault_of_writing};
 ghost use Rattle.msr_tool.specs.declared.fault.ToolFault.TheVariants.{Write, Memory};
 
 use msr_certificate::ReportFault;
-use msr_devices::SinkFailed;
+use msr_devices::{SinkFailed, WriteFault};
 use msr_input::{Fault, ReadFault};
-use msr_output::WriteFault;
-use msr_report::TextFault;
 use std::alloc::{AllocError, AllocFailed};
 use thiserror::Error;
 
@@ -71,17 +69,6 @@ impl From<WriteFault> for ToolFault {
         match fault {
             WriteFault::Write => ToolFault::Write,
             WriteFault::Memory => ToolFault::Memory,
-        }
-    }
-}
-
-impl From<TextFault> for ToolFault {
-    ghost from_gives = { λ fault e. e ≡ fault_of_text fault };
-
-    fn from(fault: TextFault) -> ToolFault {
-        match fault {
-            TextFault::Write => ToolFault::Write,
-            TextFault::Memory => ToolFault::Memory,
         }
     }
 }

@@ -22,9 +22,11 @@ pub use laws::{
 };
 pub use list::list_segments;
 pub use msr_certificate::{ReportFault, read_report};
-pub use msr_devices::{Behavior, FromRead, FromWrite, Sink, Source, TestSink, TestSource};
+pub use msr_devices::{
+    Behavior, FromRead, FromWrite, Sink, Source, TestSink, TestSource, WriteFault,
+};
 pub use msr_input::Fault;
-pub use msr_report::{Counts, Report, SegmentLine, TextFault};
+pub use msr_report::{Counts, Report, SegmentLine};
 pub use msr_verdict::Verdict;
 pub use options::Options;
 pub use tasks::{check_and_tell, feed_and_report, repack_and_report};
