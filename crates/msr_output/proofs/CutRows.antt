@@ -4,6 +4,7 @@ use Rattle.std.specs.List.{flat_map}
 use Rattle.std.specs.Prelude.{All, slice_range}
 use Rattle.std.proofs.Math.Seq.{take-add}
 use Rattle.std.proofs.lemmas.List.{take_all}
+use Rattle.std.proofs.lemmas.List.Elements.{All-head, All-tail}
 use Rattle.msr_time.specs.SampleRate.{IsRoundedNominal}
 use Rattle.msr_words.specs.declared.kinds.Run.{Run}
 use Rattle.msr_words.specs.Fit.{Fits, IsRun}
@@ -16,7 +17,6 @@ use Rattle.msr_segments.specs.Cuts.{AreCuts, GoesOnAtNominal}
 use Rattle.msr_segments.proofs.DivisionLaws.{cuts_none, cuts_begin, cuts_go_on, cuts_keep}
 use Rattle.msr_output.specs.Output.{Packed, IsPacked, Cut, AreWritten, IsOutput, next_number, number_after, cuts_at, cuts_of, segment_of_packed}
 use Rattle.msr_output.proofs.Times.{nominal_first}
-use Rattle.msr_output.proofs.OneOutput.{all_first, all_rest}
 
 -- the records of some cuts and of those after them
 pub record Split (size n : ℕ) (xs ys : List Cut) (rows : List Row) : Type 0 where
@@ -85,7 +85,7 @@ go_on size n segment segments [] a before rows bytes cuts fitting joined are =
 go_on size n segment segments (run ∷ runs) a before rows bytes cuts fitting joined are =
     let w = are.2 in
     let is_row = w.is_record.of_run in
-    let fits = all_first (IsFitting size segment.samples) run runs fitting in
+    let fits = All-head (IsFitting size segment.samples) run runs fitting in
     let start : run.start ≡ a = joined.0 in
     let ordered : a ≤ run.end = omega (arith, start, fits.0) in
     let size_is : length (take a segment.samples) ≡ a = omega (arith, length-take a segment.samples, ordered, fits.1) in
@@ -100,7 +100,7 @@ go_on size n segment segments (run ∷ runs) a before rows bytes cuts fitting jo
     subst (λ (s : Segment). AreCuts (segments ++ s ∷ []) (before ++ w.row ∷ [])) longer
     (cuts_go_on segments (front segment a) before w.row cuts goes_on) in
     let all = go_on size (next_number n) segment segments runs run.end (before ++ w.row ∷ []) are.0 are.1 next
-    (all_rest (IsFitting size segment.samples) run runs fitting) joined.1 are.3 in
+    (All-tail (IsFitting size segment.samples) run runs fitting) joined.1 are.3 in
     rw (w.all_rows, ← append_assoc before (w.row ∷ []) are.0) all
 
 -- the rows of a segment's runs are the segment, cut
@@ -126,7 +126,7 @@ one_cut size n segment segments (run ∷ runs) before rows bytes some fitting jo
     subst (λ (s : Segment). AreCuts (segments ++ s ∷ []) (before ++ w.row ∷ [])) first
     (cuts_begin segments before w.row cuts) in
     let all = go_on size (next_number n) segment segments runs run.end (before ++ w.row ∷ []) are.0 are.1 begun
-    (all_rest (IsFitting size segment.samples) run runs fitting) joined.1 are.3 in
+    (All-tail (IsFitting size segment.samples) run runs fitting) joined.1 are.3 in
     let same : front segment (length segment.samples) ≡ segment =
     ap (λ (s : List ℤ). record { key = segment.key; start = segment.start; samples = s })
     (take_all (length segment.samples) segment.samples (omega arith)) in
@@ -145,12 +145,12 @@ all_cut size n segments [] before rows bytes some packings cuts are =
     rw (are.0, append-nil before, append-nil segments) cuts
 all_cut size n segments (one ∷ packed) before rows bytes some packings cuts are =
     let split = written_split size n (cuts_of one) (flat_map cuts_of packed) rows bytes are in
-    let packing = (all_first (IsPacked size) one packed packings).packing in
+    let packing = (All-head (IsPacked size) one packed packings).packing in
     let first = one_cut size n one.segment segments one.runs before split.first_rows split.first_bytes
-    (all_first HasSamples one packed some) packing.each_fits packing.joined cuts split.first in
+    (All-head HasSamples one packed some) packing.each_fits packing.joined cuts split.first in
     let all = all_cut size (number_after n (cuts_of one)) (segments ++ one.segment ∷ []) packed
-    (before ++ split.first_rows) split.other_rows split.other_bytes (all_rest HasSamples one packed some)
-    (all_rest (IsPacked size) one packed packings) first split.others in
+    (before ++ split.first_rows) split.other_rows split.other_bytes (All-tail HasSamples one packed some)
+    (All-tail (IsPacked size) one packed packings) first split.others in
     rw (
       split.whole,
       ← append_assoc before split.first_rows split.other_rows,

@@ -126,7 +126,7 @@ faulty_by bytes g h kind kind' n fault e d c p =
     let q = rw c at p in
     rw (← e, ← d) q
 
-rows_equal : (row other : Row) → row.key ≡ other.key → row.start ≡ other.start → row.kind ≡ other.kind
+pub rows_equal : (row other : Row) → row.key ≡ other.key → row.start ≡ other.start → row.kind ≡ other.kind
     → row.samples ≡ other.samples → row ≡ other
 rows_equal row other k s d x =
     same_row row.key other.key row.start other.start row.kind other.kind row.samples other.samples k s d x

@@ -1,5 +1,5 @@
 -- Parts of the rows beside lines of a report.
-use Rattle.std.proofs.Common.{rules, true, false, ◌≡◌, ◌↔◌, ℕ, suc, Bool, List, [], ◌∷◌, ◌++◌, length, refl, ap, subst, Some}
+use Rattle.std.proofs.Common.{◌≡◌, ◌↔◌, ℕ, suc, Bool, List, [], ◌∷◌, ◌++◌, length, refl, ap, subst, Some}
 use Rattle.std.specs.Prelude.{IsTrue, slice_get}
 use Rattle.msr_record.proofs.OneAnswer.{some_same}
 use Rattle.msr_words.specs.declared.kinds.Run.{Run}
@@ -9,18 +9,6 @@ use Rattle.msr_segments.specs.declared.joiner.Segment.{Segment}
 use Rattle.msr_report.specs.declared.report.SegmentLine.{SegmentLine}
 use Rattle.msr_verdict.specs.Packed.{IsShownAs, IsShownBy, AreShownBy}
 use Rattle.msr_verdict.specs.Compared.{IsShownAt}
-
-pub is_true : (b : Bool) → b ≡ true → IsTrue b
-is_true true e = search rules
-is_true false e = absurd cc
-
-pub not_true : (b : Bool) → b ≡ false → IsTrue b → ⊥
-not_true false e h = search rules
-not_true true e h = absurd cc
-
-pub true_is : (b : Bool) → IsTrue b → b ≡ true
-true_is true h = refl
-true_is false h = absurd (search rules)
 
 -- the numbers of a line are those of a segment in these runs
 pub record IsLineOf (segment : Segment) (runs : List Run) (line : SegmentLine) : Type 0 where
