@@ -58,7 +58,7 @@ filled_more a b c w w' w'' m n first unended second =
       steady = steady_steady a b c first.steady second.steady;
     }
 
--- where a read failed there are no more bytes than before, or there was no memory for them
+-- when a read failed there are no more bytes than before, or there was no memory for them
 unended_before : (before after : Bool) → (before ≡ true → after ≡ true) → after ≡ false
     → (before ≡ true) ⊎ (before ≡ false) → before ≡ false
 unended_before before after stays still (inl ended) = let e = stays ended in absurd cc
@@ -108,7 +108,7 @@ room_none w = record {
   most = omega arith;
 }
 
--- where no record stood in the bytes they were too few for it
+-- if no record stood in the bytes they were too few for it
 pub room_more : (before : ℕ) (a b : Device) (w w' : Window) → HasRoom before w → (HoldsRecord w.bytes → ⊥)
     → IsFilled (length w.bytes + 1) a b w w' → w'.room ≤ room_for (length w.bytes + 1) w.room → HasRoom before w'
 room_more before a b w w' has none filled most =

@@ -29,7 +29,7 @@ use Rattle.msr_input.specs.declared.fault.ReadFault.TheVariants as fault
 use Rattle.msr_input.proofs.RecordsThatCame.{come_given}
 use Rattle.msr_input.proofs.Records.{rows_snoc}
 
--- no record is refused where there is none
+-- no record is refused if there is none
 pub none_overrun : (tolerance : ℕ) → NoneOverruns tolerance []
 none_overrun tolerance before after found row e has_row out = no_empty before after found e
 
@@ -328,7 +328,7 @@ pub read_all : (s a : Device) (reading : Reading) (records : List Record) (given
 read_all s a reading records given has none ended =
     record { records = records; read = has; none_wait = none; ended = ended }
 
--- where all came that the source had, what came is all of it
+-- if all came that the source had, what came is all of it
 pub readable_at_end : (s a : Device) (position : Position) (joining : Joining) (records : List Record)
     (given : List Segment) → HaveCome s a position records → position.waiting ≡ [] → position.ended ≡ true
     → NoneOverruns joining.tolerance records → HasJoined joining (rows_of_records records) given
@@ -363,7 +363,7 @@ row_takes : (bytes : List ℕ) (row : Option Row) → IsSome row → IfSome row 
 row_takes bytes None some is = absurd cc
 row_takes bytes (Some row) some is = record { header = is.header; kind = row.kind; has_area = is.has_area }
 
--- running out of memory for a row comes only where there is one
+-- running out of memory for a row comes only when there is one
 pub join_memory : (bytes : List ℕ) (old : Joining) (found : Record) (offset : ℕ) (why : ReadFault)
     → IsRecordOf bytes found → StopsJoining old found.row offset why → why ≡ fault.Memory → TakesMemory bytes
 join_memory bytes old found offset why is stop e =

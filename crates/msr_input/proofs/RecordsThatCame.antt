@@ -89,7 +89,7 @@ come_given s a position records come =
     let begun = come.begins left.0 left.1 in
     record { input = begun.0; rest = position.waiting ++ left.0; left = begun.1; begins = begun.2; agree = come.agree }
 
--- what is refused with all that is left behind it
+-- what is refused with all that is left after it
 record RefusedWithRest (strict : Bool) (a : Device) (bytes : List ℕ) (kind : FaultKind) : Type 0 where
   rest : List ℕ
   left : HasLeft a rest
@@ -164,7 +164,7 @@ come_keeps s a b strict w w' counts offset records (Err fault.Read) come came = 
 come_keeps s a b strict w w' counts offset records (Err fault.Memory) come came =
     λ other. come_filled s a b strict w w' counts offset 0 records come came
 
--- where it did, so many bytes came
+-- if it did, so many bytes came
 pub come_short : {X : Type 0} (s a b : Device) (strict : Bool) (w w' : Window) (counts : Counts) (offset : ℕ)
     (records : List Record) (result : Result (Option X) ReadFault)
     → HaveCome s a (at_window strict w counts offset) records

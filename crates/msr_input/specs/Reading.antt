@@ -58,7 +58,7 @@ HoldsRecord bytes = (header : Header) × (header_of bytes ≡ Ok header)
 abbrev pub room_with : ℕ → ℕ → ℕ
 room_with size before = max (max before 65_536) (2 * size)
 
--- Memory is taken: for more bytes, where these fill the room that there is, or for the samples of the record.
+-- Memory is taken: for more bytes, if these fill the room that there is, or for the samples of the record.
 abbrev pub TakesMemoryFor : List ℕ → ℕ → Type 0
 TakesMemoryFor bytes room = (room ≤ length bytes) ⊎ TakesMemory bytes
 

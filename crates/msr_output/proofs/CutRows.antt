@@ -59,8 +59,8 @@ written_split size n (x ∷ xs) ys rows bytes are =
     }
 
 -- the first samples of a segment, as a segment
-abbrev front : Segment → ℕ → Segment
-front segment n = record { key = segment.key; start = segment.start; samples = take n segment.samples }
+abbrev first_samples : Segment → ℕ → Segment
+first_samples segment n = record { key = segment.key; start = segment.start; samples = take n segment.samples }
 
 take_range : (a b : ℕ) (xs : List ℤ) → a ≤ b → take a xs ++ slice_range xs a b ≡ take b xs
 take_range a b xs within = let e : a + (b - a) ≡ b = omega arith in rw e at (sym (take-add a (b - a) xs))
@@ -76,12 +76,12 @@ same_segment a b key start samples =
 
 -- the rows of further runs go on
 go_on : (size n : ℕ) (segment : Segment) (segments : List Segment) (runs : List Run) (a : ℕ)
-    (before rows : List Row) (bytes : List ℕ) → AreCuts (segments ++ front segment a ∷ []) before
+    (before rows : List Row) (bytes : List ℕ) → AreCuts (segments ++ first_samples segment a ∷ []) before
     → All (IsFitting size segment.samples) runs → Joins a runs (length segment.samples)
     → AreWritten size n (cuts_at segment runs) rows bytes
-    → AreCuts (segments ++ front segment (length segment.samples) ∷ []) (before ++ rows)
+    → AreCuts (segments ++ first_samples segment (length segment.samples) ∷ []) (before ++ rows)
 go_on size n segment segments [] a before rows bytes cuts fitting joined are =
-    rw (are.0, append-nil before) (subst (λ (m : ℕ). AreCuts (segments ++ front segment m ∷ []) before) joined cuts)
+    rw (are.0, append-nil before) (subst (λ (m : ℕ). AreCuts (segments ++ first_samples segment m ∷ []) before) joined cuts)
 go_on size n segment segments (run ∷ runs) a before rows bytes cuts fitting joined are =
     let w = are.2 in
     let is_row = w.is_record.of_run in
@@ -91,14 +91,14 @@ go_on size n segment segments (run ∷ runs) a before rows bytes cuts fitting jo
     let size_is : length (take a segment.samples) ≡ a = omega (arith, length-take a segment.samples, ordered, fits.1) in
     let time : IsRoundedNominal segment.key.rate segment.start (length (take a segment.samples)) w.row.start =
     rw (size_is, ← start) is_row.start in
-    let goes_on : GoesOnAtNominal (front segment a) w.row = record { key = is_row.key; time = time } in
+    let goes_on : GoesOnAtNominal (first_samples segment a) w.row = record { key = is_row.key; time = time } in
     let samples : take a segment.samples ++ w.row.samples ≡ take run.end segment.samples =
     rw (is_row.samples, start) (take_range a run.end segment.samples ordered) in
-    let longer : with_row (front segment a) w.row ≡ front segment run.end =
+    let longer : with_row (first_samples segment a) w.row ≡ first_samples segment run.end =
     ap (λ (s : List ℤ). record { key = segment.key; start = segment.start; samples = s }) samples in
-    let next : AreCuts (segments ++ front segment run.end ∷ []) (before ++ w.row ∷ []) =
+    let next : AreCuts (segments ++ first_samples segment run.end ∷ []) (before ++ w.row ∷ []) =
     subst (λ (s : Segment). AreCuts (segments ++ s ∷ []) (before ++ w.row ∷ [])) longer
-    (cuts_go_on segments (front segment a) before w.row cuts goes_on) in
+    (cuts_go_on segments (first_samples segment a) before w.row cuts goes_on) in
     let all = go_on size (next_number n) segment segments runs run.end (before ++ w.row ∷ []) are.0 are.1 next
     (All-tail (IsFitting size segment.samples) run runs fitting) joined.1 are.3 in
     rw (w.all_rows, ← append_assoc before (w.row ∷ []) are.0) all
@@ -120,14 +120,14 @@ one_cut size n segment segments (run ∷ runs) before rows bytes some fitting jo
     (rw start at is_row.start) in
     let samples : w.row.samples ≡ take run.end segment.samples = is_row.samples
     ∙ (let e : run.end - 0 ≡ run.end = omega arith in rw (start, e) refl) in
-    let first : row_segment w.row ≡ front segment run.end =
-    same_segment (row_segment w.row) (front segment run.end) is_row.key time samples in
-    let begun : AreCuts (segments ++ front segment run.end ∷ []) (before ++ w.row ∷ []) =
+    let first : row_segment w.row ≡ first_samples segment run.end =
+    same_segment (row_segment w.row) (first_samples segment run.end) is_row.key time samples in
+    let begun : AreCuts (segments ++ first_samples segment run.end ∷ []) (before ++ w.row ∷ []) =
     subst (λ (s : Segment). AreCuts (segments ++ s ∷ []) (before ++ w.row ∷ [])) first
     (cuts_begin segments before w.row cuts) in
     let all = go_on size (next_number n) segment segments runs run.end (before ++ w.row ∷ []) are.0 are.1 begun
     (All-tail (IsFitting size segment.samples) run runs fitting) joined.1 are.3 in
-    let same : front segment (length segment.samples) ≡ segment =
+    let same : first_samples segment (length segment.samples) ≡ segment =
     ap (λ (s : List ℤ). record { key = segment.key; start = segment.start; samples = s })
     (take_all (length segment.samples) segment.samples (omega arith)) in
     rw (w.all_rows, ← append_assoc before (w.row ∷ []) are.0)

@@ -25,7 +25,7 @@ use Rattle.msr_output.proofs.Runs.{points_of_run, record_of_run}
 use Rattle.msr_output.proofs.Times.{nominal_between}
 use Rattle.msr_time.proofs.NominalLemmas.{rounded_parts}
 
--- where one sample has a rounded instant, each has
+-- if one sample has a rounded instant, each has
 nominal_exists : (rate : SampleRate) (t0 last : ℤ) (n m : ℕ) → IsRoundedNominal rate t0 m last
     → (q : ℤ) × IsRoundedNominal rate t0 n q
 nominal_exists rate t0 last n m h =
@@ -81,7 +81,7 @@ one_record size n segment run power writable some fits =
     (count - 1) earlier nominal.1 in_time.nominal in_time.first_in in_time.last_in in
     let samples = slice_range segment.samples run.start run.end in
     let before = sample_before segment.samples run.start in
-    let behind : length (drop run.start segment.samples) ≡ count - run.start = length-drop run.start segment.samples in
+    let left : length (drop run.start segment.samples) ≡ count - run.start = length-drop run.start segment.samples in
     let long : 1 ≤ length samples = omega (arith, length-take (run.end - run.start) (drop run.start segment.samples)) in
     let fit : All (FitsSigned w32) samples = All-take (FitsSigned w32) (run.end - run.start)
     (drop run.start segment.samples) (All-drop (FitsSigned w32) run.start segment.samples writable.samples) in
@@ -204,13 +204,13 @@ pub all_right : {X : Type 0} (P : X → Type 0) (xs ys : List X) → All P (xs +
 all_right P [] ys all = all
 all_right P (x ∷ xs) ys all = all_right P xs ys (All-tail P x (xs ++ ys) all)
 
-pub front_of_output : (size : ℕ) (packed : List Packed) (segment : Segment) (runs others : List Run)
+pub prefix_of_output : (size : ℕ) (packed : List Packed) (segment : Segment) (runs others : List Run)
     (separators : List ℕ) (more : List Segment) (rows : List Row) (bytes : List ℕ)
     → IsRecordLength size → All (IsPacked size) packed → IsWritableSegment segment
     → IsCanonical size segment.samples (runs ++ others) separators
     → AreWritten size 1 (flat_map cuts_of packed ++ cuts_at segment runs) rows bytes
     → IsPrefixOfOutput size (map segment_of_packed packed ++ segment ∷ more) bytes
-front_of_output size packed segment runs others separators more rows bytes power packings writable canonical written =
+prefix_of_output size packed segment runs others separators more rows bytes power packings writable canonical written =
     let one : Packed = record { segment = segment; runs = runs ++ others; separators = separators } in
     let is : IsPacked size one = is_packed_by size segment (runs ++ others) separators
     (enough_bytes size power) canonical in
@@ -243,7 +243,7 @@ front_of_output size packed segment runs others separators more rows bytes power
 
 range_longer : (xs ys : List ℤ) (a b : ℕ) → a ≤ b → b ≤ length xs → slice_range (xs ++ ys) a b ≡ slice_range xs a b
 range_longer xs ys a b order within =
-    let behind : length (drop a xs) ≡ length xs - a = length-drop a xs in
+    let left : length (drop a xs) ≡ length xs - a = length-drop a xs in
     ap (take (b - a)) (drop-append-le a xs ys (omega arith)) ∙ take-append-le (b - a) (drop a xs) ys (omega arith)
 
 get_longer : (xs ys : List ℤ) (i : ℕ) → i < length xs → slice_get (xs ++ ys) i ≡ slice_get xs i

@@ -31,12 +31,12 @@ one_written size n (cut ∷ cuts) rows more bytes text first second =
     let other : IsWritten v.first cut.segment.key w.row.start n before w.row.samples cut.run.kind size =
     subst (λ (r : Row). IsWritten v.first cut.segment.key r.start n before r.samples cut.run.kind size)
     (sym row) v.is_record.written in
-    let front : w.first ≡ v.first =
+    let same : w.first ≡ v.first =
     written_once w.first v.first cut.segment.key w.row.start n before w.row.samples cut.run.kind size
     w.is_record.written other in
     let rest = one_written size (next_number n) cuts first.0 second.0 first.1 second.1 first.3 second.3 in (
       w.all_rows ∙ ap (λ (r : Row). r ∷ first.0) row ∙ ap (λ (l : List Row). v.row ∷ l) rest.0 ∙ sym v.all_rows,
-      w.all_bytes ∙ ap (λ (l : List ℕ). l ++ first.1) front ∙ ap (λ (l : List ℕ). v.first ++ l) rest.1
+      w.all_bytes ∙ ap (λ (l : List ℕ). l ++ first.1) same ∙ ap (λ (l : List ℕ). v.first ++ l) rest.1
           ∙ sym v.all_bytes,
     )
 
@@ -61,7 +61,7 @@ all_packed size (a ∷ packed) [] e first second = absurd cc
 all_packed size (a ∷ packed) (b ∷ others) e first second =
     let head : a.segment ≡ b.segment = cc in
     let tail : map segment_of_packed packed ≡ map segment_of_packed others = cc in
-    let front : a ≡ b = one_packed size a b head (All-head (IsPacked size) a packed first)
+    let one : a ≡ b = one_packed size a b head (All-head (IsPacked size) a packed first)
     (All-head (IsPacked size) b others second) in
     let rest : packed ≡ others = all_packed size packed others tail (All-tail (IsPacked size) a packed first)
     (All-tail (IsPacked size) b others second) in

@@ -29,7 +29,7 @@ use Rattle.msr_output.specs.Output.{AreWritten, Cut, IsPrefixOfOutput, IsPacked,
 use Rattle.msr_output.specs.Writing.{AppendsRecordOfRun, HasWritten, StopsWriting, Writing}
 use Rattle.msr_output.specs.declared.fault.WriteFault.TheVariants.{Memory, Write}
 use Rattle.msr_output.proofs.Appending.{appends_more, appends_nothing, cuts_further, number_after-append, written_append}
-use Rattle.msr_output.proofs.Existing.{all_left, all_right, enough_bytes, front_of_output, is_packed_by, written_longer}
+use Rattle.msr_output.proofs.Existing.{all_left, all_right, enough_bytes, prefix_of_output, is_packed_by, written_longer}
 use Rattle.msr_output.proofs.BetweenSegments.{more_whole, short_sum}
 use Rattle.msr_output.proofs.Runs.{points_of_run}
 
@@ -70,7 +70,7 @@ pub before_same : (samples : List ℤ) (i : ℕ) → before_place samples i ≡ 
 before_same samples zero = refl
 before_same samples (suc i) = refl
 
--- and can be encoded where it is shown
+-- and can be encoded when it is shown
 pub can_encode : (whole : Bool) (opened : Opened) (piece : Piece) (separators : List ℕ) (packer : Holding)
     → (can : CanGoOn whole opened) → Gives whole opened.size can.segment.samples
     (can.runs ++ piece.run ∷ []) separators packer
@@ -84,7 +84,7 @@ can_encode whole opened piece separators packer can gives shows =
     let some = f.some in
     let within = f.fits.1 in
     let width = piece.run.end - piece.run.start in
-    let behind = length-drop piece.run.start samples in
+    let left = length-drop piece.run.start samples in
     let long = length-take width (drop piece.run.start samples) in
     let first : piece.run.start ≤ length samples = omega arith in
     record {
@@ -240,9 +240,9 @@ begun_more start old now w packed segment opened other filled left next size h a
 
 -- ---- where it stops
 
-front_shorter : (size : ℕ) (segments : List Segment) (bytes more : List ℕ)
+prefix_shorter : (size : ℕ) (segments : List Segment) (bytes more : List ℕ)
     → IsPrefixOfOutput size segments (bytes ++ more) → IsPrefixOfOutput size segments bytes
-front_shorter size segments bytes more f = record {
+prefix_shorter size segments bytes more f = record {
   packed = f.packed;
   others = f.others;
   rows = f.rows;
@@ -261,14 +261,14 @@ pub begun_failed : (start old now : Device) (w : Writing) (packed : List Packed)
 begun_failed start old now w packed segment opened other whole filled left next power writable size h a p failed =
     let rest = gives_rest whole w.size (enough_bytes w.size power) segment.samples
     (h.runs ++ a.more) other.separators other.packer (rw (size ∙ h.size) at a.is_open.gives) in
-    let all = front_of_output w.size packed segment (h.runs ++ a.more) rest.others
+    let all = prefix_of_output w.size packed segment (h.runs ++ a.more) rest.others
     (other.separators ++ rest.places) [] (h.rows ++ a.appends.rows)
     (h.bytes ++ a.appends.bytes) power h.packings writable rest.canonical
     (records_more start old w packed segment opened other whole filled next size h a) in (
       record {
         taken = h.taken ++ p.taken;
         takes = takes_append start old now h.taken p.taken h.takes p.takes;
-        prefix = front_shorter w.size (map segment_of_packed packed ++ segment ∷ []) (h.taken ++ p.taken) left
+        prefix = prefix_shorter w.size (map segment_of_packed packed ++ segment ∷ []) (h.taken ++ p.taken) left
             (rw (more_whole old now h.bytes h.taken w.waiting a.appends.bytes filled left h.whole a.appends.joined
             p) at all);
       },
@@ -283,12 +283,12 @@ pub begun_refused : (start now : Device) (w : Writing) (packed : List Packed) (s
     → HasRest w.size target.samples h.runs opened.separators
     → StopsWriting w.size start now (map segment_of_packed packed ++ target ∷ []) Memory
 begun_refused start now w packed segment target opened power writable h records rest =
-    let all = front_of_output w.size packed target h.runs rest.others (opened.separators ++ rest.places)
+    let all = prefix_of_output w.size packed target h.runs rest.others (opened.separators ++ rest.places)
     [] h.rows h.bytes power h.packings writable rest.canonical records in (
       record {
         taken = h.taken;
         takes = h.takes;
-        prefix = front_shorter w.size (map segment_of_packed packed ++ target ∷ []) h.taken w.waiting
+        prefix = prefix_shorter w.size (map segment_of_packed packed ++ target ∷ []) h.taken w.waiting
             (rw h.whole at all);
       },
       h.calm.steady,

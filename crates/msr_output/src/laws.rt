@@ -20,6 +20,6 @@ pub fn output_has_size()
 /// when their segment grows.
 pub fn segments_have_output()
     ensures whole { SegmentsHaveOutput }
-    ensures front { FirstRecordsArePrefix }
+    ensures prefix { FirstRecordsArePrefix }
     ensures stay { RecordsStay }
 {}

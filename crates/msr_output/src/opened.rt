@@ -1,5 +1,5 @@
 //! A segment that is written while its samples come.
-ghost use Rattle.std.specs.Prelude.{◌≡◌, ℕ, ℤ, List, [], ◌++◌, ◌+◌, ◌<◌, ◌≤◌, ◌^◌, length, map, IfOk, IfSome, IsNone, OnOk, IsTrue, MatchResult, true, false};
+ghost use Rattle.std.specs.Prelude.{◌≡◌, ℕ, ℤ, List, [], ◌++◌, ◌+◌, ◌<◌, ◌≤◌, ◌^◌, length, IfOk, IfSome, IsNone, OnOk, IsTrue, MatchResult, true, false};
 ghost use Rattle.msr_header.specs.Reading.{is_quality};
 ghost use Rattle.msr_words.specs.declared.kinds.Run.{Run};
 ghost use Rattle.msr_words.specs.Lengths.{bytes_of};
@@ -157,7 +157,7 @@ impl OpenSegment {
         )
     }
 
-    /// Appends the record of the next run, where there is one, and says whether there was.
+    /// Appends the record of the next run, if there is one, and says whether there was.
     fn encode_next(
         &mut self,
         alloc: Global,
@@ -186,7 +186,7 @@ impl OpenSegment {
         Ok(true)
     }
 
-    /// Appends the records of the runs that are decided, of all that are left where the segment is whole, numbered from
+    /// Appends the records of the runs that are decided, of all that are left if the segment is whole, numbered from
     /// `first_number` on, and gives the sequence number after theirs.
     pub(crate) fn encode_runs(
         &mut self,

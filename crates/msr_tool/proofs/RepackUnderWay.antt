@@ -169,13 +169,13 @@ flush_stops choice source0 source sink0 sink sink' reading so_far found u stops 
     (rows_read (settings_of choice) source0 source reading (map segment_of_packed u.packed) u.joining u.rows)
     (subst (λ (n : ℕ). StopsLining n sink0 sink' all found) u.size stops)
 
--- ---- where what is decided is written before each read
+-- ---- when what is decided is written before each read
 
 -- the next record is at hand, or nothing waits to be written
 abbrev pub IsReady : RowReading → Lined → Type 0
 IsReady reading so_far = HoldsRecord reading.position.waiting ⊎ (so_far.writing.waiting ≡ [])
 
--- a reader that fails where nothing waits
+-- a reader that fails when nothing waits
 live_so : (choice : Choice) (source0 source source' sink0 sink : Device) (reading reading' : RowReading)
     (so_far : Lined) (u : UnderWay choice source0 source sink0 sink reading so_far) → so_far.writing.waiting ≡ []
     → HaveComeShort source0 source' u.rows.records reading'.position.waiting
@@ -189,7 +189,7 @@ live_so choice source0 source source' sink0 sink reading reading' so_far u none 
     record {
       input = begun.0;
       records = u.rows.records;
-      behind = reading'.position.waiting;
+      waiting = reading'.position.waiting;
       rest = left.0;
       segments = map segment_of_packed u.packed ++ option_to_list u.joining.current;
       written = wrote.bytes;
@@ -215,7 +215,7 @@ read_fault (read.Input other) e = absurd cc
 read_fault read.Read e = refl
 read_fault read.Memory e = absurd cc
 
--- where a read failed, nothing waited
+-- when a read failed, nothing waited
 pub live : (choice : Choice) (source0 source source' sink0 sink : Device) (reading reading' : RowReading)
     (so_far : Lined) (why : ReadFault) (u : UnderWay choice source0 source sink0 sink reading so_far)
     → IsReady reading so_far → fault_of_reading why ≡ fault.Read

@@ -31,18 +31,18 @@ some_samples : (row : Row) (rows : List Row) → IsSound row → 0 ≡ length (s
 some_samples row rows is e = omega (arith, e, is.some, length-append row.samples (samples_of rows))
 
 -- prefixes of the same rows with as many samples are the same prefix, since each row has some
-same_front : (xs ys u v : List Row) → xs ++ u ≡ ys ++ v → AreSound xs → AreSound ys
+same_prefix : (xs ys u v : List Row) → xs ++ u ≡ ys ++ v → AreSound xs → AreSound ys
     → length (samples_of xs) ≡ length (samples_of ys) → (xs ≡ ys) × (u ≡ v)
-same_front [] [] u v e first second size = (refl, e)
-same_front [] (y ∷ ys) u v e first second size = absurd (some_samples y ys second.0 size)
-same_front (x ∷ xs) [] u v e first second size = absurd (some_samples x xs first.0 (sym size))
-same_front (x ∷ xs) (y ∷ ys) u v e first second size =
+same_prefix [] [] u v e first second size = (refl, e)
+same_prefix [] (y ∷ ys) u v e first second size = absurd (some_samples y ys second.0 size)
+same_prefix (x ∷ xs) [] u v e first second size = absurd (some_samples x xs first.0 (sym size))
+same_prefix (x ∷ xs) (y ∷ ys) u v e first second size =
     let h : x ≡ y = cc in
     let t : xs ++ u ≡ ys ++ v = cc in
     let count : length x.samples ≡ length y.samples = ap (λ (r : Row). length r.samples) h in
     let rest : length (samples_of xs) ≡ length (samples_of ys) =
     omega (arith, size, count, length-append x.samples (samples_of xs), length-append y.samples (samples_of ys)) in
-    let same = same_front xs ys u v t first.1 second.1 rest in
+    let same = same_prefix xs ys u v t first.1 second.1 rest in
     (ap (λ (r : Row). r ∷ xs) h ∙ ap (λ (r : List Row). y ∷ r) same.0, same.1)
 
 -- The rows of a segment's records are its runs, and have all its samples.
@@ -115,7 +115,7 @@ are_shown size n (one ∷ packed) (line ∷ lines) (p ∷ ps) rows bytes packing
     let sound_parts = subst (λ (r : List Row). AreSound r) whole sound in
     let total : length (samples_of (rows_of p)) ≡ length one.segment.samples = ap length (sym (segment_samples p))
     ∙ ap (λ (s : Segment). length s.samples) (sym head) in
-    let same = same_front split.first_rows (rows_of p) split.other_rows (flat_map rows_of ps) two
+    let same = same_prefix split.first_rows (rows_of p) split.other_rows (flat_map rows_of ps) two
     (first_sound split.first_rows split.other_rows sound_first)
     (first_sound (rows_of p) (flat_map rows_of ps) sound_parts) (omega (arith, total, runs.size)) in
     let its_runs : one.runs ≡ runs_of_rows 0 (rows_of p) = sym runs.same ∙ ap (runs_of_rows 0) same.0 in

@@ -1,4 +1,4 @@
--- What is answered where a task that writes a text stops.
+-- What is answered when a task that writes a text stops.
 use Rattle.std.proofs.Common.{◌≡◌, ℕ, List, [], take, drop, refl, sym, ◌∙◌, inl, inr, Result, Ok, Err}
 use Rattle.std.proofs.lemmas.List.{take-append-drop}
 use Rattle.msr_devices.specs.Device.{Device, HasLeft, Takes}
@@ -50,12 +50,12 @@ repack_stops choice source records0 records text input written fault.Memory left
     (inl (record { stopped = a; untold = refl }))
 
 in_part : (choice : Choice) (input written : List ℕ) (report : Report) (text0 text : Device) (whole : List ℕ) →
-    IsRepacked choice input written report → IsReportText report whole → (front : TakesPrefix text0 text whole) →
-    IsReportedInPart choice input written front.taken
-in_part choice input written report text0 text whole repacked is_text front = record {
+    IsRepacked choice input written report → IsReportText report whole → (prefix : TakesPrefix text0 text whole) →
+    IsReportedInPart choice input written prefix.taken
+in_part choice input written report text0 text whole repacked is_text prefix = record {
   report = report;
-  rest = front.rest;
-  reported = record { repacked = repacked; text = rw front.whole at is_text };
+  rest = prefix.rest;
+  reported = record { repacked = repacked; text = rw prefix.whole at is_text };
 }
 
 cut_answers : (choice : Choice) (input written told : List ℕ) (why : TextFault) →
@@ -72,12 +72,12 @@ text_stops choice source records0 records text0 text input written whole report 
     prefix = record {
       input = input;
       written = written;
-      told = front.taken;
+      told = prefix.taken;
       left = left;
       wrote = wrote;
-      told_all = front.takes;
-      answers = cut_answers choice input written front.taken why
-          (in_part choice input written report text0 text whole repacked is_text front);
+      told_all = prefix.takes;
+      answers = cut_answers choice input written prefix.taken why
+          (in_part choice input written report text0 text whole repacked is_text prefix);
     }
 
 -- no call was made for the verdict

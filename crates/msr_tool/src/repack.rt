@@ -6,8 +6,8 @@ ghost use Rattle.msr_tool.specs.Answer.{Answers};
 ghost use Rattle.msr_tool.specs.Live.{IsLive};
 
 use crate::fault::ToolFault;
-use crate::options::Options;
 use crate::lined_writer::LinedWriter;
+use crate::options::Options;
 use msr_devices::{Sink, Source};
 use msr_input::RowReader;
 use msr_output::{output_has_size, output_keeps_segments};

@@ -1,15 +1,15 @@
 //! Tasks that also write a text: a repack with the text of its report, a check with the line of its verdict.
 ghost use Rattle.std.specs.Prelude.{◌≡◌, ◌⊎◌, ◌↔◌, ℕ, IsErrOf, OnErr};
-ghost use Rattle.msr_devices.specs.Device.{CanCountCall, CountsFew, HasFailed, IsCalm};
+ghost use Rattle.msr_devices.specs.Device.{CanCountCall, CountsFew, HasFailed};
 ghost use Rattle.msr_input.specs.declared.fault.Fault.{Fault as FirstFault};
 ghost use Rattle.msr_tool.specs.Checking.{GivesReport};
 ghost use Rattle.msr_tool.specs.Live.{IsLive};
 ghost use Rattle.msr_tool.specs.Tasks.{Reports, Tells};
 
 use crate::check::check_packed;
-use crate::repack::{feed, repack};
 use crate::fault::ToolFault;
 use crate::options::Options;
+use crate::repack::{feed, repack};
 use msr_devices::{Sink, Source, write_all};
 use msr_report::Report;
 use msr_verdict::Verdict;

@@ -19,7 +19,7 @@ use Rattle.msr_input.proofs.Records.{rows_snoc}
 use Rattle.msr_verdict.specs.declared.piece.Piece.{Piece}
 use Rattle.msr_verdict.specs.Packed.{IsFull, IsShownAs, IsShownBy, AreShownBy, runs_of_rows}
 use Rattle.msr_verdict.specs.Compared.{Compared, IsPieceOf, IsShownAt, ComparesSegment, ComparesEnded, AddsRun, AddsPiece, end_of_next}
-use Rattle.msr_verdict.proofs.Lines.{shown_snoc, shown_next, get_behind, behind_get}
+use Rattle.msr_verdict.proofs.Lines.{shown_snoc, shown_next, get_after, after_get}
 use Rattle.msr_verdict.proofs.Runs.{samples_of, segment_samples, total_snoc, runs_snoc}
 use Rattle.msr_verdict.proofs.Parts.{open_rows, HasParts, parts_none, grows}
 
@@ -72,15 +72,15 @@ segment_agrees size lines records parts part old new a k few at t =
     let found : slice_get (a.done ++ a.left) (length a.done) ≡ Some at.line =
     subst (λ (n : ℕ). slice_get (a.done ++ a.left) n ≡ Some at.line) a.place
     (subst (λ (l : List SegmentLine). slice_get l old.place ≡ Some at.line) a.whole at.at_place) in
-    let behind = behind_get a.done a.left at.line found in
+    let later = after_get a.done a.left at.line found in
     let shown : IsShownBy size part at.line = subst
     (λ (runs : List Run). IsShownAs size (segment_of part) runs at.line) (a.runs few) at.shown in
     record {
       full = a.full;
       done = a.done ++ at.line ∷ [];
-      left = behind.0;
-      whole = a.whole ∙ ap (λ (l : List SegmentLine). a.done ++ l) behind.1
-          ∙ sym (append_assoc a.done (at.line ∷ []) behind.0);
+      left = later.0;
+      whole = a.whole ∙ ap (λ (l : List SegmentLine). a.done ++ l) later.1
+          ∙ sym (append_assoc a.done (at.line ∷ []) later.0);
       place = omega (arith, k.place t, a.place, length-append a.done (at.line ∷ []));
       shown = shown_snoc size parts a.done part at.line a.shown shown;
       runs = λ h. k.runs;
@@ -102,7 +102,7 @@ segment_differs size lines records parts part old new a k few t f = record {
       let at : IsShownAt size lines old.place (segment_of part) old.runs = record {
         line = next.0;
         at_place = ap (λ (l : List SegmentLine). slice_get l old.place) whole
-            ∙ ap (λ (n : ℕ). slice_get (a.done ++ next.0 ∷ next.1) n) a.place ∙ get_behind a.done next.1 next.0;
+            ∙ ap (λ (n : ℕ). slice_get (a.done ++ next.0 ∷ next.1) n) a.place ∙ get_after a.done next.1 next.0;
         shown = subst (λ (runs : List Run). IsShownAs size (segment_of part) runs next.0) (sym (a.runs few)) next.3;
       } in
       both_ways new.agrees f ((k.agrees t).1 at);
@@ -131,7 +131,7 @@ compare_segment size lines records parts part old new h k few = record {
   ];
 }
 
--- the open part, where there is one, ends
+-- the open part, if there is one, ends
 pub compare_last : (size : ℕ) (lines : List SegmentLine) (records : List Record) (parts : List Part)
     (last : Option Part) (gave : Option Segment) (old new : Compared)
     → IsCompared size lines records parts (open_rows last) old → gave ≡ option_map segment_of last

@@ -87,12 +87,12 @@ shown_next size (one ∷ parts) rest (its ∷ done) left part are all =
     shown_next size parts rest done left part are.1 all.1
 
 -- what stands after a prefix
-pub get_behind : {X : Type 0} (front rest : List X) (x : X) → slice_get (front ++ x ∷ rest) (length front) ≡ Some x
-get_behind [] rest x = refl
-get_behind (y ∷ front) rest x = get_behind front rest x
+pub get_after : {X : Type 0} (prefix rest : List X) (x : X) → slice_get (prefix ++ x ∷ rest) (length prefix) ≡ Some x
+get_after [] rest x = refl
+get_after (y ∷ prefix) rest x = get_after prefix rest x
 
-pub behind_get : {X : Type 0} (front left : List X) (x : X) → slice_get (front ++ left) (length front) ≡ Some x
+pub after_get : {X : Type 0} (prefix left : List X) (x : X) → slice_get (prefix ++ left) (length prefix) ≡ Some x
     → (rest : List X) × (left ≡ x ∷ rest)
-behind_get {X} [] [] x e = absurd cc
-behind_get {X} [] (y ∷ left) x e = let same : y ≡ x = cc in (left, ap (λ (z : X). z ∷ left) same)
-behind_get (y ∷ front) left x e = behind_get front left x e
+after_get {X} [] [] x e = absurd cc
+after_get {X} [] (y ∷ left) x e = let same : y ≡ x = cc in (left, ap (λ (z : X). z ∷ left) same)
+after_get (y ∷ prefix) left x e = after_get prefix left x e

@@ -1,4 +1,4 @@
--- What is answered where reading stops, and at the end of the input.
+-- What is answered when reading stops, and at the end of the input.
 use Rattle.std.proofs.Common.{◌≡◌, ◌↔◌, inl, inr, ℕ, ◌^◌, ◌<◌, true, List, [], ◌∷◌, ◌++◌, length, map, refl, sym, ap, subst, ◌∙◌, arith, length-append, Option, Result, Ok, Err, IsErrOf, All}
 use Rattle.std.specs.Prelude.{IfSome}
 use Rattle.std.specs.Option.{option_to_list}

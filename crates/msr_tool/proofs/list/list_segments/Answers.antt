@@ -3,7 +3,7 @@ use Rattle.std.proofs.lemmas.Result.{err_from_is_err_and}
 use Rattle.std.specs.Option.{option_to_list}
 use Rattle.msr_tool.specs.Choice.{settings_of}
 use Rattle.msr_tool.specs.Writing.{ended_by}
-use Rattle.msr_tool.proofs.Listed.{front_listed}
+use Rattle.msr_tool.proofs.Listed.{prefix_listed}
 use Rattle.msr_tool.proofs.RowsSoFar.{given_read, rows_end, rows_stop}
 use Rattle.msr_tool.proofs.StoppedRepacks.{read_tells_source, listing_tells_source, listing_tells_sink, listed_tells_source, listed_tells_sink, ok_tells}
 use Rattle.msr_tool.proofs.ListUnderWay.{outline_more, under_none, under_more, last_in_bounds, list_read_failed, list_write_failed, list_all_failed, list_done}
@@ -29,11 +29,11 @@ returns-in_err-next-clause-answer g c =
     (g.R.Source.device c.next_outline.new.source) c.rows.reader u.given u.joining why u.rows
     (c.in_err-next.ensures.read
     (g.R.Source.device c.args.source.now) u.rows.records u.rows.answers u.rows.has_read) in
-    let front = front_listed (g.W.Sink.device c.args.sink.now)
+    let prefix = prefix_listed (g.W.Sink.device c.args.sink.now)
     (g.W.Sink.device c.rows.sink) c.rows.writer.waiting u.given (option_to_list u.joining.current) u.listed in
     rw (p.1, p.2) (list_read_failed (settings_of c.args.options) (g.R.Source.device c.args.source.now)
     (g.R.Source.device c.next_outline.new.source) (g.W.Sink.device c.args.sink.now)
-    (g.W.Sink.device c.rows.sink) (u.given ++ option_to_list u.joining.current) why stops front)
+    (g.W.Sink.device c.rows.sink) (u.given ++ option_to_list u.joining.current) why stops prefix)
 
 pub returns-in_err-next-clause-read : goal.returns-in_err-next-clause-read
 returns-in_err-next-clause-read g c =

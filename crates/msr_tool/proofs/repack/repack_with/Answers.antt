@@ -12,7 +12,7 @@ use Rattle.msr_tool.specs.Choice.{settings_of}
 use Rattle.msr_tool.specs.Fault.{fault_of_reading}
 use Rattle.msr_tool.specs.Writing.{all_with}
 use Rattle.msr_tool.specs.declared.fault.ToolFault.TheVariants as fault
-use Rattle.msr_tool.proofs.Lines.{can_take_row, front_lined}
+use Rattle.msr_tool.proofs.Lines.{can_take_row, prefix_lined}
 use Rattle.msr_tool.proofs.RowsSoFar.{RecordMore, more_read, no_rows, record_more, rows_end, rows_read, rows_stop}
 use Rattle.msr_tool.proofs.StoppedRepacks.{read_failed, write_failed, read_tells_source, lined_tells_source, lined_tells_sink, ok_tells, as_answer}
 use Rattle.msr_tool.proofs.RepackUnderWay.{UnderWay, done, flush_stops, flushed, lining_unread, live, more}
@@ -93,12 +93,12 @@ returns-in_err-next-clause-answer g c =
     let u = c.records.invariant.under in
     let why = c.in_err-next.field-0.0 in
     let stops = why_stopped g (goal.at.returns-in_err-next-clause-answer g c).In_err-next in
-    let front = rw u.size at (front_lined (g.W.Sink.device c.args.sink.now)
+    let prefix = rw u.size at (prefix_lined (g.W.Sink.device c.args.sink.now)
     (g.W.Sink.device c.records.sink) c.records.writer u.packed u.joining.current u.goes_on u.lined) in
     rw (p.1, p.2) (as_answer _ _ _ _ _ (read_failed c.args.options (g.R.Source.device c.args.source.now)
     (g.R.Source.device c.next_record.new.source) (g.W.Sink.device c.args.sink.now)
     (g.W.Sink.device c.records.sink) (map segment_of_packed u.packed
-    ++ option_to_list u.joining.current) why stops front))
+    ++ option_to_list u.joining.current) why stops prefix))
 
 pub returns-in_err-next-clause-read : goal.returns-in_err-next-clause-read
 returns-in_err-next-clause-read g c =
