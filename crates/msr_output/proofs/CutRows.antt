@@ -81,7 +81,8 @@ go_on : (size n : ℕ) (segment : Segment) (segments : List Segment) (runs : Lis
     → AreWritten size n (cuts_at segment runs) rows bytes
     → AreCuts (segments ++ first_samples segment (length segment.samples) ∷ []) (before ++ rows)
 go_on size n segment segments [] a before rows bytes cuts fitting joined are =
-    rw (are.0, append-nil before) (subst (λ (m : ℕ). AreCuts (segments ++ first_samples segment m ∷ []) before) joined cuts)
+    rw (are.0, append-nil before)
+    (subst (λ (m : ℕ). AreCuts (segments ++ first_samples segment m ∷ []) before) joined cuts)
 go_on size n segment segments (run ∷ runs) a before rows bytes cuts fitting joined are =
     let w = are.2 in
     let is_row = w.is_record.of_run in

@@ -48,7 +48,8 @@ returns-clause-written g c = λ start packed all h.
     let enough = enough_bytes w.size power in
     let a = c.in_ok-self-inside.ensures.appends all was.runs (open_end all was.runs c.args.segment was.is_open) in
     let canonical = rw (c.encode_runs.ensures.size ∙ was.size) at a.all refl in
-    let is_packed = is_packed_by w.size all (was.runs ++ a.some.more) c.encode_runs.new.self.separators enough canonical in
+    let is_packed = is_packed_by w.size all (was.runs ++ a.some.more) c.encode_runs.new.self.separators enough
+    canonical in
     record {
       more = record { segment = all; runs = was.runs ++ a.some.more; separators = c.encode_runs.new.self.separators };
       rows = _;
