@@ -126,7 +126,7 @@ pub record GaveInput (start : Device) (settings : Settings) (segments : List Seg
   pub gave : GaveReadable start settings segments counts
   pub writable : All IsWritable segments
 
--- Where all records came the input is readable, and the segment that is still with the reader is its last.
+-- When all records came the input is readable, and the segment that is still with the reader is its last.
 abbrev pub AllReadIsReadable : Type 0
 AllReadIsReadable =
     (start now : Device) (reading : Reading) (given : List Segment) → HasReadAll start now reading given

@@ -92,7 +92,7 @@ abbrev pub StopsRows : Settings → Device → Device → List Record → ReadFa
 StopsRows settings start now records why =
     (given : List Segment) → HaveBegun settings.tolerance records given → StopsReading settings start now given why
 
--- Where all records came the input is readable, and its segments are those of a joiner of the same rows, the last
+-- When all records came the input is readable, and its segments are those of a joiner of the same rows, the last
 -- one included.
 abbrev pub AllRowsAreReadable : Type 0
 AllRowsAreReadable =

@@ -54,7 +54,7 @@ fn fault_of(kind: FaultKind, bytes: &[u8], strict: bool) -> FaultKind
     }
 }
 
-/// What is made of the record that the bytes begin with, or why it is refused. Where reading is strict its reverse
+/// What is made of the record that the bytes begin with, or why it is refused. If reading is strict its reverse
 /// constant agrees.
 #[inline(always)]
 fn judge<F: FromRecord>(alloc: Global, bytes: &[u8], strict: bool) -> Result<F, FaultKind>

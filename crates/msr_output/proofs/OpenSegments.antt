@@ -238,7 +238,7 @@ begun_more start old now w packed segment opened other filled left next size h a
   calm = calm_calm start old now h.calm calm;
 }
 
--- ---- where it stops
+-- ---- when it stops
 
 prefix_shorter : (size : ℕ) (segments : List Segment) (bytes more : List ℕ)
     → IsPrefixOfOutput size segments (bytes ++ more) → IsPrefixOfOutput size segments bytes
@@ -383,7 +383,7 @@ pub open_end : (segment : Segment) (runs : List Run) (opened : Opened) → IsOpe
 open_end segment runs opened o = let p = o.gives in
     record { key = o.key; start = o.start; gives = record { size = p.size; left = rw p.goes_on p.holds } }
 
--- ---- where the segment ends
+-- ---- when the segment ends
 
 pub begun_whole : (start old now : Device) (w : Writing) (packed : List Packed) (segment : Segment)
     (opened other : Opened) (filled left : List ℕ) (next : ℕ) → 256 ≤ w.size → other.size ≡ opened.size

@@ -90,7 +90,7 @@ pub record AppendsSome (whole : Bool) (segment : Segment) (runs : List Run) (ope
   pub is_open : IsOpen whole segment (runs ++ more) opened
   pub appends : AppendsRecords opened.size number (cuts_at segment more) old new next
 
--- Where the segment is whole, these are the records of all its runs that were left.
+-- If the segment is whole, these are the records of all its runs that were left.
 pub record AppendsMore (whole : Bool) (segment : Segment) (runs : List Run) (opened : Opened) (number : ℕ)
     (old new : List ℕ) (next : ℕ) : Type 0 where
   pub some : AppendsSome whole segment runs opened number old new next

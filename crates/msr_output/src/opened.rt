@@ -57,7 +57,7 @@ fn has_widths(key: Key)
     ensures { IsKey key }
 {}
 
-/// Where no sample is there yet, the times are those of the start.
+/// If no sample is there yet, the times are those of the start.
 fn begins_in_time(key: &Key, start: i64)
     requires { IsInstant start }
     ensures { SpanIsInTime (span_of key.now start 0) }
@@ -112,7 +112,7 @@ impl OpenSegment {
         }
     }
 
-    /// Takes more samples. Where memory is refused, none was taken.
+    /// Takes more samples. If memory is refused, none was taken.
     pub(crate) fn push(&mut self, samples: &[i32]) -> Result<(), AllocError>
         requires { pushed self.old.packer + length samples.now < 2 ^ 64 }
         ensures taken { (segment : Segment) (runs : List Run) → IsOpen false segment runs self.old

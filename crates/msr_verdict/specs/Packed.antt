@@ -104,7 +104,7 @@ AllStandInFewest size [] (line ∷ lines) = ⊥
 AllStandInFewest size (part ∷ parts) [] = ⊥
 AllStandInFewest size (part ∷ parts) (line ∷ lines) = StandsInFewest size part line × AllStandInFewest size parts lines
 
--- Where the report shows it, every segment of the input stands in the fewest records, whatever list of records and
+-- If the report shows it, every segment of the input stands in the fewest records, whatever list of records and
 -- whatever division into segments is asked for: the input has no other.
 abbrev pub ShownIsFewest : Type 0
 ShownIsFewest =
