@@ -173,10 +173,9 @@ pub returns-in_err-take-clause-live : goal.returns-in_err-take-clause-live
 returns-in_err-take-clause-live g c =
     let p = err_from_is_err_and c.from_residual-in_err-take.result c.from_residual-in_err-take.ensures.1 in
     let u = c.records.invariant.under in
-    rw (p.1, p.2) (λ live e. let same : c.in_err-take.field-0.0 ≡ fault.Read = cc in
-    absurd (lining_unread _ (g.W.Sink.device c.args.sink.now)
+    rw (p.1, p.2) (λ live. lining_unread _ (g.W.Sink.device c.args.sink.now)
     (g.W.Sink.device c.take.new.sink) _ c.in_err-take.field-0.0
-    (c.in_err-take.ensures.written (g.W.Sink.device c.args.sink.now) u.packed u.joining.current u.lined) same))
+    (c.in_err-take.ensures.written (g.W.Sink.device c.args.sink.now) u.packed u.joining.current u.lined))
 
 pub returns-in_err-flush-clause-answer : goal.returns-in_err-flush-clause-answer
 returns-in_err-flush-clause-answer g c =
@@ -216,11 +215,10 @@ returns-in_err-flush-clause-live g c =
     let p = err_from_is_err_and c.from_residual-in_err-flush.result c.from_residual-in_err-flush.ensures.1 in
     let at = goal.at.returns-in_err-flush-clause-live g c in
     let taken = one_taken g at.After-must_flush (one_read g at.After-take) in
-    rw (p.1, p.2) (λ live e. let same : c.in_err-flush.field-0.0 ≡ fault.Read = cc in
-    absurd (lining_unread _ (g.W.Sink.device c.args.sink.now)
+    rw (p.1, p.2) (λ live. lining_unread _ (g.W.Sink.device c.args.sink.now)
     (g.W.Sink.device c.flush.new.sink) _ c.in_err-flush.field-0.0
     (c.in_err-flush.ensures.written
-    (g.W.Sink.device c.args.sink.now) taken.packed taken.joining.current taken.lined) same))
+    (g.W.Sink.device c.args.sink.now) taken.packed taken.joining.current taken.lined))
 
 pub flush-requires-clause-count : goal.flush-requires-clause-count
 flush-requires-clause-count g c =
@@ -298,10 +296,9 @@ pub returns-in_err-segments-clause-live : goal.returns-in_err-segments-clause-li
 returns-in_err-segments-clause-live g c =
     let p = err_from_is_err_and c.from_residual-in_err-segments.result c.from_residual-in_err-segments.ensures.1 in
     let u = c.records.invariant.under in
-    rw (p.1, p.2) (λ live e. let same : c.in_err-segments.field-0.0 ≡ fault.Read = cc in
-    absurd (lining_unread _ (g.W.Sink.device c.args.sink.now)
+    rw (p.1, p.2) (λ live. lining_unread _ (g.W.Sink.device c.args.sink.now)
     (g.W.Sink.device c.finish.new.sink) _ c.in_err-segments.field-0.0
-    (c.in_err-segments.ensures.written (g.W.Sink.device c.args.sink.now) u.packed u.joining.current u.lined) same))
+    (c.in_err-segments.ensures.written (g.W.Sink.device c.args.sink.now) u.packed u.joining.current u.lined))
 
 pub returns-clause-answer : goal.returns-clause-answer
 returns-clause-answer g c =
