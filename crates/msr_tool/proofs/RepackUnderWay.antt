@@ -1,5 +1,5 @@
 -- The state of repacking between two rows.
-use Rattle.std.proofs.Common.{◌≡◌, ◌⊎◌, inl, inr, ℕ, ◌*◌, ◌^◌, ◌<◌, ◌≤◌, List, [], ◌∷◌, ◌++◌, ◌∙◌, length, map, All, refl, sym, subst, Ok, Err, Option, IfSome, IsErrOf, arith}
+use Rattle.std.proofs.Common.{◌≡◌, ◌⊎◌, inl, inr, ℕ, ◌*◌, ◌^◌, ◌<◌, ◌≤◌, List, [], ◌∷◌, ◌++◌, ◌∙◌, length, map, All, refl, sym, subst, Ok, Err, Option, IfSome, arith}
 use Rattle.std.proofs.Math.Nat.{mul-le-mul_right}
 use Rattle.std.proofs.lemmas.List.Elements.{All-cons, All-head, All-nil, All-tail}
 use Rattle.std.specs.Option.{option_to_list}
@@ -233,12 +233,3 @@ live choice source0 source source' sink0 sink reading reading' so_far why u (inl
 live choice source0 source source' sink0 sink reading reading' so_far why u (inr none) e stops unread came short =
     let is = read_fault why e in
     live_so choice source0 source source' sink0 sink reading reading' so_far u none (came is) (short is)
-
--- what stops writing is no fault of a read
-pub lining_unread : {T P : Type 0} (size : ℕ) (start now : Device) (segments : List Segment) (found : ToolFault)
-    → StopsLining size start now segments found → IsErrOf {T = T} (Err found) fault.Read → P
-lining_unread size start now segments (fault.Input other) h e = absurd h
-lining_unread size start now segments (fault.Report line) h e = absurd h
-lining_unread size start now segments fault.Read h e = absurd h
-lining_unread size start now segments fault.Write h e = absurd cc
-lining_unread size start now segments fault.Memory h e = absurd cc

@@ -14,8 +14,8 @@ use Rattle.msr_tool.specs.Writing.{all_with}
 use Rattle.msr_tool.specs.declared.fault.ToolFault.TheVariants as fault
 use Rattle.msr_tool.proofs.Lines.{can_take_row, prefix_lined}
 use Rattle.msr_tool.proofs.RowsSoFar.{RecordMore, more_read, no_rows, record_more, rows_end, rows_read, rows_stop}
-use Rattle.msr_tool.proofs.StoppedRepacks.{read_failed, write_failed, read_tells_source, lined_tells_source, lined_tells_sink, ok_tells, as_answer}
-use Rattle.msr_tool.proofs.RepackUnderWay.{UnderWay, done, flush_stops, flushed, lining_unread, live, more}
+use Rattle.msr_tool.proofs.StoppedRepacks.{read_failed, write_failed, read_tells_source, write_tells_source, write_tells_sink, write_unread, ok_tells, as_answer}
+use Rattle.msr_tool.proofs.RepackUnderWay.{UnderWay, done, flush_stops, flushed, live, more}
 use Rattle.msr_tool.proofs.repack.repack_with.Given as given
 use Rattle.msr_tool.proofs.repack.repack_with.Goals as goal
 use Rattle.msr_tool.proofs.repack.repack_with.Goals.{After-must_flush, After-take, In_err-next}
@@ -156,25 +156,25 @@ returns-in_err-take-clause-read g c =
     let p = err_from_is_err_and c.from_residual-in_err-take.result c.from_residual-in_err-take.ensures.1 in
     let u = c.records.invariant.under in
     let m = one_read g (goal.at.returns-in_err-take-clause-read g c).After-take in
-    rw (p.1, p.2) (lined_tells_source _ (g.R.Source.device c.args.source.now)
+    rw (p.1, p.2) (write_tells_source _ _ (g.R.Source.device c.args.source.now)
     (g.R.Source.device c.next_record.new.source) (g.W.Sink.device c.args.sink.now)
-    (g.W.Sink.device c.take.new.sink) _ c.in_err-take.field-0.0 m.rows.has_read.came.steady
+    (g.W.Sink.device c.take.new.sink) c.in_err-take.field-0.0 m.rows.has_read.came.steady
     (c.in_err-take.ensures.written (g.W.Sink.device c.args.sink.now) u.packed u.joining.current u.lined))
 
 pub returns-in_err-take-clause-write : goal.returns-in_err-take-clause-write
 returns-in_err-take-clause-write g c =
     let p = err_from_is_err_and c.from_residual-in_err-take.result c.from_residual-in_err-take.ensures.1 in
     let u = c.records.invariant.under in
-    rw (p.1, p.2) (lined_tells_sink _ (g.W.Sink.device c.args.sink.now)
-    (g.W.Sink.device c.take.new.sink) _ c.in_err-take.field-0.0
+    rw (p.1, p.2) (write_tells_sink _ _ (g.W.Sink.device c.args.sink.now)
+    (g.W.Sink.device c.take.new.sink) c.in_err-take.field-0.0
     (c.in_err-take.ensures.written (g.W.Sink.device c.args.sink.now) u.packed u.joining.current u.lined))
 
 pub returns-in_err-take-clause-live : goal.returns-in_err-take-clause-live
 returns-in_err-take-clause-live g c =
     let p = err_from_is_err_and c.from_residual-in_err-take.result c.from_residual-in_err-take.ensures.1 in
     let u = c.records.invariant.under in
-    rw (p.1, p.2) (λ live. lining_unread _ (g.W.Sink.device c.args.sink.now)
-    (g.W.Sink.device c.take.new.sink) _ c.in_err-take.field-0.0
+    rw (p.1, p.2) (λ live. write_unread _ _ (g.W.Sink.device c.args.sink.now)
+    (g.W.Sink.device c.take.new.sink) c.in_err-take.field-0.0
     (c.in_err-take.ensures.written (g.W.Sink.device c.args.sink.now) u.packed u.joining.current u.lined))
 
 pub returns-in_err-flush-clause-answer : goal.returns-in_err-flush-clause-answer
@@ -194,9 +194,9 @@ returns-in_err-flush-clause-read g c =
     let p = err_from_is_err_and c.from_residual-in_err-flush.result c.from_residual-in_err-flush.ensures.1 in
     let at = goal.at.returns-in_err-flush-clause-read g c in
     let taken = one_taken g at.After-must_flush (one_read g at.After-take) in
-    rw (p.1, p.2) (lined_tells_source _ (g.R.Source.device c.args.source.now)
+    rw (p.1, p.2) (write_tells_source _ _ (g.R.Source.device c.args.source.now)
     (g.R.Source.device c.next_record.new.source) (g.W.Sink.device c.args.sink.now)
-    (g.W.Sink.device c.flush.new.sink) _ c.in_err-flush.field-0.0 taken.rows.has_read.came.steady
+    (g.W.Sink.device c.flush.new.sink) c.in_err-flush.field-0.0 taken.rows.has_read.came.steady
     (c.in_err-flush.ensures.written
     (g.W.Sink.device c.args.sink.now) taken.packed taken.joining.current taken.lined))
 
@@ -205,8 +205,8 @@ returns-in_err-flush-clause-write g c =
     let p = err_from_is_err_and c.from_residual-in_err-flush.result c.from_residual-in_err-flush.ensures.1 in
     let at = goal.at.returns-in_err-flush-clause-write g c in
     let taken = one_taken g at.After-must_flush (one_read g at.After-take) in
-    rw (p.1, p.2) (lined_tells_sink _ (g.W.Sink.device c.args.sink.now)
-    (g.W.Sink.device c.flush.new.sink) _ c.in_err-flush.field-0.0
+    rw (p.1, p.2) (write_tells_sink _ _ (g.W.Sink.device c.args.sink.now)
+    (g.W.Sink.device c.flush.new.sink) c.in_err-flush.field-0.0
     (c.in_err-flush.ensures.written
     (g.W.Sink.device c.args.sink.now) taken.packed taken.joining.current taken.lined))
 
@@ -215,8 +215,8 @@ returns-in_err-flush-clause-live g c =
     let p = err_from_is_err_and c.from_residual-in_err-flush.result c.from_residual-in_err-flush.ensures.1 in
     let at = goal.at.returns-in_err-flush-clause-live g c in
     let taken = one_taken g at.After-must_flush (one_read g at.After-take) in
-    rw (p.1, p.2) (λ live. lining_unread _ (g.W.Sink.device c.args.sink.now)
-    (g.W.Sink.device c.flush.new.sink) _ c.in_err-flush.field-0.0
+    rw (p.1, p.2) (λ live. write_unread _ _ (g.W.Sink.device c.args.sink.now)
+    (g.W.Sink.device c.flush.new.sink) c.in_err-flush.field-0.0
     (c.in_err-flush.ensures.written
     (g.W.Sink.device c.args.sink.now) taken.packed taken.joining.current taken.lined))
 
@@ -279,25 +279,25 @@ returns-in_err-segments-clause-read g c =
     let u = c.records.invariant.under in
     let end = rw c.in_default.is at (c.in_ok-next.ensures.read
     (g.R.Source.device c.args.source.now) u.rows.records u.rows.answers u.rows.has_read) in
-    rw (p.1, p.2) (lined_tells_source _ (g.R.Source.device c.args.source.now)
+    rw (p.1, p.2) (write_tells_source _ _ (g.R.Source.device c.args.source.now)
     (g.R.Source.device c.next_record.new.source) (g.W.Sink.device c.args.sink.now)
-    (g.W.Sink.device c.finish.new.sink) _ c.in_err-segments.field-0.0 end.none.read.came.steady
+    (g.W.Sink.device c.finish.new.sink) c.in_err-segments.field-0.0 end.none.read.came.steady
     (c.in_err-segments.ensures.written (g.W.Sink.device c.args.sink.now) u.packed u.joining.current u.lined))
 
 pub returns-in_err-segments-clause-write : goal.returns-in_err-segments-clause-write
 returns-in_err-segments-clause-write g c =
     let p = err_from_is_err_and c.from_residual-in_err-segments.result c.from_residual-in_err-segments.ensures.1 in
     let u = c.records.invariant.under in
-    rw (p.1, p.2) (lined_tells_sink _ (g.W.Sink.device c.args.sink.now)
-    (g.W.Sink.device c.finish.new.sink) _ c.in_err-segments.field-0.0
+    rw (p.1, p.2) (write_tells_sink _ _ (g.W.Sink.device c.args.sink.now)
+    (g.W.Sink.device c.finish.new.sink) c.in_err-segments.field-0.0
     (c.in_err-segments.ensures.written (g.W.Sink.device c.args.sink.now) u.packed u.joining.current u.lined))
 
 pub returns-in_err-segments-clause-live : goal.returns-in_err-segments-clause-live
 returns-in_err-segments-clause-live g c =
     let p = err_from_is_err_and c.from_residual-in_err-segments.result c.from_residual-in_err-segments.ensures.1 in
     let u = c.records.invariant.under in
-    rw (p.1, p.2) (λ live. lining_unread _ (g.W.Sink.device c.args.sink.now)
-    (g.W.Sink.device c.finish.new.sink) _ c.in_err-segments.field-0.0
+    rw (p.1, p.2) (λ live. write_unread _ _ (g.W.Sink.device c.args.sink.now)
+    (g.W.Sink.device c.finish.new.sink) c.in_err-segments.field-0.0
     (c.in_err-segments.ensures.written (g.W.Sink.device c.args.sink.now) u.packed u.joining.current u.lined))
 
 pub returns-clause-answer : goal.returns-clause-answer
