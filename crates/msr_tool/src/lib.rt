@@ -10,7 +10,7 @@ mod list;
 mod list_writer;
 mod open_segment;
 mod options;
-mod repack;
+mod repacking;
 mod tasks;
 
 pub use check::check_packed;
@@ -26,5 +26,5 @@ pub use msr_input::Fault;
 pub use msr_report::{Counts, Report, SegmentLine, TextFault};
 pub use msr_verdict::Verdict;
 pub use options::Options;
-pub use repack::{feed, repack};
+pub use repacking::{feed, repack};
 pub use tasks::{check_and_tell, feed_and_report, repack_and_report};

@@ -9,7 +9,7 @@ ghost use Rattle.msr_tool.specs.Tasks.{Reports, Tells};
 use crate::check::check_packed;
 use crate::fault::ToolFault;
 use crate::options::Options;
-use crate::repack::{feed, repack};
+use crate::repacking::{feed, repack};
 use msr_devices::{Sink, Source, write_all};
 use msr_report::Report;
 use msr_verdict::Verdict;

@@ -16,9 +16,9 @@ use Rattle.msr_tool.proofs.Lines.{can_take_row, prefix_lined}
 use Rattle.msr_tool.proofs.RowsSoFar.{RecordMore, more_read, no_rows, record_more, rows_end, rows_read, rows_stop}
 use Rattle.msr_tool.proofs.StoppedRepacks.{read_failed, write_failed, read_tells_source, write_tells_source, write_tells_sink, write_unread, ok_tells, as_answer}
 use Rattle.msr_tool.proofs.RepackUnderWay.{UnderWay, done, flush_stops, flushed, live, more}
-use Rattle.msr_tool.proofs.repack.repack_with.Given as given
-use Rattle.msr_tool.proofs.repack.repack_with.Goals as goal
-use Rattle.msr_tool.proofs.repack.repack_with.Goals.{After-must_flush, After-take, In_err-next}
+use Rattle.msr_tool.proofs.repacking.repack_with.Given as given
+use Rattle.msr_tool.proofs.repacking.repack_with.Goals as goal
+use Rattle.msr_tool.proofs.repacking.repack_with.Goals.{After-must_flush, After-take, In_err-next}
 
 pub records-init : goal.records-init
 records-init g c =
