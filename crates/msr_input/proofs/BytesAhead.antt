@@ -2,13 +2,13 @@
 use Rattle.std.proofs.Common.{inl, inr, ◌⊎◌, take, length-take, ◌≡◌, ℕ, ◌+◌, ◌<◌, ◌≤◌, Bool, true, false, List, [], ◌∷◌, ◌++◌, length, refl, sym, ap, ◌∙◌, arith, length-append}
 use Rattle.std.proofs.lemmas.List.{append-nil, take-append-le, take_all}
 use Rattle.std.proofs.lemmas.List.{take-take}
-use Rattle.std.proofs.lemmas.Bool.{cases_lt, le-leb, lt-leb}
+use Rattle.std.proofs.lemmas.Bool.{cases_Bool, cases_lt, le-leb, lt-leb}
 use Rattle.msr_record.specs.Records.{IsRecordOf}
 use Rattle.msr_record.specs.declared.row.Record.{Record}
 use Rattle.msr_record.proofs.FirstBytes.{own_record}
 use Rattle.msr_input.specs.Reading.{HoldsRecord, room_with}
 use Rattle.msr_input.specs.Steps.{CameBefore, StopsDecoding, fault_of_fill}
-use Rattle.msr_input.proofs.SettledRefusals.{held_some, open_or_ended}
+use Rattle.msr_input.proofs.SettledRefusals.{held_some}
 use Rattle.msr_devices.specs.Device.{Device, GivesOnto}
 use Rattle.msr_devices.specs.ReadBuffer.{Window, IsFilled, StopsFilling, room_for}
 use Rattle.msr_devices.specs.declared.read_buffer.FillFault.{FillFault}
@@ -58,7 +58,7 @@ filled_more a b c w w' w'' m n first unended second =
       steady = steady_steady a b c first.steady second.steady;
     }
 
--- where a read failed there are no more bytes than before, or there was no memory for them
+-- when a read failed there are no more bytes than before, or there was no memory for them
 unended_before : (before after : Bool) → (before ≡ true → after ≡ true) → after ≡ false
     → (before ≡ true) ⊎ (before ≡ false) → before ≡ false
 unended_before before after stays still (inl ended) = let e = stays ended in absurd cc
@@ -74,7 +74,7 @@ came_short a b c w w' w'' n filling.Read first unended stops =
     let one = first.fills.onto in
     let two = stops.1.onto in (
       calm_failed a b c (first.calm unended) stops.0,
-      unended_before w.ended w'.ended first.stays unended (open_or_ended w.ended),
+      unended_before w.ended w'.ended first.stays unended (cases_Bool w.ended),
       onto_more a b c w.bytes w'.bytes w''.bytes two.more (length two.more) one two.came refl two.moved two.whole,
     )
 came_short a b c w w' w'' n filling.Memory first unended stops = rw (stops.0, stops.1) first
@@ -108,7 +108,7 @@ room_none w = record {
   most = omega arith;
 }
 
--- where no record stood in the bytes they were too few for it
+-- if no record stood in the bytes they were too few for it
 pub room_more : (before : ℕ) (a b : Device) (w w' : Window) → HasRoom before w → (HoldsRecord w.bytes → ⊥)
     → IsFilled (length w.bytes + 1) a b w w' → w'.room ≤ room_for (length w.bytes + 1) w.room → HasRoom before w'
 room_more before a b w w' has none filled most =

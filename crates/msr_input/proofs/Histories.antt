@@ -1,8 +1,8 @@
 -- What a reader of segments has read, step by step, and why it stops.
-use Rattle.std.proofs.Common.{◌≡◌, ◌≢◌, ℕ, suc, inl, inr, true, List, [], ◌∷◌, ◌++◌, refl, sym, ap, subst, ◌∙◌, arith, length-append, Option, Some, None, All, get_or, IfSome, IsSome, Result, Ok, Err, IfErr, IfOk, MatchOption, MatchResult, Bool, ◌≤◌}
+use Rattle.std.proofs.Common.{◌≡◌, ◌≢◌, ℕ, inl, inr, true, List, [], ◌∷◌, ◌++◌, refl, sym, ap, subst, ◌∙◌, arith, length-append, Option, Some, None, All, IfSome, IsSome, Result, Ok, Err, IfErr, IfOk, MatchOption, MatchResult, Bool, ◌≤◌}
 use Rattle.std.specs.Option.{option_to_list}
-use Rattle.std.proofs.lemmas.List.{append-nil, get_or_append_left}
-use Rattle.std.proofs.lemmas.List.Elements.{All-append}
+use Rattle.std.proofs.lemmas.List.{append-nil}
+use Rattle.std.proofs.lemmas.List.Elements.{All-pop, All-push}
 use Rattle.msr_record.specs.Records.{IsRecordOf, IsRowOf, RowIsInTime, TakesMemory}
 use Rattle.msr_record.specs.declared.row.Record.{Record}
 use Rattle.msr_record.specs.declared.row.Row.{Row}
@@ -29,7 +29,7 @@ use Rattle.msr_input.specs.declared.fault.ReadFault.TheVariants as fault
 use Rattle.msr_input.proofs.RecordsThatCame.{come_given}
 use Rattle.msr_input.proofs.Records.{rows_snoc}
 
--- no record is refused where there is none
+-- no record is refused if there is none
 pub none_overrun : (tolerance : ℕ) → NoneOverruns tolerance []
 none_overrun tolerance before after found row e has_row out = no_empty before after found e
 
@@ -239,33 +239,22 @@ pub same_tolerance : (old new : Joining) (row : Option Row) (ended : Option Segm
 same_tolerance old new None ended joins = ap (λ (joining : Joining). joining.tolerance) joins.1
 same_tolerance old new (Some row) ended joins = push_tolerance old new row ended joins.0
 
-all_left : {X : Type 0} (P : X → Type 0) (xs ys : List X) → All P (xs ++ ys) → All P xs
-all_left P xs ys all k d h = rw (get_or_append_left xs ys d k h) at (all k d (omega (arith, h, length-append xs ys)))
-
-all_last : {X : Type 0} (P : X → Type 0) (xs : List X) (x : X) → All P (xs ++ x ∷ []) → P x
-all_last P [] x all = all 0 x (omega arith)
-all_last {X} P (y ∷ xs) x all = all_last P xs x (λ k d h. all (suc k) d (omega (arith, h)))
-
-all_one : {X : Type 0} (P : X → Type 0) (x : X) → P x → All P (x ∷ [])
-all_one {X} P x p k d h = let e : k ≡ 0 = omega (arith, h) in subst (λ (m : ℕ). P (get_or (x ∷ []) m d)) (sym e) p
-
 pub push_writable : (old new : Joining) (given : List Segment) (row : Row) (ended : Option Segment)
     → All IsWritable (given ++ option_to_list old.current) → IsWritable (row_segment row)
     → IsPush old row ended new → All IsWritable ((given ++ option_to_list ended) ++ option_to_list new.current)
 push_writable old new given row ended all writable (inl k) =
     let before = subst (λ (current : Option Segment). All IsWritable (given ++ option_to_list current)) k.current all in
-    let first = all_last IsWritable given k.segment before in
+    let parts = All-pop IsWritable (given ++ k.segment ∷ []) given (Some k.segment) refl before in
+    let first : IsWritable k.segment = parts.1 in
     let longer : IsWritable (with_row k.segment row) = record {
       quality = first.quality;
       normal = first.normal;
       in_time = k.in_time;
       some = omega (arith, first.some, length-append k.segment.samples row.samples);
     } in
-    rw (k.none, k.after, append-nil given) (All-append IsWritable given (with_row k.segment row ∷ [])
-    (all_left IsWritable given (k.segment ∷ []) before) (all_one IsWritable (with_row k.segment row) longer))
+    rw (k.none, k.after, append-nil given) (All-push IsWritable given (with_row k.segment row) parts.0 longer)
 push_writable old new given row ended all writable (inr k) =
-    rw (k.ended, k.after) (All-append IsWritable (given ++ option_to_list old.current) (row_segment row ∷ []) all
-    (all_one IsWritable (row_segment row) writable))
+    rw (k.ended, k.after) (All-push IsWritable (given ++ option_to_list old.current) (row_segment row) all writable)
 
 writable_more : (old new : Joining) (given : List Segment) (row : Option Row) (ended : Option Segment)
     → All IsWritable (given ++ option_to_list old.current)
@@ -339,7 +328,7 @@ pub read_all : (s a : Device) (reading : Reading) (records : List Record) (given
 read_all s a reading records given has none ended =
     record { records = records; read = has; none_wait = none; ended = ended }
 
--- where all came that the source had, what came is all of it
+-- if all came that the source had, what came is all of it
 pub readable_at_end : (s a : Device) (position : Position) (joining : Joining) (records : List Record)
     (given : List Segment) → HaveCome s a position records → position.waiting ≡ [] → position.ended ≡ true
     → NoneOverruns joining.tolerance records → HasJoined joining (rows_of_records records) given
@@ -374,7 +363,7 @@ row_takes : (bytes : List ℕ) (row : Option Row) → IsSome row → IfSome row 
 row_takes bytes None some is = absurd cc
 row_takes bytes (Some row) some is = record { header = is.header; kind = row.kind; has_area = is.has_area }
 
--- running out of memory for a row comes only where there is one
+-- running out of memory for a row comes only when there is one
 pub join_memory : (bytes : List ℕ) (old : Joining) (found : Record) (offset : ℕ) (why : ReadFault)
     → IsRecordOf bytes found → StopsJoining old found.row offset why → why ≡ fault.Memory → TakesMemory bytes
 join_memory bytes old found offset why is stop e =

@@ -43,7 +43,7 @@ pub mismatch_append : (records others : List Record)
 mismatch_append [] others = omega arith
 mismatch_append (x ∷ xs) others = omega (arith, mismatch_append xs others)
 
--- where all agree, each does, and so with one more that does
+-- if all agree, each does, and so with one more that does
 abbrev one_mismatch : Bool → ℕ
 one_mismatch agrees = if agrees then 0 else 1
 
@@ -114,6 +114,6 @@ compare_begins (x ∷ xs) (y ∷ ys) input r s b c =
           (goes_on_cons x ys xs s r g))
     ]
 
--- no record begins where no bytes are
+-- no record begins in no bytes
 pub nothing_begins : (found : Record) → IsRecordOf [] found → ⊥
 nothing_begins found is = let fits = record_fits [] found is in omega (arith, fits.0, fits.1)

@@ -1,5 +1,6 @@
 -- The records that came from a source, step by step, and why no further one comes.
 use Rattle.std.proofs.Common.{◌≡◌, ◌≢◌, ℕ, ◌+◌, ◌^◌, ◌<◌, ◌≤◌, ◌-◌, ◌⊎◌, inl, inr, Bool, true, false, List, [], ◌∷◌, ◌++◌, length, drop, refl, sym, ap, subst, ◌∙◌, arith, append_assoc, length-append, length-drop, Option, Result, Ok, Err, IfErr, MatchResult}
+use Rattle.std.proofs.lemmas.Bool.{cases_Bool}
 use Rattle.std.proofs.lemmas.List.{append-nil, drop-append-le}
 use Rattle.msr_record.specs.Records.{IsRecordOf}
 use Rattle.msr_record.specs.declared.row.Record.{Record}
@@ -16,7 +17,6 @@ use Rattle.msr_input.specs.Steps.{CameBefore, StopsDecoding}
 use Rattle.msr_input.specs.declared.fault.Fault.{Fault}
 use Rattle.msr_input.specs.declared.fault.ReadFault.{ReadFault}
 use Rattle.msr_input.specs.declared.fault.ReadFault.TheVariants as fault
-use Rattle.msr_input.proofs.SettledRefusals.{open_or_ended}
 use Rattle.msr_input.proofs.Records.{agree_more, begins_snoc, bytes_snoc, few_records}
 
 -- a reader with this window
@@ -77,7 +77,7 @@ come_filled s a b strict w w' counts offset want records come filled =
       short = λ h. grind (arith, come.short, filled.fills.short, onto.moved, size);
       end = λ h. filled.end come.end h;
       calm = λ h. calm_calm s a b (calm_before s a w.ended w'.ended come.calm filled.stays h
-          (open_or_ended w.ended)) (filled.calm h);
+          (cases_Bool w.ended)) (filled.calm h);
       steady = steady_steady s a b come.steady filled.steady;
     }
 
@@ -89,7 +89,7 @@ come_given s a position records come =
     let begun = come.begins left.0 left.1 in
     record { input = begun.0; rest = position.waiting ++ left.0; left = begun.1; begins = begun.2; agree = come.agree }
 
--- what is refused with all that is left behind it
+-- what is refused with all that is left after it
 record RefusedWithRest (strict : Bool) (a : Device) (bytes : List ℕ) (kind : FaultKind) : Type 0 where
   rest : List ℕ
   left : HasLeft a rest
@@ -117,7 +117,7 @@ decode_stops : (takes : List ℕ → Type 0) (s a : Device) (strict : Bool) (win
     → StopsDecoding takes strict window offset (fault.Input f) → IsRefusedAfter strict s records f
 decode_stops takes s a strict window counts offset records f come stop =
     let refused = refused_with_rest s a (at_window strict window counts offset) records f.kind come stop.2 stop.3
-    (open_or_ended window.ended) in
+    (cases_Bool window.ended) in
     let begun = come.begins refused.rest refused.left in
     record {
       given = record {
@@ -164,7 +164,7 @@ come_keeps s a b strict w w' counts offset records (Err fault.Read) come came = 
 come_keeps s a b strict w w' counts offset records (Err fault.Memory) come came =
     λ other. come_filled s a b strict w w' counts offset 0 records come came
 
--- where it did, so many bytes came
+-- if it did, so many bytes came
 pub come_short : {X : Type 0} (s a b : Device) (strict : Bool) (w w' : Window) (counts : Counts) (offset : ℕ)
     (records : List Record) (result : Result (Option X) ReadFault)
     → HaveCome s a (at_window strict w counts offset) records

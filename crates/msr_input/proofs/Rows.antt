@@ -239,7 +239,7 @@ pub row_given : (bytes : List ℕ) (found : Record) (step : Option Step) → IsR
     → IfSome found.row CanJoin → IfSome (next_row step found.row) CanBeTaken
 row_given bytes found step is can = row_given_so bytes found found.row step is refl can
 
--- the record that was read stands behind its outline
+-- the record that was read has this outline
 pub next_of : (position : Position) (outline : Outline)
     → IsJudged (λ found. outline ≡ outline_of found) position.strict position.waiting
     → (found : Record) × IsNext position outline found

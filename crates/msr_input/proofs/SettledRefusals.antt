@@ -1,7 +1,7 @@
 -- Which refusals no more bytes could change, whatever numbers they are: those of the header from the longest record's
 -- bytes on, and those of a record that is there.
 use Rattle.std.proofs.Common.{◌≡◌, ◌≢◌, ℕ, ◌^◌, ◌<◌, ◌≤◌, ◌⊎◌, inl, inr, Bool, true, false, List, ◌++◌, length, sym, refl, arith}
-use Rattle.std.proofs.lemmas.Bool.{ltb-false}
+use Rattle.std.proofs.lemmas.Bool.{cases_Bool, ltb-false}
 use Rattle.std.proofs.lemmas.Nat.{pow_pos}
 use Rattle.std.proofs.lemmas.List.{take-append-le}
 use Rattle.msr_header.proofs.FoundLemmas.{header_sound}
@@ -32,22 +32,22 @@ still_refused strict bytes rest kind are long refused =
     alone_same strict bytes (bytes ++ rest) kind same refused
 
 -- a refusal of what stands after the header, whose record is there
-behind : (bytes : List ℕ) (kind : FaultKind) → ((reason : HeaderFault) → kind ≢ Header reason)
+held_by : (bytes : List ℕ) (kind : FaultKind) → ((reason : HeaderFault) → kind ≢ Header reason)
     → IsRefused bytes kind → HoldsRecord bytes
-behind bytes (Header reason) other refused = absurd (other reason refl)
-behind bytes NoRate other refused = (refused.header, refused.has_samples.read)
-behind bytes (OtherEncoding code) other refused = (refused.header, refused.has_samples.read)
-behind bytes BadDataOffset other refused = (refused.header, refused.has_samples.read)
-behind bytes DataShort other refused = (refused.header, refused.has_area.has_samples.read)
-behind bytes (BadCode word) other refused = (refused.header, refused.has_area.has_samples.read)
-behind bytes TimeRange other refused = (refused.is_row.header, refused.is_row.has_area.has_samples.read)
-behind bytes ReverseMismatch other refused = absurd refused
-behind bytes Memory other refused = absurd refused
+held_by bytes (Header reason) other refused = absurd (other reason refl)
+held_by bytes NoRate other refused = (refused.header, refused.has_samples.read)
+held_by bytes (OtherEncoding code) other refused = (refused.header, refused.has_samples.read)
+held_by bytes BadDataOffset other refused = (refused.header, refused.has_samples.read)
+held_by bytes DataShort other refused = (refused.header, refused.has_area.has_samples.read)
+held_by bytes (BadCode word) other refused = (refused.header, refused.has_area.has_samples.read)
+held_by bytes TimeRange other refused = (refused.is_row.header, refused.is_row.has_area.has_samples.read)
+held_by bytes ReverseMismatch other refused = absurd refused
+held_by bytes Memory other refused = absurd refused
 
-behind_alone : (strict : Bool) (bytes : List ℕ) (kind : FaultKind)
+held_alone : (strict : Bool) (bytes : List ℕ) (kind : FaultKind)
     → ((reason : HeaderFault) → kind ≢ Header reason) → IsRefusedAlone strict bytes kind → HoldsRecord bytes
-behind_alone strict bytes kind other (inl m) = (m.0.reverse.header, m.0.reverse.read)
-behind_alone strict bytes kind other (inr r) = behind bytes kind other r.1
+held_alone strict bytes kind other (inl m) = (m.0.reverse.header, m.0.reverse.read)
+held_alone strict bytes kind other (inr r) = held_by bytes kind other r.1
 
 -- a record that is there has some bytes, and they decide
 pub held_some : (bytes : List ℕ) → HoldsRecord bytes → 0 < length bytes
@@ -64,17 +64,13 @@ held_refused strict bytes rest kind holds refused =
     (own_same bytes (bytes ++ rest) holds.0 holds.1
     (take-append-le (2 ^ holds.0.exponent) bytes rest within)) refused
 
-pub open_or_ended : (b : Bool) → (b ≡ true) ⊎ (b ≡ false)
-open_or_ended true = inl refl
-open_or_ended false = inr refl
-
 header_some : (bytes : List ℕ) (reason : HeaderFault) (ended : Bool) → (ended ≡ true → 0 < length bytes)
     → (ended ≡ false → may_change (Header reason) (length bytes) ≡ false) → (ended ≡ true) ⊎ (ended ≡ false)
     → 0 < length bytes
 header_some bytes reason ended some decided (inl e) = some e
 header_some bytes reason ended some decided (inr e) = omega (arith, ltb-false (length bytes) 1_048_576 (decided e))
 
--- so a record that is refused stops reading once no bytes could change it, and so does want of memory
+-- so a record that is refused stops reading once no bytes could change it, and so does running out of memory
 pub decoding_stops : (takes : List ℕ → Type 0) (strict : Bool) (window : Window) (offset : ℕ) (kind : FaultKind)
     → AreBytes window.bytes → (kind ≢ Memory → IsRefusedAlone strict window.bytes kind)
     → (kind ≡ Memory → takes window.bytes) → (window.ended ≡ true → 0 < length window.bytes)
@@ -83,14 +79,14 @@ pub decoding_stops : (takes : List ℕ → Type 0) (strict : Bool) (window : Win
 decoding_stops takes strict window offset Memory are refused memory some decided = inr (memory refl)
 decoding_stops takes strict window offset (Header reason) are refused memory some decided = (
   refl,
-  header_some window.bytes reason window.ended some decided (open_or_ended window.ended),
+  header_some window.bytes reason window.ended some decided (cases_Bool window.ended),
   refused (λ e. cc),
   λ unended rest. still_refused strict window.bytes rest (Header reason) are
       (ltb-false (length window.bytes) 1_048_576 (decided unended)) (refused (λ e. cc)),
 )
 decoding_stops takes strict window offset kind are refused memory some decided =
     let is = refused (λ e. cc) in
-    let holds = behind_alone strict window.bytes kind (λ reason e. cc) is in
+    let holds = held_alone strict window.bytes kind (λ reason e. cc) is in
     (refl, held_some window.bytes holds, is, λ unended rest. held_refused strict window.bytes rest kind holds is)
 
 -- a refusal that may change is one of a header, so there is no whole record

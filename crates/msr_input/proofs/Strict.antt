@@ -36,7 +36,7 @@ alone_mismatched strict bytes found is is_strict differs =
       refl,
     )
 
--- but none where nothing is said of it, or that it agrees
+-- but none if nothing is said of it, or that it agrees
 pub alone_agreed : (strict : Bool) (bytes : List ℕ) (kind : FaultKind) (agrees : Bool) → HasReverse bytes agrees
     → agrees ≢ false → IsRefused bytes kind → IsRefusedAlone strict bytes kind
 alone_agreed strict bytes kind agrees has other refused =
@@ -46,7 +46,7 @@ pub alone_unsaid : (strict : Bool) (bytes : List ℕ) (kind : FaultKind) → IsR
     → IsRefused bytes kind → IsRefusedAlone strict bytes kind
 alone_unsaid strict bytes kind before refused = inr ((λ m. reverse_not_refused bytes false m.reverse before), refused)
 
--- a record whose reverse constant agrees where reading is strict
+-- a record whose reverse constant agrees if reading is strict
 pub not_mismatched : (strict : Bool) (bytes : List ℕ) (found : Record) → IsRecordOf bytes found
     → Agrees strict found → Mismatches strict bytes → ⊥
 not_mismatched strict bytes found is agrees m =

@@ -14,7 +14,7 @@ use Rattle.msr_base.specs.declared.counts.Counts.{Counts}
 use Rattle.msr_input.specs.declared.fault.Fault.{Fault}
 use Rattle.msr_input.specs.declared.settings.Settings.{Settings}
 
--- the input begins with these records, one after another, and this is left behind them
+-- the input begins with these records, one after another, and this is left after them
 abbrev pub BeginsWith : List Record → List ℕ → List ℕ → Type 0
 BeginsWith [] input rest = input ≡ rest
 BeginsWith (found ∷ others) input rest = IsRecordOf input found × BeginsWith others (drop found.length input) rest
@@ -53,14 +53,14 @@ NoneOverruns tolerance records =
     → found.row ≡ Some row
     → LastEndsOutOfRange tolerance (rows_of_records (before ++ found ∷ [])) → ⊥
 
--- where reading is strict, the reverse constant of the record agrees, and of each of the records
+-- if reading is strict, the reverse constant of the record agrees, and of each of the records
 abbrev pub Agrees : Bool → Record → Type 0
 Agrees strict found = IsTrue strict → IsTrue found.reverse_agrees
 
 abbrev pub AllAgree : Bool → List Record → Type 0
 AllAgree strict records = IsTrue strict → mismatch_count records ≡ 0
 
--- The input begins with these records, none of which is refused, and this is left behind them.
+-- The input begins with these records, none of which is refused, and this is left after them.
 pub record AreRead (settings : Settings) (input : List ℕ) (records : List Record) (rest : List ℕ) : Type 0 where
   pub begins : BeginsWith records input rest
   pub in_range : NoneOverruns settings.tolerance records
@@ -80,7 +80,7 @@ pub record Mismatches (strict : Bool) (rest : List ℕ) : Type 0 where
   pub reverse : HasReverse rest false
 
 -- The record that the bytes begin with is refused so by itself. A reverse constant that does not agree comes before the
--- time, and where reading is strict alone.
+-- time, and only if reading is strict.
 abbrev pub IsRefusedAlone : Bool → List ℕ → FaultKind → Type 0
 IsRefusedAlone strict rest kind =
     (Mismatches strict rest × (kind ≡ ReverseMismatch)) ⊎ ((Mismatches strict rest → ⊥) × IsRefused rest kind)

@@ -58,7 +58,7 @@ HoldsRecord bytes = (header : Header) × (header_of bytes ≡ Ok header)
 abbrev pub room_with : ℕ → ℕ → ℕ
 room_with size before = max (max before 65_536) (2 * size)
 
--- Memory is taken: for more bytes, where these fill the room that there is, or for the samples of the record.
+-- Memory is taken: for more bytes, if these fill the room that there is, or for the samples of the record.
 abbrev pub TakesMemoryFor : List ℕ → ℕ → Type 0
 TakesMemoryFor bytes room = (room ≤ length bytes) ⊎ TakesMemory bytes
 
@@ -126,7 +126,7 @@ pub record GaveInput (start : Device) (settings : Settings) (segments : List Seg
   pub gave : GaveReadable start settings segments counts
   pub writable : All IsWritable segments
 
--- Where all records came the input is readable, and the segment that is still with the reader is its last.
+-- When all records came the input is readable, and the segment that is still with the reader is its last.
 abbrev pub AllReadIsReadable : Type 0
 AllReadIsReadable =
     (start now : Device) (reading : Reading) (given : List Segment) → HasReadAll start now reading given

@@ -44,7 +44,7 @@ pub record ReadsRow (start now : Device) (reading : RowReading) (records : List 
   pub rows : rows_of_records after ≡ rows_of_records records ++ next.row ∷ []
   pub read : HasReadRows start now reading after (answers ++ next.step ∷ [])
 
--- The same, where the row's samples were not read into memory: this is its outline. It can be written.
+-- The same, when the row's samples were not read into memory: this is its outline. It can be written.
 pub record ReadsOutline (start now : Device) (reading : RowReading) (records : List Record) (answers : List Step)
     (next : NextOutline) : Type 0 where
   pub row : Row
@@ -64,7 +64,7 @@ abbrev pub ReadsRecord : Device → Device → RowReading → List Record → Li
 ReadsRecord start now reading records answers next =
     MatchOption next.row (ReadsNoRow start now reading records answers) (ReadsRow start now reading records answers)
 
--- what is told of a record: the answer for its row, where it has one
+-- what is told of a record: the answer for its row, if it has one
 abbrev pub next_row : Option Step → Option Row → Option NextRow
 next_row (Some answer) (Some row) = Some (record { step = answer; row = row })
 next_row _ _ = None
@@ -74,7 +74,7 @@ abbrev pub next_outline : Option Step → Option RowOutline → Option NextOutli
 next_outline (Some answer) (Some row) = Some (record { step = answer; row = row })
 next_outline _ _ = None
 
--- what a record does with a follower: nothing, where it has no row
+-- what a record does with a follower: nothing, if it has no row
 abbrev pub StepsTo : Following → Option NextRow → Following → Type 0
 StepsTo old None new = new ≡ old
 StepsTo old (Some next) new = IsStep old (row_span next.row) next.step new
@@ -92,7 +92,7 @@ abbrev pub StopsRows : Settings → Device → Device → List Record → ReadFa
 StopsRows settings start now records why =
     (given : List Segment) → HaveBegun settings.tolerance records given → StopsReading settings start now given why
 
--- Where all records came the input is readable, and its segments are those of a joiner of the same rows, the last
+-- When all records came the input is readable, and its segments are those of a joiner of the same rows, the last
 -- one included.
 abbrev pub AllRowsAreReadable : Type 0
 AllRowsAreReadable =

@@ -24,7 +24,7 @@ use Rattle.msr_input.specs.declared.outline.Outline.{Outline}
 use Rattle.msr_input.specs.declared.outline.RowOutline.{RowOutline}
 use Rattle.msr_input.specs.declared.fault.ReadFault.TheVariants as fault
 
--- why reading stops where the bytes of a record did not come
+-- why reading stops if the bytes of a record did not come
 abbrev pub fault_of_fill : FillFault → ReadFault
 fault_of_fill filling.Read = fault.Read
 fault_of_fill filling.Memory = fault.Memory
@@ -49,7 +49,7 @@ CameBefore old new before after fault.Read =
 CameBefore old new before after fault.Memory = IsFilled 0 old new before after
 
 -- Why no record was given from the bytes that came: the one at that offset is refused, whatever more comes after
--- them; they hold no whole record, and the source failed; or there was no memory, for more bytes where these fill the
+-- them; they hold no whole record, and the source failed; or there was no memory, for more bytes when these fill the
 -- room that there is, or for what is made of the record.
 abbrev pub StopsDecoding : (takes : List ℕ → Type 0) → (strict : Bool) → Window → ℕ → ReadFault → Type 0
 StopsDecoding takes strict window offset (fault.Input f) =
@@ -96,7 +96,7 @@ pub record FollowsRow (old : Following) (row : RowOutline) (step : Option Step) 
   pub is_step : IsStep old (outline_span row) answer new
   pub in_range : Overruns old (outline_span row) → ⊥
 
--- what a record's row does with a joiner: nothing, where there is none
+-- what a record's row does with a joiner: nothing, if there is none
 abbrev pub JoinsRecord : Joining → Option Row → Option Segment → Joining → Type 0
 JoinsRecord old None ended new = (ended ≡ None) × (new ≡ old)
 JoinsRecord old (Some row) ended new = IsPush old row ended new × (Overruns (following_of old) (row_span row) → ⊥)

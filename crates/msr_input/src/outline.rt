@@ -4,6 +4,7 @@ use msr_record::Key;
 /// A row without its samples.
 #[derive(Clone, Copy, Debug)]
 pub struct RowOutline {
+    /// The row's key.
     pub key: Key,
     /// The instant of the first sample, in microseconds from 1970-01-01 00:00:00.
     pub start: i64,
@@ -14,7 +15,10 @@ pub struct RowOutline {
 /// A record without its samples.
 #[derive(Clone, Copy, Debug)]
 pub(crate) struct Outline {
+    /// How many bytes the record has.
     pub length: u32,
+    /// Its row; `None` if it has no samples.
     pub row: Option<RowOutline>,
+    /// Whether its reverse constant is its last sample.
     pub reverse_agrees: bool,
 }

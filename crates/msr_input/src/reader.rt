@@ -23,11 +23,19 @@ impl Model for SegmentReader {
 
     ghost Value = { Reading };
 
-    ghost view = { λ r. record { waiting = r.records.waiting; ended = r.records.ended; room = r.records.room; strict = r.records.strict; joining = r.joiner; counts = r.records.counts; offset = r.records.offset } };
+    ghost view = { λ r. record {
+      waiting = r.records.waiting;
+      ended = r.records.ended;
+      room = r.records.room;
+      strict = r.records.strict;
+      joining = r.joiner;
+      counts = r.records.counts;
+      offset = r.records.offset;
+    } };
 }
 
 impl SegmentReader {
-    ghost use Rattle.std.specs.Prelude.{◌≡◌, ◌≢◌, ◌≤◌, ◌<◌, ◌+◌, ◌-◌, ◌^◌, List, [], ◌∷◌, ◌++◌, length, true, OnOk, OnErr, IfOk, IfErr, IsErrOf, IfSome, MatchResult, MatchOption, None};
+    ghost use Rattle.std.specs.Prelude.{◌≡◌, ◌≢◌, ◌≤◌, ◌<◌, ◌+◌, ◌-◌, List, [], ◌∷◌, ◌++◌, length, true, OnOk, OnErr, IfOk, IfErr, IsErrOf, IfSome, MatchResult, MatchOption, None};
     ghost use Rattle.std.specs.Option.{option_to_list};
     ghost use Rattle.msr_devices.specs.Device.{Device, CanCountCall, CountsFew, IsSteady};
     ghost use Rattle.msr_record.specs.Records.{IsRecordOf, TakesMemory};
@@ -49,7 +57,7 @@ impl SegmentReader {
         }
     }
 
-    /// The next record, which [`take`](Self::take) then takes; `None` where the input has ended. A further call
+    /// The next record, which [`take`](Self::take) then takes; `None` when the input has ended. A further call
     /// gives the same record again. A record is given as soon as its own bytes have come, before a further read; so
     /// is a refusal of what stands after its header. One of the header waits for the input's end or for as many
     /// bytes as the longest record has, since more could change it.
@@ -68,10 +76,10 @@ impl SegmentReader {
             → HasRead start (R.device source.new) self.new records given) }
         ensures memory { IsErrOf result ReadFault.Memory → TakesMemoryNext self.new }
 
-        // A read fails only where no whole record had come: so none is made once one has.
+        // A read fails only if no whole record had come: so none is made once one has.
         ensures awaited { IsErrOf result ReadFault.Read → HoldsRecord self.new.waiting → ⊥ }
 
-        // Room is taken for 64 KiB, and for more only where a record needs it.
+        // Room is taken for 64 KiB, and for more only if a record needs it.
         ensures room { IfOk result (λ next. IfSome next
             (λ found. self.new.room ≤ room_with found.length self.old.room)) }
         ensures joining { self.new.joining ≡ self.old.joining }
@@ -109,7 +117,7 @@ impl SegmentReader {
         Ok(ended)
     }
 
-    /// Reads records until one ends a segment, and gives that; `None` where the input has ended. At an
+    /// Reads records until one ends a segment, and gives that; `None` when the input has ended. At an
     /// `Err` but `Read` the reader stands before the record that it did not take: a further call gives
     /// the same fault again, or tries again to get memory.
     pub fn next_segment<R: Source>(&mut self, source: &mut R) -> Result<Option<Segment>, ReadFault>
@@ -126,7 +134,7 @@ impl SegmentReader {
             → IfErr result (λ fault. fault ≢ ReadFault.Read
             → (now : List Found) × HasRead start (R.device source.new) self.new now given) }
 
-        // Running out of memory comes only where memory is taken.
+        // Running out of memory comes only when memory is taken.
         ensures memory { IsErrOf result ReadFault.Memory → TakesMemoryNext self.new }
 
         // Of a record whose bytes have come none are awaited.
@@ -151,7 +159,7 @@ impl SegmentReader {
         self.records.counts()
     }
 
-    /// The last segment, where a record with samples was read.
+    /// The last segment, if a record with samples was read.
     pub fn finish(self) -> Option<Segment>
         ensures { result ≡ self.joining.current }
     {

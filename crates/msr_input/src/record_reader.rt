@@ -15,10 +15,10 @@ use std::marker::Model;
 pub(crate) struct RecordReader {
     alloc: Global,
     buffer: ReadBuffer,
-    // whether a record is refused whose reverse constant does not agree
+    /// Whether a record is refused whose reverse constant does not agree.
     strict: bool,
     counts: Counts,
-    // how many bytes the records had so far
+    /// How many bytes the records had so far.
     offset: u64,
 }
 
@@ -27,7 +27,14 @@ impl Model for RecordReader {
 
     ghost Value = { Position };
 
-    ghost view = { λ r. record { waiting = r.buffer.bytes; ended = r.buffer.ended; room = r.buffer.room; strict = r.strict; counts = r.counts; offset = r.offset } };
+    ghost view = { λ r. record {
+      waiting = r.buffer.bytes;
+      ended = r.buffer.ended;
+      room = r.buffer.room;
+      strict = r.strict;
+      counts = r.counts;
+      offset = r.offset;
+    } };
 }
 
 impl RecordReader {
@@ -57,7 +64,7 @@ impl RecordReader {
         }
     }
 
-    /// What is made of the next record, which [`pass`](Self::pass) then passes; `None` where the input has ended. A
+    /// What is made of the next record, which [`pass`](Self::pass) then passes; `None` when the input has ended. A
     /// further call gives the same record again. A record is given as soon as its own bytes have come, before a
     /// further read; so is a refusal of what stands after its header. One of the header waits for the input's end
     /// or for as many bytes as the longest record has, since more could change it.

@@ -17,6 +17,7 @@ use std::marker::Model;
 pub struct NextRow {
     /// It begins a segment, so that the one before it has ended, or joins the one that was begun last.
     pub step: Step,
+    /// The row.
     pub row: Row,
 }
 
@@ -25,13 +26,14 @@ pub struct NextRow {
 pub struct NextOutline {
     /// As that of `NextRow`.
     pub step: Step,
+    /// The row without its samples.
     pub row: RowOutline,
 }
 
 /// The next record.
 #[derive(Debug, Drop)]
 pub struct NextRecord {
-    /// `None` where it has no samples.
+    /// `None` if it has no samples.
     pub row: Option<NextRow>,
 }
 
@@ -52,7 +54,7 @@ impl Model for RowReader {
 }
 
 impl RowReader {
-    ghost use Rattle.std.specs.Prelude.{◌≡◌, ◌≢◌, ◌↔◌, ◌≤◌, ◌<◌, List, [], ◌∷◌, ◌++◌, length, None, IsTrue, OnOk, OnErr, IfOk, IfErr, IsErrOf, IfSome, MatchResult, MatchOption};
+    ghost use Rattle.std.specs.Prelude.{◌≡◌, ◌≢◌, ◌↔◌, ◌≤◌, ◌<◌, List, [], length, None, IsTrue, OnOk, OnErr, IfOk, IfErr, IsErrOf, IfSome, MatchResult, MatchOption};
     ghost use Rattle.msr_devices.specs.Device.{Device, CanCountCall, CountsFew, IsSteady};
     ghost use Rattle.msr_record.specs.declared.row.Record.{Record as Found};
     ghost use Rattle.msr_segments.specs.Spans.{IsInBounds, IsStep};
@@ -77,7 +79,7 @@ impl RowReader {
         }
     }
 
-    /// The next row without its samples, after records that have no row; `None` where the input has ended, and with
+    /// The next row without its samples, after records that have no row; `None` when the input has ended, and with
     /// it the last segment. The samples are looked at where they stand, so memory is taken for the bytes ahead alone.
     /// At an `Err` but `Read` the reader stands before the record that it did not take: a further call gives the same
     /// fault again, or tries again to get memory.
@@ -105,7 +107,7 @@ impl RowReader {
         ensures in_bounds { IfOk result (λ next. IfSome next (λ _. IsInBounds self.new.following.current)) }
         ensures settings { row_settings self.new ≡ row_settings self.old }
 
-        // Running out of memory comes only where the bytes that wait fill the room that there is.
+        // Running out of memory comes only when the bytes that wait fill the room that there is.
         ensures memory { IsErrOf result ReadFault.Memory
             → self.new.position.room ≤ length self.new.position.waiting }
 
@@ -125,8 +127,8 @@ impl RowReader {
         Ok(None)
     }
 
-    /// The next record, with or without a row; `None` where the input has ended, and with it the last segment. No
-    /// read is made where its bytes have come ([`holds_record`](Self::holds_record)). At an `Err` but `Read` the
+    /// The next record, with or without a row; `None` when the input has ended, and with it the last segment. No
+    /// read is made if its bytes have come ([`holds_record`](Self::holds_record)). At an `Err` but `Read` the
     /// reader stands before it, as `next_outline` says.
     #[inline(always)]
     pub fn next_record<R: Source>(
@@ -157,7 +159,7 @@ impl RowReader {
         ensures memory { IsErrOf result ReadFault.Memory
             → TakesMemoryFor self.new.position.waiting self.new.position.room }
 
-        // Which reads are made, and what had come where one failed.
+        // Which reads are made, and what had come when one failed.
         ensures unread { HoldsRecord self.old.position.waiting → R.device source.new ≡ R.device source.old }
         ensures awaited { IsErrOf result ReadFault.Read → HoldsRecord self.new.position.waiting → ⊥ }
         ensures failed { (start : Device) (records : List Found) (answers : List Answer)
@@ -185,7 +187,7 @@ impl RowReader {
         self.records.holds_record()
     }
 
-    /// Takes the record that was read, by its outline, and says what its row does, where it has one.
+    /// Takes the record that was read, by its outline, and says what its row does, if it has one.
     #[inline(always)]
     fn take(&mut self, outline: &Outline) -> Result<Option<Step>, ReadFault>
         requires { (found : Found) × IsNext self.old.position outline.now found }

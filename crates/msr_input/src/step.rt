@@ -1,11 +1,11 @@
 //! The steps of reading: bytes ahead, a record, its row, its counts.
-ghost use Rattle.std.specs.Prelude.{◌≡◌, ◌≢◌, ◌+◌, ◌<◌, ◌≤◌, ◌-◌, ◌^◌, ℕ, true, List, [], ◌∷◌, ◌++◌, length, IfOk, IfErr, IfSome, IsErrOf, OnErr, MatchResult, MatchOption, if◌then◌else◌};
-ghost use Rattle.msr_record.specs.Records.{IsRecordOf, IsRefused};
+ghost use Rattle.std.specs.Prelude.{◌≡◌, ◌≢◌, ◌+◌, ◌<◌, ◌-◌, ◌^◌, true, List, [], ◌∷◌, ◌++◌, length, IfOk, IfErr, IfSome, IsErrOf, OnErr, MatchResult, MatchOption, if◌then◌else◌};
+ghost use Rattle.msr_record.specs.Records.{IsRefused};
 ghost use Rattle.msr_record.specs.declared.row.Record.{Record as Found};
 ghost use Rattle.msr_devices.specs.Device.{CanCountCall, CountsFew};
 ghost use Rattle.msr_devices.specs.ReadBuffer.{IsFilled};
 ghost use Rattle.msr_segments.specs.Spans.{IsInBounds};
-ghost use Rattle.msr_input.specs.Input.{Agrees, IsRefusedAlone, counts_of};
+ghost use Rattle.msr_input.specs.Input.{IsRefusedAlone, counts_of};
 ghost use Rattle.msr_input.specs.Outlines.{outline_of};
 ghost use Rattle.msr_input.specs.Reading.{HoldsRecord};
 ghost use Rattle.msr_input.specs.Rows.{next_outline, next_row};
@@ -34,8 +34,8 @@ fn may_change(kind: FaultKind, len: usize) -> bool
     }
 }
 
-/// Why a record is refused, where it has that fault by itself: before that of its time comes, where reading is strict,
-/// that of its reverse constant.
+/// Why a record is refused that has that fault by itself: before that of its time comes, if reading is strict, that of
+/// its reverse constant.
 #[cold]
 fn fault_of(kind: FaultKind, bytes: &[u8], strict: bool) -> FaultKind
     requires { kind ≢ FaultKind.Memory → IsRefused bytes.now kind }
@@ -54,7 +54,7 @@ fn fault_of(kind: FaultKind, bytes: &[u8], strict: bool) -> FaultKind
     }
 }
 
-/// What is made of the record that the bytes begin with, or why it is refused. Where reading is strict its reverse
+/// What is made of the record that the bytes begin with, or why it is refused. If reading is strict its reverse
 /// constant agrees.
 #[inline(always)]
 fn judge<F: FromRecord>(alloc: Global, bytes: &[u8], strict: bool) -> Result<F, FaultKind>
@@ -73,7 +73,7 @@ fn judge<F: FromRecord>(alloc: Global, bytes: &[u8], strict: bool) -> Result<F, 
     }
 }
 
-/// What is made of the record that the bytes left begin with, which is the one at the offset; `None` where there are
+/// What is made of the record that the bytes left begin with, which is the one at the offset; `None` if there are
 /// none. It is given as soon as the record's own bytes are there; a refusal waits while more bytes might change it.
 #[inline(always)]
 pub(crate) fn read_record<R: Source, F: FromRecord>(
@@ -111,7 +111,7 @@ pub(crate) fn read_record<R: Source, F: FromRecord>(
     }
 }
 
-/// Joins the row of the record at the offset, where it has one, and gives the segment that it ended.
+/// Joins the row of the record at the offset, if it has one, and gives the segment that it ended.
 pub(crate) fn join(
     joiner: &mut Joiner,
     row: Option<Row>,
@@ -137,7 +137,7 @@ pub(crate) fn join(
     }
 }
 
-/// Says what the row of the record at the offset does, where it has one.
+/// Says what the row of the record at the offset does, if it has one.
 #[inline(always)]
 pub(crate) fn follow(
     follow: &mut Follow,
@@ -162,7 +162,7 @@ pub(crate) fn follow(
     }
 }
 
-/// What is told of a record: the answer for its row, where it has one.
+/// What is told of a record: the answer for its row, if it has one.
 #[inline(always)]
 pub(crate) fn next_row(step: Option<Step>, row: Option<Row>) -> Option<NextRow>
     ensures { result ≡ next_row step row }
@@ -183,7 +183,7 @@ pub(crate) fn next_outline(step: Option<Step>, row: Option<RowOutline>) -> Optio
     }
 }
 
-/// One to count where that does not hold.
+/// One to count if that does not hold.
 fn one_unless(holds: bool) -> u64
     ensures { result ≡ (if holds then 0 else 1) }
 {

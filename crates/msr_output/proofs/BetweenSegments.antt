@@ -1,6 +1,5 @@
 -- A writer between two segments.
-use Rattle.std.proofs.Common.{◌≡◌, ℕ, ◌+◌, ◌<◌, ◌^◌, List, [], ◌∷◌, ◌++◌, ◌∙◌, length, get_or, map, arith, sym, ap, subst, append_assoc, append-nil, length-append}
-use Rattle.std.specs.Prelude.{All}
+use Rattle.std.proofs.Common.{◌≡◌, ℕ, ◌+◌, ◌<◌, ◌^◌, List, [], ◌++◌, ◌∙◌, length, map, arith, sym, ap, append_assoc, append-nil, length-append}
 use Rattle.msr_devices.specs.Device.{Device, HasFailed, IsCalm}
 use Rattle.msr_devices.specs.WriteBuffer.{Passes}
 use Rattle.msr_devices.proofs.Chaining.{takes_append, calm_calm, calm_failed}
@@ -8,9 +7,6 @@ use Rattle.msr_record.specs.declared.row.Row.{Row}
 use Rattle.msr_output.specs.Output.{Packed, segment_of_packed}
 use Rattle.msr_output.specs.Writing.{Writing, HasWritten, HasWrittenAll, StopsWriting}
 use Rattle.msr_devices.specs.declared.failure.WriteFault.TheVariants.{Write}
-
-pub all_one : {X : Type 0} (P : X → Type 0) (x : X) → P x → All P (x ∷ [])
-all_one {X} P x p k d h = let e : k ≡ 0 = omega arith in subst (λ (m : ℕ). P (get_or (x ∷ []) m d)) (sym e) p
 
 -- its bytes went through the sink or wait
 pub more_whole : (old now : Device) (bytes taken waiting more filled left : List ℕ) → bytes ≡ taken ++ waiting

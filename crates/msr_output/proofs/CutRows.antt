@@ -4,6 +4,7 @@ use Rattle.std.specs.List.{flat_map}
 use Rattle.std.specs.Prelude.{All, slice_range}
 use Rattle.std.proofs.Math.Seq.{take-add}
 use Rattle.std.proofs.lemmas.List.{take_all}
+use Rattle.std.proofs.lemmas.List.Elements.{All-head, All-tail}
 use Rattle.msr_time.specs.SampleRate.{IsRoundedNominal}
 use Rattle.msr_words.specs.declared.kinds.Run.{Run}
 use Rattle.msr_words.specs.Fit.{Fits, IsRun}
@@ -16,7 +17,6 @@ use Rattle.msr_segments.specs.Cuts.{AreCuts, GoesOnAtNominal}
 use Rattle.msr_segments.proofs.DivisionLaws.{cuts_none, cuts_begin, cuts_go_on, cuts_keep}
 use Rattle.msr_output.specs.Output.{Packed, IsPacked, Cut, AreWritten, IsOutput, next_number, number_after, cuts_at, cuts_of, segment_of_packed}
 use Rattle.msr_output.proofs.Times.{nominal_first}
-use Rattle.msr_output.proofs.OneOutput.{all_first, all_rest}
 
 -- the records of some cuts and of those after them
 pub record Split (size n : ℕ) (xs ys : List Cut) (rows : List Row) : Type 0 where
@@ -59,8 +59,8 @@ written_split size n (x ∷ xs) ys rows bytes are =
     }
 
 -- the first samples of a segment, as a segment
-abbrev front : Segment → ℕ → Segment
-front segment n = record { key = segment.key; start = segment.start; samples = take n segment.samples }
+abbrev first_samples : Segment → ℕ → Segment
+first_samples segment n = record { key = segment.key; start = segment.start; samples = take n segment.samples }
 
 take_range : (a b : ℕ) (xs : List ℤ) → a ≤ b → take a xs ++ slice_range xs a b ≡ take b xs
 take_range a b xs within = let e : a + (b - a) ≡ b = omega arith in rw e at (sym (take-add a (b - a) xs))
@@ -76,31 +76,32 @@ same_segment a b key start samples =
 
 -- the rows of further runs go on
 go_on : (size n : ℕ) (segment : Segment) (segments : List Segment) (runs : List Run) (a : ℕ)
-    (before rows : List Row) (bytes : List ℕ) → AreCuts (segments ++ front segment a ∷ []) before
+    (before rows : List Row) (bytes : List ℕ) → AreCuts (segments ++ first_samples segment a ∷ []) before
     → All (IsFitting size segment.samples) runs → Joins a runs (length segment.samples)
     → AreWritten size n (cuts_at segment runs) rows bytes
-    → AreCuts (segments ++ front segment (length segment.samples) ∷ []) (before ++ rows)
+    → AreCuts (segments ++ first_samples segment (length segment.samples) ∷ []) (before ++ rows)
 go_on size n segment segments [] a before rows bytes cuts fitting joined are =
-    rw (are.0, append-nil before) (subst (λ (m : ℕ). AreCuts (segments ++ front segment m ∷ []) before) joined cuts)
+    rw (are.0, append-nil before)
+    (subst (λ (m : ℕ). AreCuts (segments ++ first_samples segment m ∷ []) before) joined cuts)
 go_on size n segment segments (run ∷ runs) a before rows bytes cuts fitting joined are =
     let w = are.2 in
     let is_row = w.is_record.of_run in
-    let fits = all_first (IsFitting size segment.samples) run runs fitting in
+    let fits = All-head (IsFitting size segment.samples) run runs fitting in
     let start : run.start ≡ a = joined.0 in
     let ordered : a ≤ run.end = omega (arith, start, fits.0) in
     let size_is : length (take a segment.samples) ≡ a = omega (arith, length-take a segment.samples, ordered, fits.1) in
     let time : IsRoundedNominal segment.key.rate segment.start (length (take a segment.samples)) w.row.start =
     rw (size_is, ← start) is_row.start in
-    let goes_on : GoesOnAtNominal (front segment a) w.row = record { key = is_row.key; time = time } in
+    let goes_on : GoesOnAtNominal (first_samples segment a) w.row = record { key = is_row.key; time = time } in
     let samples : take a segment.samples ++ w.row.samples ≡ take run.end segment.samples =
     rw (is_row.samples, start) (take_range a run.end segment.samples ordered) in
-    let longer : with_row (front segment a) w.row ≡ front segment run.end =
+    let longer : with_row (first_samples segment a) w.row ≡ first_samples segment run.end =
     ap (λ (s : List ℤ). record { key = segment.key; start = segment.start; samples = s }) samples in
-    let next : AreCuts (segments ++ front segment run.end ∷ []) (before ++ w.row ∷ []) =
+    let next : AreCuts (segments ++ first_samples segment run.end ∷ []) (before ++ w.row ∷ []) =
     subst (λ (s : Segment). AreCuts (segments ++ s ∷ []) (before ++ w.row ∷ [])) longer
-    (cuts_go_on segments (front segment a) before w.row cuts goes_on) in
+    (cuts_go_on segments (first_samples segment a) before w.row cuts goes_on) in
     let all = go_on size (next_number n) segment segments runs run.end (before ++ w.row ∷ []) are.0 are.1 next
-    (all_rest (IsFitting size segment.samples) run runs fitting) joined.1 are.3 in
+    (All-tail (IsFitting size segment.samples) run runs fitting) joined.1 are.3 in
     rw (w.all_rows, ← append_assoc before (w.row ∷ []) are.0) all
 
 -- the rows of a segment's runs are the segment, cut
@@ -120,14 +121,14 @@ one_cut size n segment segments (run ∷ runs) before rows bytes some fitting jo
     (rw start at is_row.start) in
     let samples : w.row.samples ≡ take run.end segment.samples = is_row.samples
     ∙ (let e : run.end - 0 ≡ run.end = omega arith in rw (start, e) refl) in
-    let first : row_segment w.row ≡ front segment run.end =
-    same_segment (row_segment w.row) (front segment run.end) is_row.key time samples in
-    let begun : AreCuts (segments ++ front segment run.end ∷ []) (before ++ w.row ∷ []) =
+    let first : row_segment w.row ≡ first_samples segment run.end =
+    same_segment (row_segment w.row) (first_samples segment run.end) is_row.key time samples in
+    let begun : AreCuts (segments ++ first_samples segment run.end ∷ []) (before ++ w.row ∷ []) =
     subst (λ (s : Segment). AreCuts (segments ++ s ∷ []) (before ++ w.row ∷ [])) first
     (cuts_begin segments before w.row cuts) in
     let all = go_on size (next_number n) segment segments runs run.end (before ++ w.row ∷ []) are.0 are.1 begun
-    (all_rest (IsFitting size segment.samples) run runs fitting) joined.1 are.3 in
-    let same : front segment (length segment.samples) ≡ segment =
+    (All-tail (IsFitting size segment.samples) run runs fitting) joined.1 are.3 in
+    let same : first_samples segment (length segment.samples) ≡ segment =
     ap (λ (s : List ℤ). record { key = segment.key; start = segment.start; samples = s })
     (take_all (length segment.samples) segment.samples (omega arith)) in
     rw (w.all_rows, ← append_assoc before (w.row ∷ []) are.0)
@@ -145,12 +146,12 @@ all_cut size n segments [] before rows bytes some packings cuts are =
     rw (are.0, append-nil before, append-nil segments) cuts
 all_cut size n segments (one ∷ packed) before rows bytes some packings cuts are =
     let split = written_split size n (cuts_of one) (flat_map cuts_of packed) rows bytes are in
-    let packing = (all_first (IsPacked size) one packed packings).packing in
+    let packing = (All-head (IsPacked size) one packed packings).packing in
     let first = one_cut size n one.segment segments one.runs before split.first_rows split.first_bytes
-    (all_first HasSamples one packed some) packing.each_fits packing.joined cuts split.first in
+    (All-head HasSamples one packed some) packing.each_fits packing.joined cuts split.first in
     let all = all_cut size (number_after n (cuts_of one)) (segments ++ one.segment ∷ []) packed
-    (before ++ split.first_rows) split.other_rows split.other_bytes (all_rest HasSamples one packed some)
-    (all_rest (IsPacked size) one packed packings) first split.others in
+    (before ++ split.first_rows) split.other_rows split.other_bytes (All-tail HasSamples one packed some)
+    (All-tail (IsPacked size) one packed packings) first split.others in
     rw (
       split.whole,
       ← append_assoc before split.first_rows split.other_rows,

@@ -5,7 +5,7 @@ use Rattle.std.specs.Int.{w32}
 use Rattle.std.specs.List.{flat_map}
 use Rattle.std.proofs.Math.Pow.{pow_mono}
 use Rattle.std.proofs.lemmas.List.{map-append, take-append-le, drop-append-le}
-use Rattle.std.proofs.lemmas.List.Elements.{All-nil, All-cons, All-append, All-take, All-drop}
+use Rattle.std.proofs.lemmas.List.Elements.{All-nil, All-cons, All-head, All-tail, All-push, All-take, All-drop}
 use Rattle.msr_time.specs.SampleRate.{SampleRate, period_of, IsRoundedNominal}
 use Rattle.msr_time.proofs.RateLemmas.{nominal_is, quotient_bounds}
 use Rattle.msr_words.specs.declared.kinds.Run.{Run}
@@ -21,13 +21,11 @@ use Rattle.msr_segments.specs.declared.joiner.Segment.{Segment}
 use Rattle.msr_output.specs.Output.{Packed, IsPacked, Cut, IsRecordOfRun, IsWritableSegment, AreWritten, IsOutput, IsPrefixOfOutput, next_number, number_after, sample_before, cuts_at, cuts_of, segment_of_packed}
 use Rattle.msr_output.proofs.Appending.{written_append, cuts_further}
 use Rattle.msr_output.proofs.CutRows.{IsFitting}
-use Rattle.msr_output.proofs.OneOutput.{all_first, all_rest}
-use Rattle.msr_output.proofs.BetweenSegments.{all_one}
 use Rattle.msr_output.proofs.Runs.{points_of_run, record_of_run}
 use Rattle.msr_output.proofs.Times.{nominal_between}
 use Rattle.msr_time.proofs.NominalLemmas.{rounded_parts}
 
--- where one sample has a rounded instant, each has
+-- if one sample has a rounded instant, each has
 nominal_exists : (rate : SampleRate) (t0 last : ℤ) (n m : ℕ) → IsRoundedNominal rate t0 m last
     → (q : ℤ) × IsRoundedNominal rate t0 n q
 nominal_exists rate t0 last n m h =
@@ -83,7 +81,7 @@ one_record size n segment run power writable some fits =
     (count - 1) earlier nominal.1 in_time.nominal in_time.first_in in_time.last_in in
     let samples = slice_range segment.samples run.start run.end in
     let before = sample_before segment.samples run.start in
-    let behind : length (drop run.start segment.samples) ≡ count - run.start = length-drop run.start segment.samples in
+    let left : length (drop run.start segment.samples) ≡ count - run.start = length-drop run.start segment.samples in
     let long : 1 ≤ length samples = omega (arith, length-take (run.end - run.start) (drop run.start segment.samples)) in
     let fit : All (FitsSigned w32) samples = All-take (FitsSigned w32) (run.end - run.start)
     (drop run.start segment.samples) (All-drop (FitsSigned w32) run.start segment.samples writable.samples) in
@@ -98,10 +96,10 @@ run_records : (size n : ℕ) (segment : Segment) (runs : List Run) → IsRecordL
     → All IsSome runs → All (IsFitting size segment.samples) runs → HasRecords size n (cuts_at segment runs)
 run_records size n segment [] power writable some fits = no_records size n
 run_records size n segment (run ∷ runs) power writable some fits =
-    let one = one_record size n segment run power writable (all_first IsSome run runs some)
-    (all_first (IsFitting size segment.samples) run runs fits) in
-    let rest = run_records size (next_number n) segment runs power writable (all_rest IsSome run runs some)
-    (all_rest (IsFitting size segment.samples) run runs fits) in
+    let one = one_record size n segment run power writable (All-head IsSome run runs some)
+    (All-head (IsFitting size segment.samples) run runs fits) in
+    let rest = run_records size (next_number n) segment runs power writable (All-tail IsSome run runs some)
+    (All-tail (IsFitting size segment.samples) run runs fits) in
     record {
       rows = one.row ∷ rest.rows;
       bytes = one.bytes ++ rest.bytes;
@@ -126,7 +124,7 @@ record HasPacked (size : ℕ) (segment : Segment) : Type 0 where
   same : packed.segment ≡ segment
   is_packed : IsPacked size packed
 
-is_packed_by : (size : ℕ) (segment : Segment) (runs : List Run) (separators : List ℕ) → 256 ≤ size
+pub is_packed_by : (size : ℕ) (segment : Segment) (runs : List Run) (separators : List ℕ) → 256 ≤ size
     → IsCanonical size segment.samples runs separators
     → IsPacked size (record { segment = segment; runs = runs; separators = separators })
 is_packed_by size segment runs separators enough canonical =
@@ -163,9 +161,9 @@ output_from size n (segment ∷ segments) power writable =
     let is = p.is_packed in
     let packing = is.packing in
     let here : IsWritableSegment p.packed.segment =
-    subst IsWritableSegment (sym p.same) (all_first IsWritableSegment segment segments writable) in
+    subst IsWritableSegment (sym p.same) (All-head IsWritableSegment segment segments writable) in
     let rest = output_from size (number_after n (cuts_of p.packed)) segments power
-    (all_rest IsWritableSegment segment segments writable) in
+    (All-tail IsWritableSegment segment segments writable) in
     record {
       packed = p.packed ∷ rest.packed;
       same = ap (λ (s : Segment). s ∷ map segment_of_packed rest.packed) p.same
@@ -197,25 +195,30 @@ has_output size segments power writable =
 
 -- ---- the prefix of an output
 
-pub all_behind : {X : Type 0} (P : X → Type 0) (xs ys : List X) → All P (xs ++ ys) → All P ys
-all_behind P [] ys all = all
-all_behind P (x ∷ xs) ys all = all_behind P xs ys (all_rest P x (xs ++ ys) all)
+pub all_left : {X : Type 0} (P : X → Type 0) (xs ys : List X) → All P (xs ++ ys) → All P xs
+all_left P [] ys all = All-nil P
+all_left P (x ∷ xs) ys all = All-cons P x xs (All-head P x (xs ++ ys) all)
+    (all_left P xs ys (All-tail P x (xs ++ ys) all))
 
-pub front_of_output : (size : ℕ) (packed : List Packed) (segment : Segment) (runs others : List Run)
+pub all_right : {X : Type 0} (P : X → Type 0) (xs ys : List X) → All P (xs ++ ys) → All P ys
+all_right P [] ys all = all
+all_right P (x ∷ xs) ys all = all_right P xs ys (All-tail P x (xs ++ ys) all)
+
+pub prefix_of_output : (size : ℕ) (packed : List Packed) (segment : Segment) (runs others : List Run)
     (separators : List ℕ) (more : List Segment) (rows : List Row) (bytes : List ℕ)
     → IsRecordLength size → All (IsPacked size) packed → IsWritableSegment segment
     → IsCanonical size segment.samples (runs ++ others) separators
     → AreWritten size 1 (flat_map cuts_of packed ++ cuts_at segment runs) rows bytes
     → IsPrefixOfOutput size (map segment_of_packed packed ++ segment ∷ more) bytes
-front_of_output size packed segment runs others separators more rows bytes power packings writable canonical written =
+prefix_of_output size packed segment runs others separators more rows bytes power packings writable canonical written =
     let one : Packed = record { segment = segment; runs = runs ++ others; separators = separators } in
     let is : IsPacked size one = is_packed_by size segment (runs ++ others) separators
     (enough_bytes size power) canonical in
     let packing = is.packing in
     let so_far = flat_map cuts_of packed ++ cuts_at segment runs in
     let rest = run_records size (number_after 1 so_far) segment others power writable
-    (all_behind IsSome runs others packing.none_empty)
-    (all_behind (IsFitting size segment.samples) runs others packing.each_fits) in
+    (all_right IsSome runs others packing.none_empty)
+    (all_right (IsFitting size segment.samples) runs others packing.each_fits) in
     let both = written_append size 1 so_far
     (cuts_at segment others) rows rest.rows bytes rest.bytes written rest.written in
     let cuts : flat_map cuts_of (packed ++ one ∷ []) ≡ so_far ++ cuts_at segment others =
@@ -231,8 +234,7 @@ front_of_output size packed segment runs others separators more rows bytes power
       some_first = sym (ap (λ (l : List Segment). l ++ more) (map-append segment_of_packed packed (one ∷ []))
           ∙ append_assoc (map segment_of_packed packed) (segment ∷ []) more);
       output = record {
-        packings = All-append (IsPacked size) packed (one ∷ []) packings
-            (all_one (IsPacked size) one is);
+        packings = All-push (IsPacked size) packed one packings is;
         records = rw cuts both;
       };
     }
@@ -241,7 +243,7 @@ front_of_output size packed segment runs others separators more rows bytes power
 
 range_longer : (xs ys : List ℤ) (a b : ℕ) → a ≤ b → b ≤ length xs → slice_range (xs ++ ys) a b ≡ slice_range xs a b
 range_longer xs ys a b order within =
-    let behind : length (drop a xs) ≡ length xs - a = length-drop a xs in
+    let left : length (drop a xs) ≡ length xs - a = length-drop a xs in
     ap (take (b - a)) (drop-append-le a xs ys (omega arith)) ∙ take-append-le (b - a) (drop a xs) ys (omega arith)
 
 get_longer : (xs ys : List ℤ) (i : ℕ) → i < length xs → slice_get (xs ++ ys) i ≡ slice_get xs i
@@ -267,7 +269,7 @@ written_longer size n segment more (run ∷ runs) rows bytes within are =
     let w = are.2 in
     let r = w.is_record in
     let row = r.of_run in
-    let inside = all_first (λ run. (run.start ≤ run.end) × (run.end ≤ length segment.samples)) run runs within in
+    let inside = All-head (λ run. (run.start ≤ run.end) × (run.end ≤ length segment.samples)) run runs within in
     let before = before_longer segment.samples more run.start (omega (arith, inside.0, inside.1)) in (
       are.0,
       are.1,
@@ -291,5 +293,5 @@ written_longer size n segment more (run ∷ runs) rows bytes within are =
         all_bytes = w.all_bytes;
       },
       written_longer size (next_number n) segment more runs are.0 are.1
-          (all_rest (λ run. (run.start ≤ run.end) × (run.end ≤ length segment.samples)) run runs within) are.3,
+          (All-tail (λ run. (run.start ≤ run.end) × (run.end ≤ length segment.samples)) run runs within) are.3,
     )

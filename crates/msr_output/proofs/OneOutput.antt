@@ -1,29 +1,22 @@
 -- Segments have one output.
-use Rattle.std.proofs.Common.{◌≡◌, ℕ, suc, List, [], ◌∷◌, ◌++◌, ◌∙◌, map, arith, refl, sym, ap, subst, ℤ}
+use Rattle.std.proofs.Common.{◌≡◌, ℕ, List, [], ◌∷◌, ◌++◌, ◌∙◌, map, refl, sym, ap, subst}
 use Rattle.std.specs.List.{flat_map}
 use Rattle.std.specs.Prelude.{All}
+use Rattle.std.proofs.lemmas.List.Elements.{All-head, All-tail}
 use Rattle.msr_time.proofs.NominalLemmas.{nominal_one}
-use Rattle.msr_words.specs.declared.kinds.Kind.{Kind}
 use Rattle.msr_words.specs.declared.kinds.Run.{Run}
 use Rattle.msr_words.specs.Packing.{IsCanonical}
 use Rattle.msr_packer.proofs.Canonical.{one_packing}
-use Rattle.msr_record.specs.declared.row.Key.{Key}
 use Rattle.msr_record.specs.declared.row.Row.{Row}
 use Rattle.msr_record.specs.Written.{IsWritten}
+use Rattle.msr_record.proofs.OneAnswer.{rows_equal}
 use Rattle.msr_record.proofs.OneWritten.{written_once}
 use Rattle.msr_segments.specs.declared.joiner.Segment.{Segment}
 use Rattle.msr_output.specs.Output.{Packed, IsPacked, Cut, IsRowOfRun, AreWritten, IsOutput, next_number, sample_before, cuts_of, segment_of_packed}
 
-same_row : (a b : Row) → a.key ≡ b.key → a.start ≡ b.start → a.kind ≡ b.kind → a.samples ≡ b.samples → a ≡ b
-same_row a b key start kind samples =
-    ap (λ (k : Key). record { key = k; start = a.start; kind = a.kind; samples = a.samples }) key
-    ∙ ap (λ (s : ℤ). record { key = b.key; start = s; kind = a.kind; samples = a.samples }) start
-    ∙ ap (λ (k : Kind). record { key = b.key; start = b.start; kind = k; samples = a.samples }) kind
-    ∙ ap (λ (s : List ℤ). record { key = b.key; start = b.start; kind = b.kind; samples = s }) samples
-
 one_row : (segment : Segment) (run : Run) (a b : Row) → IsRowOfRun segment run a → IsRowOfRun segment run b → a ≡ b
 one_row segment run a b first second =
-    same_row a b (first.key ∙ sym second.key)
+    rows_equal a b (first.key ∙ sym second.key)
     (nominal_one segment.key.rate segment.start run.start a.start b.start first.start second.start)
     (first.kind ∙ sym second.kind) (first.samples ∙ sym second.samples)
 
@@ -38,12 +31,12 @@ one_written size n (cut ∷ cuts) rows more bytes text first second =
     let other : IsWritten v.first cut.segment.key w.row.start n before w.row.samples cut.run.kind size =
     subst (λ (r : Row). IsWritten v.first cut.segment.key r.start n before r.samples cut.run.kind size)
     (sym row) v.is_record.written in
-    let front : w.first ≡ v.first =
+    let same : w.first ≡ v.first =
     written_once w.first v.first cut.segment.key w.row.start n before w.row.samples cut.run.kind size
     w.is_record.written other in
     let rest = one_written size (next_number n) cuts first.0 second.0 first.1 second.1 first.3 second.3 in (
       w.all_rows ∙ ap (λ (r : Row). r ∷ first.0) row ∙ ap (λ (l : List Row). v.row ∷ l) rest.0 ∙ sym v.all_rows,
-      w.all_bytes ∙ ap (λ (l : List ℕ). l ++ first.1) front ∙ ap (λ (l : List ℕ). v.first ++ l) rest.1
+      w.all_bytes ∙ ap (λ (l : List ℕ). l ++ first.1) same ∙ ap (λ (l : List ℕ). v.first ++ l) rest.1
           ∙ sym v.all_bytes,
     )
 
@@ -52,12 +45,6 @@ same_packed a b segment runs separators =
     ap (λ (s : Segment). record { segment = s; runs = a.runs; separators = a.separators }) segment
     ∙ ap (λ (r : List Run). record { segment = b.segment; runs = r; separators = a.separators }) runs
     ∙ ap (λ (s : List ℕ). record { segment = b.segment; runs = b.runs; separators = s }) separators
-
-pub all_first : {X : Type 0} (P : X → Type 0) (x : X) (xs : List X) → All P (x ∷ xs) → P x
-all_first P x xs all = all 0 x (omega arith)
-
-pub all_rest : {X : Type 0} (P : X → Type 0) (x : X) (xs : List X) → All P (x ∷ xs) → All P xs
-all_rest P x xs all k d h = all (suc k) d (omega arith)
 
 one_packed : (size : ℕ) (a b : Packed) → a.segment ≡ b.segment → IsPacked size a → IsPacked size b → a ≡ b
 one_packed size a b segment first second =
@@ -74,10 +61,10 @@ all_packed size (a ∷ packed) [] e first second = absurd cc
 all_packed size (a ∷ packed) (b ∷ others) e first second =
     let head : a.segment ≡ b.segment = cc in
     let tail : map segment_of_packed packed ≡ map segment_of_packed others = cc in
-    let front : a ≡ b = one_packed size a b head (all_first (IsPacked size) a packed first)
-    (all_first (IsPacked size) b others second) in
-    let rest : packed ≡ others = all_packed size packed others tail (all_rest (IsPacked size) a packed first)
-    (all_rest (IsPacked size) b others second) in
+    let one : a ≡ b = one_packed size a b head (All-head (IsPacked size) a packed first)
+    (All-head (IsPacked size) b others second) in
+    let rest : packed ≡ others = all_packed size packed others tail (All-tail (IsPacked size) a packed first)
+    (All-tail (IsPacked size) b others second) in
     cc
 
 pub output_once : (size : ℕ) (packed others : List Packed) (rows more : List Row) (bytes text : List ℕ)

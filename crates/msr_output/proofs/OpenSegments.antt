@@ -4,7 +4,7 @@ use Rattle.std.specs.Prelude.{All}
 use Rattle.std.specs.Int.{w32}
 use Rattle.std.specs.List.{flat_map}
 use Rattle.std.proofs.lemmas.List.{map-append}
-use Rattle.std.proofs.lemmas.List.Elements.{All-append, All-cons, All-nil}
+use Rattle.std.proofs.lemmas.List.Elements.{All-append, All-head, All-nil, All-push, All-weaker}
 use Rattle.msr_devices.specs.Device.{Device, HasFailed, IsCalm}
 use Rattle.msr_devices.specs.WriteBuffer.{Passes}
 use Rattle.msr_devices.proofs.Chaining.{calm_calm, calm_failed, takes_append}
@@ -29,9 +29,8 @@ use Rattle.msr_output.specs.Output.{AreWritten, Cut, IsPrefixOfOutput, IsPacked,
 use Rattle.msr_output.specs.Writing.{AppendsRecordOfRun, HasWritten, StopsWriting, Writing}
 use Rattle.msr_devices.specs.declared.failure.WriteFault.TheVariants.{Memory, Write}
 use Rattle.msr_output.proofs.Appending.{appends_more, appends_nothing, cuts_further, number_after-append, written_append}
-use Rattle.msr_output.proofs.Existing.{all_behind, enough_bytes, front_of_output, written_longer}
-use Rattle.msr_output.proofs.OneOutput.{all_first, all_rest}
-use Rattle.msr_output.proofs.BetweenSegments.{all_one, more_whole, short_sum}
+use Rattle.msr_output.proofs.Existing.{all_left, all_right, enough_bytes, prefix_of_output, is_packed_by, written_longer}
+use Rattle.msr_output.proofs.BetweenSegments.{more_whole, short_sum}
 use Rattle.msr_output.proofs.Runs.{points_of_run}
 
 -- ---- the runs that were given
@@ -61,17 +60,17 @@ given_fits size enough samples runs run separators rest =
     let fits : All (λ r. IsRun (Fits r.kind size) samples r.start r.end) (runs ++ run ∷ rest.others) =
     subst (All (λ r. IsRun (Fits r.kind size) samples r.start r.end)) same f.packing.each_fits in
     record {
-      some = all_first (λ r. r.start < r.end) run rest.others
-          (all_behind (λ r. r.start < r.end) runs (run ∷ rest.others) somes);
-      fits = all_first (λ r. IsRun (Fits r.kind size) samples r.start r.end) run rest.others
-          (all_behind (λ r. IsRun (Fits r.kind size) samples r.start r.end) runs (run ∷ rest.others) fits);
+      some = All-head (λ r. r.start < r.end) run rest.others
+          (all_right (λ r. r.start < r.end) runs (run ∷ rest.others) somes);
+      fits = All-head (λ r. IsRun (Fits r.kind size) samples r.start r.end) run rest.others
+          (all_right (λ r. IsRun (Fits r.kind size) samples r.start r.end) runs (run ∷ rest.others) fits);
     }
 
 pub before_same : (samples : List ℤ) (i : ℕ) → before_place samples i ≡ sample_before samples i
 before_same samples zero = refl
 before_same samples (suc i) = refl
 
--- and can be encoded where it is shown
+-- and can be encoded when it is shown
 pub can_encode : (whole : Bool) (opened : Opened) (piece : Piece) (separators : List ℕ) (packer : Holding)
     → (can : CanGoOn whole opened) → Gives whole opened.size can.segment.samples
     (can.runs ++ piece.run ∷ []) separators packer
@@ -85,7 +84,7 @@ can_encode whole opened piece separators packer can gives shows =
     let some = f.some in
     let within = f.fits.1 in
     let width = piece.run.end - piece.run.start in
-    let behind = length-drop piece.run.start samples in
+    let left = length-drop piece.run.start samples in
     let long = length-take width (drop piece.run.start samples) in
     let first : piece.run.start ≤ length samples = omega arith in
     record {
@@ -104,26 +103,14 @@ can_encode whole opened piece separators packer can gives shows =
       ) f.fits.2;
     }
 
--- ---- parts of lists
-
-all_front : {X : Type 0} (P : X → Type 0) (xs ys : List X) → All P (xs ++ ys) → All P xs
-all_front P [] ys all = All-nil P
-all_front P (x ∷ xs) ys all = All-cons P x xs (all_first P x (xs ++ ys) all)
-    (all_front P xs ys (all_rest P x (xs ++ ys) all))
-
-all_as : {X : Type 0} (P Q : X → Type 0) (xs : List X) → ((x : X) → P x → Q x) → All P xs → All Q xs
-all_as P Q [] give all = All-nil Q
-all_as P Q (x ∷ xs) give all = All-cons Q x xs (give x (all_first P x xs all))
-    (all_as P Q xs give (all_rest P x xs all))
-
 -- the runs that were given lie in the samples
 pub runs_within : (size : ℕ) → 256 ≤ size → (samples : List ℤ) (runs : List Run) (separators : List ℕ)
     → HasRest size samples runs separators → All (λ run. (run.start ≤ run.end) × (run.end ≤ length samples)) runs
 runs_within size enough samples runs separators rest =
     let f = found size samples enough (runs ++ rest.others) (separators ++ rest.places) rest.canonical in
-    all_as (λ r. IsRun (Fits r.kind size) samples r.start r.end)
-    (λ r. (r.start ≤ r.end) × (r.end ≤ length samples)) runs (λ r is. (is.0, is.1))
-    (all_front (λ r. IsRun (Fits r.kind size) samples r.start r.end) runs rest.others f.packing.each_fits)
+    All-weaker (λ r. IsRun (Fits r.kind size) samples r.start r.end)
+    (λ r. (r.start ≤ r.end) × (r.end ≤ length samples)) (λ r is. (is.0, is.1)) runs
+    (all_left (λ r. IsRun (Fits r.kind size) samples r.start r.end) runs rest.others f.packing.each_fits)
 
 -- ---- the segment grows
 
@@ -251,11 +238,11 @@ begun_more start old now w packed segment opened other filled left next size h a
   calm = calm_calm start old now h.calm calm;
 }
 
--- ---- where it stops
+-- ---- when it stops
 
-front_shorter : (size : ℕ) (segments : List Segment) (bytes more : List ℕ)
+prefix_shorter : (size : ℕ) (segments : List Segment) (bytes more : List ℕ)
     → IsPrefixOfOutput size segments (bytes ++ more) → IsPrefixOfOutput size segments bytes
-front_shorter size segments bytes more f = record {
+prefix_shorter size segments bytes more f = record {
   packed = f.packed;
   others = f.others;
   rows = f.rows;
@@ -274,14 +261,14 @@ pub begun_failed : (start old now : Device) (w : Writing) (packed : List Packed)
 begun_failed start old now w packed segment opened other whole filled left next power writable size h a p failed =
     let rest = gives_rest whole w.size (enough_bytes w.size power) segment.samples
     (h.runs ++ a.more) other.separators other.packer (rw (size ∙ h.size) at a.is_open.gives) in
-    let all = front_of_output w.size packed segment (h.runs ++ a.more) rest.others
+    let all = prefix_of_output w.size packed segment (h.runs ++ a.more) rest.others
     (other.separators ++ rest.places) [] (h.rows ++ a.appends.rows)
     (h.bytes ++ a.appends.bytes) power h.packings writable rest.canonical
     (records_more start old w packed segment opened other whole filled next size h a) in (
       record {
         taken = h.taken ++ p.taken;
         takes = takes_append start old now h.taken p.taken h.takes p.takes;
-        prefix = front_shorter w.size (map segment_of_packed packed ++ segment ∷ []) (h.taken ++ p.taken) left
+        prefix = prefix_shorter w.size (map segment_of_packed packed ++ segment ∷ []) (h.taken ++ p.taken) left
             (rw (more_whole old now h.bytes h.taken w.waiting a.appends.bytes filled left h.whole a.appends.joined
             p) at all);
       },
@@ -296,12 +283,12 @@ pub begun_refused : (start now : Device) (w : Writing) (packed : List Packed) (s
     → HasRest w.size target.samples h.runs opened.separators
     → StopsWriting w.size start now (map segment_of_packed packed ++ target ∷ []) Memory
 begun_refused start now w packed segment target opened power writable h records rest =
-    let all = front_of_output w.size packed target h.runs rest.others (opened.separators ++ rest.places)
+    let all = prefix_of_output w.size packed target h.runs rest.others (opened.separators ++ rest.places)
     [] h.rows h.bytes power h.packings writable rest.canonical records in (
       record {
         taken = h.taken;
         takes = h.takes;
-        prefix = front_shorter w.size (map segment_of_packed packed ++ target ∷ []) h.taken w.waiting
+        prefix = prefix_shorter w.size (map segment_of_packed packed ++ target ∷ []) h.taken w.waiting
             (rw h.whole at all);
       },
       h.calm.steady,
@@ -396,20 +383,7 @@ pub open_end : (segment : Segment) (runs : List Run) (opened : Opened) → IsOpe
 open_end segment runs opened o = let p = o.gives in
     record { key = o.key; start = o.start; gives = record { size = p.size; left = rw p.goes_on p.holds } }
 
--- ---- where the segment ends
-
-pub whole_one : (size : ℕ) → 256 ≤ size → (segment : Segment) (runs : List Run) (separators : List ℕ)
-    → IsCanonical size segment.samples runs separators
-    → IsPacked size (record { segment = segment; runs = runs; separators = separators })
-whole_one size enough segment runs separators canonical =
-    let f = found size segment.samples enough runs separators canonical in
-    record {
-      packing = f.packing;
-      least = f.least;
-      separating = f.separating;
-      as_many = f.as_many;
-      canonical = f.canonical;
-    }
+-- ---- when the segment ends
 
 pub begun_whole : (start old now : Device) (w : Writing) (packed : List Packed) (segment : Segment)
     (opened other : Opened) (filled left : List ℕ) (next : ℕ) → 256 ≤ w.size → other.size ≡ opened.size
@@ -422,12 +396,12 @@ pub begun_whole : (start old now : Device) (w : Writing) (packed : List Packed) 
     (h.rows ++ a.appends.rows)
 begun_whole start old now w packed segment opened other filled left next enough size h a canonical p calm =
     let one : Packed = record { segment = segment; runs = h.runs ++ a.more; separators = other.separators } in
-    let is = whole_one w.size enough segment (h.runs ++ a.more) other.separators canonical in
+    let is = is_packed_by w.size segment (h.runs ++ a.more) other.separators enough canonical in
     record {
       bytes = h.bytes ++ a.appends.bytes;
       taken = h.taken ++ p.taken;
       output = record {
-        packings = All-append (IsPacked w.size) packed (one ∷ []) h.packings (all_one (IsPacked w.size) one is);
+        packings = All-push (IsPacked w.size) packed one h.packings is;
         records = rw (cuts_further packed one)
             (records_more start old w packed segment opened other true filled next size h a);
       };

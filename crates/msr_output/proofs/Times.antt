@@ -1,4 +1,4 @@
--- A sample of a segment lies in the supported years where the first and the last do.
+-- A sample of a segment lies in the supported years if the first and the last do.
 use Rattle.std.proofs.Common.{◌≡◌, refl, ℕ, ◌+◌, ◌*◌, ◌/◌, ◌<◌, ◌≤◌, arith, ℤ, pos, ◌+ℤ◌, Option, None, Some}
 use Rattle.std.specs.Prelude.{SomeIff, IsSome}
 use Rattle.std.proofs.Math.Nat.{mul-le-mul_right}
@@ -85,7 +85,7 @@ not_far_after rate t0 r last q n m k later first end counted far =
     let step : (up last + down q + 2) * den ≤ (up q + down last) * den = mul-le-mul_right den (omega arith) in
     omega arith
 
--- the samples of a row that begins at a rounded instant lie in the supported years, where the segment's last sample
+-- the samples of a row that begins at a rounded instant lie in the supported years, if the segment's last sample
 -- is not in the last microsecond
 pub nominal_within : (rate : SampleRate) (t0 r last : ℤ) (n m k : ℕ) → n + m ≤ k → IsRoundedNominal rate t0 n r
     → IsRoundedNominal rate t0 k last → IsInstant t0 → IsInstant (last +ℤ pos 1)

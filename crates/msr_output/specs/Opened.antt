@@ -57,7 +57,7 @@ abbrev pub Gives : Bool → ℕ → List ℤ → List Run → List ℕ → Holdi
 Gives false size samples runs separators packer = Packs size samples runs separators packer
 Gives true size samples runs separators packer = PacksLast size samples runs separators packer
 
--- The samples of this segment were pushed, all of them where it is whole, and its first runs were given.
+-- The samples of this segment were pushed, all of them if it is whole, and its first runs were given.
 pub record IsOpen (whole : Bool) (segment : Segment) (runs : List Run) (opened : Opened) : Type 0 where
   pub key : opened.key ≡ segment.key
   pub start : opened.start ≡ segment.start
@@ -72,8 +72,8 @@ pub record CanGoOn (whole : Bool) (opened : Opened) : Type 0 where
   pub size : IsRecordLength opened.size
   pub in_time : SegmentIsInTime segment
 
--- The samples that the packer shows are a run that has a record of the kind, and lie in a segment whose times are of the
--- supported years.
+-- The samples that the packer shows are a run that has a record of the kind, and lie in a segment whose times are of
+-- the supported years.
 pub record CanEncode (size : ℕ) (key : Key) (start : ℤ) (packer : Holding) (run : Run) : Type 0 where
   pub quality : IsTrue (is_quality key.quality)
   pub normal : is_pending key.activity key.correction ≡ false
@@ -90,7 +90,7 @@ pub record AppendsSome (whole : Bool) (segment : Segment) (runs : List Run) (ope
   pub is_open : IsOpen whole segment (runs ++ more) opened
   pub appends : AppendsRecords opened.size number (cuts_at segment more) old new next
 
--- Where the segment is whole, these are the records of all its runs that were left.
+-- If the segment is whole, these are the records of all its runs that were left.
 pub record AppendsMore (whole : Bool) (segment : Segment) (runs : List Run) (opened : Opened) (number : ℕ)
     (old new : List ℕ) (next : ℕ) : Type 0 where
   pub some : AppendsSome whole segment runs opened number old new next
@@ -116,7 +116,7 @@ pub record HasBegun (start now : Device) (writing : Writing) (packed : List Pack
   pub short : 0 < length taken → now.moved < 2 ^ 64
   pub calm : IsCalm start now
 
--- One record more stands after the old bytes; or there is none, and all were given where the segment is whole.
+-- One record more stands after the old bytes; or there is none, and all were given if the segment is whole.
 abbrev pub EncodesNext : Bool → Segment → List Run → Opened → ℕ → List ℕ → List ℕ → Bool → Type 0
 EncodesNext whole segment runs opened number old new true =
     (run : Run) × IsOpen whole segment (runs ++ run ∷ []) opened

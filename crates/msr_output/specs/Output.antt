@@ -45,7 +45,7 @@ pub record IsRowOfRun (segment : Segment) (run : Run) (row : Row) : Type 0 where
   pub samples : row.samples ≡ slice_range segment.samples run.start run.end
 
 -- The bytes are the record of the run with that sequence number, of so many bytes. Whatever follows, they have
--- that row; and where its own times are of the supported years, they are a record without a fault, whose reverse
+-- that row; and if its own times are of the supported years, they are a record without a fault, whose reverse
 -- constant agrees.
 pub record IsRecordOfRun (size number : ℕ) (segment : Segment) (run : Run) (row : Row) (bytes : List ℕ) : Type 0 where
   pub of_run : IsRowOfRun segment run row

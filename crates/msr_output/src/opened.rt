@@ -1,5 +1,5 @@
 //! A segment that is written while its samples come.
-ghost use Rattle.std.specs.Prelude.{◌≡◌, ℕ, ℤ, List, [], ◌++◌, ◌+◌, ◌<◌, ◌≤◌, ◌^◌, length, map, IfOk, IfSome, IsNone, OnOk, IsTrue, MatchResult, true, false};
+ghost use Rattle.std.specs.Prelude.{◌≡◌, ℕ, ℤ, List, [], ◌++◌, ◌+◌, ◌<◌, ◌≤◌, ◌^◌, length, IfOk, IfSome, IsNone, OnOk, IsTrue, MatchResult, true, false};
 ghost use Rattle.msr_header.specs.Reading.{is_quality};
 ghost use Rattle.msr_words.specs.declared.kinds.Run.{Run};
 ghost use Rattle.msr_words.specs.Lengths.{bytes_of};
@@ -57,7 +57,7 @@ fn has_widths(key: Key)
     ensures { IsKey key }
 {}
 
-/// Where no sample is there yet, the times are those of the start.
+/// If no sample is there yet, the times are those of the start.
 fn begins_in_time(key: &Key, start: i64)
     requires { IsInstant start }
     ensures { SpanIsInTime (span_of key.now start 0) }
@@ -112,7 +112,7 @@ impl OpenSegment {
         }
     }
 
-    /// Takes more samples. Where memory is refused, none was taken.
+    /// Takes more samples. If memory is refused, none was taken.
     pub(crate) fn push(&mut self, samples: &[i32]) -> Result<(), AllocError>
         requires { pushed self.old.packer + length samples.now < 2 ^ 64 }
         ensures taken { (segment : Segment) (runs : List Run) → IsOpen false segment runs self.old
@@ -157,7 +157,7 @@ impl OpenSegment {
         )
     }
 
-    /// Appends the record of the next run, where there is one, and says whether there was.
+    /// Appends the record of the next run, if there is one, and says whether there was.
     fn encode_next(
         &mut self,
         alloc: Global,
@@ -186,7 +186,7 @@ impl OpenSegment {
         Ok(true)
     }
 
-    /// Appends the records of the runs that are decided, of all that are left where the segment is whole, numbered from
+    /// Appends the records of the runs that are decided, of all that are left if the segment is whole, numbered from
     /// `first_number` on, and gives the sequence number after theirs.
     pub(crate) fn encode_runs(
         &mut self,

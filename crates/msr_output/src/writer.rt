@@ -36,7 +36,6 @@ impl SegmentWriter {
     ghost use Rattle.msr_record.specs.Correction.{is_pending};
     ghost use Rattle.msr_record.specs.declared.row.Row.{Row};
     ghost use Rattle.msr_devices.specs.Device.{Device, CanCountCall, CountsFew, IsCalm};
-    ghost use Rattle.msr_segments.specs.Segments.{SegmentIsInTime};
     ghost use Rattle.msr_output.specs.Output.{Packed, segment_of_packed};
     ghost use Rattle.msr_output.specs.Writing.{HasWritten, HasWrittenAll, WritesSegment, StopsWriting};
     ghost use Rattle.msr_time.specs.Instant.{IsInstant};
@@ -60,8 +59,8 @@ impl SegmentWriter {
         }
     }
 
-    /// Begins a segment of that key, whose first sample has that instant. Its samples are pushed by `push`, and no other
-    /// segment is written before its `end`.
+    /// Begins a segment of that key, whose first sample has that instant. Its samples are pushed by `push`, and no
+    /// other segment is written before its `end`.
     pub fn begin(&self, key: Key, start: i64) -> OpenSegment
         requires quality { IsTrue (is_quality key.quality) }
         requires normal { is_pending key.activity key.correction ≡ false }
@@ -79,7 +78,7 @@ impl SegmentWriter {
     }
 
     /// Takes more samples of the segment, and puts the records that they decide after those that wait; then writes
-    /// these where they are 64 KiB or more.
+    /// these if they are 64 KiB or more.
     pub fn push<W: Sink>(
         &mut self,
         sink: &mut W,
@@ -96,7 +95,8 @@ impl SegmentWriter {
             → HasBegun start (W.device sink.old) self.old packed before segment.old
             → MatchResult result
             (λ _. HasBegun start (W.device sink.new) self.new packed (longer_by before samples.now) segment.new)
-            (StopsWriting self.old.size start (W.device sink.new) (map segment_of_packed packed ++ longer_by before samples.now ∷ [])) }
+            (StopsWriting self.old.size start (W.device sink.new)
+            (map segment_of_packed packed ++ longer_by before samples.now ∷ [])) }
         ensures can { OnOk result (CanGoOn false segment.new) }
         ensures size { self.new.size ≡ self.old.size }
         ensures same { (segment.new.size ≡ segment.old.size) × (segment.new.key ≡ segment.old.key)
@@ -113,8 +113,8 @@ impl SegmentWriter {
         Ok(())
     }
 
-    /// Ends the segment: puts the records that are left behind those that wait, and then writes these where they are
-    /// 64 KiB or more.
+    /// Ends the segment: puts the records that are left after those that wait, and then writes these if they are 64
+    /// KiB or more.
     pub fn end<W: Sink>(
         &mut self,
         sink: &mut W,
@@ -147,7 +147,7 @@ impl SegmentWriter {
             (λ _. HasWritten start (W.device sink.new) self.new packed rows)
             (StopsWriting self.old.size start (W.device sink.new) (map segment_of_packed packed)) }
 
-        // The same where a segment is open.
+        // The same when a segment is open.
         ensures begun { (start : Device) (packed : List Packed) (before : Whole) (opened : Opened)
             → CanGoOn false opened
             → HasBegun start (W.device sink.old) self.old packed before opened

@@ -87,7 +87,7 @@ fn joining() -> [u8; 768] {
 /// Where a segment begins, and how many samples it has.
 type Place = (i64, usize);
 
-/// The place of the segment that was given, where one was.
+/// The place of the segment that was given, if one was.
 fn given(rt: &impl Abort, next: Result<Option<Segment>, ReadFault>) -> Option<Place> {
     match next {
         Ok(Some(segment)) => Some((segment.start, segment.samples.len())),
@@ -209,7 +209,7 @@ fn reverse_constants_that_do_not_agree(rt: HostRuntime) -> Result<(), Fail> {
     Ok(())
 }
 
-/// What the next row does, and how many samples it has, where there is one.
+/// What the next row does, and how many samples it has, if there is one.
 fn told(rt: &impl Abort, next: Result<Option<NextOutline>, ReadFault>) -> Option<(Step, u16)> {
     match next {
         Ok(Some(next)) => Some((next.step, next.row.count)),
@@ -291,7 +291,7 @@ fn one_byte_for_each_read_between_interruptions(rt: HostRuntime) {
     assert_eq!(rt; counts.read, 3);
 }
 
-/// What the first call answers where the source plays so.
+/// What the first call answers when the source plays so.
 fn failure_of(rt: &impl Abort, alloc: Global, bytes: &[u8], behavior: Behavior) -> ReadFault {
     let mut source = TestSource::new(bytes, behavior);
     let mut reader = SegmentReader::new(alloc, LENIENT);

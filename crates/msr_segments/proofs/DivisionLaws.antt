@@ -43,10 +43,10 @@ division_tail tolerance rows p ps d = record {
 
 -- a part does not go on where another division of the same rows ends it
 no_longer : (tolerance : ℕ) (rows others : List Row) (p q : Part) (ps qs : List Part) (row : Row)
-    (rest behind : List Row) → IsDivision tolerance rows (p ∷ ps) → IsDivision tolerance others (q ∷ qs)
-    → p.0 ≡ q.0 → q.1 ≡ p.1 ++ row ∷ rest → flat_map rows_of ps ≡ row ∷ behind → ⊥
-no_longer tolerance rows others p q [] qs row rest behind d k first e f = no_empty [] behind row f
-no_longer tolerance rows others p q (n ∷ ps) qs row rest behind d k first e f =
+    (rest later : List Row) → IsDivision tolerance rows (p ∷ ps) → IsDivision tolerance others (q ∷ qs)
+    → p.0 ≡ q.0 → q.1 ≡ p.1 ++ row ∷ rest → flat_map rows_of ps ≡ row ∷ later → ⊥
+no_longer tolerance rows others p q [] qs row rest later d k first e f = no_empty [] later row f
+no_longer tolerance rows others p q (n ∷ ps) qs row rest later d k first e f =
     let same : n.0 ≡ row = cc in
     let goes = k.joined [] qs q refl p.1 rest row e in
     let goes' = subst (λ (r : Row). ContinuesPart tolerance (r, p.1) row) (sym first) goes in

@@ -29,6 +29,6 @@ key_test_same a =
       (Decides-eqb a.timing a.timing).1 refl,
     ) refl
 
--- the test of two keys is true exactly where they are equal
+-- the test of two keys is true exactly when they are equal
 pub key_decides : (a b : Key) → Decides (key_test a b) (a ≡ b)
 key_decides a b = (key_same a b, λ e. ap (λ (k : Key). key_test a k) (sym e) ∙ key_test_same a)

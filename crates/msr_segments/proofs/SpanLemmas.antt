@@ -11,7 +11,7 @@ use Rattle.msr_segments.specs.Segments.{row_span, segment_span}
 use Rattle.msr_segments.specs.Joining.{segment_at, joining_of, following_of, IsCounted, JoinsRow, BeginsRow}
 use Rattle.msr_segments.proofs.Divisions.{span_with_row}
 
--- where the rounded instant of the last sample was found, that sample is not out of range
+-- if the rounded instant of the last sample was found, that sample is not out of range
 pub not_out : (span : Span) (found : Option ℤ) (v : ℤ)
     → ((r : ℤ) → IsRoundedNominal span.key.rate span.start (span.count - 1) r → SomeIff found (IsInstant r) r)
     → found ≡ Some v → EndsOutOfRange span → ⊥

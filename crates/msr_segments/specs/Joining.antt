@@ -97,7 +97,7 @@ FollowersStandWithJoiners =
     → following.tolerance ≡ joining.tolerance
     → following ≡ following_of joining
 
--- A row of the supported years overruns exactly where the last segment of all rows, with this one, ends out of
+-- A row of the supported years overruns exactly when the last segment of all rows, with this one, ends out of
 -- range.
 abbrev pub OverrunsAreOutOfRange : Type 0
 OverrunsAreOutOfRange =

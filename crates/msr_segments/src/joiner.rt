@@ -14,6 +14,7 @@ use std::mem;
 /// first sample, counted from the start.
 #[derive(Debug, Drop)]
 pub struct Segment {
+    /// The key of each row.
     pub key: Key,
     /// The instant of the first sample, in microseconds from 1970-01-01 00:00:00.
     pub start: i64,
@@ -34,7 +35,9 @@ pub enum JoinKind {
 /// A refused row, handed back.
 #[derive(Debug, Drop)]
 pub struct JoinFault {
+    /// Why it was refused.
     pub kind: JoinKind,
+    /// The row.
     pub row: Row,
 }
 
@@ -97,7 +100,7 @@ impl Joiner {
             → IfOk result (λ ended. HasJoined self.new (rows ++ row ∷ []) (given ++ option_to_list ended)) }
         ensures step { IfOk result (λ ended. IsPush self.old row ended self.new) }
 
-        // Running out of memory comes only where a row that is in range joins.
+        // Running out of memory comes only when a row that is in range joins.
         ensures time_range { IsErrAnd result (λ fault. fault.kind ≡ JoinKind.TimeRange)
             ↔ Overruns (following_of self.old) (row_span row) }
         ensures memory_only_for_more { IsErrAnd result (λ fault. fault.kind ≡ JoinKind.Memory)

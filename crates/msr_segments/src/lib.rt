@@ -1,6 +1,6 @@
 //! Joining rows of samples into segments.
 //!
-//! A row joins the segment of the row before it where both have the same key and the row begins
+//! A row joins the segment of the row before it if both have the same key and the row begins
 //! near the nominal instant of the segment's next sample, counted from the segment's start.
 //! Neighbours alone join: rows are never put in another order.
 #![tactic(auto)]

@@ -8,6 +8,7 @@ use msr_record::Key;
 /// Where the samples of a row or of a segment lie.
 #[derive(Clone, Copy, Debug)]
 pub struct Span {
+    /// Their key.
     pub key: Key,
     /// The instant of the first sample, in microseconds from 1970-01-01 00:00:00.
     pub start: i64,

@@ -1,4 +1,4 @@
--- What is answered where checking stops.
+-- What is answered when checking stops.
 use Rattle.std.proofs.Common.{ℕ, List, Result, Ok, Err}
 use Rattle.msr_devices.specs.Device.{Device, HasLeft}
 use Rattle.msr_devices.proofs.Chaining.{left_of}

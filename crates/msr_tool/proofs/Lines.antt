@@ -54,9 +54,9 @@ same_more packed more segment same = map-append segment_of_packed packed (more �
     ∙ ap (λ (s : Segment). map segment_of_packed packed ++ s ∷ []) same
 
 -- a prefix of the output of some segments is one of more segments
-pub front_more : (size : ℕ) (start now : Device) (segments others all : List Segment)
+pub prefix_more : (size : ℕ) (start now : Device) (segments others all : List Segment)
     → HasWrittenPrefix size start now segments → all ≡ segments ++ others → HasWrittenPrefix size start now all
-front_more size start now segments others all h same = record {
+prefix_more size start now segments others all h same = record {
   taken = h.taken;
   takes = h.takes;
   prefix = record {
@@ -71,9 +71,9 @@ front_more size start now segments others all h same = record {
 }
 
 -- what was written so far is a prefix of the output of all segments
-pub front_of : (start now : Device) (writing : Writing) (packed : List Packed) (rows : List Row)
+pub prefix_of : (start now : Device) (writing : Writing) (packed : List Packed) (rows : List Row)
     → HasWritten start now writing packed rows → HasWrittenPrefix writing.size start now (map segment_of_packed packed)
-front_of start now writing packed rows h = record {
+prefix_of start now writing packed rows h = record {
   taken = h.taken;
   takes = h.takes;
   prefix = record {
@@ -97,7 +97,7 @@ pub stops_pushing : (start now : Device) (writing : Writing) (packed : List Pack
     → StopsLining size start now (map segment_of_packed packed ++ segment ∷ []) Memory
 stops_pushing start now writing packed segment line size same_size h = (
   rw (← same_more packed h.more segment h.same, ← same_size)
-      (front_of start now writing (packed ++ h.more ∷ []) h.rows h.written),
+      (prefix_of start now writing (packed ++ h.more ∷ []) h.rows h.written),
   h.written.calm.steady,
 )
 
@@ -185,16 +185,16 @@ grows_new opened row none key start writable few =
     let count : count_of opened + length row.samples ≡ length row.samples = omega (arith, none) in
     record { number = omega (arith, none, few); in_time = rw (key, start, count) writable.in_time }
 
--- where it stops, a prefix of the output of more segments was written
+-- when it stops, a prefix of the output of more segments was written
 pub stops_wider : (size : ℕ) (start now : Device) (segments others all : List Segment) (found : ToolFault)
     → all ≡ segments ++ others → StopsLining size start now segments found → StopsLining size start now all found
 stops_wider size start now segments others all (fault.Input other) same h = absurd h
 stops_wider size start now segments others all (fault.Report line) same h = absurd h
 stops_wider size start now segments others all fault.Read same h = absurd h
 stops_wider size start now segments others all fault.Write same h =
-    (front_more size start now segments others all h.0 same, h.1)
+    (prefix_more size start now segments others all h.0 same, h.1)
 stops_wider size start now segments others all fault.Memory same h =
-    (front_more size start now segments others all h.0 same, h.1)
+    (prefix_more size start now segments others all h.0 same, h.1)
 
 -- the last segment does not end
 pub stops_ending : (size : ℕ) (start now : Device) (packed : List Packed) (current : Option Segment) (row : Row)
@@ -234,25 +234,25 @@ pub stops_finishing : (size : ℕ) (start now : Device) (w : Writing) (all packe
 stops_finishing size start now w all packed current fault same_size same h =
     rw (← same, ← same_size) (stops_lining w.size start now (map segment_of_packed all) fault h)
 
--- ---- where a segment goes on
+-- ---- when a segment goes on
 
-front_written : (start now : Device) (w : Writing) (packed : List Packed) (current : Option Segment)
+prefix_written : (start now : Device) (w : Writing) (packed : List Packed) (current : Option Segment)
     (last : Option Opened) → IfSome last (GoesOn w.size) → StandsWritten start now w packed current last
     → HasWrittenPrefix w.size start now (map segment_of_packed packed ++ option_to_list current)
-front_written start now w packed None None goes h =
-    rw (append-nil (map segment_of_packed packed)) (front_of start now w packed h.0 h.1)
-front_written start now w packed None (Some opened) goes h = absurd h
-front_written start now w packed (Some segment) None goes h = absurd h
-front_written start now w packed (Some segment) (Some opened) goes h =
+prefix_written start now w packed None None goes h =
+    rw (append-nil (map segment_of_packed packed)) (prefix_of start now w packed h.0 h.1)
+prefix_written start now w packed None (Some opened) goes h = absurd h
+prefix_written start now w packed (Some segment) None goes h = absurd h
+prefix_written start now w packed (Some segment) (Some opened) goes h =
     (refused_now start now w packed segment opened (rw goes.same_size at goes.can.size)
     (writable_now opened goes.can segment h.runs h.is_open h.samples) h).0
 
 -- what was written so far is a prefix of the output of all segments, with the one that has not ended
-pub front_lined : (start now : Device) (lined : Lined) (packed : List Packed) (current : Option Segment)
+pub prefix_lined : (start now : Device) (lined : Lined) (packed : List Packed) (current : Option Segment)
     → IfSome lined.last (GoesOn lined.writing.size) → HasLined start now lined packed current
     → HasWrittenPrefix lined.writing.size start now (map segment_of_packed packed ++ option_to_list current)
-front_lined start now lined packed current goes h =
-    front_written start now lined.writing packed current lined.last goes h.written
+prefix_lined start now lined packed current goes h =
+    prefix_written start now lined.writing packed current lined.last goes h.written
 
 calm_written : (start now : Device) (w : Writing) (packed : List Packed) (current : Option Segment)
     (last : Option Opened) → StandsWritten start now w packed current last → IsCalm start now
@@ -360,7 +360,7 @@ pub stops_flushing : (start old now : Device) (lined : Lined) (packed : List Pac
 stops_flushing start old now lined packed current fault goes none begun h =
     stops_so start old now lined.writing packed current lined.last fault goes none begun h.written
 
--- where nothing waits, all records that are decided were written
+-- if nothing waits, all records that are decided were written
 decided_so : (start now : Device) (w : Writing) (packed : List Packed) (current : Option Segment)
     (last : Option Opened) → IfSome last (GoesOn w.size) → IfSome last IsEncoded → w.waiting ≡ []
     → StandsWritten start now w packed current last

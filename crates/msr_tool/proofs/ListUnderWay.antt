@@ -1,4 +1,4 @@
--- The state of listing between two rows, and what is answered where it stops.
+-- The state of listing between two rows, and what is answered when it stops.
 use Rattle.std.proofs.Common.{◌≡◌, inl, inr, ℕ, ◌<◌, List, [], ◌++◌, ◌∙◌, length, length-append, refl, sym, ap, subst, Result, Ok, Err, Option, Some, None, IfSome}
 use Rattle.std.proofs.lemmas.List.{append-nil}
 use Rattle.std.specs.Prelude.{option_map}
@@ -29,7 +29,7 @@ use Rattle.msr_tool.specs.Writing.{current_after, ended_by, longer_current}
 use Rattle.msr_tool.specs.declared.fault.ToolFault.{ToolFault}
 use Rattle.msr_tool.specs.declared.fault.ToolFault.TheVariants as fault
 use Rattle.msr_tool.specs.declared.open_segment.OpenSegment.{OpenSegment}
-use Rattle.msr_tool.proofs.Listed.{front_wider}
+use Rattle.msr_tool.proofs.Listed.{prefix_wider}
 use Rattle.msr_tool.proofs.RowsSoFar.{RowsSoFar, RowMore, no_rows, row_more}
 
 -- A joiner of the rows so far says what was begun and what has ended.
@@ -134,9 +134,9 @@ record Stopped (settings : Settings) (source0 sink0 sink : Device) : Type 0 wher
 
 stopped : (settings : Settings) (source0 sink0 sink : Device) (given : List Segment)
     → StopsAfter settings source0 given → HasListedPrefix sink0 sink given → Stopped settings source0 sink0 sink
-stopped settings source0 sink0 sink given h front =
+stopped settings source0 sink0 sink given h prefix =
     let all : List Segment = given ++ h.begun.others in
-    let wide = front_wider sink0 sink given h.begun.others all front refl in
+    let wide = prefix_wider sink0 sink given h.begun.others all prefix refl in
     record {
       input = h.input;
       written = wide.taken;
@@ -156,9 +156,9 @@ stopped settings source0 sink0 sink given h front =
 pub list_read_failed : (settings : Settings) (source0 source sink0 sink : Device) (given : List Segment)
     (why : ReadFault) → StopsReading settings source0 source given why → HasListedPrefix sink0 sink given
     → IsListAnswered settings source0 sink0 sink (Err (fault_of_reading why))
-list_read_failed settings source0 source sink0 sink given (read.Input found) h front =
+list_read_failed settings source0 source sink0 sink given (read.Input found) h prefix =
     let all : List Segment = given ++ h.0.begun.others in
-    let wide = front_wider sink0 sink given h.0.begun.others all front refl in (
+    let wide = prefix_wider sink0 sink given h.0.begun.others all prefix refl in (
       h.0.input,
       wide.taken,
       h.0.left,
@@ -171,10 +171,10 @@ list_read_failed settings source0 source sink0 sink given (read.Input found) h f
         prefix = wide.prefix;
       },
     )
-list_read_failed settings source0 source sink0 sink given read.Read h front =
-    let s = stopped settings source0 sink0 sink given h.0 front in (s.input, s.written, s.left, s.takes, s.stopped)
-list_read_failed settings source0 source sink0 sink given read.Memory h front =
-    let s = stopped settings source0 sink0 sink given h.0 front in (s.input, s.written, s.left, s.takes, s.stopped)
+list_read_failed settings source0 source sink0 sink given read.Read h prefix =
+    let s = stopped settings source0 sink0 sink given h.0 prefix in (s.input, s.written, s.left, s.takes, s.stopped)
+list_read_failed settings source0 source sink0 sink given read.Memory h prefix =
+    let s = stopped settings source0 sink0 sink given h.0 prefix in (s.input, s.written, s.left, s.takes, s.stopped)
 
 -- a line is not written
 pub list_write_failed : (settings : Settings) (source0 sink0 sink : Device) (given : List Segment)

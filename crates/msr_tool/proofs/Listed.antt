@@ -28,7 +28,7 @@ lists_snoc (one ∷ segments) text line segment are is = (
   lists_snoc segments are.0 line segment are.2 is,
 )
 
--- the line of the segment that was begun last, where one was
+-- the line of the segment that was begun last, if one was
 lists_last : (segments : List Segment) (text line : List ℕ) (current : Option Segment) → AreListLines segments text
     → IsLastLine (option_map open_of current) line → AreListLines (segments ++ option_to_list current) (text ++ line)
 lists_last segments text line None are is = rw (is, append-nil segments, append-nil text) are
@@ -53,9 +53,9 @@ flows_on start now next waiting pushed waits more segments h same passes = recor
 }
 
 -- there is no memory for a line
-pub front_listed : (start now : Device) (waiting : List ℕ) (segments others : List Segment)
+pub prefix_listed : (start now : Device) (waiting : List ℕ) (segments others : List Segment)
     → HasListed start now waiting segments → HasListedPrefix start now (segments ++ others)
-front_listed start now waiting segments others h = record {
+prefix_listed start now waiting segments others h = record {
   taken = h.taken;
   takes = h.takes;
   prefix = record {
@@ -68,9 +68,9 @@ front_listed start now waiting segments others h = record {
 }
 
 -- a prefix of a longer list of segments
-pub front_wider : (start now : Device) (segments others all : List Segment) → HasListedPrefix start now segments
+pub prefix_wider : (start now : Device) (segments others all : List Segment) → HasListedPrefix start now segments
     → all ≡ segments ++ others → HasListedPrefix start now all
-front_wider start now segments others all h same = record {
+prefix_wider start now segments others all h same = record {
   taken = h.taken;
   takes = h.takes;
   prefix = record {

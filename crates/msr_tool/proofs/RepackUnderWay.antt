@@ -1,6 +1,7 @@
 -- The state of repacking between two rows.
-use Rattle.std.proofs.Common.{◌≡◌, ◌⊎◌, inl, inr, ℕ, zero, suc, ◌*◌, ◌^◌, ◌<◌, ◌≤◌, List, [], ◌∷◌, ◌++◌, ◌∙◌, length, map, All, refl, sym, subst, Ok, Err, Option, IfSome, arith}
+use Rattle.std.proofs.Common.{◌≡◌, ◌⊎◌, inl, inr, ℕ, ◌*◌, ◌^◌, ◌<◌, ◌≤◌, List, [], ◌∷◌, ◌++◌, ◌∙◌, length, map, All, refl, sym, subst, Ok, Err, Option, IfSome, arith}
 use Rattle.std.proofs.Math.Nat.{mul-le-mul_right}
+use Rattle.std.proofs.lemmas.List.Elements.{All-cons, All-head, All-nil, All-tail}
 use Rattle.std.specs.Option.{option_to_list}
 use Rattle.msr_words.specs.Lengths.{bytes_of}
 use Rattle.msr_segments.specs.declared.joiner.Segment.{Segment}
@@ -82,38 +83,28 @@ flushed choice source0 source sink0 sink sink' reading so_far so_far' u wrote la
   calm = calm_lined sink0 sink' so_far' u.packed u.joining.current wrote;
 }
 
-all_head : {X : Type 0} (P : X → Type 0) (x : X) (xs : List X) → All P (x ∷ xs) → P x
-all_head P x xs all = all 0 x (omega arith)
-
-all_tail : {X : Type 0} (P : X → Type 0) (x : X) (xs : List X) → All P (x ∷ xs) → All P xs
-all_tail P x xs all k d h = all (suc k) d (omega arith)
-
-all_cons : {X : Type 0} (P : X → Type 0) (x : X) (xs : List X) → P x → All P xs → All P (x ∷ xs)
-all_cons P x xs head tail zero d h = head
-all_cons P x xs head tail (suc k) d h = tail k d (omega arith)
-
 abbrev HasSome : Packed → Type 0
 HasSome packed = 1 ≤ length packed.segment.samples
 
 -- what reading says of each segment is so of each line
 proper_lines : (packed : List Packed) (lines : List SegmentLine) → All IsWritable (map segment_of_packed packed)
     → AreLinesOf packed lines → All IsProperLine lines
-proper_lines [] lines writable are = rw are (λ k d h. absurd (omega arith))
+proper_lines [] lines writable are = rw are (All-nil IsProperLine)
 proper_lines (one ∷ packed) [] writable are = absurd are
 proper_lines (one ∷ packed) (its ∷ lines) writable are =
-    let head : IsWritable one.segment = all_head IsWritable one.segment (map segment_of_packed packed) writable in
+    let head : IsWritable one.segment = All-head IsWritable one.segment (map segment_of_packed packed) writable in
     let first : IsProperLine its = record {
       quality = rw are.0.key head.quality;
       start = rw are.0.start head.in_time.first_in;
     } in
-    all_cons IsProperLine its lines first (proper_lines packed lines
-    (all_tail IsWritable one.segment (map segment_of_packed packed) writable) are.1)
+    All-cons IsProperLine its lines first (proper_lines packed lines
+    (All-tail IsWritable one.segment (map segment_of_packed packed) writable) are.1)
 
 some_samples : (packed : List Packed) → All IsWritable (map segment_of_packed packed) → All HasSome packed
-some_samples [] writable = λ k d h. absurd (omega arith)
+some_samples [] writable = All-nil HasSome
 some_samples (one ∷ packed) writable =
-    all_cons HasSome one packed (all_head IsWritable one.segment (map segment_of_packed packed) writable).some
-    (some_samples packed (all_tail IsWritable one.segment (map segment_of_packed packed) writable))
+    All-cons HasSome one packed (All-head IsWritable one.segment (map segment_of_packed packed) writable).some
+    (some_samples packed (All-tail IsWritable one.segment (map segment_of_packed packed) writable))
 
 few_runs : (size runs bytes : ℕ) → 1 ≤ size → bytes ≡ size * runs → bytes < 2 ^ 64 → runs < 2 ^ 64
 few_runs size runs bytes some are short =
@@ -178,13 +169,13 @@ flush_stops choice source0 source sink0 sink sink' reading so_far found u stops 
     (rows_read (settings_of choice) source0 source reading (map segment_of_packed u.packed) u.joining u.rows)
     (subst (λ (n : ℕ). StopsLining n sink0 sink' all found) u.size stops)
 
--- ---- where what is decided is written before each read
+-- ---- when what is decided is written before each read
 
 -- the next record is at hand, or nothing waits to be written
 abbrev pub IsReady : RowReading → Lined → Type 0
 IsReady reading so_far = HoldsRecord reading.position.waiting ⊎ (so_far.writing.waiting ≡ [])
 
--- a reader that fails where nothing waits
+-- a reader that fails when nothing waits
 live_so : (choice : Choice) (source0 source source' sink0 sink : Device) (reading reading' : RowReading)
     (so_far : Lined) (u : UnderWay choice source0 source sink0 sink reading so_far) → so_far.writing.waiting ≡ []
     → HaveComeShort source0 source' u.rows.records reading'.position.waiting
@@ -198,7 +189,7 @@ live_so choice source0 source source' sink0 sink reading reading' so_far u none 
     record {
       input = begun.0;
       records = u.rows.records;
-      behind = reading'.position.waiting;
+      waiting = reading'.position.waiting;
       rest = left.0;
       segments = map segment_of_packed u.packed ++ option_to_list u.joining.current;
       written = wrote.bytes;
@@ -224,7 +215,7 @@ read_fault (read.Input other) e = absurd cc
 read_fault read.Read e = refl
 read_fault read.Memory e = absurd cc
 
--- where a read failed, nothing waited
+-- when a read failed, nothing waited
 pub live : (choice : Choice) (source0 source source' sink0 sink : Device) (reading reading' : RowReading)
     (so_far : Lined) (why : ReadFault) (u : UnderWay choice source0 source sink0 sink reading so_far)
     → IsReady reading so_far → fault_of_reading why ≡ fault.Read
@@ -242,12 +233,3 @@ live choice source0 source source' sink0 sink reading reading' so_far why u (inl
 live choice source0 source source' sink0 sink reading reading' so_far why u (inr none) e stops unread came short =
     let is = read_fault why e in
     live_so choice source0 source source' sink0 sink reading reading' so_far u none (came is) (short is)
-
--- what is written is no fault of a read
-pub lining_unread : (size : ℕ) (start now : Device) (segments : List Segment) (found : ToolFault)
-    → StopsLining size start now segments found → found ≡ fault.Read → ⊥
-lining_unread size start now segments (fault.Input other) h e = h
-lining_unread size start now segments (fault.Report line) h e = h
-lining_unread size start now segments fault.Read h e = h
-lining_unread size start now segments fault.Write h e = absurd cc
-lining_unread size start now segments fault.Memory h e = absurd cc

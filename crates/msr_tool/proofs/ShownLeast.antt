@@ -18,21 +18,21 @@ use Rattle.msr_verdict.specs.Packed.{IsFull, AreShownBy}
 use Rattle.msr_tool.specs.Choice.{settings_of, size_of}
 use Rattle.msr_tool.specs.Shown.{EndsBeforeTheLast, RepackedIsShown}
 use Rattle.msr_tool.proofs.ShownRows.{IsWithin, AreWithin, record_of, lines_within, cuts_within, rows_sound, bytes_begin, records_full, records_rows}
-use Rattle.msr_tool.proofs.ShownPrefixes.{IsPrefixOf, last_of_front}
+use Rattle.msr_tool.proofs.ShownPrefixes.{IsPrefixOf, last_of_prefix}
 use Rattle.msr_tool.proofs.ShownParts.{are_shown}
 
 -- a prefix of such a segment ends in the supported years
-front_within : (front whole : Segment) → IsPrefixOf front whole → IsWithin whole
-    → EndsOutOfRange (segment_span front) → ⊥
-front_within front whole is within out =
+prefix_within : (prefix whole : Segment) → IsPrefixOf prefix whole → IsWithin whole
+    → EndsOutOfRange (segment_span prefix) → ⊥
+prefix_within prefix whole is within out =
     let rate = whole.key.rate in
-    let few : (length front.samples - 1) + 0 ≤ length whole.samples - 1 = omega (arith, is.fewer) in
-    let at_key : IsRoundedNominal rate front.start (length front.samples - 1) out.instant =
-    subst (λ (key : Key). IsRoundedNominal key.rate front.start
-    (length front.samples - 1) out.instant) is.key out.nominal in
-    let at_start : IsRoundedNominal rate whole.start (length front.samples - 1) out.instant =
-    subst (λ (t : ℤ). IsRoundedNominal rate t (length front.samples - 1) out.instant) is.start at_key in
-    let times = nominal_within rate whole.start out.instant within.end.last (length front.samples - 1) 0
+    let few : (length prefix.samples - 1) + 0 ≤ length whole.samples - 1 = omega (arith, is.fewer) in
+    let at_key : IsRoundedNominal rate prefix.start (length prefix.samples - 1) out.instant =
+    subst (λ (key : Key). IsRoundedNominal key.rate prefix.start
+    (length prefix.samples - 1) out.instant) is.key out.nominal in
+    let at_start : IsRoundedNominal rate whole.start (length prefix.samples - 1) out.instant =
+    subst (λ (t : ℤ). IsRoundedNominal rate t (length prefix.samples - 1) out.instant) is.start at_key in
+    let times = nominal_within rate whole.start out.instant within.end.last (length prefix.samples - 1) 0
     (length whole.samples - 1) few at_start within.end.nominal within.start within.end.before in
     out.out times.2
 
@@ -41,16 +41,16 @@ within_at : (before after : List Part) (part : Part) → AreWithin (map segment_
 within_at [] after part within = within.0
 within_at (p ∷ before) after part within = within_at before after part within.1
 
--- no front of the rows ends out of range
-none_ends : (tolerance : ℕ) (rows : List Row) (parts : List Part) (front rest : List Row)
-    → IsDivision tolerance rows parts → AreWithin (map segment_of parts) → rows ≡ front ++ rest
-    → LastEndsOutOfRange tolerance front → ⊥
+-- no prefix of the rows ends out of range
+none_ends : (tolerance : ℕ) (rows : List Row) (parts : List Part) (prefix rest : List Row)
+    → IsDivision tolerance rows parts → AreWithin (map segment_of parts) → rows ≡ prefix ++ rest
+    → LastEndsOutOfRange tolerance prefix → ⊥
 none_ends tolerance rows parts [] rest d within e out = no_segments tolerance out.segments out.last out.are_segments
-none_ends tolerance rows parts (first ∷ front) rest d within e out =
-    let one = last_of_front tolerance rows parts first front rest out.segments out.last d e out.are_segments in
+none_ends tolerance rows parts (first ∷ prefix) rest d within e out =
+    let one = last_of_prefix tolerance rows parts first prefix rest out.segments out.last d e out.are_segments in
     let its = within_at one.before one.after one.part
     (subst (λ (ps : List Part). AreWithin (map segment_of ps)) one.whole within) in
-    front_within out.last (segment_of one.part) one.is_front its out.out_of_range
+    prefix_within out.last (segment_of one.part) one.is_prefix its out.out_of_range
 
 rows_append : (records more : List Record) → rows_of_records (records ++ more) ≡ rows_of_records records
     ++ rows_of_records more

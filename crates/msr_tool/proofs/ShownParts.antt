@@ -2,6 +2,7 @@
 use Rattle.std.proofs.Common.{◌≡◌, ℕ, ◌+◌, ◌-◌, List, [], ◌∷◌, ◌++◌, ◌∙◌, length, map, arith, refl, sym, ap, subst, length-append}
 use Rattle.std.specs.List.{flat_map}
 use Rattle.std.specs.Prelude.{All}
+use Rattle.std.proofs.lemmas.List.Elements.{All-head, All-tail}
 use Rattle.msr_words.proofs.Runs.{same_run}
 use Rattle.msr_words.specs.declared.kinds.Run.{Run}
 use Rattle.msr_words.specs.Packing.{Joins, IsSeparating}
@@ -13,7 +14,6 @@ use Rattle.msr_report.specs.declared.report.SegmentLine.{SegmentLine}
 use Rattle.msr_output.specs.Output.{Packed, IsPacked, AreWritten, next_number, number_after, cuts_at, cuts_of, segment_of_packed}
 use Rattle.msr_output.specs.Writing.{IsLineOf}
 use Rattle.msr_output.proofs.CutRows.{IsFitting, written_split}
-use Rattle.msr_output.proofs.OneOutput.{all_first, all_rest}
 use Rattle.msr_verdict.specs.Packed.{runs_of_rows, IsShownAs, IsShownBy, AreShownBy}
 use Rattle.msr_verdict.proofs.Runs.{samples_of, segment_samples}
 use Rattle.msr_tool.specs.Answer.{AreLinesOf}
@@ -31,18 +31,18 @@ some_samples : (row : Row) (rows : List Row) → IsSound row → 0 ≡ length (s
 some_samples row rows is e = omega (arith, e, is.some, length-append row.samples (samples_of rows))
 
 -- prefixes of the same rows with as many samples are the same prefix, since each row has some
-same_front : (xs ys u v : List Row) → xs ++ u ≡ ys ++ v → AreSound xs → AreSound ys
+same_prefix : (xs ys u v : List Row) → xs ++ u ≡ ys ++ v → AreSound xs → AreSound ys
     → length (samples_of xs) ≡ length (samples_of ys) → (xs ≡ ys) × (u ≡ v)
-same_front [] [] u v e first second size = (refl, e)
-same_front [] (y ∷ ys) u v e first second size = absurd (some_samples y ys second.0 size)
-same_front (x ∷ xs) [] u v e first second size = absurd (some_samples x xs first.0 (sym size))
-same_front (x ∷ xs) (y ∷ ys) u v e first second size =
+same_prefix [] [] u v e first second size = (refl, e)
+same_prefix [] (y ∷ ys) u v e first second size = absurd (some_samples y ys second.0 size)
+same_prefix (x ∷ xs) [] u v e first second size = absurd (some_samples x xs first.0 (sym size))
+same_prefix (x ∷ xs) (y ∷ ys) u v e first second size =
     let h : x ≡ y = cc in
     let t : xs ++ u ≡ ys ++ v = cc in
     let count : length x.samples ≡ length y.samples = ap (λ (r : Row). length r.samples) h in
     let rest : length (samples_of xs) ≡ length (samples_of ys) =
     omega (arith, size, count, length-append x.samples (samples_of xs), length-append y.samples (samples_of ys)) in
-    let same = same_front xs ys u v t first.1 second.1 rest in
+    let same = same_prefix xs ys u v t first.1 second.1 rest in
     (ap (λ (r : Row). r ∷ xs) h ∙ ap (λ (r : List Row). y ∷ r) same.0, same.1)
 
 -- The rows of a segment's records are its runs, and have all its samples.
@@ -59,13 +59,13 @@ are_runs size n segment [] a rows bytes fitting joined are =
 are_runs size n segment (run ∷ runs) a rows bytes fitting joined are =
     let w = are.2 in
     let is_row = w.is_record.of_run in
-    let fits = all_first (IsFitting size segment.samples) run runs fitting in
+    let fits = All-head (IsFitting size segment.samples) run runs fitting in
     let count : length w.row.samples ≡ run.end - run.start = ap length is_row.samples
     ∙ range_length segment.samples run.start run.end fits.1 in
     let start : run.start ≡ a = joined.0 in
     let end : a + length w.row.samples ≡ run.end = omega (arith, count, start, fits.0) in
     let rest = are_runs size (next_number n) segment runs run.end are.0 are.1
-    (all_rest (IsFitting size segment.samples) run runs fitting) joined.1 are.3 in
+    (All-tail (IsFitting size segment.samples) run runs fitting) joined.1 are.3 in
     let first : Run = record { start = a; end = a + length w.row.samples; kind = w.row.kind } in
     let is_first : first ≡ run = same_run first run (sym start) end is_row.kind in
     let others : runs_of_rows (a + length w.row.samples) are.0 ≡ runs = ap (λ (m : ℕ). runs_of_rows m are.0) end
@@ -106,7 +106,7 @@ are_shown size n (one ∷ packed) (line ∷ lines) [] rows bytes packings lines_
 are_shown size n (one ∷ packed) (line ∷ lines) (p ∷ ps) rows bytes packings lines_are each whole sound are =
     let head : one.segment ≡ segment_of p = cc in
     let tail : map segment_of_packed packed ≡ map segment_of ps = cc in
-    let is = all_first (IsPacked size) one packed packings in
+    let is = All-head (IsPacked size) one packed packings in
     let split = written_split size n (cuts_of one) (flat_map cuts_of packed) rows bytes are in
     let runs = are_runs size n one.segment one.runs 0 split.first_rows split.first_bytes is.packing.each_fits
     is.packing.joined split.first in
@@ -115,7 +115,7 @@ are_shown size n (one ∷ packed) (line ∷ lines) (p ∷ ps) rows bytes packing
     let sound_parts = subst (λ (r : List Row). AreSound r) whole sound in
     let total : length (samples_of (rows_of p)) ≡ length one.segment.samples = ap length (sym (segment_samples p))
     ∙ ap (λ (s : Segment). length s.samples) (sym head) in
-    let same = same_front split.first_rows (rows_of p) split.other_rows (flat_map rows_of ps) two
+    let same = same_prefix split.first_rows (rows_of p) split.other_rows (flat_map rows_of ps) two
     (first_sound split.first_rows split.other_rows sound_first)
     (first_sound (rows_of p) (flat_map rows_of ps) sound_parts) (omega (arith, total, runs.size)) in
     let its_runs : one.runs ≡ runs_of_rows 0 (rows_of p) = sym runs.same ∙ ap (runs_of_rows 0) same.0 in
@@ -123,6 +123,6 @@ are_shown size n (one ∷ packed) (line ∷ lines) (p ∷ ps) rows bytes packing
     (subst (λ (s : Segment). IsShownAs size s one.runs line) head (is_shown size one line is lines_are.0)) in (
       shown,
       are_shown size (number_after n (cuts_of one)) packed lines ps split.other_rows split.other_bytes
-          (all_rest (IsPacked size) one packed packings) lines_are.1 tail same.1
+          (All-tail (IsPacked size) one packed packings) lines_are.1 tail same.1
           (sound_rest split.first_rows split.other_rows sound_first) split.others,
     )

@@ -23,7 +23,7 @@ split_first {X} (x ∷ xs) u (y ∷ f) v e =
     ]
 
 -- The rows are cut within this part.
-pub record IsCutIn (parts : List Part) (front : List Row) : Type 0 where
+pub record IsCutIn (parts : List Part) (prefix : List Row) : Type 0 where
   pub before : List Part
   pub after : List Part
   pub part : Part
@@ -31,11 +31,11 @@ pub record IsCutIn (parts : List Part) (front : List Row) : Type 0 where
   pub left : List Row
   pub whole : parts ≡ before ++ part ∷ after
   pub rows : part.1 ≡ kept ++ left
-  pub front_is : front ≡ flat_map rows_of before ++ part.0 ∷ kept
+  pub prefix_is : prefix ≡ flat_map rows_of before ++ part.0 ∷ kept
 
-cut_later : (p : Part) (ps : List Part) (front : List Row) (c : IsCutIn ps front)
-    → IsCutIn (p ∷ ps) (rows_of p ++ front)
-cut_later p ps front c = record {
+cut_later : (p : Part) (ps : List Part) (prefix : List Row) (c : IsCutIn ps prefix)
+    → IsCutIn (p ∷ ps) (rows_of p ++ prefix)
+cut_later p ps prefix c = record {
   before = p ∷ c.before;
   after = c.after;
   part = c.part;
@@ -43,48 +43,48 @@ cut_later p ps front c = record {
   left = c.left;
   whole = ap (λ (xs : List Part). p ∷ xs) c.whole;
   rows = c.rows;
-  front_is = ap (λ (r : List Row). rows_of p ++ r) c.front_is
+  prefix_is = ap (λ (r : List Row). rows_of p ++ r) c.prefix_is
       ∙ sym (append_assoc (rows_of p) (flat_map rows_of c.before) (c.part.0 ∷ c.kept));
 }
 
-cut_parts : (parts : List Part) (first : Row) (front rest : List Row)
-    → flat_map rows_of parts ≡ first ∷ (front ++ rest) → IsCutIn parts (first ∷ front)
-cut_parts [] first front rest e = absurd (no_empty [] (front ++ rest) first e)
-cut_parts (p ∷ ps) first front rest e =
+cut_parts : (parts : List Part) (first : Row) (prefix rest : List Row)
+    → flat_map rows_of parts ≡ first ∷ (prefix ++ rest) → IsCutIn parts (first ∷ prefix)
+cut_parts [] first prefix rest e = absurd (no_empty [] (prefix ++ rest) first e)
+cut_parts (p ∷ ps) first prefix rest e =
     let h : p.0 ≡ first = cc in
-    let t : p.1 ++ flat_map rows_of ps ≡ front ++ rest = cc in
-    elim (split_first p.1 (flat_map rows_of ps) front rest t) [
+    let t : p.1 ++ flat_map rows_of ps ≡ prefix ++ rest = cc in
+    elim (split_first p.1 (flat_map rows_of ps) prefix rest t) [
       | inl w ↦ record {
         before = [];
         after = ps;
         part = p;
-        kept = front;
+        kept = prefix;
         left = w.0;
         whole = refl;
         rows = w.1;
-        front_is = ap (λ (r : Row). r ∷ front) (sym h);
+        prefix_is = ap (λ (r : Row). r ∷ prefix) (sym h);
       }
       | inr w ↦
           let later = cut_later p ps (w.0 ∷ w.1) (cut_parts ps w.0 w.1 rest w.3) in
-          let same : rows_of p ++ w.0 ∷ w.1 ≡ first ∷ front = ap (λ (r : Row). r ∷ (p.1 ++ w.0 ∷ w.1)) h
+          let same : rows_of p ++ w.0 ∷ w.1 ≡ first ∷ prefix = ap (λ (r : Row). r ∷ (p.1 ++ w.0 ∷ w.1)) h
           ∙ ap (λ (r : List Row). first ∷ r) (sym w.2) in
           subst (λ (r : List Row). IsCutIn (p ∷ ps) r) same later
     ]
 
 -- the last part of the rows that are left
-abbrev kept_part : (parts : List Part) (front : List Row) → IsCutIn parts front → Part
-kept_part parts front c = (c.part.0, c.kept)
+abbrev kept_part : (parts : List Part) (prefix : List Row) → IsCutIn parts prefix → Part
+kept_part parts prefix c = (c.part.0, c.kept)
 
--- the front's parts are those before the cut, and what is left of the part that is cut
-cut_division : (tolerance : ℕ) (rows : List Row) (parts : List Part) (front : List Row) (c : IsCutIn parts front)
-    → IsDivision tolerance rows parts → IsDivision tolerance front (c.before ++ kept_part parts front c ∷ [])
-cut_division tolerance rows parts front c d =
-    let last : Part = kept_part parts front c in
+-- the prefix's parts are those before the cut, and what is left of the part that is cut
+cut_division : (tolerance : ℕ) (rows : List Row) (parts : List Part) (prefix : List Row) (c : IsCutIn parts prefix)
+    → IsDivision tolerance rows parts → IsDivision tolerance prefix (c.before ++ kept_part parts prefix c ∷ [])
+cut_division tolerance rows parts prefix c d =
+    let last : Part = kept_part parts prefix c in
     let last_joined : IsJoined tolerance last =
     λ before after row e. d.joined c.before c.after c.part c.whole before (after ++ c.left) row
     (c.rows ∙ ap (λ (r : List Row). r ++ c.left) e ∙ append_assoc before (row ∷ after) c.left) in
     record {
-      whole = c.front_is ∙ ap (λ (r : List Row). flat_map rows_of c.before ++ r) (sym (append-nil (rows_of last)))
+      whole = c.prefix_is ∙ ap (λ (r : List Row). flat_map rows_of c.before ++ r) (sym (append-nil (rows_of last)))
           ∙ sym (flat_map-append rows_of c.before (last ∷ []));
       joined = λ before after p e. elim (cases_last c.before before after last p e) [
         | inl w ↦ subst (λ (q : Part). IsJoined tolerance q) w.2 last_joined
@@ -105,15 +105,15 @@ cut_division tolerance rows parts front c d =
     }
 
 -- The segment is a prefix of the other.
-pub record IsPrefixOf (front whole : Segment) : Type 0 where
-  pub key : front.key ≡ whole.key
-  pub start : front.start ≡ whole.start
-  pub fewer : length front.samples ≤ length whole.samples
+pub record IsPrefixOf (prefix whole : Segment) : Type 0 where
+  pub key : prefix.key ≡ whole.key
+  pub start : prefix.start ≡ whole.start
+  pub fewer : length prefix.samples ≤ length whole.samples
 
-kept_front : (part : Part) (kept left : List Row) → part.1 ≡ kept ++ left
+kept_prefix : (part : Part) (kept left : List Row) → part.1 ≡ kept ++ left
     → IsPrefixOf (segment_of (part.0, kept)) (segment_of part)
 unfolding segment_of
-kept_front part kept left e =
+kept_prefix part kept left e =
     let samples = λ (r : Row). r.samples in
     let all : flat_map samples (rows_of part) ≡ flat_map samples (part.0 ∷ kept) ++ flat_map samples left =
     ap (λ (rs : List Row). flat_map samples (part.0 ∷ rs)) e ∙ flat_map-append samples (part.0 ∷ kept) left in
@@ -128,26 +128,26 @@ pub record BeginsOne (last : Segment) (parts : List Part) : Type 0 where
   pub after : List Part
   pub part : Part
   pub whole : parts ≡ before ++ part ∷ after
-  pub is_front : IsPrefixOf last (segment_of part)
+  pub is_prefix : IsPrefixOf last (segment_of part)
 
-pub last_of_front : (tolerance : ℕ) (rows : List Row) (parts : List Part) (first : Row) (front rest : List Row)
-    (segments : List Segment) (last : Segment) → IsDivision tolerance rows parts → rows ≡ first ∷ (front ++ rest)
-    → AreSegments tolerance (first ∷ front) (segments ++ last ∷ []) → BeginsOne last parts
-last_of_front tolerance rows parts first front rest segments last d e a =
-    let c = cut_parts parts first front rest (sym d.whole ∙ e) in
-    let part : Part = kept_part parts (first ∷ front) c in
-    let cut : AreSegments tolerance (first ∷ front) (map segment_of c.before ++ segment_of part ∷ []) = record {
+pub last_of_prefix : (tolerance : ℕ) (rows : List Row) (parts : List Part) (first : Row) (prefix rest : List Row)
+    (segments : List Segment) (last : Segment) → IsDivision tolerance rows parts → rows ≡ first ∷ (prefix ++ rest)
+    → AreSegments tolerance (first ∷ prefix) (segments ++ last ∷ []) → BeginsOne last parts
+last_of_prefix tolerance rows parts first prefix rest segments last d e a =
+    let c = cut_parts parts first prefix rest (sym d.whole ∙ e) in
+    let part : Part = kept_part parts (first ∷ prefix) c in
+    let cut : AreSegments tolerance (first ∷ prefix) (map segment_of c.before ++ segment_of part ∷ []) = record {
       parts = c.before ++ part ∷ [];
-      division = cut_division tolerance rows parts (first ∷ front) c d;
+      division = cut_division tolerance rows parts (first ∷ prefix) c d;
       each = sym (map-append segment_of c.before (part ∷ []));
     } in
     let same : last ≡ segment_of part = last_same segments (map segment_of c.before) last (segment_of part)
-    (one_list tolerance (first ∷ front) _ _ a cut) in
+    (one_list tolerance (first ∷ prefix) _ _ a cut) in
     record {
       before = c.before;
       after = c.after;
       part = c.part;
       whole = c.whole;
-      is_front = subst (λ (s : Segment). IsPrefixOf s (segment_of c.part)) (sym same)
-          (kept_front c.part c.kept c.left c.rows);
+      is_prefix = subst (λ (s : Segment). IsPrefixOf s (segment_of c.part)) (sym same)
+          (kept_prefix c.part c.kept c.left c.rows);
     }

@@ -3,6 +3,7 @@ use Rattle.std.proofs.Common.{◌≡◌, ℕ, zero, suc, ◌+◌, ◌-◌, ◌<�
 use Rattle.std.specs.List.{flat_map}
 use Rattle.std.specs.Prelude.{All, slice_range}
 use Rattle.std.proofs.lemmas.List.{drop_at}
+use Rattle.std.proofs.lemmas.List.Elements.{All-head, All-tail}
 use Rattle.msr_time.specs.Instant.{IsInstant}
 use Rattle.msr_words.specs.declared.kinds.Run.{Run}
 use Rattle.msr_record.specs.Records.{IsInTime, RowIsInTime, IsRecordOf}
@@ -15,7 +16,6 @@ use Rattle.msr_report.specs.declared.report.SegmentLine.{SegmentLine}
 use Rattle.msr_input.specs.Input.{BeginsWith, rows_of_records}
 use Rattle.msr_output.specs.Output.{Packed, IsPacked, IsRowOfRun, Cut, AreWritten, next_number, cuts_at, cuts_of, segment_of_packed}
 use Rattle.msr_output.proofs.CutRows.{IsFitting}
-use Rattle.msr_output.proofs.OneOutput.{all_first, all_rest}
 use Rattle.msr_output.proofs.Times.{nominal_within}
 use Rattle.msr_verdict.specs.Packed.{IsFull}
 use Rattle.msr_tool.specs.Answer.{AreLinesOf}
@@ -57,13 +57,13 @@ pub lines_within : (packed : List Packed) (lines : List SegmentLine) → AreLine
 lines_within [] lines are proper before = tt
 lines_within (one ∷ packed) [] are proper before = absurd are
 lines_within (one ∷ packed) (line ∷ lines) are proper before =
-    let first = all_first IsProperLine line lines proper in (
+    let first = All-head IsProperLine line lines proper in (
       record {
         start = subst (λ (t : ℤ). IsInstant t) are.0.start first.start;
-        end = all_first EndsBeforeTheLast one.segment (map segment_of_packed packed) before;
+        end = All-head EndsBeforeTheLast one.segment (map segment_of_packed packed) before;
       },
-      lines_within packed lines are.1 (all_rest IsProperLine line lines proper)
-          (all_rest EndsBeforeTheLast one.segment (map segment_of_packed packed) before),
+      lines_within packed lines are.1 (All-tail IsProperLine line lines proper)
+          (All-tail EndsBeforeTheLast one.segment (map segment_of_packed packed) before),
     )
 
 abbrev IsSomeRun : Run → Type 0
@@ -73,10 +73,10 @@ runs_within : (size : ℕ) (segment : Segment) (runs : List Run) → IsWithin se
     → All (IsFitting size segment.samples) runs → AreCutsWithin (cuts_at segment runs)
 runs_within size segment [] within some fitting = tt
 runs_within size segment (run ∷ runs) within some fitting =
-    let fits = all_first (IsFitting size segment.samples) run runs fitting in (
-      record { some = all_first IsSomeRun run runs some; inside = fits.1; within = within },
-      runs_within size segment runs within (all_rest IsSomeRun run runs some)
-          (all_rest (IsFitting size segment.samples) run runs fitting),
+    let fits = All-head (IsFitting size segment.samples) run runs fitting in (
+      record { some = All-head IsSomeRun run runs some; inside = fits.1; within = within },
+      runs_within size segment runs within (All-tail IsSomeRun run runs some)
+          (All-tail (IsFitting size segment.samples) run runs fitting),
     )
 
 cuts_append : (xs ys : List Cut) → AreCutsWithin xs → AreCutsWithin ys → AreCutsWithin (xs ++ ys)
@@ -87,10 +87,10 @@ pub cuts_within : (size : ℕ) (packed : List Packed) → All (IsPacked size) pa
     → AreWithin (map segment_of_packed packed) → AreCutsWithin (flat_map cuts_of packed)
 cuts_within size [] packings within = tt
 cuts_within size (one ∷ packed) packings within =
-    let packing = (all_first (IsPacked size) one packed packings).packing in
+    let packing = (All-head (IsPacked size) one packed packings).packing in
     cuts_append (cuts_of one) (flat_map cuts_of packed)
     (runs_within size one.segment one.runs within.0 packing.none_empty packing.each_fits)
-    (cuts_within size packed (all_rest (IsPacked size) one packed packings) within.1)
+    (cuts_within size packed (All-tail (IsPacked size) one packed packings) within.1)
 
 -- the row of a run has as many samples as the run
 pub range_length : (samples : List ℤ) (a b : ℕ) → b ≤ length samples → length (slice_range samples a b) ≡ b - a

@@ -1,9 +1,8 @@
--- What is answered where repacking stops.
+-- What is answered when repacking stops.
 use Rattle.std.proofs.Common.{◌↔◌, ℕ, List, ◌++◌, refl, Result, Ok, Err, IsErrOf}
 use Rattle.msr_segments.specs.declared.joiner.Segment.{Segment}
 use Rattle.msr_devices.specs.Device.{Device, HasLeft, Takes, HasFailed, IsSteady}
 use Rattle.msr_devices.proofs.Chaining.{steady_sound}
-use Rattle.msr_base.specs.declared.counts.Counts.{Counts}
 use Rattle.msr_report.specs.declared.report.Report.{Report}
 use Rattle.msr_input.specs.Reading.{StopsAfter, StopsReading}
 use Rattle.msr_input.specs.declared.settings.Settings.{Settings}
@@ -13,11 +12,10 @@ use Rattle.msr_output.specs.Writing.{HasWrittenPrefix}
 use Rattle.msr_tool.specs.Choice.{Choice, settings_of, size_of}
 use Rattle.msr_tool.specs.Fault.{fault_of_reading}
 use Rattle.msr_tool.specs.Writing.{StopsSink, StopsLining}
-use Rattle.msr_tool.specs.ListWriting.{HasListedCut, HasListedPrefix, StopsListing, StopsListingAll}
 use Rattle.msr_tool.specs.Answer.{IsStopped, Answers}
 use Rattle.msr_tool.specs.declared.fault.ToolFault.{ToolFault}
 use Rattle.msr_tool.specs.declared.fault.ToolFault.TheVariants as fault
-use Rattle.msr_tool.proofs.Lines.{front_more}
+use Rattle.msr_tool.proofs.Lines.{prefix_more}
 
 -- what is answered, for some input and some bytes written
 pub record IsAnswered (choice : Choice) (source0 sink0 sink : Device) (result : Result Report ToolFault) : Type 0 where
@@ -37,9 +35,9 @@ record Stopped (choice : Choice) (source0 sink0 sink : Device) : Type 0 where
 stopped : (choice : Choice) (source0 sink0 sink : Device) (given : List Segment)
     → StopsAfter (settings_of choice) source0 given → HasWrittenPrefix (size_of choice) sink0 sink given
     → Stopped choice source0 sink0 sink
-stopped choice source0 sink0 sink given h front =
+stopped choice source0 sink0 sink given h prefix =
     let all : List Segment = given ++ h.begun.others in
-    let wide = front_more (size_of choice) sink0 sink given h.begun.others all front refl in
+    let wide = prefix_more (size_of choice) sink0 sink given h.begun.others all prefix refl in
     record {
       input = h.input;
       written = wide.taken;
@@ -60,9 +58,9 @@ pub read_failed : (choice : Choice) (source0 source sink0 sink : Device) (given 
     → StopsReading (settings_of choice) source0 source given why
     → HasWrittenPrefix (size_of choice) sink0 sink given
     → IsAnswered choice source0 sink0 sink (Err (fault_of_reading why))
-read_failed choice source0 source sink0 sink given (read.Input other) h front =
+read_failed choice source0 source sink0 sink given (read.Input other) h prefix =
     let all : List Segment = given ++ h.0.begun.others in
-    let wide = front_more (size_of choice) sink0 sink given h.0.begun.others all front refl in
+    let wide = prefix_more (size_of choice) sink0 sink given h.0.begun.others all prefix refl in
     record {
       input = h.0.input;
       written = wide.taken;
@@ -76,11 +74,11 @@ read_failed choice source0 source sink0 sink given (read.Input other) h front =
         prefix = wide.prefix;
       };
     }
-read_failed choice source0 source sink0 sink given read.Read h front =
-    let s = stopped choice source0 sink0 sink given h.0 front in
+read_failed choice source0 source sink0 sink given read.Read h prefix =
+    let s = stopped choice source0 sink0 sink given h.0 prefix in
     record { input = s.input; written = s.written; left = s.left; takes = s.takes; answers = s.stopped }
-read_failed choice source0 source sink0 sink given read.Memory h front =
-    let s = stopped choice source0 sink0 sink given h.0 front in
+read_failed choice source0 source sink0 sink given read.Memory h prefix =
+    let s = stopped choice source0 sink0 sink given h.0 prefix in
     record { input = s.input; written = s.written; left = s.left; takes = s.takes; answers = s.stopped }
 
 -- a segment is not written
@@ -97,7 +95,7 @@ write_failed choice source0 sink0 sink given fault.Memory after h =
     let s = stopped choice source0 sink0 sink given after h.0 in
     record { input = s.input; written = s.written; left = s.left; takes = s.takes; answers = s.stopped }
 
--- the source failed where reading says so
+-- the source failed if reading says so
 pub read_tells_source : {T : Type 0} (settings : Settings) (source0 source : Device) (given : List Segment)
     (why : ReadFault) → StopsReading settings source0 source given why
     → IsErrOf {T = T} (Err (fault_of_reading why)) fault.Read ↔ HasFailed source0 source
@@ -107,7 +105,7 @@ read_tells_source settings source0 source given read.Read h = ((λ e. h.1), (λ 
 read_tells_source settings source0 source given read.Memory h =
     ((λ e. absurd cc), (λ has_failed. absurd (steady_sound source0 source h.1 has_failed)))
 
--- the sink failed where writing says so
+-- the sink failed if writing says so
 pub write_tells_sink : {T : Type 0} (failed refused : Type 0) (sink0 sink : Device) (found : ToolFault)
     → StopsSink failed refused sink0 sink found → IsErrOf {T = T} (Err found) fault.Write ↔ HasFailed sink0 sink
 write_tells_sink failed refused sink0 sink (fault.Input other) h = absurd h
@@ -118,7 +116,7 @@ write_tells_sink failed refused sink0 sink fault.Memory h =
     ((λ e. absurd cc), (λ has_failed. absurd (steady_sound sink0 sink h.1 has_failed)))
 
 -- and the source did not
-write_tells_source : {T : Type 0} (failed refused : Type 0) (source0 source sink0 sink : Device)
+pub write_tells_source : {T : Type 0} (failed refused : Type 0) (source0 source sink0 sink : Device)
     (found : ToolFault) → IsSteady source0 source → StopsSink failed refused sink0 sink found
     → IsErrOf {T = T} (Err found) fault.Read ↔ HasFailed source0 source
 write_tells_source failed refused source0 source sink0 sink (fault.Input other) steady h = absurd h
@@ -129,44 +127,14 @@ write_tells_source failed refused source0 source sink0 sink fault.Write steady h
 write_tells_source failed refused source0 source sink0 sink fault.Memory steady h =
     ((λ e. absurd cc), (λ has_failed. absurd (steady_sound source0 source steady has_failed)))
 
--- the same of writing segments
-pub lined_tells_sink : {T : Type 0} (size : ℕ) (sink0 sink : Device) (given : List Segment) (found : ToolFault)
-    → StopsLining size sink0 sink given found → IsErrOf {T = T} (Err found) fault.Write ↔ HasFailed sink0 sink
-lined_tells_sink size sink0 sink given found h =
-    write_tells_sink (HasWrittenPrefix size sink0 sink given) (HasWrittenPrefix size sink0 sink given) sink0 sink found h
-
-pub lined_tells_source : {T : Type 0} (size : ℕ) (source0 source sink0 sink : Device) (given : List Segment)
-    (found : ToolFault) → IsSteady source0 source → StopsLining size sink0 sink given found
-    → IsErrOf {T = T} (Err found) fault.Read ↔ HasFailed source0 source
-lined_tells_source size source0 source sink0 sink given found steady h =
-    write_tells_source (HasWrittenPrefix size sink0 sink given)
-    (HasWrittenPrefix size sink0 sink given) source0 source sink0 sink found steady h
-
--- and of lines
-pub listing_tells_sink : {T : Type 0} (sink0 sink : Device) (given : List Segment) (found : ToolFault)
-    → StopsListing sink0 sink given found → IsErrOf {T = T} (Err found) fault.Write ↔ HasFailed sink0 sink
-listing_tells_sink sink0 sink given found h =
-    write_tells_sink (HasListedPrefix sink0 sink given) (HasListedPrefix sink0 sink given) sink0 sink found h
-
-pub listing_tells_source : {T : Type 0} (source0 source sink0 sink : Device) (given : List Segment)
-    (found : ToolFault) → IsSteady source0 source → StopsListing sink0 sink given found
-    → IsErrOf {T = T} (Err found) fault.Read ↔ HasFailed source0 source
-listing_tells_source source0 source sink0 sink given found steady h =
-    write_tells_source (HasListedPrefix sink0 sink given)
-    (HasListedPrefix sink0 sink given) source0 source sink0 sink found steady h
-
-pub listed_tells_sink : {T : Type 0} (sink0 sink : Device) (given : List Segment) (counts : Counts)
-    (found : ToolFault) → StopsListingAll sink0 sink given counts found → IsErrOf {T = T} (Err found) fault.Write
-    ↔ HasFailed sink0 sink
-listed_tells_sink sink0 sink given counts found h =
-    write_tells_sink (HasListedCut sink0 sink given counts) (HasListedPrefix sink0 sink given) sink0 sink found h
-
-pub listed_tells_source : {T : Type 0} (source0 source sink0 sink : Device) (given : List Segment)
-    (counts : Counts) (found : ToolFault) → IsSteady source0 source → StopsListingAll sink0 sink given counts found
-    → IsErrOf {T = T} (Err found) fault.Read ↔ HasFailed source0 source
-listed_tells_source source0 source sink0 sink given counts found steady h =
-    write_tells_source (HasListedCut sink0 sink given counts)
-    (HasListedPrefix sink0 sink given) source0 source sink0 sink found steady h
+-- and nothing is a fault of a read
+pub write_unread : {T P : Type 0} (failed refused : Type 0) (sink0 sink : Device) (found : ToolFault)
+    → StopsSink failed refused sink0 sink found → IsErrOf {T = T} (Err found) fault.Read → P
+write_unread failed refused sink0 sink (fault.Input other) h e = absurd h
+write_unread failed refused sink0 sink (fault.Report line) h e = absurd h
+write_unread failed refused sink0 sink fault.Read h e = absurd h
+write_unread failed refused sink0 sink fault.Write h e = absurd cc
+write_unread failed refused sink0 sink fault.Memory h e = absurd cc
 
 -- no device failed
 pub ok_tells : {T : Type 0} (old new : Device) (value : T) (found : ToolFault) → IsSteady old new

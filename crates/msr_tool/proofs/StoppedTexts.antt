@@ -1,4 +1,4 @@
--- What is answered where a task that writes a text stops.
+-- What is answered when a task that writes a text stops.
 use Rattle.std.proofs.Common.{◌≡◌, ℕ, List, [], take, drop, refl, sym, ◌∙◌, inl, inr, Result, Ok, Err}
 use Rattle.std.proofs.lemmas.List.{take-append-drop}
 use Rattle.msr_devices.specs.Device.{Device, HasLeft, Takes}

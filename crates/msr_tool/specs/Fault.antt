@@ -1,4 +1,4 @@
--- The tool's fault where reading or writing stops.
+-- The tool's fault when reading or writing stops.
 use Rattle.msr_certificate.specs.declared.fault.ReportFault.{ReportFault}
 use Rattle.msr_certificate.specs.declared.fault.ReportFault.TheVariants as report
 use Rattle.msr_input.specs.declared.fault.ReadFault.{ReadFault}

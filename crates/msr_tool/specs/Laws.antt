@@ -15,7 +15,7 @@ use Rattle.msr_tool.specs.Listing.{ListAnswers}
 use Rattle.msr_tool.specs.declared.fault.ToolFault.{ToolFault}
 use Rattle.msr_tool.specs.declared.fault.ToolFault.TheVariants.{Read, Write, Memory}
 
--- where no device failed, a readable input is repacked, or there is no memory
+-- if no device failed, a readable input is repacked, or there is no memory
 abbrev pub ReadableIsRepacked : Type 0
 ReadableIsRepacked =
     (choice : Choice) (input written : List ℕ) (records : List Record) (segments : List Segment)
@@ -52,7 +52,7 @@ OneRefusal =
     → IsRefusedAt choice input other another
     → fault ≡ another
 
--- Strict or not, the same is written: an input is repacked strictly exactly where it is repacked otherwise, and the
+-- Strict or not, the same is written: an input is repacked strictly exactly when it is repacked otherwise, and the
 -- report counts no record whose reverse constant does not agree.
 abbrev pub StrictWritesTheSame : Type 0
 StrictWritesTheSame =

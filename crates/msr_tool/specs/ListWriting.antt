@@ -40,7 +40,7 @@ open_after Joins last row = open_longer last row
 abbrev pub IsOpenInBounds : OpenSegment → Type 0
 IsOpenInBounds segment = IsInstant segment.start × (segment.count ≤ 2 ^ 63)
 
--- the text is the line of the segment that was begun last, where one was
+-- the text is the line of the segment that was begun last, if one was
 abbrev pub IsLastLine : Option OpenSegment → List ℕ → Type 0
 IsLastLine None text = text ≡ []
 IsLastLine (Some last) text = IsListLine last.key last.start last.count text
@@ -81,7 +81,7 @@ abbrev pub StopsListing : Device → Device → List Segment → ToolFault → T
 StopsListing start now segments fault =
     StopsSink (HasListedPrefix start now segments) (HasListedPrefix start now segments) start now fault
 
--- the same after the last segment, where a prefix of the line of the counts may follow
+-- the same after the last segment, when a prefix of the line of the counts may follow
 abbrev pub StopsListingAll : Device → Device → List Segment → Counts → ToolFault → Type 0
 StopsListingAll start now segments counts fault =
     StopsSink (HasListedCut start now segments counts) (HasListedPrefix start now segments) start now fault

@@ -14,14 +14,14 @@ use Rattle.msr_tool.specs.Choice.{Choice, settings_of, size_of}
 pub record IsLive (choice : Choice) (source0 source sink0 sink : Device) : Type 0 where
   pub input : List ℕ
   pub records : List Record
-  pub behind : List ℕ
+  pub waiting : List ℕ
   pub rest : List ℕ
   pub segments : List Segment
   pub written : List ℕ
   pub left : HasLeft source0 input
-  pub are_read : AreRead (settings_of choice) input records (behind ++ rest)
-  pub came : source.moved ≡ source0.moved + (bytes_of_records records + length behind)
-  pub none_whole : HoldsRecord behind → ⊥
+  pub are_read : AreRead (settings_of choice) input records (waiting ++ rest)
+  pub came : source.moved ≡ source0.moved + (bytes_of_records records + length waiting)
+  pub none_whole : HoldsRecord waiting → ⊥
   pub are_segments : AreSegments choice.tolerance (rows_of_records records) segments
   pub takes : Takes sink0 sink written
   pub went : sink.moved ≡ sink0.moved + length written

@@ -23,7 +23,7 @@ pub record EndsBeforeTheLast (segment : Segment) : Type 0 where
   pub nominal : IsRoundedNominal segment.key.rate segment.start (length segment.samples - 1) last
   pub before : IsInstant (last +ℤ pos 1)
 
--- What was repacked is readable where no segment of the input ends in the last microsecond, and the report shows
+-- What was repacked is readable if no segment of the input ends in the last microsecond, and the report shows
 -- that each of its segments stands in the fewest records. A record begins at the rounded instant of its first
 -- sample, so its last sample, counted from there, may be rounded to one microsecond more than when it is counted
 -- from the segment's start.

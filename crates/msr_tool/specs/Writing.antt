@@ -55,15 +55,15 @@ current_with (Some next) current = current_after next.step current next.row
 abbrev pub all_with : Option NextRow → Option Segment → List Segment
 all_with next current = option_to_list (ended_with next current) ++ option_to_list (current_with next current)
 
--- The records of these segments were written, and the first ones of the segment that has not ended, where there is one.
+-- The records of these segments were written, and the first ones of the segment that has not ended, if there is one.
 abbrev pub StandsWritten : Device → Device → Writing → List Packed → Option Segment → Option Opened → Type 0
 StandsWritten start now writing packed None None = (rows : List Row) × HasWritten start now writing packed rows
 StandsWritten start now writing packed None (Some opened) = ⊥
 StandsWritten start now writing packed (Some segment) None = ⊥
 StandsWritten start now writing packed (Some segment) (Some opened) = HasBegun start now writing packed segment opened
 
--- From the one state of the sink to the other a prefix of the output of these segments and of the one that has not ended
--- was written; the rest waits. Each that has ended has its line, whose fields are in the ranges of their types.
+-- From the one state of the sink to the other a prefix of the output of these segments and of the one that has not
+-- ended was written; the rest waits. Each that has ended has its line, whose fields are in the ranges of their types.
 pub record HasLined (start now : Device) (lined : Lined) (packed : List Packed)
     (current : Option Segment) : Type 0 where
   pub written : StandsWritten start now lined.writing packed current lined.last
@@ -98,7 +98,7 @@ pub record CanGrow (more : ℕ) (opened : Opened) : Type 0 where
   pub number : count_of opened + more < 2 ^ 64
   pub in_time : SpanIsInTime (span_of opened.key opened.start (count_of opened + more))
 
--- so it is with the row's, where it joins
+-- so it is with the row's, if it joins
 pub record CanTake (step : Step) (last : Option Opened) (row : Row) : Type 0 where
   pub joins : step ≡ Joins → IfSome last (CanGrow (length row.samples))
 

@@ -28,8 +28,8 @@ pub fn check_packed<R: Source, Q: Source>(
         ↔ (HasFailed (R.device packed.old) (R.device packed.new)
         ⊎ HasFailed (Q.device report.old) (Q.device report.new)) }
 
-    // The report is read first: where the text is none, where its source fails, and where memory is refused while it
-    // is read, no record was read.
+    // The report is read first: if the text is none, if its source fails, or if memory is refused while it is read,
+    // no record was read.
     ensures untouched { (line : ℕ) → result ≡ Err (ToolFault.Report line) → packed.new ≡ packed.old }
     ensures unread { HasFailed (Q.device report.old) (Q.device report.new) → packed.new ≡ packed.old }
     ensures report_first { (packed.new ≡ packed.old) ⊎ GivesReport (Q.device report.old) }

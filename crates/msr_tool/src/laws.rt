@@ -7,21 +7,21 @@ use msr_input::{one_first_fault, one_list_of_records, readable_has_no_fault};
 use msr_output::one_output;
 use msr_verdict::shown_is_fewest;
 
-/// On a readable input where no device fails `repack` succeeds, or answers that memory ran out.
+/// On a readable input, if no device fails, `repack` succeeds, or answers that memory ran out.
 pub fn readable_is_repacked()
     ensures { ReadableIsRepacked }
 {
     readable_has_no_fault();
 }
 
-/// On a readable input where no device fails `list_segments` succeeds, or answers that memory ran out.
+/// On a readable input, if no device fails, `list_segments` succeeds, or answers that memory ran out.
 pub fn readable_is_listed()
     ensures { ReadableIsListed }
 {
     readable_has_no_fault();
 }
 
-/// What `repack` writes where it succeeds is determined by the input and the options.
+/// What `repack` writes when it succeeds is determined by the input and the options.
 pub fn one_repacking()
     ensures { OneRepacking }
 {
@@ -29,28 +29,28 @@ pub fn one_repacking()
     one_output();
 }
 
-/// And so is the fault where it refuses the input.
+/// And so is the fault when it refuses the input.
 pub fn one_refusal()
     ensures { OneRefusal }
 {
     one_first_fault();
 }
 
-/// A strict repack writes what another writes, and succeeds exactly where the other does and counts no record whose
+/// A strict repack writes what another writes, and succeeds exactly when the other does and counts no record whose
 /// reverse constant does not agree.
 pub fn strict_writes_the_same()
     ensures { StrictWritesTheSame }
 {}
 
 /// What `repack` wrote is readable, and its own report shows that each of its segments stands in the fewest
-/// records, where no segment of the input ends in the last microsecond of the supported years.
+/// records, if no segment of the input ends in the last microsecond of the supported years.
 pub fn repacked_is_shown()
     ensures { RepackedIsShown }
 {
     one_list_of_records();
 }
 
-/// `check_packed` of what `repack` wrote and of its report's text answers `Least` where no source fails and no memory
+/// `check_packed` of what `repack` wrote and of its report's text answers `Least` if no source fails and no memory
 /// is refused, under the condition of [`repacked_is_shown`].
 pub fn repacked_is_least()
     ensures { RepackedIsLeast }

@@ -3,18 +3,17 @@
 #![tactic(auto)]
 
 mod check;
-mod repack;
 mod fault;
 mod laws;
+mod lined_writer;
 mod list;
 mod list_writer;
 mod open_segment;
 mod options;
-mod lined_writer;
+mod repacking;
 mod tasks;
 
 pub use check::check_packed;
-pub use repack::{feed, repack};
 pub use fault::ToolFault;
 pub use laws::{
     one_refusal, one_repacking, readable_is_listed, readable_is_repacked, repacked_is_least,
@@ -29,4 +28,5 @@ pub use msr_input::Fault;
 pub use msr_report::{Counts, Report, SegmentLine};
 pub use msr_verdict::Verdict;
 pub use options::Options;
+pub use repacking::{feed, repack};
 pub use tasks::{check_and_tell, feed_and_report, repack_and_report};

@@ -93,7 +93,7 @@ impl LinedWriter {
         self.last = Some(self.writer.begin(row.key, row.start));
     }
 
-    /// Writes the samples after those of the segment that was begun last, where there is one.
+    /// Writes the samples after those of the segment that was begun last, if there is one.
     fn push<W: Sink>(&mut self, sink: &mut W, samples: &[i32]) -> Result<(), ToolFault>
         requires count { CanCountCall (W.device sink.old) }
         requires last { IfSome self.old.last (GoesOn self.old.writing.size) }

@@ -1,5 +1,5 @@
 //! Listing the segments of an input.
-ghost use Rattle.std.specs.Prelude.{◌≡◌, ◌↔◌, List, ℕ, IsErrOf};
+ghost use Rattle.std.specs.Prelude.{◌↔◌, List, ℕ, IsErrOf};
 ghost use Rattle.msr_devices.specs.Device.{CanCountCall, CountsFew, HasFailed, HasLeft, Takes};
 ghost use Rattle.msr_tool.specs.Choice.{settings_of};
 ghost use Rattle.msr_tool.specs.Listing.{ListAnswers};

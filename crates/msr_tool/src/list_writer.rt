@@ -43,7 +43,7 @@ fn push_last(alloc: Global, out: &mut Vec<u8>, last: Option<OpenSegment>) -> Res
 }
 
 impl ListWriter {
-    ghost use Rattle.std.specs.Prelude.{◌≡◌, ◌<◌, ◌≤◌, ◌^◌, List, [], ◌++◌, length, Option, None, IfSome, MatchResult, OnOk, option_map};
+    ghost use Rattle.std.specs.Prelude.{◌≡◌, ◌<◌, List, [], ◌++◌, length, Option, None, IfSome, MatchResult, OnOk, option_map};
     ghost use Rattle.std.specs.Option.{option_to_list};
     ghost use Rattle.msr_time.specs.Instant.{IsInstant};
     ghost use Rattle.msr_devices.specs.Device.{Device, CanCountCall, CountsFew};

@@ -33,7 +33,7 @@ impl Model for Options {
 impl Options {
     ghost use Rattle.msr_tool.specs.Choice.{as_strict, settings_of, size_of};
 
-    /// Options that are not strict; `None` where the tolerance in microseconds is not from 1 to 1,000,000.
+    /// Options that are not strict; `None` if the tolerance in microseconds is not from 1 to 1,000,000.
     pub fn new(length: Length, tolerance: u32) -> Option<Options>
         ensures some { IsSome result ↔ (1 ≤ tolerance) × (tolerance ≤ 1_000_000) }
         ensures same { IfSome result (λ options. options
@@ -49,7 +49,8 @@ impl Options {
         })
     }
 
-    /// The same options, strict or not. A strict reading refuses a record whose last sample is not its reverse constant.
+    /// The same options, strict or not. A strict reading refuses a record whose last sample is not its reverse
+    /// constant.
     pub fn strict(self, strict: bool) -> Options
         ensures { result ≡ as_strict strict self }
     {

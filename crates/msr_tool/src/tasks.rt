@@ -1,15 +1,15 @@
 //! Tasks that also write a text: a repack with the text of its report, a check with the line of its verdict.
 ghost use Rattle.std.specs.Prelude.{◌≡◌, ◌⊎◌, ◌↔◌, ℕ, IsErrOf, OnErr};
-ghost use Rattle.msr_devices.specs.Device.{CanCountCall, CountsFew, HasFailed, IsCalm};
+ghost use Rattle.msr_devices.specs.Device.{CanCountCall, CountsFew, HasFailed};
 ghost use Rattle.msr_input.specs.declared.fault.Fault.{Fault as FirstFault};
 ghost use Rattle.msr_tool.specs.Checking.{GivesReport};
 ghost use Rattle.msr_tool.specs.Live.{IsLive};
 ghost use Rattle.msr_tool.specs.Tasks.{Reports, Tells};
 
 use crate::check::check_packed;
-use crate::repack::{feed, repack};
 use crate::fault::ToolFault;
 use crate::options::Options;
+use crate::repacking::{feed, repack};
 use msr_devices::{Sink, Source, write_all};
 use msr_report::Report;
 use msr_verdict::Verdict;
@@ -37,7 +37,7 @@ pub fn repack_and_report<R: Source, W: Sink, T: Sink>(
     ensures write { IsErrOf result ToolFault.Write ↔ (HasFailed (W.device records.old) (W.device records.new)
         ⊎ HasFailed (T.device text.old) (T.device text.new)) }
 
-    // Where the input or its device is at fault, or the records are, no call was made for the text.
+    // If the input or its device is at fault, or the records are, no call was made for the text.
     ensures untold_at_fault { (fault : FirstFault) → result ≡ Err (ToolFault.Input fault) → text.new ≡ text.old }
     ensures untold_at_read { HasFailed (R.device source.old) (R.device source.new) → text.new ≡ text.old }
     ensures untold_at_write { HasFailed (W.device records.old) (W.device records.new) → text.new ≡ text.old }
@@ -71,12 +71,12 @@ pub fn feed_and_report<R: Source, W: Sink, T: Sink>(
     ensures write { IsErrOf result ToolFault.Write ↔ (HasFailed (W.device records.old) (W.device records.new)
         ⊎ HasFailed (T.device text.old) (T.device text.new)) }
 
-    // Where the input or its device is at fault, or the records are, no call was made for the text.
+    // If the input or its device is at fault, or the records are, no call was made for the text.
     ensures untold_at_fault { (fault : FirstFault) → result ≡ Err (ToolFault.Input fault) → text.new ≡ text.old }
     ensures untold_at_read { HasFailed (R.device source.old) (R.device source.new) → text.new ≡ text.old }
     ensures untold_at_write { HasFailed (W.device records.old) (W.device records.new) → text.new ≡ text.old }
 
-    // Where a read fails, all that is decided by the records that came before it was written.
+    // When a read fails, all that is decided by the records that came before it was written.
     ensures live { IsErrOf result ToolFault.Read → IsLive options (R.device source.old) (R.device source.new)
         (W.device records.old) (W.device records.new) }
     ensures few_source { CountsFew (R.device source.old) (R.device source.new) }

@@ -31,11 +31,14 @@ fn report_of(
     separators: &str,
 ) -> Result<String, AllocError> {
     format!(in alloc;
-        "msrepack 1\nlength {length}\ntolerance 1000\nread 1 empty 0 mismatched 0\nsegment XX.TEST_.00.BHZ D rate 20 1 flags 00 00 00 correction 0 timing 0 start 2020,001,00:00:00.000000 samples {samples} records {records}\nseparators{separators}\nend 1 segments {records} records\n"
+        "msrepack 1\nlength {length}\ntolerance 1000\nread 1 empty 0 mismatched 0\n\
+        segment XX.TEST_.00.BHZ D rate 20 1 flags 00 00 00 correction 0 timing 0 \
+        start 2020,001,00:00:00.000000 samples {samples} records {records}\n\
+        separators{separators}\nend 1 segments {records} records\n"
     )
 }
 
-/// The answer where the records and the report come from sources that behave so.
+/// The answer when the records and the report come from sources that behave so.
 fn checked_through(
     alloc: Global,
     packed: &[u8],
@@ -110,8 +113,8 @@ fn what_was_repacked_is_least(rt: HostRuntime) -> Result<(), Fail> {
     Ok(())
 }
 
-/// 65 samples, 8388607 and -8388608 in turn, of which the first record has 48 as 32-bit integers. As 24-bit integers one
-/// record holds 64 of them.
+/// 65 samples, 8388607 and -8388608 in turn, of which the first record has 48 as 32-bit integers. As 24-bit integers
+/// one record holds 64 of them.
 #[test]
 fn records_from_before_24_bits(rt: HostRuntime) -> Result<(), Fail> {
     let alloc = rt.alloc();

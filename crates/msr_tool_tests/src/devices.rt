@@ -1,5 +1,5 @@
-//! Each call of the engine over devices that move few bytes at a time, are interrupted, and fail at each of their
-//! calls in turn. A repack with a report writes its text by `Report::write_text`, a check reads its own by `read_report`.
+//! Each call of msr_tool over devices that move few bytes at a time, are interrupted, and fail at each of their calls
+//! in turn. A repack with a report writes its text by `Report::write_text`, a check reads its own by `read_report`.
 ghost use Rattle.std.specs.Prelude.{◌≡◌, [], Some};
 ghost use Rattle.msr_devices.specs.Device.{unused};
 
@@ -27,7 +27,7 @@ enum Call {
     CheckAndTell,
 }
 
-/// A call, what its sources have, and what its sinks are to hold: nothing where it has no such device.
+/// A call, what its sources have, and what its sinks are to hold: nothing if it has no such device.
 #[derive(Clone, Copy)]
 struct Worked<'a> {
     call: Call,
@@ -51,7 +51,7 @@ impl Place {
         matches!(self, Place::Records | Place::Report)
     }
 
-    /// What the call answers where it fails.
+    /// What the call answers when it fails.
     fn fault(self) -> ToolFault {
         if self.is_source() {
             ToolFault::Read

@@ -38,13 +38,13 @@ fn decided_records_are_written_before_each_read(rt: HostRuntime) -> Result<(), F
         );
         let fault = feed(alloc, &mut source, &mut sink, options).err();
         assert_eq!(&rt; fault, Some(ToolFault::Read));
-        assert_eq!(&rt; sink.bytes().len(), 256 * records, "behind {reads} reads");
-        assert!(&rt; input.starts_with(sink.bytes()), "behind {reads} reads");
+        assert_eq!(&rt; sink.bytes().len(), 256 * records, "after {reads} reads");
+        assert!(&rt; input.starts_with(sink.bytes()), "after {reads} reads");
     }
     Ok(())
 }
 
-/// In the end the output is that of a repack, also where nothing is decided before.
+/// In the end the output is that of a repack, also if nothing is decided before.
 #[test]
 fn the_output_is_that_of_a_repack(rt: HostRuntime) -> Result<(), Fail> {
     let alloc = rt.alloc();

@@ -1,4 +1,4 @@
-//! Records worked out by hand, inputs made of samples, and one call of the engine.
+//! Records worked out by hand, inputs made of samples, and one call of msr_tool.
 ghost use Rattle.std.specs.Prelude.{◌<◌, IfOk};
 ghost use Rattle.msr_report.specs.Proper.{IsProper};
 
@@ -112,10 +112,12 @@ pub fn same_counts(rt: &impl Abort, found: Counts, want: Counts, name: &str) {
     assert_eq!(rt; found, want, "{name}");
 }
 
-/// What a call answered, and the sink that it wrote to.
+/// How a call ended.
 #[derive(Drop)]
 pub struct Outcome {
+    /// What the call answered.
     pub answer: Result<Report, ToolFault>,
+    /// The sink that it wrote to.
     pub sink: TestSink,
 }
 

@@ -158,7 +158,7 @@ struct TakenOver {
     read: &'static [Edits<'static>],
     written: &'static [Edits<'static>],
     counts: Counts,
-    // how many samples each segment has
+    /// How many samples each segment has.
     segments: &'static [u64],
 }
 

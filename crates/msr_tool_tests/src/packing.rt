@@ -25,11 +25,11 @@ struct Worked {
     name: &'static str,
     factor: i16,
     multiplier: i16,
-    // the length of the written records
+    /// The length of the written records.
     bytes: u32,
-    // how many records are read
+    /// How many records are read.
     read: u64,
-    // of each written record the number of samples and the encoding
+    /// Of each written record the number of samples and the encoding.
     records: &'static [(u16, u8)],
     separators: &'static [u64],
 }
@@ -116,8 +116,8 @@ fn ending_in_three() -> [i32; 87] {
     samples
 }
 
-/// 173 samples of which two records hold all only where the second begins one sample before the end that the first
-/// can reach.
+/// 173 samples of which two records hold all only if the second begins one sample before the end that the first can
+/// reach.
 fn with_a_pause() -> [i32; 173] {
     let mut samples = [1_000_000; 173];
     for pair in 0..86 {

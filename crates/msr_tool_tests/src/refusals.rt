@@ -41,13 +41,13 @@ fn records_that_are_refused(rt: HostRuntime) -> Result<(), Fail> {
             first.as_str(),
             &[],
         )?;
-        let mut behind = good.to_vec(alloc)?;
-        behind.extend_from_slice(shown)?;
+        let mut after = good.to_vec(alloc)?;
+        after.extend_from_slice(shown)?;
         let second = format!(in alloc; "offset 256: {kind}")?;
         refused(
             &rt,
             alloc,
-            repacked(alloc, &behind, options),
+            repacked(alloc, &after, options),
             second.as_str(),
             &good,
         )?;
@@ -83,7 +83,7 @@ fn inputs_that_are_refused(rt: HostRuntime) -> Result<(), Fail> {
         &[Edit::Day(2100, 365), Edit::Clock(23, 59, 29, 9500)],
         &[Edit::Day(2100, 365), Edit::Clock(23, 59, 45, 0)],
     ];
-    // One microsecond earlier it ends in time, but not where it is counted from the first.
+    // One microsecond earlier it ends in time, but not if it is counted from the first.
     let late_when_joined: [Edits; 2] = [
         &[Edit::Day(2100, 365), Edit::Clock(23, 59, 29, 9500)],
         &[

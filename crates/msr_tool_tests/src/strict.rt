@@ -10,7 +10,7 @@ use std::alloc::Global;
 use std::process::Abort;
 use std::test::Fail;
 
-/// A repack and a list of the input both refuse the record at that offset so, or both succeed where the kind is empty.
+/// A repack and a list of the input both refuse the record at that offset so, or both succeed if the kind is empty.
 fn both_tell(
     rt: &impl Abort,
     alloc: Global,

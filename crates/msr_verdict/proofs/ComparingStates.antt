@@ -1,7 +1,8 @@
 -- What is known of the comparing so far, and how a segment or a record more changes it.
-use Rattle.std.proofs.Common.{◌≡◌, ◌⊎◌, inl, inr, ℕ, zero, suc, ◌+◌, ◌-◌, ◌^◌, ◌<◌, min, Bool, true, false, List, [], ◌∷◌, ◌++◌, length, refl, sym, ap, subst, ◌∙◌, arith, append_assoc, length-append, Option, Some, None, All}
+use Rattle.std.proofs.Common.{◌≡◌, ◌⊎◌, inl, inr, ℕ, zero, suc, ◌+◌, ◌-◌, ◌^◌, ◌<◌, min, true, false, List, [], ◌∷◌, ◌++◌, length, refl, sym, ap, subst, ◌∙◌, arith, append_assoc, length-append, Option, Some, None, All}
 use Rattle.std.specs.Prelude.{slice_get, option_map, IfSome, MatchOption}
 use Rattle.std.specs.Option.{option_to_list}
+use Rattle.std.proofs.lemmas.Bool.{both_ways, cases_Bool}
 use Rattle.std.proofs.lemmas.List.{append-nil}
 use Rattle.msr_record.proofs.OneAnswer.{some_same}
 use Rattle.msr_words.specs.declared.kinds.Run.{Run}
@@ -18,7 +19,7 @@ use Rattle.msr_input.proofs.Records.{rows_snoc}
 use Rattle.msr_verdict.specs.declared.piece.Piece.{Piece}
 use Rattle.msr_verdict.specs.Packed.{IsFull, IsShownAs, IsShownBy, AreShownBy, runs_of_rows}
 use Rattle.msr_verdict.specs.Compared.{Compared, IsPieceOf, IsShownAt, ComparesSegment, ComparesEnded, AddsRun, AddsPiece, end_of_next}
-use Rattle.msr_verdict.proofs.Lines.{shown_snoc, shown_next, get_behind, behind_get}
+use Rattle.msr_verdict.proofs.Lines.{shown_snoc, shown_next, get_after, after_get}
 use Rattle.msr_verdict.proofs.Runs.{samples_of, segment_samples, total_snoc, runs_snoc}
 use Rattle.msr_verdict.proofs.Parts.{open_rows, HasParts, parts_none, grows}
 
@@ -44,13 +45,6 @@ pub record IsCompared (size : ℕ) (lines : List SegmentLine) (records : List Re
     (rows : List Row) (c : Compared) : Type 0 where
   pub agrees : c.agrees ≡ true → Agreeing size lines records parts rows c
   pub differs : c.agrees ≡ false → Disagreeing size lines records parts
-
-pub true_or_false : (b : Bool) → (b ≡ true) ⊎ (b ≡ false)
-true_or_false true = inl refl
-true_or_false false = inr refl
-
-not_both : (b : Bool) → b ≡ true → b ≡ false → ⊥
-not_both b e f = cc
 
 pub compared_none : (size : ℕ) (lines : List SegmentLine)
     → IsCompared size lines [] [] [] (record { place = 0; runs = []; samples = 0; agrees = true })
@@ -78,15 +72,15 @@ segment_agrees size lines records parts part old new a k few at t =
     let found : slice_get (a.done ++ a.left) (length a.done) ≡ Some at.line =
     subst (λ (n : ℕ). slice_get (a.done ++ a.left) n ≡ Some at.line) a.place
     (subst (λ (l : List SegmentLine). slice_get l old.place ≡ Some at.line) a.whole at.at_place) in
-    let behind = behind_get a.done a.left at.line found in
+    let later = after_get a.done a.left at.line found in
     let shown : IsShownBy size part at.line = subst
     (λ (runs : List Run). IsShownAs size (segment_of part) runs at.line) (a.runs few) at.shown in
     record {
       full = a.full;
       done = a.done ++ at.line ∷ [];
-      left = behind.0;
-      whole = a.whole ∙ ap (λ (l : List SegmentLine). a.done ++ l) behind.1
-          ∙ sym (append_assoc a.done (at.line ∷ []) behind.0);
+      left = later.0;
+      whole = a.whole ∙ ap (λ (l : List SegmentLine). a.done ++ l) later.1
+          ∙ sym (append_assoc a.done (at.line ∷ []) later.0);
       place = omega (arith, k.place t, a.place, length-append a.done (at.line ∷ []));
       shown = shown_snoc size parts a.done part at.line a.shown shown;
       runs = λ h. k.runs;
@@ -108,10 +102,10 @@ segment_differs size lines records parts part old new a k few t f = record {
       let at : IsShownAt size lines old.place (segment_of part) old.runs = record {
         line = next.0;
         at_place = ap (λ (l : List SegmentLine). slice_get l old.place) whole
-            ∙ ap (λ (n : ℕ). slice_get (a.done ++ next.0 ∷ next.1) n) a.place ∙ get_behind a.done next.1 next.0;
+            ∙ ap (λ (n : ℕ). slice_get (a.done ++ next.0 ∷ next.1) n) a.place ∙ get_after a.done next.1 next.0;
         shown = subst (λ (runs : List Run). IsShownAs size (segment_of part) runs next.0) (sym (a.runs few)) next.3;
       } in
-      not_both new.agrees ((k.agrees t).1 at) f;
+      both_ways new.agrees f ((k.agrees t).1 at);
 }
 
 still_differs : (size : ℕ) (lines : List SegmentLine) (records : List Record) (parts more : List Part)
@@ -126,18 +120,18 @@ compare_segment : (size : ℕ) (lines : List SegmentLine) (records : List Record
     → ComparesSegment size lines old (segment_of part) new → length (samples_of (rows_of part)) < 2 ^ 64
     → IsCompared size lines records (parts ++ part ∷ []) [] new
 compare_segment size lines records parts part old new h k few = record {
-  agrees = λ t. elim (true_or_false old.agrees) [
+  agrees = λ t. elim (cases_Bool old.agrees) [
     | inl was ↦ (let a = h.agrees was in segment_agrees size lines records parts part old new a k few
         ((k.agrees was).0 t) t)
-    | inr was ↦ absurd (not_both new.agrees t (k.differs was))
+    | inr was ↦ absurd (both_ways new.agrees (k.differs was) t)
   ];
-  differs = λ f. elim (true_or_false old.agrees) [
+  differs = λ f. elim (cases_Bool old.agrees) [
     | inl was ↦ segment_differs size lines records parts part old new (h.agrees was) k few was f
     | inr was ↦ still_differs size lines records parts (part ∷ []) (h.differs was)
   ];
 }
 
--- the open part, where there is one, ends
+-- the open part, if there is one, ends
 pub compare_last : (size : ℕ) (lines : List SegmentLine) (records : List Record) (parts : List Part)
     (last : Option Part) (gave : Option Segment) (old new : Compared)
     → IsCompared size lines records parts (open_rows last) old → gave ≡ option_map segment_of last
@@ -247,7 +241,7 @@ add_none : (size : ℕ) (lines : List SegmentLine) (records : List Record) (part
     (found : Record) (new : Compared) → (IsFull size found → ⊥) → new.agrees ≡ false
     → IsCompared size lines (records ++ found ∷ []) parts rows new
 add_none size lines records parts rows found new other f = record {
-  agrees = λ t. absurd (not_both new.agrees t f);
+  agrees = λ t. absurd (both_ways new.agrees f t);
   differs = λ _. record { none = λ more rest all are. other (all_within (IsFull size) records more found all) };
 }
 

@@ -1,5 +1,5 @@
 -- Parts of the rows beside lines of a report.
-use Rattle.std.proofs.Common.{rules, true, false, ◌≡◌, ◌↔◌, ℕ, suc, Bool, List, [], ◌∷◌, ◌++◌, length, refl, ap, subst, Some}
+use Rattle.std.proofs.Common.{◌≡◌, ◌↔◌, ℕ, suc, Bool, List, [], ◌∷◌, ◌++◌, length, refl, ap, subst, Some}
 use Rattle.std.specs.Prelude.{IsTrue, slice_get}
 use Rattle.msr_record.proofs.OneAnswer.{some_same}
 use Rattle.msr_words.specs.declared.kinds.Run.{Run}
@@ -9,18 +9,6 @@ use Rattle.msr_segments.specs.declared.joiner.Segment.{Segment}
 use Rattle.msr_report.specs.declared.report.SegmentLine.{SegmentLine}
 use Rattle.msr_verdict.specs.Packed.{IsShownAs, IsShownBy, AreShownBy}
 use Rattle.msr_verdict.specs.Compared.{IsShownAt}
-
-pub is_true : (b : Bool) → b ≡ true → IsTrue b
-is_true true e = search rules
-is_true false e = absurd cc
-
-pub not_true : (b : Bool) → b ≡ false → IsTrue b → ⊥
-not_true false e h = search rules
-not_true true e h = absurd cc
-
-pub true_is : (b : Bool) → IsTrue b → b ≡ true
-true_is true h = refl
-true_is false h = absurd (search rules)
 
 -- the numbers of a line are those of a segment in these runs
 pub record IsLineOf (segment : Segment) (runs : List Run) (line : SegmentLine) : Type 0 where
@@ -99,12 +87,12 @@ shown_next size (one ∷ parts) rest (its ∷ done) left part are all =
     shown_next size parts rest done left part are.1 all.1
 
 -- what stands after a prefix
-pub get_behind : {X : Type 0} (front rest : List X) (x : X) → slice_get (front ++ x ∷ rest) (length front) ≡ Some x
-get_behind [] rest x = refl
-get_behind (y ∷ front) rest x = get_behind front rest x
+pub get_after : {X : Type 0} (prefix rest : List X) (x : X) → slice_get (prefix ++ x ∷ rest) (length prefix) ≡ Some x
+get_after [] rest x = refl
+get_after (y ∷ prefix) rest x = get_after prefix rest x
 
-pub behind_get : {X : Type 0} (front left : List X) (x : X) → slice_get (front ++ left) (length front) ≡ Some x
+pub after_get : {X : Type 0} (prefix left : List X) (x : X) → slice_get (prefix ++ left) (length prefix) ≡ Some x
     → (rest : List X) × (left ≡ x ∷ rest)
-behind_get {X} [] [] x e = absurd cc
-behind_get {X} [] (y ∷ left) x e = let same : y ≡ x = cc in (left, ap (λ (z : X). z ∷ left) same)
-behind_get (y ∷ front) left x e = behind_get front left x e
+after_get {X} [] [] x e = absurd cc
+after_get {X} [] (y ∷ left) x e = let same : y ≡ x = cc in (left, ap (λ (z : X). z ∷ left) same)
+after_get (y ∷ prefix) left x e = after_get prefix left x e

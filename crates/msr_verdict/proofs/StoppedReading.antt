@@ -1,7 +1,8 @@
--- What is answered where reading stops, and at the end of the input.
+-- What is answered when reading stops, and at the end of the input.
 use Rattle.std.proofs.Common.{◌≡◌, ◌↔◌, inl, inr, ℕ, ◌^◌, ◌<◌, true, List, [], ◌∷◌, ◌++◌, length, map, refl, sym, ap, subst, ◌∙◌, arith, length-append, Option, Result, Ok, Err, IsErrOf, All}
 use Rattle.std.specs.Prelude.{IfSome}
 use Rattle.std.specs.Option.{option_to_list}
+use Rattle.std.proofs.lemmas.Bool.{cases_Bool}
 use Rattle.std.proofs.lemmas.List.{append-nil}
 use Rattle.msr_words.specs.Lengths.{bytes_of}
 use Rattle.msr_words.proofs.Certificate.{least_by_separators}
@@ -25,7 +26,7 @@ use Rattle.msr_verdict.specs.Packed.{IsFull, IsShownBy, AreShownBy, ShowsLeast, 
 use Rattle.msr_verdict.specs.Compared.{Compared, ComparesEnded}
 use Rattle.msr_verdict.proofs.Lines.{shown_length}
 use Rattle.msr_verdict.proofs.Runs.{runs_length}
-use Rattle.msr_verdict.proofs.ComparingStates.{IsCompared, Follows, compare_last, true_or_false}
+use Rattle.msr_verdict.proofs.ComparingStates.{IsCompared, Follows, compare_last}
 
 -- The state of reading between two records.
 pub record UnderWay (report : Report) (start now : Device) (reading : Reading) (c : Compared) : Type 0 where
@@ -148,7 +149,7 @@ verdict_answers report input records parts c NotShown are d compared exact = rec
   readable = record { are_read = are; are_segments = record { parts = parts; division = d; each = refl } };
   none = λ h.
       let shown = same_shown report input records parts h are d in
-      elim (true_or_false c.agrees) [
+      elim (cases_Bool c.agrees) [
         | inl agrees ↦ (
             let a = compared.agrees agrees in
             let place : c.place ≡ length report.segments.items = a.place

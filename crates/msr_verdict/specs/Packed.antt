@@ -17,7 +17,7 @@ use Rattle.msr_input.specs.declared.fault.ReadFault.TheVariants.{Input, Read, Me
 use Rattle.msr_verdict.specs.declared.verdict.Verdict.{Verdict}
 use Rattle.msr_verdict.specs.declared.verdict.Verdict.TheVariants.{Least, NotShown}
 
--- the runs that rows are, one after another, where so many samples stand before them
+-- the runs that rows are, one after another, if so many samples stand before them
 abbrev pub runs_of_rows : ℕ → List Row → List Run
 runs_of_rows at [] = []
 runs_of_rows at (row ∷ rows) =
@@ -104,7 +104,7 @@ AllStandInFewest size [] (line ∷ lines) = ⊥
 AllStandInFewest size (part ∷ parts) [] = ⊥
 AllStandInFewest size (part ∷ parts) (line ∷ lines) = StandsInFewest size part line × AllStandInFewest size parts lines
 
--- Where the report shows it, every segment of the input stands in the fewest records, whatever list of records and
+-- If the report shows it, every segment of the input stands in the fewest records, whatever list of records and
 -- whatever division into segments is asked for: the input has no other.
 abbrev pub ShownIsFewest : Type 0
 ShownIsFewest =

@@ -60,7 +60,8 @@ impl Comparing {
     /// The segment, in the runs so far, is shown by the line at its place.
     fn is_shown(&self, report: &Report, segment: &Segment) -> bool
         ensures shown { IsTrue result
-            ↔ IsShownAt (bytes_of report.now.length) report.now.segments.items self.now.place segment.now self.now.runs }
+            ↔ IsShownAt (bytes_of report.now.length) report.now.segments.items self.now.place
+            segment.now self.now.runs }
         ensures few { length segment.now.samples < 2 ^ 64 }
     {
         let samples = segment.samples.len() as u64;
@@ -116,7 +117,7 @@ impl Comparing {
         Ok(())
     }
 
-    /// The verdict, where the last segment was compared.
+    /// The verdict, when the last segment was compared.
     pub fn verdict(&self, report: &Report) -> Verdict
         ensures { (result ≡ Verdict.Least) ↔ ((self.now.agrees ≡ true)
             × (self.now.place ≡ length report.now.segments.items)) }

@@ -10,11 +10,13 @@ use msr_words::{Kind, Length};
 /// The samples of a record: how many, and how they are stored.
 #[derive(Clone, Copy, Debug)]
 pub struct Piece {
+    /// How many samples there are.
     pub count: u64,
+    /// How they are stored.
     pub kind: Kind,
 }
 
-/// The record's samples, where it has some, and that length.
+/// The record's samples, if it has some, and that length.
 pub fn piece_of(found: &Record, record_length: Length) -> Option<Piece>
     ensures { MatchOption result
         (IsFull (bytes_of record_length) found.now → ⊥)

@@ -1,6 +1,6 @@
 use Rattle.std.proofs.Common.{◌≡◌, map, length, arith, rules}
+use Rattle.std.proofs.lemmas.Bool.{both_ways}
 use Rattle.std.proofs.lemmas.List.{get_or_default}
-use Rattle.msr_verdict.proofs.Lines.{not_true}
 use Rattle.msr_command.proofs.Apart.{apart_all, apart_more, apart_none}
 use Rattle.msr_command.proofs.words.below_of.Goals as goal
 
@@ -12,7 +12,7 @@ loop-place-preserved c =
     apart_more _ c.args.given.now c.loop-place.place _ c.loop-place-test.true
     (get_or_default c.args.given.now c.loop-place.place _ _ c.loop-place-test.true)
     c.loop-place.invariant
-    (λ any. not_true c.overlaps_one.result c.if-overlaps_one.false (c.overlaps_one.ensures.1 any))
+    (λ any. both_ways c.overlaps_one.result c.if-overlaps_one.false (c.overlaps_one.ensures.1 any))
 
 pub returns-in-Ok-clause-apart : goal.returns-in-Ok-clause-apart
 returns-in-Ok-clause-apart c =

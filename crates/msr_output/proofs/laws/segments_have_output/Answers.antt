@@ -1,11 +1,11 @@
 -- Segment by segment, run by run.
-use Rattle.msr_output.proofs.Existing.{has_output, front_of_output, written_longer}
+use Rattle.msr_output.proofs.Existing.{has_output, prefix_of_output, written_longer}
 use Rattle.msr_output.proofs.laws.segments_have_output.Goals as goal
 
 pub returns : goal.returns
 returns c = record {
   whole = λ size segments power writable. let o = has_output size segments power writable in
       (o.packed, o.rows, o.bytes, o.same, o.output);
-  prefix = front_of_output;
+  prefix = prefix_of_output;
   stay = written_longer;
 }

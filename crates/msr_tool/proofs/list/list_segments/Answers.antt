@@ -3,9 +3,9 @@ use Rattle.std.proofs.lemmas.Result.{err_from_is_err_and}
 use Rattle.std.specs.Option.{option_to_list}
 use Rattle.msr_tool.specs.Choice.{settings_of}
 use Rattle.msr_tool.specs.Writing.{ended_by}
-use Rattle.msr_tool.proofs.Listed.{front_listed}
+use Rattle.msr_tool.proofs.Listed.{prefix_listed}
 use Rattle.msr_tool.proofs.RowsSoFar.{given_read, rows_end, rows_stop}
-use Rattle.msr_tool.proofs.StoppedRepacks.{read_tells_source, listing_tells_source, listing_tells_sink, listed_tells_source, listed_tells_sink, ok_tells}
+use Rattle.msr_tool.proofs.StoppedRepacks.{read_tells_source, write_tells_source, write_tells_sink, ok_tells}
 use Rattle.msr_tool.proofs.ListUnderWay.{outline_more, under_none, under_more, last_in_bounds, list_read_failed, list_write_failed, list_all_failed, list_done}
 use Rattle.msr_tool.proofs.list.list_segments.Goals as goal
 
@@ -29,11 +29,11 @@ returns-in_err-next-clause-answer g c =
     (g.R.Source.device c.next_outline.new.source) c.rows.reader u.given u.joining why u.rows
     (c.in_err-next.ensures.read
     (g.R.Source.device c.args.source.now) u.rows.records u.rows.answers u.rows.has_read) in
-    let front = front_listed (g.W.Sink.device c.args.sink.now)
+    let prefix = prefix_listed (g.W.Sink.device c.args.sink.now)
     (g.W.Sink.device c.rows.sink) c.rows.writer.waiting u.given (option_to_list u.joining.current) u.listed in
     rw (p.1, p.2) (list_read_failed (settings_of c.args.options) (g.R.Source.device c.args.source.now)
     (g.R.Source.device c.next_outline.new.source) (g.W.Sink.device c.args.sink.now)
-    (g.W.Sink.device c.rows.sink) (u.given ++ option_to_list u.joining.current) why stops front)
+    (g.W.Sink.device c.rows.sink) (u.given ++ option_to_list u.joining.current) why stops prefix)
 
 pub returns-in_err-next-clause-read : goal.returns-in_err-next-clause-read
 returns-in_err-next-clause-read g c =
@@ -80,17 +80,17 @@ returns-in_err-take-clause-read g c =
     let u = c.rows.invariant in
     let reads = rw c.in-Some.is at (c.in_ok-next.ensures.read
     (g.R.Source.device c.args.source.now) u.rows.records u.rows.answers u.rows.has_read) in
-    rw (p.1, p.2) (listing_tells_source (g.R.Source.device c.args.source.now)
+    rw (p.1, p.2) (write_tells_source _ _ (g.R.Source.device c.args.source.now)
     (g.R.Source.device c.next_outline.new.source) (g.W.Sink.device c.args.sink.now)
-    (g.W.Sink.device c.take.new.sink) _ c.in_err-take.field-0.0 reads.reads.read.came.steady
+    (g.W.Sink.device c.take.new.sink) c.in_err-take.field-0.0 reads.reads.read.came.steady
     (c.in_err-take.ensures.written (g.W.Sink.device c.args.sink.now) u.given u.joining.current u.listed u.last))
 
 pub returns-in_err-take-clause-write : goal.returns-in_err-take-clause-write
 returns-in_err-take-clause-write g c =
     let p = err_from_is_err_and c.from_residual-in_err-take.result c.from_residual-in_err-take.ensures.1 in
     let u = c.rows.invariant in
-    rw (p.1, p.2) (listing_tells_sink (g.W.Sink.device c.args.sink.now)
-    (g.W.Sink.device c.take.new.sink) _ c.in_err-take.field-0.0
+    rw (p.1, p.2) (write_tells_sink _ _ (g.W.Sink.device c.args.sink.now)
+    (g.W.Sink.device c.take.new.sink) c.in_err-take.field-0.0
     (c.in_err-take.ensures.written (g.W.Sink.device c.args.sink.now) u.given u.joining.current u.listed u.last))
 
 pub rows-preserved : goal.rows-preserved
@@ -139,17 +139,17 @@ returns-in_err-finish-clause-read g c =
     let u = c.rows.invariant in
     let end = rw c.in_default.is at (c.in_ok-next.ensures.read
     (g.R.Source.device c.args.source.now) u.rows.records u.rows.answers u.rows.has_read) in
-    rw (p.1, p.2) (listed_tells_source (g.R.Source.device c.args.source.now)
+    rw (p.1, p.2) (write_tells_source _ _ (g.R.Source.device c.args.source.now)
     (g.R.Source.device c.next_outline.new.source) (g.W.Sink.device c.args.sink.now)
-    (g.W.Sink.device c.finish.new.sink) _ _ c.in_err-finish.field-0.0 end.none.read.came.steady
+    (g.W.Sink.device c.finish.new.sink) c.in_err-finish.field-0.0 end.none.read.came.steady
     (c.in_err-finish.ensures.written (g.W.Sink.device c.args.sink.now) u.given u.joining.current u.listed u.last))
 
 pub returns-in_err-finish-clause-write : goal.returns-in_err-finish-clause-write
 returns-in_err-finish-clause-write g c =
     let p = err_from_is_err_and c.from_residual-in_err-finish.result c.from_residual-in_err-finish.ensures.1 in
     let u = c.rows.invariant in
-    rw (p.1, p.2) (listed_tells_sink (g.W.Sink.device c.args.sink.now)
-    (g.W.Sink.device c.finish.new.sink) _ _ c.in_err-finish.field-0.0
+    rw (p.1, p.2) (write_tells_sink _ _ (g.W.Sink.device c.args.sink.now)
+    (g.W.Sink.device c.finish.new.sink) c.in_err-finish.field-0.0
     (c.in_err-finish.ensures.written (g.W.Sink.device c.args.sink.now) u.given u.joining.current u.listed u.last))
 
 pub returns-clause-answer : goal.returns-clause-answer

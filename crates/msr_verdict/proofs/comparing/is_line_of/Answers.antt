@@ -1,7 +1,6 @@
 use Rattle.std.proofs.Common.{◌≡◌, ℤ, sym, ap, ◌∙◌, rules, FitsSigned, w64, to_z, of_z, to_z-of_z}
 use Rattle.std.proofs.lemmas.Bool.Decides.{Decides-eqb}
 use Rattle.msr_segments.proofs.KeyLemmas.{key_decides}
-use Rattle.msr_verdict.proofs.Lines.{is_true, true_is}
 use Rattle.msr_verdict.proofs.comparing.is_line_of.Goals as goal
 use Rattle.msr_verdict.proofs.comparing.is_line_of.Goals.{then-eq, else-eq, then-line-segment, else-line-segment}
 
@@ -20,7 +19,7 @@ returns-then-line-samples c =
             ((Decides-eqb _ _).0 (sym u.value-is ∙ v.if-line-segment.true)) in
             let samples = (Decides-eqb c.args.line.now.samples c.args.samples).0
             (sym v.value-is ∙ c.if-line-samples.true) in
-            (λ t. (key, start, samples, (Decides-eqb _ _).0 (true_is _ t)), λ w. is_true _ ((Decides-eqb _ _).1 w.3)))
+            (λ t. (key, start, samples, (Decides-eqb _ _).0 t), λ w. (Decides-eqb _ _).1 w.3))
         | else-eq u ↦ absurd (let e = u.value-is in let f = v.if-line-segment.true in let h = u.if-eq.false in cc)
       ]
       | else-line-segment v ↦ absurd (let e = v.value-is in let f = c.if-line-samples.true in

@@ -2,8 +2,8 @@ use Rattle.std.proofs.Common.{◌∙◌, ◌++◌, refl, sym}
 use Rattle.std.proofs.lemmas.Result.{err_from_is_err_and}
 use Rattle.msr_words.specs.Lengths.{bytes_of}
 use Rattle.msr_output.specs.Writing.{Writing}
-use Rattle.msr_output.proofs.OpenSegments.{begun_failed, begun_whole, open_end, packs_count, refused_now, whole_one, writable_now}
-use Rattle.msr_output.proofs.Existing.{enough_bytes}
+use Rattle.msr_output.proofs.OpenSegments.{begun_failed, begun_whole, open_end, packs_count, refused_now, writable_now}
+use Rattle.msr_output.proofs.Existing.{enough_bytes, is_packed_by}
 use Rattle.msr_output.proofs.writer.SegmentWriter.end.Goals as goal
 
 pub returns-in_err-self-inside-clause-written : goal.returns-in_err-self-inside-clause-written
@@ -48,7 +48,8 @@ returns-clause-written g c = λ start packed all h.
     let enough = enough_bytes w.size power in
     let a = c.in_ok-self-inside.ensures.appends all was.runs (open_end all was.runs c.args.segment was.is_open) in
     let canonical = rw (c.encode_runs.ensures.size ∙ was.size) at a.all refl in
-    let is_packed = whole_one w.size enough all (was.runs ++ a.some.more) c.encode_runs.new.self.separators canonical in
+    let is_packed = is_packed_by w.size all (was.runs ++ a.some.more) c.encode_runs.new.self.separators enough
+    canonical in
     record {
       more = record { segment = all; runs = was.runs ++ a.some.more; separators = c.encode_runs.new.self.separators };
       rows = _;

@@ -1,5 +1,5 @@
-use Rattle.std.proofs.Common.{◌≡◌, Some, rules, refl, sym, subst, to_z-of_z, Bool, true, false}
-use Rattle.std.specs.Prelude.{IsTrue}
+use Rattle.std.proofs.Common.{◌≡◌, Some, rules, refl, sym, subst, to_z-of_z}
+use Rattle.std.proofs.lemmas.Bool.{both_ways}
 use Rattle.msr_segments.specs.declared.span.Span.{Span}
 use Rattle.msr_segments.specs.declared.follow.Step.TheVariants.{Begins, Joins}
 use Rattle.msr_segments.specs.Spans.{Continues, BeginsSegment, JoinsSegment, span_of}
@@ -19,10 +19,6 @@ returns-in_ok-ok_or-in-Some-clause-history c =
     (subst (λ (s : Span). JoinsSegment c.args.self.now s
     (record { tolerance = c.self.inside.tolerance; current = Some c.in_ok-ok_or-in-Some.field-0 })) (sym e) step)
 
-not_true : (b : Bool) → b ≡ false → IsTrue b → ⊥
-not_true false e h = search rules
-not_true true e h = absurd cc
-
 abbrev row_of : goal.After-self-in_default-1 → Span
 row_of c = span_of c.args.key.now c.args.start c.args.count
 
@@ -34,7 +30,7 @@ breaks c =
       | in_default-via-in-Some+else-is_continued_by w ↦
           let tested = rw (to_z-of_z c.ranges.start) at w.is_continued_by.ensures in
           breaks_some c.self.inside.tolerance (row_of c) c.self.inside.current w.in-Some.segment w.in-Some.is
-          (λ k. absurd (not_true _ w.if-is_continued_by.false (tested.1 k)))
+          (λ k. absurd (both_ways _ w.if-is_continued_by.false (tested.1 k)))
       | in_default-via-in_default w ↦ breaks_none c.self.inside.tolerance
           (row_of c) c.self.inside.current w.in_default.is
     ])

@@ -7,7 +7,8 @@ use Rattle.msr_segments.proofs.SpanLemmas.{moved_joins, moved_begins, counted_jo
 use Rattle.msr_segments.proofs.StepLaws.{pushes_grow}
 use Rattle.msr_segments.proofs.joiner.Joiner.push.Goals as goal
 
-pub returns-in_default-extend_from_slice-clause-memory_only_for_more : goal.returns-in_default-extend_from_slice-clause-memory_only_for_more
+pub returns-in_default-extend_from_slice-clause-memory_only_for_more
+    : goal.returns-in_default-extend_from_slice-clause-memory_only_for_more
 returns-in_default-extend_from_slice-clause-memory_only_for_more c =
     let fits : FitsSigned w64 c.args.row.start = search rules in
     let joins = rw (c.in-Joins.is, c.len.ensures, to_z-of_z fits) at c.in-Ok.ensures.step in

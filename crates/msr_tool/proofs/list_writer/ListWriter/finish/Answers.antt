@@ -1,14 +1,14 @@
 use Rattle.std.proofs.lemmas.Result.{err_from_is_err_and}
 use Rattle.std.specs.Option.{option_to_list}
 use Rattle.msr_devices.proofs.Chaining.{calm_failed}
-use Rattle.msr_tool.proofs.Listed.{front_listed, listed_all, listed_all_cut, listed_pushed}
+use Rattle.msr_tool.proofs.Listed.{prefix_listed, listed_all, listed_all_cut, listed_pushed}
 use Rattle.msr_tool.proofs.list_writer.ListWriter.finish.Goals as goal
 
 pub returns-in_err-push_last-clause-written : goal.returns-in_err-push_last-clause-written
 returns-in_err-push_last-clause-written g c start segments current h last =
     let p = err_from_is_err_and c.from_residual.result c.from_residual.ensures.1 in
     rw (p.1, p.2) (
-      front_listed start (g.W.Sink.device c.args.sink.now) c.args.self.waiting segments
+      prefix_listed start (g.W.Sink.device c.args.sink.now) c.args.self.waiting segments
           (option_to_list current) h,
       h.calm.steady,
     )
@@ -18,7 +18,7 @@ returns-in_err-push_counts-clause-written g c start segments current h last =
     let p = err_from_is_err_and c.from_residual-in_err-push_counts.result
     c.from_residual-in_err-push_counts.ensures.1 in
     rw (p.1, p.2) (
-      front_listed start (g.W.Sink.device c.args.sink.now) c.args.self.waiting segments
+      prefix_listed start (g.W.Sink.device c.args.sink.now) c.args.self.waiting segments
           (option_to_list current) h,
       h.calm.steady,
     )

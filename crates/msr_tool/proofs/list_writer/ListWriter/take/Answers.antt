@@ -3,7 +3,7 @@ use Rattle.std.proofs.lemmas.Result.{err_from_is_err_and}
 use Rattle.std.specs.Option.{option_to_list}
 use Rattle.msr_devices.proofs.Chaining.{calm_failed}
 use Rattle.msr_tool.specs.Writing.{ended_by}
-use Rattle.msr_tool.proofs.Listed.{front_listed, listed_cut, listed_passed, listed_pushed}
+use Rattle.msr_tool.proofs.Listed.{prefix_listed, listed_cut, listed_passed, listed_pushed}
 use Rattle.msr_tool.proofs.list_writer.ListWriter.take.Goals as goal
 
 pub returns-in_err-push_last-in-Begins-clause-written : goal.returns-in_err-push_last-in-Begins-clause-written
@@ -11,7 +11,7 @@ returns-in_err-push_last-in-Begins-clause-written g c start segments current h l
     let p = err_from_is_err_and c.from_residual.result c.from_residual.ensures.1 in
     let ended = option_to_list (ended_by c.args.next.now.step current) in
     rw (p.1, p.2) (
-      front_listed start
+      prefix_listed start
           (g.W.Sink.device c.args.sink.now) c.args.self.now.waiting segments ended h,
       h.calm.steady,
     )

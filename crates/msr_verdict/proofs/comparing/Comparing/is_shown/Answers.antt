@@ -1,9 +1,10 @@
 use Rattle.std.proofs.Common.{rules, ◌≡◌, ◌∙◌, sym, ap, length, Some}
 use Rattle.std.specs.Prelude.{slice_get}
+use Rattle.std.proofs.lemmas.Bool.{both_ways}
 use Rattle.std.proofs.lemmas.Option.{slice_get-get_or}
 use Rattle.msr_words.specs.Lengths.{bytes_of}
 use Rattle.msr_report.specs.declared.report.SegmentLine.{SegmentLine}
-use Rattle.msr_verdict.proofs.Lines.{IsLineOf, shown_at, other_line, is_true, not_true}
+use Rattle.msr_verdict.proofs.Lines.{IsLineOf, shown_at, other_line}
 use Rattle.msr_verdict.proofs.comparing.Comparing.is_shown.Goals as goal
 
 pub returns-then-is_line_of-clause-shown : goal.returns-then-is_line_of-clause-shown
@@ -13,7 +14,7 @@ returns-then-is_line_of-clause-shown c =
     rw c.deref.ensures.value at
     (slice_get-get_or c.deref.result.now c.self.inside.place c.in-Some.line.now look.3.0
     ∙ ap (λ (l : SegmentLine). Some l) (sym (look.3.1 c.in-Some.line.now))) in
-    let same = c.is_line_of.ensures.0 (is_true c.is_line_of.result c.if-is_line_of.true) in
+    let same = c.is_line_of.ensures.0 c.if-is_line_of.true in
     let runs : c.len.result ≡ length c.self.inside.runs.items = search rules in
     let is : IsLineOf c.args.segment.now c.self.inside.runs.items c.in-Some.line.now =
     record { key = same.0; start = same.1; samples = same.2 ∙ c.len-samples.ensures; records = same.3 ∙ runs } in
@@ -37,6 +38,6 @@ returns-else-is_line_of-clause-shown c =
     rw (← c.self.view_is) (other_line
     (bytes_of c.args.report.now.length) c.self.inside.place c.args.report.now.segments.items c.args.segment.now
     c.self.inside.runs.items c.in-Some.line.now c.is_line_of.result at
-    (λ is. not_true c.is_line_of.result c.if-is_line_of.false
+    (λ is. both_ways c.is_line_of.result c.if-is_line_of.false
     (c.is_line_of.ensures.1 (is.key, is.start, is.samples ∙ sym c.len-samples.ensures, is.records ∙ sym runs)))
-    (λ t. not_true c.is_line_of.result c.if-is_line_of.false t))
+    (λ t. both_ways c.is_line_of.result c.if-is_line_of.false t))

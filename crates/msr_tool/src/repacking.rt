@@ -6,8 +6,8 @@ ghost use Rattle.msr_tool.specs.Answer.{Answers};
 ghost use Rattle.msr_tool.specs.Live.{IsLive};
 
 use crate::fault::ToolFault;
-use crate::options::Options;
 use crate::lined_writer::LinedWriter;
+use crate::options::Options;
 use msr_devices::{Sink, Source};
 use msr_input::RowReader;
 use msr_output::{output_has_size, output_keeps_segments};
@@ -17,7 +17,7 @@ use std::alloc::Global;
 /// When the records that wait are written.
 #[derive(Clone, Copy, Debug, PartialEq, Eq)]
 enum Flush {
-    /// Where they are 64 KiB or more.
+    /// When they are 64 KiB or more.
     Full,
     /// Before each read of the source, too.
     Live,
@@ -66,7 +66,7 @@ pub fn feed<R: Source, W: Sink>(
     ensures read { IsErrOf result ToolFault.Read ↔ HasFailed (R.device source.old) (R.device source.new) }
     ensures write { IsErrOf result ToolFault.Write ↔ HasFailed (W.device sink.old) (W.device sink.new) }
 
-    // Where a read fails, which may be any, all that is decided by the records that came before it was written.
+    // When a read fails, which may be any, all that is decided by the records that came before it was written.
     ensures live { IsErrOf result ToolFault.Read
         → IsLive options (R.device source.old) (R.device source.new) (W.device sink.old) (W.device sink.new) }
     ensures few_source { CountsFew (R.device source.old) (R.device source.new) }

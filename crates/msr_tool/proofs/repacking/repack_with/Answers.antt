@@ -12,13 +12,13 @@ use Rattle.msr_tool.specs.Choice.{settings_of}
 use Rattle.msr_tool.specs.Fault.{fault_of_reading}
 use Rattle.msr_tool.specs.Writing.{all_with}
 use Rattle.msr_tool.specs.declared.fault.ToolFault.TheVariants as fault
-use Rattle.msr_tool.proofs.Lines.{can_take_row, front_lined}
+use Rattle.msr_tool.proofs.Lines.{can_take_row, prefix_lined}
 use Rattle.msr_tool.proofs.RowsSoFar.{RecordMore, more_read, no_rows, record_more, rows_end, rows_read, rows_stop}
-use Rattle.msr_tool.proofs.StoppedRepacks.{read_failed, write_failed, read_tells_source, lined_tells_source, lined_tells_sink, ok_tells, as_answer}
-use Rattle.msr_tool.proofs.RepackUnderWay.{UnderWay, done, flush_stops, flushed, lining_unread, live, more}
-use Rattle.msr_tool.proofs.repack.repack_with.Given as given
-use Rattle.msr_tool.proofs.repack.repack_with.Goals as goal
-use Rattle.msr_tool.proofs.repack.repack_with.Goals.{After-must_flush, After-take, In_err-next}
+use Rattle.msr_tool.proofs.StoppedRepacks.{read_failed, write_failed, read_tells_source, write_tells_source, write_tells_sink, write_unread, ok_tells, as_answer}
+use Rattle.msr_tool.proofs.RepackUnderWay.{UnderWay, done, flush_stops, flushed, live, more}
+use Rattle.msr_tool.proofs.repacking.repack_with.Given as given
+use Rattle.msr_tool.proofs.repacking.repack_with.Goals as goal
+use Rattle.msr_tool.proofs.repacking.repack_with.Goals.{After-must_flush, After-take, In_err-next}
 
 pub records-init : goal.records-init
 records-init g c =
@@ -93,12 +93,12 @@ returns-in_err-next-clause-answer g c =
     let u = c.records.invariant.under in
     let why = c.in_err-next.field-0.0 in
     let stops = why_stopped g (goal.at.returns-in_err-next-clause-answer g c).In_err-next in
-    let front = rw u.size at (front_lined (g.W.Sink.device c.args.sink.now)
+    let prefix = rw u.size at (prefix_lined (g.W.Sink.device c.args.sink.now)
     (g.W.Sink.device c.records.sink) c.records.writer u.packed u.joining.current u.goes_on u.lined) in
     rw (p.1, p.2) (as_answer _ _ _ _ _ (read_failed c.args.options (g.R.Source.device c.args.source.now)
     (g.R.Source.device c.next_record.new.source) (g.W.Sink.device c.args.sink.now)
     (g.W.Sink.device c.records.sink) (map segment_of_packed u.packed
-    ++ option_to_list u.joining.current) why stops front))
+    ++ option_to_list u.joining.current) why stops prefix))
 
 pub returns-in_err-next-clause-read : goal.returns-in_err-next-clause-read
 returns-in_err-next-clause-read g c =
@@ -156,27 +156,26 @@ returns-in_err-take-clause-read g c =
     let p = err_from_is_err_and c.from_residual-in_err-take.result c.from_residual-in_err-take.ensures.1 in
     let u = c.records.invariant.under in
     let m = one_read g (goal.at.returns-in_err-take-clause-read g c).After-take in
-    rw (p.1, p.2) (lined_tells_source _ (g.R.Source.device c.args.source.now)
+    rw (p.1, p.2) (write_tells_source _ _ (g.R.Source.device c.args.source.now)
     (g.R.Source.device c.next_record.new.source) (g.W.Sink.device c.args.sink.now)
-    (g.W.Sink.device c.take.new.sink) _ c.in_err-take.field-0.0 m.rows.has_read.came.steady
+    (g.W.Sink.device c.take.new.sink) c.in_err-take.field-0.0 m.rows.has_read.came.steady
     (c.in_err-take.ensures.written (g.W.Sink.device c.args.sink.now) u.packed u.joining.current u.lined))
 
 pub returns-in_err-take-clause-write : goal.returns-in_err-take-clause-write
 returns-in_err-take-clause-write g c =
     let p = err_from_is_err_and c.from_residual-in_err-take.result c.from_residual-in_err-take.ensures.1 in
     let u = c.records.invariant.under in
-    rw (p.1, p.2) (lined_tells_sink _ (g.W.Sink.device c.args.sink.now)
-    (g.W.Sink.device c.take.new.sink) _ c.in_err-take.field-0.0
+    rw (p.1, p.2) (write_tells_sink _ _ (g.W.Sink.device c.args.sink.now)
+    (g.W.Sink.device c.take.new.sink) c.in_err-take.field-0.0
     (c.in_err-take.ensures.written (g.W.Sink.device c.args.sink.now) u.packed u.joining.current u.lined))
 
 pub returns-in_err-take-clause-live : goal.returns-in_err-take-clause-live
 returns-in_err-take-clause-live g c =
     let p = err_from_is_err_and c.from_residual-in_err-take.result c.from_residual-in_err-take.ensures.1 in
     let u = c.records.invariant.under in
-    rw (p.1, p.2) (λ live e. let same : c.in_err-take.field-0.0 ≡ fault.Read = cc in
-    absurd (lining_unread _ (g.W.Sink.device c.args.sink.now)
-    (g.W.Sink.device c.take.new.sink) _ c.in_err-take.field-0.0
-    (c.in_err-take.ensures.written (g.W.Sink.device c.args.sink.now) u.packed u.joining.current u.lined) same))
+    rw (p.1, p.2) (λ live. write_unread _ _ (g.W.Sink.device c.args.sink.now)
+    (g.W.Sink.device c.take.new.sink) c.in_err-take.field-0.0
+    (c.in_err-take.ensures.written (g.W.Sink.device c.args.sink.now) u.packed u.joining.current u.lined))
 
 pub returns-in_err-flush-clause-answer : goal.returns-in_err-flush-clause-answer
 returns-in_err-flush-clause-answer g c =
@@ -195,9 +194,9 @@ returns-in_err-flush-clause-read g c =
     let p = err_from_is_err_and c.from_residual-in_err-flush.result c.from_residual-in_err-flush.ensures.1 in
     let at = goal.at.returns-in_err-flush-clause-read g c in
     let taken = one_taken g at.After-must_flush (one_read g at.After-take) in
-    rw (p.1, p.2) (lined_tells_source _ (g.R.Source.device c.args.source.now)
+    rw (p.1, p.2) (write_tells_source _ _ (g.R.Source.device c.args.source.now)
     (g.R.Source.device c.next_record.new.source) (g.W.Sink.device c.args.sink.now)
-    (g.W.Sink.device c.flush.new.sink) _ c.in_err-flush.field-0.0 taken.rows.has_read.came.steady
+    (g.W.Sink.device c.flush.new.sink) c.in_err-flush.field-0.0 taken.rows.has_read.came.steady
     (c.in_err-flush.ensures.written
     (g.W.Sink.device c.args.sink.now) taken.packed taken.joining.current taken.lined))
 
@@ -206,8 +205,8 @@ returns-in_err-flush-clause-write g c =
     let p = err_from_is_err_and c.from_residual-in_err-flush.result c.from_residual-in_err-flush.ensures.1 in
     let at = goal.at.returns-in_err-flush-clause-write g c in
     let taken = one_taken g at.After-must_flush (one_read g at.After-take) in
-    rw (p.1, p.2) (lined_tells_sink _ (g.W.Sink.device c.args.sink.now)
-    (g.W.Sink.device c.flush.new.sink) _ c.in_err-flush.field-0.0
+    rw (p.1, p.2) (write_tells_sink _ _ (g.W.Sink.device c.args.sink.now)
+    (g.W.Sink.device c.flush.new.sink) c.in_err-flush.field-0.0
     (c.in_err-flush.ensures.written
     (g.W.Sink.device c.args.sink.now) taken.packed taken.joining.current taken.lined))
 
@@ -216,11 +215,10 @@ returns-in_err-flush-clause-live g c =
     let p = err_from_is_err_and c.from_residual-in_err-flush.result c.from_residual-in_err-flush.ensures.1 in
     let at = goal.at.returns-in_err-flush-clause-live g c in
     let taken = one_taken g at.After-must_flush (one_read g at.After-take) in
-    rw (p.1, p.2) (λ live e. let same : c.in_err-flush.field-0.0 ≡ fault.Read = cc in
-    absurd (lining_unread _ (g.W.Sink.device c.args.sink.now)
-    (g.W.Sink.device c.flush.new.sink) _ c.in_err-flush.field-0.0
+    rw (p.1, p.2) (λ live. write_unread _ _ (g.W.Sink.device c.args.sink.now)
+    (g.W.Sink.device c.flush.new.sink) c.in_err-flush.field-0.0
     (c.in_err-flush.ensures.written
-    (g.W.Sink.device c.args.sink.now) taken.packed taken.joining.current taken.lined) same))
+    (g.W.Sink.device c.args.sink.now) taken.packed taken.joining.current taken.lined))
 
 pub flush-requires-clause-count : goal.flush-requires-clause-count
 flush-requires-clause-count g c =
@@ -281,27 +279,26 @@ returns-in_err-segments-clause-read g c =
     let u = c.records.invariant.under in
     let end = rw c.in_default.is at (c.in_ok-next.ensures.read
     (g.R.Source.device c.args.source.now) u.rows.records u.rows.answers u.rows.has_read) in
-    rw (p.1, p.2) (lined_tells_source _ (g.R.Source.device c.args.source.now)
+    rw (p.1, p.2) (write_tells_source _ _ (g.R.Source.device c.args.source.now)
     (g.R.Source.device c.next_record.new.source) (g.W.Sink.device c.args.sink.now)
-    (g.W.Sink.device c.finish.new.sink) _ c.in_err-segments.field-0.0 end.none.read.came.steady
+    (g.W.Sink.device c.finish.new.sink) c.in_err-segments.field-0.0 end.none.read.came.steady
     (c.in_err-segments.ensures.written (g.W.Sink.device c.args.sink.now) u.packed u.joining.current u.lined))
 
 pub returns-in_err-segments-clause-write : goal.returns-in_err-segments-clause-write
 returns-in_err-segments-clause-write g c =
     let p = err_from_is_err_and c.from_residual-in_err-segments.result c.from_residual-in_err-segments.ensures.1 in
     let u = c.records.invariant.under in
-    rw (p.1, p.2) (lined_tells_sink _ (g.W.Sink.device c.args.sink.now)
-    (g.W.Sink.device c.finish.new.sink) _ c.in_err-segments.field-0.0
+    rw (p.1, p.2) (write_tells_sink _ _ (g.W.Sink.device c.args.sink.now)
+    (g.W.Sink.device c.finish.new.sink) c.in_err-segments.field-0.0
     (c.in_err-segments.ensures.written (g.W.Sink.device c.args.sink.now) u.packed u.joining.current u.lined))
 
 pub returns-in_err-segments-clause-live : goal.returns-in_err-segments-clause-live
 returns-in_err-segments-clause-live g c =
     let p = err_from_is_err_and c.from_residual-in_err-segments.result c.from_residual-in_err-segments.ensures.1 in
     let u = c.records.invariant.under in
-    rw (p.1, p.2) (λ live e. let same : c.in_err-segments.field-0.0 ≡ fault.Read = cc in
-    absurd (lining_unread _ (g.W.Sink.device c.args.sink.now)
-    (g.W.Sink.device c.finish.new.sink) _ c.in_err-segments.field-0.0
-    (c.in_err-segments.ensures.written (g.W.Sink.device c.args.sink.now) u.packed u.joining.current u.lined) same))
+    rw (p.1, p.2) (λ live. write_unread _ _ (g.W.Sink.device c.args.sink.now)
+    (g.W.Sink.device c.finish.new.sink) c.in_err-segments.field-0.0
+    (c.in_err-segments.ensures.written (g.W.Sink.device c.args.sink.now) u.packed u.joining.current u.lined))
 
 pub returns-clause-answer : goal.returns-clause-answer
 returns-clause-answer g c =
