@@ -357,6 +357,7 @@ sizes_more ds at end size sizes one are less is = record { long = length-set siz
 
 -- ---- each difference of a division is one of 32 bits
 
+-- what holds of each of two lists, side by side
 pub all_joined : {X : Type 0} (P : X → Type 0) (xs ys : List X) → AllByRecursion P xs → AllByRecursion P ys
     → AllByRecursion P (xs ++ ys)
 all_joined P [] ys front back = back
