@@ -138,7 +138,7 @@ Records and report appear under their names whole or not at all: they are writte
 them, with .part added, and then renamed, the report first. Those of a refused file are
 removed, also if they were there before. The walk goes on after a refused file.
 
-Status 0 if no entry was refused or not shown, else 1; 2 if the command line is wrong.";
+Status 0 if all was walked and nothing refused, else 1; 2 if the command line is wrong.";
 
 /// Examples of `archive`.
 pub const ARCHIVE_AFTER: &str = "Examples:

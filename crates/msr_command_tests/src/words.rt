@@ -580,7 +580,7 @@ fn helps_with_the_statuses(rt: HostRuntime) -> Result<(), Fail> {
         ),
         (
             &["msrepack", "archive", "--help"],
-            "\nStatus 0 if no entry was refused or not shown, else 1; 2 if the command line is wrong.\n",
+            "\nStatus 0 if all was walked and nothing refused, else 1; 2 if the command line is wrong.\n",
         ),
         (
             &["msrepack", "feed", "--help"],
