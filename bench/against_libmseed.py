@@ -92,7 +92,7 @@ def records_in(name, length):
 
 
 def with_32_bits(record):
-    """The record, where it has 24-bit integers with 32-bit ones and twice as long: libmseed does not read those."""
+    """The record, if it has 24-bit integers with 32-bit ones and twice as long: libmseed does not read those."""
     if record[52] != 2:
         return record
     count = struct.unpack_from(">H", record, 30)[0]
@@ -206,7 +206,7 @@ class Bench:
 
 
 def pair(figures):
-    """Our figure, and the lesser one of libmseed's two ways; None where it was not taken."""
+    """Our figure, and the lesser one of libmseed's two ways; None if it was not taken."""
     theirs = [figures[way] for way in THEIRS]
     return figures[OURS], None if None in theirs else min(theirs)
 

@@ -1,10 +1,10 @@
-"""What `msrepack archive` leaves where a call of the system fails, or where it is killed: the part of faults.py for a
+"""What `msrepack archive` leaves when a call of the system fails, or when it is killed: the part of faults.py for a
 small archive.
 
 Each run has the folders anew. In those of the records and the reports stand what an earlier run left of one day, what a
 run that was killed left beside it, and a file of which the archive knows nothing; with --resume also what an earlier
 walk left whole of another day. Whatever fails, each line printed is that of the undisturbed run, or tells that this
-very entry is refused, by a text for such a fault; where a day is left alone it may be repacked, and where it is checked
+very entry is refused, by a text for such a fault; if a day is left alone it may be repacked, and if it is checked
 it may be told as not shown; the totals and the status are those of the lines; a day that is told as done or left alone
 has its records and its report whole, a refused one has neither; records that have their name have their report; the
 stamp of an input stands beside nothing that was not made from that input; and no other file is touched.
@@ -29,7 +29,7 @@ OTHERS = {"out/2019/kept": b"of a day that is no more", "reports/notes": b"of so
 OLD = (b"old records", b"old report", b"an old stamp\n")
 # When the files of the archive were changed, in nanoseconds: a stamp has it.
 CHANGED = 1_600_000_000_000_000_123
-# The texts by which a line, or the program where it stops, may tell that such a call failed.
+# The texts by which a line, or the program when it stops, may tell that such a call failed.
 TEXTS = {
     "reading": {"read fault"},
     "writing": {"write fault"},
@@ -149,7 +149,7 @@ def last_lines(told):
 
 
 def forms_of(tree, line, kinds):
-    """The lines that may tell of an entry that is not refused: that of the undisturbed run, and where looking at what an
+    """The lines that may tell of an entry that is not refused: that of the undisturbed run, and if looking at what an
     earlier walk left failed, or reading what was written, what is told then."""
     forms = [line]
     if line.startswith("same ") and kinds & {"looking", "opening", "reading", "memory"}:
@@ -248,7 +248,7 @@ def files_wrong_with(tree, walked, told, kinds):
 
 
 def failed_of(hit, fault):
-    """What may follow where these calls were hit."""
+    """What may follow when these calls were hit."""
     kinds = {call.kind for call in hit}
     silent = "writing" in kinds and fault.row == 0
     if fault.what == "error=EINVAL":

@@ -71,7 +71,7 @@ def run(words, to):
 
 
 def peak(words, folder):
-    """The peak memory of a command in KiB, by GNU time, which is small itself; None where it is not there."""
+    """The peak memory of a command in KiB, by GNU time, which is small itself; None if it is not there."""
     if not os.access("/usr/bin/time", os.X_OK):
         return None
     run(["/usr/bin/time", "-f", "%M", "-o", f"{folder}/peak", *words], f"{folder}/said")
@@ -94,14 +94,14 @@ def by_callgrind(words, folder):
 
 
 def collected(words, pattern):
-    """The count that a command prints on standard error; None where it fails."""
+    """The count that a command prints on standard error; None if it fails."""
     said = subprocess.run(words, stdin=subprocess.DEVNULL, stdout=subprocess.DEVNULL, stderr=subprocess.PIPE, text=True)
     found = re.search(pattern, said.stderr, re.M)
     return int(found[1]) if found and said.returncode == 0 else None
 
 
 def instructions(words, folder):
-    """The instructions that a command runs, counted by perf, or else by callgrind; None where neither is there."""
+    """The instructions that a command runs, counted by perf, or else by callgrind; None if neither is there."""
     if perf_counts():
         return collected(["perf", "stat", "-x,", "-e", "instructions:u", *words], r"^(\d+),")
     return by_callgrind(words, folder) if shutil.which("valgrind") else None

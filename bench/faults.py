@@ -6,7 +6,7 @@
 strace lets a call of reading, writing, opening, closing, syncing or memory fail, once or from there on; a pipe gives
 single bytes; limits make a disk full at some byte, and memory short. Each run has to end as the undisturbed one does,
 or with status 1, the fault's line, and a prefix of the report and of the records. The last line is
-`N faults, M wrong`, and the status 0 where none is wrong. README.md says what is tried; archive_faults.py tries it on
+`N faults, M wrong`, and the status 0 if none is wrong. README.md says what is tried; archive_faults.py tries it on
 `archive`.
 """
 import argparse
@@ -106,7 +106,7 @@ def allowed_of(case, call, hit, fault):
 
 
 def without(text, calls, at, short):
-    """The bytes that a file has where a write to it took so many and kept none of them."""
+    """The bytes that a file has if a write to it took so many and kept none of them."""
     before = [call for call in calls[:at] if call.kind == "writing" and call.target == calls[at].target]
     begin = sum(int(call.result) for call in before)
     return text[:begin] + text[begin + short :]
@@ -124,7 +124,7 @@ def undisturbed(calm, calls, at, fault):
 
 
 def told(outcome, lines, silent):
-    """Whether the status is 1 and one of these lines stands on standard error; or none does, where it failed too."""
+    """Whether the status is 1 and one of these lines stands on standard error; or none does, if it failed too."""
     if outcome.status != 1:
         return False
     said = [f"msrepack: {line}\n".encode() for line in lines - {SAME}]

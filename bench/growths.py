@@ -6,8 +6,8 @@
 The program msr_growths makes one call and prints what it answers. growths.c, loaded before the C library, refuses the
 first growth, then the second, and so on until a run ends without a refusal; once that growth alone, once all from it on.
 Each run has to answer as the undisturbed one, or that memory ran out, and then what is left or was written is a first
-part of the usual; where nothing was refused it has to answer as the undisturbed one.
-The last line is `N growths refused, M answered that memory ran out, K wrong`, and the status 0 where none is wrong.
+part of the usual; if nothing was refused it has to answer as the undisturbed one.
+The last line is `N growths refused, M answered that memory ran out, K wrong`, and the status 0 if none is wrong.
 """
 import argparse
 import os
@@ -26,7 +26,7 @@ def list_in(printed):
 
 
 def usual_begins_with(usual, printed):
-    """Where it is told that memory ran out, what is left or was written is a first part of the usual."""
+    """If it is told that memory ran out, what is left or was written is a first part of the usual."""
     left = [it for it in list_in(printed) if it]
     return left == list_in(usual)[: len(left)]
 

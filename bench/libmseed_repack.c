@@ -6,7 +6,7 @@
        libmseed_repack version
 
    Records are written as big-endian Steim-2, with the header of the trace's first record for their template, as the
-   library's own example program does it. The status is 0 only where every call succeeded. */
+   library's own example program does it. The status is 0 only if every call succeeded. */
 #include <libmseed.h>
 
 struct output {
@@ -46,7 +46,7 @@ static void keep_template(MSTrace *trace, MSRecord *record, const char *name)
     trace->prvtptr = template;
 }
 
-/* The traces of a file. Where there is an output, the samples that fill records of this length go there at once. */
+/* The traces of a file. If there is an output, the samples that fill records of this length go there at once. */
 static MSTraceGroup *read_traces(const char *name, int length, struct output *output)
 {
     MSRecord *record = NULL;

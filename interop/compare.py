@@ -98,7 +98,7 @@ def steim_area(dice, kind, little, samples, before, size):
 
 
 def plain_area(dice, kind, little, samples, size):
-    """An area for some first samples, of 32 bits where the kind is too narrow; its kind, how many it holds."""
+    """An area for some first samples, of 32 bits if the kind is too narrow; its kind, how many it holds."""
     width = model.WIDTHS[kind]
     if not model.is_in(samples[0], 8 * width):
         kind, width = INT32, 4
@@ -302,7 +302,7 @@ def verdict_of(program, report):
 
 
 def check_differs(program, made, answer):
-    """Its own report shows it; a changed one does where it still separates."""
+    """Its own report shows it; a changed one does if it still separates."""
     records, report, _ = answer
     read = model.read_all(records, made.tolerance)
     if read.fault is not None or len(read.segments) != report.count("\nsegment "):

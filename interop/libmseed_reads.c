@@ -6,7 +6,7 @@
        libmseed_reads version
 
    Samples go to the file SAMPLES as they lie in memory, in the order of the lines. Times are the library's own,
-   in microseconds from 1970. The status is 0 only where every call succeeded; what was read before stands in the lines. */
+   in microseconds from 1970. The status is 0 only if every call succeeded; what was read before stands in the lines. */
 #include <libmseed.h>
 
 static void fail(const char *name, const char *what)

@@ -42,7 +42,7 @@ def is_instant(micros):
 
 
 def instant(year, day, hour, minute, second, fract):
-    """Microseconds from 1970 on, or None where a field is out of its range."""
+    """Microseconds from 1970 on, or None if a field is out of its range."""
     if not 1900 <= year <= 2100 or hour > 23 or minute > 59 or second > 60 or fract > 9999:
         return None
     start = datetime.date(year, 1, 1)
@@ -168,7 +168,7 @@ def blockettes(order, rest, first):
 
 
 def read_record(rest, strict):
-    """The length of the first record, its row where it has samples, and whether its reverse constant agrees."""
+    """The length of the first record, its row if it has samples, and whether its reverse constant agrees."""
     if len(rest) < 48:
         raise Refused("1 Truncated")
     if any(byte not in b"0123456789 \0" for byte in rest[:6]) or rest[6] not in b"DRQM" or rest[7] not in b" \0":
@@ -421,7 +421,7 @@ def listed(content, tolerance, strict=False):
 
 
 def repacked(content, size, tolerance, strict=False):
-    """The records of all rows before the fault, the text of the report where there is none, and the fault."""
+    """The records of all rows before the fault, the text of the report if there is none, and the fault."""
     read = read_all(content, tolerance, strict)
     records, lines = [], ["msrepack 1", f"length {size}", f"tolerance {tolerance}", counts_line(read.counts)]
     for segment in read.segments:

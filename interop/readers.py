@@ -5,7 +5,7 @@
 
 The readers are those that Debian has: libmseed, through libmseed_reads.c, and mseed2sac. Each input is repacked to each
 length; then it is shown what the readers make of files that msrepack refuses. --install fetches what is missing
-with apt-get. The tables are markdown, as README.md has them; the status is 1 where a reader found a difference.
+with apt-get. The tables are markdown, as README.md has them; the status is 1 if a reader found a difference.
 """
 import argparse
 import array
@@ -144,7 +144,7 @@ def farthest(before, after):
 
 
 def apart(before, after):
-    """How far apart a sample's time is at most, by libmseed's records; None where their samples are not the same."""
+    """How far apart a sample's time is at most, by libmseed's records; None if their samples are not the same."""
     (samples, starts), (samples_after, starts_after) = channels(before.records), channels(after.records)
     if samples != samples_after:
         return None
@@ -165,7 +165,7 @@ def as_made(found, made):
 def repacked(bench, name, length):
     """The file repacked to this length: its records' encodings, what libmseed and mseed2sac find in it, and its segments.
 
-    They find nothing where a record has 24-bit integers, which they do not read.
+    They find nothing if a record has 24-bit integers, which they do not read.
     """
     out, report = f"{bench.folder}/out", f"{bench.folder}/report"
     text = bench.said(bench.program, "repack", "--length", str(length), name, out)

@@ -4,7 +4,7 @@ use msr_words::{AnyKind, Codec, Int16, Int24, Int32, Length, Steim1, Steim2, Tra
 use std::io;
 use std::time::Instant;
 
-/// How many records the tracker fills, where each one begins after the sample that the one before it refused.
+/// How many records the tracker fills, if each one begins after the sample that the one before it refused.
 fn records<T: Tracker + Drop>(samples: &[i32], record_length: Length) -> u64 {
     let mut count: u64 = 0;
     let mut before = 0;

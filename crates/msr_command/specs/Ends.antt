@@ -30,7 +30,7 @@ status_of_done (Checked Least) = 0
 status_of_done (Checked NotShown) = 3
 status_of_done (Walked refused) = if refused then 1 else 0
 
--- 2 where the output is the input, or two outputs are one file, which is a wrong command line, and else 1
+-- 2 if the output is the input, or two outputs are one file, which is a wrong command line, and else 1
 abbrev pub status_of_stop : Stop → ℕ
 status_of_stop (CannotOpen name) = 1
 status_of_stop SameFile = 2
@@ -89,7 +89,7 @@ Ends done file stopped printed (Err SameOutput) = file SameOutput × (printed �
 Ends done file stopped printed (Err Closed) = printed ≡ []
 Ends done file stopped printed (Err (Tool fault)) = stopped fault
 
--- What a task over one input read and printed, and what these say. The input is what the source has left, where the
+-- What a task over one input read and printed, and what these say. The input is what the source has left, if the
 -- source is known to be that of the task.
 pub record Over (known : Type 0) (says : (input printed : List ℕ) → Type 0) (source out0 out : Device) : Type 0 where
   pub input : List ℕ
@@ -195,7 +195,8 @@ pub record WasRefused (old new : Device) : Type 0 where
   pub error : Error
   pub counts : CountsError old new error
 
--- Standard output was tried, and nothing was printed: it is open, and counts as before; or it is closed, as a call told.
+-- Standard output was tried, and nothing was printed: it is open, and counts as before; or it is closed, as a call
+-- told.
 abbrev pub OpensOutput : (out0 out : Device) → Result (Unit {0}) Stop → Type 0
 OpensOutput out0 out (Ok open_now) = Takes out0 out [] × (out.failures ≡ out0.failures) × (out.interruptions ≡ 0)
 OpensOutput out0 out (Err stop) = Takes out0 out [] × (stop ≡ Closed) × WasRefused out0 out
@@ -217,7 +218,7 @@ pub record EndsTask (words : ℕ) (standard out0 out : Device) (status : ℕ) : 
   pub ended : status ≡ status_of outcome
 
 -- A text was printed whole for status 0. Status 2 is for a text on standard error, and then nothing is printed; status
--- 1 where a text of status 0 was not printed, or there is no memory.
+-- 1 if a text of status 0 was not printed, or there is no memory.
 abbrev pub EndsText : NoTask → (out0 out : Device) → (status : ℕ) → Type 0
 EndsText (Ending ending) out0 out status =
     ((status ≡ ending.status) × (status ≡ 0 → Takes out0 out (string_bytes ending.text)) × (status ≢ 0 → out ≡ out0)) ⊎

@@ -16,7 +16,7 @@ use Rattle.msr_command.specs.declared.words.Task.{Task}
 use Rattle.msr_command.specs.declared.words.Task.TheVariants.{Repack, List as Listing, Check, Archive, Feed}
 use Rattle.msr_command.specs.declared.words.Walking.{Walking}
 
--- the number of 32 bits that a text is in decimal digits, after a plus or none; none where there is no text, or it is no
+-- the number of 32 bits that a text is in decimal digits, after a plus or none; none if there is no text, or it is no
 -- such number
 abbrev pub IsNumberOf : (text : Option (List ℕ)) → (number : Option ℕ) → Type 0
 IsNumberOf None number = number ≡ None

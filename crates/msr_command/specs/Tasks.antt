@@ -38,7 +38,7 @@ pub record StandApart (folders : Folders) : Type 0 where
   pub reports : ¬ (Overlap folders.root.now folders.reports.now)
   pub outputs : ¬ (Overlap folders.out.now folders.reports.now)
 
--- the output, where one is asked for, has another name than the input; the folders of an archive stand apart
+-- the output, if one is asked for, has another name than the input; the folders of an archive stand apart
 abbrev pub KeepsInput : Task → Type 0
 KeepsInput (Repack asked) = IfSome asked.output (λ name. name.now ≢ asked.input.now)
 KeepsInput (Listing asked) = ⊤

@@ -17,7 +17,7 @@ pub struct FileId {
     number: u64,
 }
 
-/// `None` where it is no regular file, as a pipe, a terminal or /dev/null.
+/// `None` if it is no regular file, as a pipe, a terminal or /dev/null.
 fn id_of(metadata: &Metadata) -> Option<FileId> {
     if !metadata.is_file() {
         return None;
@@ -35,7 +35,7 @@ pub struct OpenedFile<F> {
     pub id: Option<FileId>,
 }
 
-/// Opens the file with this name, also where it is `-`.
+/// Opens the file with this name, also if it is `-`.
 pub fn open_file<'a, R: Files>(rt: &R, name: &'a str) -> Result<OpenedFile<R::File>, Stop<'a>>
     ensures { IfErr result IsUnopened }
 {
@@ -51,7 +51,7 @@ pub fn open_file<'a, R: Files>(rt: &R, name: &'a str) -> Result<OpenedFile<R::Fi
     }
 }
 
-/// Which file standard input is redirected from, where the system tells it.
+/// Which file standard input is redirected from, if the system tells it.
 pub fn id_of_standard_input<R: Files>(rt: &R) -> Option<FileId> {
     match fs::metadata(rt, "/dev/stdin") {
         Ok(metadata) => id_of(&metadata),
@@ -59,7 +59,7 @@ pub fn id_of_standard_input<R: Files>(rt: &R) -> Option<FileId> {
     }
 }
 
-/// Which file standard output is redirected to, where the system tells it.
+/// Which file standard output is redirected to, if the system tells it.
 fn id_of_standard_output<R: Files>(rt: &R) -> Option<FileId> {
     match fs::metadata(rt, "/dev/stdout") {
         Ok(metadata) => id_of(&metadata),
@@ -97,7 +97,7 @@ pub fn create_output<'a, R: Files>(
     }
 }
 
-/// Waits until the system has stored what was printed, where standard output is redirected to a regular file that can
+/// Waits until the system has stored what was printed, if standard output is redirected to a regular file that can
 /// be opened once more.
 pub fn settle_standard_output<R: Files>(rt: &R) -> Result<(), ToolFault>
     ensures { IfErr result (λ fault. fault ≡ ToolFault.Write) }

@@ -1,4 +1,5 @@
-//! The program's words and tasks: what a command line asks for, what is done with its files, and what is told at the end.
+//! The program's words and tasks: what a command line asks for, what is done with its files, and what is told at the
+//! end.
 #![tactic(auto)]
 
 mod commands;

@@ -3,7 +3,6 @@ ghost use Rattle.std.specs.Io.KnownBytes.{Appends};
 ghost use Rattle.std.specs.Prelude.{◌≡◌, ◌⊎◌, ◌++◌, OnOk, codes, length};
 ghost use Rattle.msr_devices.specs.Device.{CanCountCall};
 ghost use Rattle.msr_command.specs.Ends.{EndsTask, EndsText, EndsWithoutTask, status_of_stop};
-ghost use Rattle.msr_command.specs.declared.words.NoTask.{NoTask as ForNoTask};
 ghost use Rattle.msr_command.specs.declared.words.NoTask.TheVariants.{Ending as WithText};
 
 use crate::stop::Stop;
@@ -15,7 +14,7 @@ use std::io;
 use std::io::Write;
 use std::rt::Files;
 
-/// One line on standard error, for this status. Where it cannot be written, the status alone tells.
+/// One line on standard error, for this status. If it cannot be written, the status alone tells.
 pub fn complain<E: Write>(errors: &mut E, status: u8, text: &str) -> u8
     ensures { result ≡ status }
 {

@@ -1,6 +1,5 @@
 //! The tasks of the program, over the system's files, and over any source and sink in the place of standard input and
 //! output.
-ghost use Rattle.std.specs.Prelude.{◌≡◌};
 ghost use Rattle.msr_devices.specs.Device.{CanCountCall};
 ghost use Rattle.msr_command.specs.Ends.{days_asked, Checks, Does, Feeds, FeedsTo, ListsNamed, OpensOutput, Repacks, RepacksNamed, WalksArchive};
 
@@ -20,7 +19,7 @@ use std::fs::OpenFile;
 use std::io;
 use std::rt::Files;
 
-/// Does what was asked for: reads files, and `input` where a name is `-`; writes files, and to `output` what is to be
+/// Does what was asked for: reads files, and `input` if a name is `-`; writes files, and to `output` what is to be
 /// printed.
 pub fn do_task<'a, R: Files, I: Source, O: Sink>(
     rt: &R,
@@ -42,7 +41,7 @@ pub fn do_task<'a, R: Files, I: Source, O: Sink>(
     Ok(done)
 }
 
-/// Does it where standard output is open.
+/// Does it when standard output is open.
 fn do_open<'a, R: Files, I: Source, O: Sink>(
     rt: &R,
     alloc: Global,
@@ -63,7 +62,7 @@ fn do_open<'a, R: Files, I: Source, O: Sink>(
     }
 }
 
-/// Nothing can be printed where standard output is closed, and a file that is made would stand in its place and get
+/// Nothing can be printed if standard output is closed, and a file that is made would stand in its place and get
 /// the text.
 fn require_open<'a, O: Sink>(output: &mut O) -> Result<(), Stop<'a>>
     requires { CanCountCall (O.device output.old) }

@@ -1,7 +1,9 @@
 //! The texts of help, and of faults that clap does not find.
 
+/// What the program does, in a line.
 pub const ABOUT: &str = "Repacks miniSEED into the fewest records of one length";
 
+/// What the program does.
 pub const LONG_ABOUT: &str = "Repacks miniSEED into the fewest records of one length.
 
 msrepack joins the neighbouring records of a file into segments and writes each
@@ -15,6 +17,7 @@ It reads records with blockette 1000, with or without blockette 1001, in either 
 order: 16-bit, 24-bit and 32-bit integers, Steim-1 and Steim-2. A file with anything
 else is refused with the place and the reason. No record that has samples is skipped.";
 
+/// The end of the program's help: statuses and examples.
 pub const AFTER: &str = "With no words msrepack does what `msrepack repack -` does.
 
 Statuses:
@@ -29,8 +32,10 @@ Examples:
   msrepack check packed.mseed packed.txt
   msrepack archive sds packed reports";
 
+/// What `repack` does, in a line.
 pub const REPACK_ABOUT: &str = "Writes the segments of a file in the fewest records, and a report";
 
+/// What `repack` does.
 pub const REPACK_LONG_ABOUT: &str =
     "Writes the segments of a file in the fewest records, and a report.
 
@@ -45,27 +50,37 @@ them had no samples, and in how many the last sample was not the reverse constan
 then, for each segment, a line with its name, rate, start, samples and records, and a
 line of separators: samples, numbered from 0, no two of which fit one record.
 
-Where IN is refused, one line on standard error says at which byte and why, and OUT
-has only the front of the records: do not keep it.";
+If IN is refused, one line on standard error says at which byte and why, and OUT
+has only a prefix of the records: do not keep it.
 
+Status 0 if all was written, 1 after a fault, 2 if the command line is wrong.";
+
+/// Examples of `repack`.
 pub const REPACK_AFTER: &str = "Examples:
   msrepack repack day.mseed                     how few records of 512 bytes would do
   msrepack repack --length 4096 day.mseed packed.mseed > packed.txt
   cat day.mseed | msrepack repack - packed.mseed";
 
+/// What `list` does, in a line.
 pub const LIST_ABOUT: &str = "Lists the segments of a file";
 
+/// What `list` does.
 pub const LIST_LONG_ABOUT: &str = "Lists the segments of a file.
 
 Prints a line for each segment, with its name, quality, rate, flags, start and number
 of samples, and a last line that counts the records: all of them, those without
-samples, and those whose last sample is not the reverse constant.";
+samples, and those whose last sample is not the reverse constant.
 
+Status 0 if the list is whole, 1 after a fault, 2 if the command line is wrong.";
+
+/// An example of `list`.
 pub const LIST_AFTER: &str = "Example:
   msrepack list --tolerance 5000 day.mseed";
 
+/// What `check` does, in a line.
 pub const CHECK_ABOUT: &str = "Says whether a report shows that packed records are the fewest";
 
+/// What `check` does.
 pub const CHECK_LONG_ABOUT: &str = "Says whether a report shows that packed records are the fewest.
 
 Reads the report and then the records, and prints one of two verdicts:
@@ -79,33 +94,37 @@ not shown  The report does not show that: a record has another length or no samp
            of samples or records, or its separators do not agree. It does not say that
            fewer records are possible. Status 3.
 
-Nothing is said of the file that PACKED was made from. Where msrepack made it, repack
+Nothing is said of the file that PACKED was made from. If msrepack made it, repack
 that file again with the same options: the same input gives the same records.
 
-The report is read with the form that `msrepack repack` writes. Where it has another,
-one line on standard error names its first wrong line, counted from 1; where PACKED
-has a fault, one line says at which byte and why. Both have status 1, and no verdict.";
+The report is read with the form that `msrepack repack` writes. If it has another, one
+line on standard error names its first wrong line, counted from 1; if PACKED has a
+fault, one line says at which byte and why. Both have status 1, and no verdict.";
 
+/// An example of `check`.
 pub const CHECK_AFTER: &str = "Example:
   msrepack repack --length 4096 day.mseed packed.mseed > packed.txt
   msrepack check packed.mseed packed.txt";
 
+/// What `archive` does, in a line.
 pub const ARCHIVE_ABOUT: &str = "Repacks every day file of an SDS archive";
 
+/// What `archive` does.
 pub const ARCHIVE_LONG_ABOUT: &str =
     "Repacks every day file of an archive that is kept as a SeisComP Data Structure.
 
 Walks the folders below ROOT, names in the order of their bytes, and repacks each file
 of waveform data, YEAR/NET/STA/CHAN.D/NET.STA.LOC.CHAN.D.YEAR.DAY, as `repack` does: its
 records go to the same path below OUT, its report to that path with .txt added, below
-REPORTS. Folders are made where a file needs them. Prints one line for each entry, as
+REPORTS. Folders are made when a file needs them. Prints one line for each entry, as
 soon as it is done:
 
 done PATH read N written M            repacked, from N records to M
 same PATH read N written M            done by an earlier walk, with --resume
-skipped PATH: not an SDS path         left alone, as also where it says
+skipped PATH: not an SDS path         left alone, as also if it says
                                       `not waveform data` or `bad day`
-refused PATH: TEXT                    a fault, as repack tells it, or `cannot open`
+refused PATH: TEXT                    a fault, as repack tells it, or `cannot open`, or
+                                      `another walk is at work`: then it is left alone
 refused PATH: listing                 a folder that cannot be listed, or has a name that
                                       is not UTF-8: nothing in it is handled
 notshown PATH                         its report did not show it, with --check: not kept
@@ -117,14 +136,19 @@ files N skipped N refused N
 
 Records and report appear under their names whole or not at all: they are written beside
 them, with .part added, and then renamed, the report first. Those of a refused file are
-removed, also where they were there before. The walk goes on after a refused file.";
+removed, also if they were there before. The walk goes on after a refused file.
 
+Status 0 if all was walked and nothing refused, else 1; 2 if the command line is wrong.";
+
+/// Examples of `archive`.
 pub const ARCHIVE_AFTER: &str = "Examples:
   msrepack archive --length 4096 sds packed reports > log.txt
   msrepack archive --resume --check --below 2020/XX sds packed reports > log.txt";
 
+/// What `feed` does, in a line.
 pub const FEED_ABOUT: &str = "Repacks standard input to standard output while it comes";
 
+/// What `feed` does.
 pub const FEED_LONG_ABOUT: &str = "Repacks standard input to standard output while it comes.
 
 The records go to standard output, as `repack` writes them, and each as soon as it is
@@ -134,75 +158,103 @@ yet in one. The last records of a segment come when a record begins another segm
 or at the end of the input.
 
 The report goes to the file REPORT at the end. It is made, or cut to nothing, before
-anything is read, and it stands empty where standard input is refused, or a call fails:
-then one line on standard error says why, and the records are only the first ones.";
+anything is read, and it stands empty if standard input is refused, or a call fails:
+then one line on standard error says why, and the records are only the first ones.
 
+Status 0 if all was written, 1 after a fault, 2 if the command line is wrong.";
+
+/// An example of `feed`.
 pub const FEED_AFTER: &str = "Example:
   nc station 18000 | msrepack feed --length 4096 report.txt > packed.mseed";
 
+/// The report of `feed`.
 pub const FEED_REPORT: &str = "The file to write the report to, at the end";
 
+/// `--below`, in a line.
 pub const BELOW: &str = "Walk only this folder of the archive. May be repeated";
 
+/// `--below`.
 pub const LONG_BELOW: &str =
     "Walk only this folder of the archive, given by its path from ROOT, as 2020/XX/TEST/BHZ.D.
 May be repeated, for folders of which none is another or stands below it: they are
 walked in the order in which they are given. All paths are still counted from ROOT";
 
+/// `--resume`, in a line.
 pub const RESUME: &str = "Leave files alone that an earlier walk with this option did";
 
+/// `--resume`.
 pub const LONG_RESUME: &str =
     "Leave files alone that an earlier walk with this option did: their records and their
 report are whole, of this length and tolerance, and made from an input of the same size
 and time of change. For them one line is printed, which counts as one of those done:
 `same PATH read N written M`";
 
+/// `--check`, in a line.
 pub const CHECKED: &str = "Hold records against their report before they get their name";
 
+/// `--check`.
 pub const LONG_CHECKED: &str =
-    "Hold records against their report, as `check` does, before they get their name. Where
-the report does not show that they are the fewest, neither is kept, and `notshown PATH`
-is printed, which counts as one of those refused";
+    "Hold records against their report, as `check` does, before they get their name. If the
+report does not show that they are the fewest, neither is kept, and `notshown PATH` is
+printed, which counts as one of those refused";
 
+/// The first folder of `archive`.
 pub const ROOT: &str = "The folder of the archive";
 
+/// The second folder of `archive`.
 pub const OUT_FOLDER: &str = "The folder of the records. It is made if it is missing";
 
+/// The third folder of `archive`.
 pub const REPORTS: &str = "The folder of the reports. It is made if it is missing";
 
+/// The first file of `check`.
 pub const PACKED: &str = "The file with the packed records";
 
+/// The second file of `check`.
 pub const REPORT: &str = "The file with their report";
 
+/// `--length`.
 pub const LENGTH: &str =
     "Bytes of each record written: 256, 512, 1024, 2048, 4096, 8192, 16384, 32768 or 65536";
 
+/// `--tolerance`, in a line.
 pub const TOLERANCE: &str =
     "Microseconds by which a record may be early or late and still join a segment: 1 to 1000000";
 
+/// `--tolerance`.
 pub const LONG_TOLERANCE: &str =
     "Microseconds by which a record may be early or late and still join a segment: 1 to
 1000000. The expected time is counted from the start of the segment, so that small
 errors do not add up";
 
+/// `--strict`, in a line.
 pub const STRICT: &str = "Refuse a record whose last sample is not its reverse constant";
 
+/// `--strict`.
 pub const LONG_STRICT: &str =
     "Refuse a record whose last sample is not its reverse constant, as `18 ReverseMismatch`.
 Without it such records are read, and counted as mismatched";
 
+/// The input of `repack` and `list`.
 pub const IN: &str = "The file to read, or - for standard input";
 
+/// The output of `repack`.
 pub const OUT: &str = "The file to write the records to. Without it they are not kept";
 
+/// The length is not that of a record.
 pub const NOT_A_LENGTH: &str = "msrepack: not a record length\n";
 
+/// The output and the input have one name.
 pub const SAME_FILE: &str = "msrepack: the output is the input\n";
 
+/// Two folders are one, or one stands below another.
 pub const OVERLAP: &str = "msrepack: the folders overlap\n";
 
+/// What stands after `--below` is no path of one to four names.
 pub const NOT_BELOW: &str = "msrepack: not a folder of an archive\n";
 
+/// No command was found; clap lets no such line through.
 pub const NO_COMMAND: &str = "error: no command\n";
 
+/// A word is not UTF-8.
 pub const NOT_UTF8: &str = "error: invalid UTF-8 was detected in one or more arguments\n";

@@ -111,13 +111,13 @@ impl From<AllocError> for NoTask {
     }
 }
 
-/// The length of written records where none is asked for.
+/// The length of written records if none is asked for.
 const LENGTH: u32 = 512;
 
-/// The tolerance in microseconds where none is asked for.
+/// The tolerance in microseconds if none is asked for.
 const TOLERANCE: u32 = 1000;
 
-/// How an input is repacked where nothing else is asked for.
+/// How an input is repacked if nothing else is asked for.
 fn default_options() -> Options
     ensures { AreOptions 512 1000 false result }
 {
@@ -125,7 +125,7 @@ fn default_options() -> Options
     Options::new(length, TOLERANCE).unwrap()
 }
 
-/// What is done where there are no words.
+/// What is done if there are no words.
 fn default_task<'a>() -> Task<'a>
     ensures default { IsDefault result }
     ensures tolerance { HasTolerance result }
@@ -165,7 +165,7 @@ fn ending_of(alloc: Global, error: &clap::Error) -> NoTask
     }
 }
 
-/// These options, exactly where the length is one of a record and the tolerance is in its range.
+/// These options, exactly if the length is one of a record and the tolerance is in its range.
 fn options_of(alloc: Global, bytes: u32, tolerance: u32, strict: bool) -> Result<Options, NoTask>
     ensures ok { IsOk result ↔ (IsRecordLength bytes × IsTolerance tolerance) }
     ensures asked { IfOk result (AreOptions bytes tolerance strict) }
@@ -206,7 +206,7 @@ fn options_in(alloc: Global, found: &ArgMatches<'_>) -> Result<Options, NoTask>
     options_of(alloc, bytes, tolerance, flag_in(found, "strict"))
 }
 
-/// A file to be repacked, exactly where the output is not the input.
+/// A file to be repacked, exactly if the output is not the input.
 fn repacking_of<'a>(
     alloc: Global,
     options: Options,
@@ -314,7 +314,7 @@ fn walking_in<'a>(alloc: Global, found: &ArgMatches<'a>) -> Result<Walking<'a>, 
     })
 }
 
-/// An archive to be repacked, exactly where no two folders overlap.
+/// An archive to be repacked, exactly if no two folders overlap.
 fn archiving_of<'a>(
     alloc: Global,
     options: Options,

@@ -9,7 +9,7 @@ use std::alloc::{AllocError, Global};
 use std::process::Abort;
 use std::test::Fail;
 
-/// The text and status of a line that asks for no task; status 255 where it asks for one.
+/// The text and status of a line that asks for no task; status 255 if it asks for one.
 fn ending(alloc: Global, words: &'static [&'static str]) -> Result<Ending, AllocError> {
     match read_words(alloc, words) {
         Ok(_) => Ok(Ending {
@@ -90,7 +90,7 @@ fn reads_list(rt: HostRuntime) -> Result<(), Fail> {
     Ok(())
 }
 
-/// The report is a file, also where its name is `-`.
+/// The report is a file, also if its name is `-`.
 #[test]
 fn reads_feed(rt: HostRuntime) -> Result<(), Fail> {
     let rows: [(&'static [&'static str], u32, u32, &'static str); 3] = [
@@ -111,7 +111,7 @@ fn reads_feed(rt: HostRuntime) -> Result<(), Fail> {
     Ok(())
 }
 
-/// Both are names of files, also where they are `-`, and may be one name.
+/// Both are names of files, also if they are `-`, and may be one name.
 #[test]
 fn reads_check(rt: HostRuntime) -> Result<(), Fail> {
     let rows: [(&'static [&'static str], &'static str, &'static str); 4] = [
@@ -228,7 +228,7 @@ fn reads_how_an_archive_is_walked(rt: HostRuntime) -> Result<(), Fail> {
     Ok(())
 }
 
-/// Whether a task is strict; none where it cannot be.
+/// Whether a task is strict; none if it cannot be.
 fn strictness(task: Task<'_>) -> Option<bool> {
     match task {
         Task::Repack(asked) => Some(asked.options.is_strict()),
@@ -525,7 +525,7 @@ fn helps_with_the_usage(rt: HostRuntime) -> Result<(), Fail> {
 
 #[test]
 fn helps_with_what_is_done(rt: HostRuntime) -> Result<(), Fail> {
-    let rows: [(&'static [&'static str], &'static str); 8] = [
+    let rows: [(&'static [&'static str], &'static str); 9] = [
         (&["msrepack", "--help"], "\nStatuses:\n  0  done\n"),
         (
             &["msrepack", "--help"],
@@ -551,7 +551,41 @@ fn helps_with_what_is_done(rt: HostRuntime) -> Result<(), Fail> {
             &["msrepack", "help", "archive"],
             "\nfiles N skipped N refused N\n",
         ),
+        (
+            &["msrepack", "archive", "--help"],
+            "\n                                      `another walk is at work`: then it is left alone\n",
+        ),
         (&["msrepack", "--version"], "msrepack 0.1.0\n"),
+    ];
+    for (words, part) in rows {
+        shows(&rt, words, part)?;
+    }
+    Ok(())
+}
+
+#[test]
+fn helps_with_the_statuses(rt: HostRuntime) -> Result<(), Fail> {
+    let rows: [(&'static [&'static str], &'static str); 5] = [
+        (
+            &["msrepack", "repack", "--help"],
+            "\nStatus 0 if all was written, 1 after a fault, 2 if the command line is wrong.\n",
+        ),
+        (
+            &["msrepack", "list", "--help"],
+            "\nStatus 0 if the list is whole, 1 after a fault, 2 if the command line is wrong.\n",
+        ),
+        (
+            &["msrepack", "check", "--help"],
+            "\nfault, one line says at which byte and why. Both have status 1, and no verdict.\n",
+        ),
+        (
+            &["msrepack", "archive", "--help"],
+            "\nStatus 0 if all was walked and nothing refused, else 1; 2 if the command line is wrong.\n",
+        ),
+        (
+            &["msrepack", "feed", "--help"],
+            "\nStatus 0 if all was written, 1 after a fault, 2 if the command line is wrong.\n",
+        ),
     ];
     for (words, part) in rows {
         shows(&rt, words, part)?;

@@ -4,6 +4,7 @@ use msr_sds::SdsName;
 use msr_totals::Totals;
 use std::io;
 
+/// `SdsName::path_text`.
 pub fn path(rt: &HostRuntime) -> io::Result<()> {
     let Ok(name) = SdsName::parse("2020/XX/TEST/BHZ.D/XX.TEST.00.BHZ.D.2020.001") else {
         return println!(rt; "not reached: no name");
@@ -11,6 +12,7 @@ pub fn path(rt: &HostRuntime) -> io::Result<()> {
     println!(rt; "{:?}", name.path_text(rt.alloc()))
 }
 
+/// `Totals::add`, of two names.
 pub fn add(rt: &HostRuntime) -> io::Result<()> {
     let mut totals = Totals::new(rt.alloc());
     let mut refused = false;

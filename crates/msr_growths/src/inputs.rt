@@ -3,15 +3,13 @@ ghost use Rattle.std.specs.Prelude.{◌≡◌, IfSome, IsSome, OnErr};
 ghost use Rattle.msr_tool.specs.Choice.{size_of};
 
 use msr_devices::{Behavior, TestSink, TestSource};
+use msr_fixtures::{CHANNEL, LOCATION, NETWORK, QUALITY, START, STATION, next_of};
 use msr_record::{Key, encode_record};
 use msr_time::{Rate, is_instant};
 use msr_tool::{Options, repack};
 use msr_words::{Kind, Length};
 use std::alloc::{AllocError, Global};
 use std::io;
-
-/// 2020-01-01 00:00:00.
-pub const START: i64 = 1_577_836_800_000_000;
 
 /// A device that moves all that it is given, and never fails.
 pub const PLAIN: Behavior = Behavior {
@@ -26,18 +24,20 @@ const ROOM: usize = 65_536;
 /// What the calls are made with.
 #[derive(Drop)]
 pub struct Inputs {
+    /// Noise.
     pub samples: Vec<i32>,
-    /// Its samples in records of 4096 bytes, as numbers of 32 bits.
+    /// The samples in records of 4096 bytes, as numbers of 32 bits.
     pub records: Vec<u8>,
     /// The first of them in a record of 512 bytes.
     pub steim2: Vec<u8>,
-    /// The records again, packed, and the text of their report.
+    /// The records again, packed.
     pub packed: Vec<u8>,
+    /// The text of their report.
     pub text: Vec<u8>,
 }
 
 impl Inputs {
-    /// `None` where a record would not take its samples, or the tool refuses its own records.
+    /// `None` if a record would not take its samples, or the tool refuses its own records.
     pub fn made_up(rt: &HostRuntime) -> io::Result<Option<Inputs>> {
         let alloc = rt.alloc();
         let samples = noise(alloc, 3000)?;
@@ -90,15 +90,13 @@ fn noise(alloc: Global, count: usize) -> Result<Vec<i32>, AllocError> {
     let mut number: u64 = 1;
     let mut samples = Vec::new(alloc);
     for _ in 0..count {
-        number = number
-            .wrapping_mul(6_364_136_223_846_793_005)
-            .wrapping_add(1_442_695_040_888_963_407);
+        number = next_of(number);
         samples.push(((number >> 33) % 1000) as i32)?;
     }
     Ok(samples)
 }
 
-/// Appends the record of a run of samples, a thousand of which are before it for each number, where it takes them.
+/// Appends the record of a run of samples, a thousand of which are before it for each number, if it takes them.
 pub fn append(
     alloc: Global,
     number: u64,
@@ -119,11 +117,11 @@ pub fn append(
         return Ok(());
     }
     let key = Key {
-        network: *b"XX",
-        station: *b"TEST ",
-        location: *b"00",
-        channel: *b"BHZ",
-        quality: b'D',
+        network: NETWORK,
+        station: STATION,
+        location: LOCATION,
+        channel: CHANNEL,
+        quality: QUALITY,
         rate,
         activity: 0,
         clock: 0,

@@ -1,6 +1,6 @@
 //! Calls public functions that can answer that memory ran out, and prints what each answers, and what it leaves of
-//! what it was given. `bench/growths.py` lets each growth of memory be refused in turn, and holds what is printed then against
-//! what is printed here.
+//! what it was given. `bench/growths.py` lets each growth of memory be refused in turn, and holds what is printed then
+//! against what is printed here.
 #![tactic(auto)]
 
 mod archives;

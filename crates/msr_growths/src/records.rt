@@ -27,6 +27,7 @@ fn data(bytes: &[u8]) -> &[u8]
     &bytes[DATA_AT..]
 }
 
+/// `Samples::push`, of forty samples.
 pub fn push(rt: &HostRuntime) -> io::Result<()> {
     let mut samples = Samples::new(rt.alloc());
     let mut refused = false;
@@ -36,18 +37,21 @@ pub fn push(rt: &HostRuntime) -> io::Result<()> {
     println!(rt; "refused {refused}, {:?}", samples.as_slice())
 }
 
+/// `Samples::extend_from_slice`.
 pub fn extend(rt: &HostRuntime, inputs: &Inputs) -> io::Result<()> {
     let mut samples = Samples::new(rt.alloc());
     let taken = samples.extend_from_slice(inputs.samples.as_slice());
     println!(rt; "{taken:?}, {:?}", samples.as_slice())
 }
 
+/// `decode_plain`.
 pub fn plain(rt: &HostRuntime, inputs: &Inputs) -> io::Result<()> {
     let area = data(inputs.records.as_slice());
     let decoded = decode_plain(rt.alloc(), Width::Four, Order::Big, area, 1000);
     println!(rt; "{decoded:?}")
 }
 
+/// `decode_steim`.
 pub fn steim(rt: &HostRuntime, inputs: &Inputs) -> io::Result<()> {
     let area = data(inputs.steim2.as_slice());
     if area.len() > 1_048_576 {
@@ -57,6 +61,7 @@ pub fn steim(rt: &HostRuntime, inputs: &Inputs) -> io::Result<()> {
     println!(rt; "{decoded:?}")
 }
 
+/// `groups`.
 pub fn divide(rt: &HostRuntime) -> io::Result<()> {
     let Some(record_length) = Length::new(256) else {
         return Ok(());
@@ -65,6 +70,7 @@ pub fn divide(rt: &HostRuntime) -> io::Result<()> {
     println!(rt; "{found:?}")
 }
 
+/// `pack`.
 pub fn pack_all(rt: &HostRuntime, inputs: &Inputs) -> io::Result<()> {
     let Some(record_length) = Length::new(256) else {
         return Ok(());
@@ -85,6 +91,7 @@ fn last_of(alloc: Global, samples: &[i32], record_length: Length) -> Result<Last
     Ok(packer.end())
 }
 
+/// `StreamPacker::push`.
 pub fn pack_stream(rt: &HostRuntime, inputs: &Inputs) -> io::Result<()> {
     let Some(record_length) = Length::new(256) else {
         return Ok(());
@@ -93,11 +100,13 @@ pub fn pack_stream(rt: &HostRuntime, inputs: &Inputs) -> io::Result<()> {
     println!(rt; "{last:?}")
 }
 
+/// `decode_record`.
 pub fn decode(rt: &HostRuntime, inputs: &Inputs) -> io::Result<()> {
     let record = decode_record(rt.alloc(), inputs.records.as_slice());
     println!(rt; "{record:?}")
 }
 
+/// `encode_record`.
 pub fn encode(rt: &HostRuntime, inputs: &Inputs) -> io::Result<()> {
     let mut out = Vec::new(rt.alloc());
     let run = inputs.samples.get(..100).unwrap_or(&[]);
@@ -105,6 +114,7 @@ pub fn encode(rt: &HostRuntime, inputs: &Inputs) -> io::Result<()> {
     println!(rt; "{written:?}, {out:?}")
 }
 
+/// `Joiner::push`, of the rows of the records.
 pub fn join(rt: &HostRuntime, inputs: &Inputs) -> io::Result<()> {
     let mut joiner = Joiner::new(rt.alloc(), 1000);
     let mut refused = false;

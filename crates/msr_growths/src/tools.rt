@@ -5,12 +5,14 @@ use msr_devices::{TestSink, TestSource};
 use msr_tool::{check_packed, list_segments, read_report, repack};
 use std::io;
 
+/// `read_report`.
 pub fn read(rt: &HostRuntime, inputs: &Inputs) -> io::Result<()> {
     let mut source = TestSource::new(inputs.text.as_slice(), PLAIN);
     let report = read_report(rt.alloc(), &mut source);
     println!(rt; "{report:?}")
 }
 
+/// `Report::write_text`.
 pub fn write(rt: &HostRuntime, inputs: &Inputs) -> io::Result<()> {
     let mut source = TestSource::new(inputs.text.as_slice(), PLAIN);
     let Ok(report) = read_report(rt.alloc(), &mut source) else {
@@ -21,6 +23,7 @@ pub fn write(rt: &HostRuntime, inputs: &Inputs) -> io::Result<()> {
     println!(rt; "{written:?}, {:?}", sink.bytes())
 }
 
+/// `repack`.
 pub fn repack_all(rt: &HostRuntime, inputs: &Inputs) -> io::Result<()> {
     let Some(options) = options() else {
         return Ok(());
@@ -31,6 +34,7 @@ pub fn repack_all(rt: &HostRuntime, inputs: &Inputs) -> io::Result<()> {
     println!(rt; "{report:?}, {:?}", sink.bytes())
 }
 
+/// `list_segments`.
 pub fn list(rt: &HostRuntime, inputs: &Inputs) -> io::Result<()> {
     let Some(options) = options() else {
         return Ok(());
@@ -41,6 +45,7 @@ pub fn list(rt: &HostRuntime, inputs: &Inputs) -> io::Result<()> {
     println!(rt; "{counts:?}, {:?}", sink.bytes())
 }
 
+/// `check_packed`.
 pub fn check(rt: &HostRuntime, inputs: &Inputs) -> io::Result<()> {
     let mut packed = TestSource::new(inputs.packed.as_slice(), PLAIN);
     let mut report = TestSource::new(inputs.text.as_slice(), PLAIN);

@@ -5,6 +5,7 @@ ghost use Rattle.std.specs.Prelude.{◌≡◌};
 ghost use Rattle.msr_packer.specs.Blocks.{pushed};
 
 use Made::{Bounds, Extremes, Noise, Signs, Swings, Turns, Zeros};
+use msr_fixtures::next_of;
 use msr_packer::{BlockPacker, Last, Packing, Piece, Run, StreamPacker, pack};
 use msr_words::Kind::{self, Int16, Int24, Int32, Steim1, Steim2};
 use msr_words::Length;
@@ -28,13 +29,6 @@ enum Made {
     Noise(usize, u64, u32),
     /// So many, by a seed, of noise of two heights in turn, each for so many samples.
     Turns(usize, u64, u32, u32, usize),
-}
-
-/// The next number of a row that looks like chance.
-fn next_of(number: u64) -> u64 {
-    number
-        .wrapping_mul(6_364_136_223_846_793_005)
-        .wrapping_add(1_442_695_040_888_963_407)
 }
 
 /// A sample of noise of that height, half of it below 0.

@@ -144,7 +144,7 @@ impl<'a> Parts<'a> {
             && are_digits(self.day, 3)
     }
 
-    /// The parts of a path, where each is of its form.
+    /// The parts of a path, if each is of its form.
     pub fn read(text: &'a str) -> Option<Parts<'a>>
         ensures found { IfSome result (λ parts. ReadsAs text.now (parts_of parts)) }
         ensures only { (path : SdsPath) → ReadsAs text.now path

@@ -13,7 +13,7 @@ has name names = list_any (bytes_eq name) names
 abbrev pub without : List ℕ → List (List ℕ) → List (List ℕ)
 without name names = filter (λ other. not (bytes_eq name other)) names
 
--- the list with the name, last where it was not there
+-- the list with the name, last if it was not there
 abbrev pub with_name : List (List ℕ) → List ℕ → List (List ℕ)
 with_name names name = if has name names then names else names ++ name ∷ []
 

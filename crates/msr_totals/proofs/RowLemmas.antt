@@ -25,7 +25,7 @@ module _ {X : Type 0} where
       by true e rest = rw e (ap (λ name. Some (value name)) (sym (same_name n m e)))
       by false e rest = rw e rest
 
-  -- values that agree but at one name give the same rows where that name is not there
+  -- values that agree but at one name give the same rows if that name is not there
   rows-others : (value value' : List ℕ → X) (n : List ℕ)
       → ((m : List ℕ) → bytes_eq n m ≡ false → value' m ≡ value m)
       → (names : List (List ℕ)) → has n names ≡ false → rows value' names ≡ rows value names

@@ -10,7 +10,7 @@ pub record Add : Type 0 where
   pub read : ℕ
   pub written : ℕ
 
--- a number, or the greatest of 64 bits where it is greater
+-- a number, or the greatest of 64 bits if it is greater
 abbrev pub saturated : ℕ → ℕ
 saturated n = min n (2 ^ 64 - 1)
 

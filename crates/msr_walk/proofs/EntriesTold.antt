@@ -2,9 +2,9 @@
 use Rattle.std.proofs.Common.{◌≡◌, ℕ, nat_lt, arith, List, [], ◌∷◌, ◌++◌, ◌∙◌, refl, ap, sym, subst, append_assoc, take, drop, Bool, Ok, Err, Some}
 use Rattle.std.proofs.lemmas.List.{append-nil, take-append-drop}
 use Rattle.std.proofs.lemmas.Bool.{ltb-true, ltb-false}
-use Rattle.std.specs.List.{AllByRecursion}
 use Rattle.msr_devices.specs.Device.{Device, IsCalm, Takes}
 use Rattle.msr_devices.proofs.Chaining.{takes_append, calm_same, calm_calm, calm_failed, steady_steady}
+use Rattle.msr_words.proofs.FirstGroups.{all_joined}
 use Rattle.msr_report.specs.Writing.{TakesPrefix}
 use Rattle.msr_tool.specs.Writing.{StopsSink}
 use Rattle.msr_tool.specs.declared.fault.ToolFault.{ToolFault}
@@ -17,11 +17,6 @@ use Rattle.msr_walk.specs.declared.tally.Tally.{Tally}
 
 pub takes_none : (device : Device) → Takes device device []
 takes_none device = record { back = λ before h. h ∙ ap (λ (t : List ℕ). Some t) (sym (append-nil before)) }
-
-all_append : {X : Type 0} (P : X → Type 0) (xs ys : List X) → AllByRecursion P xs → AllByRecursion P ys
-    → AllByRecursion P (xs ++ ys)
-all_append P [] ys first second = second
-all_append P (x ∷ xs) ys first second = (first.0, all_append P xs ys first.1 second)
 
 lines_append : (entries others : List Entry) (lines more : List ℕ) → AreLines entries lines → AreLines others more
     → AreLines (entries ++ others) (lines ++ more)
@@ -72,7 +67,7 @@ pub tells_more : (asked : Asked) (out0 out1 out : Device) (tally0 tally1 tally :
 tells_more asked out0 out1 out tally0 tally1 tally first second = record {
   entries = first.entries ++ second.entries;
   lines = first.lines ++ second.lines;
-  are_entries = all_append (IsEntry asked) first.entries second.entries first.are_entries second.are_entries;
+  are_entries = all_joined (IsEntry asked) first.entries second.entries first.are_entries second.are_entries;
   are_lines = lines_append first.entries second.entries first.lines second.lines first.are_lines second.are_lines;
   prints = takes_append out0 out1 out first.lines second.lines first.prints second.prints;
   calm = calm_calm out0 out1 out first.calm second.calm;
@@ -127,7 +122,7 @@ part_more asked out0 out1 out tally0 tally1 first second = record {
   entries = first.entries ++ second.entries;
   printed = first.lines ++ second.printed;
   rest = second.rest;
-  are_entries = all_append (IsEntry asked) first.entries second.entries first.are_entries second.are_entries;
+  are_entries = all_joined (IsEntry asked) first.entries second.entries first.are_entries second.are_entries;
   are_lines = rw (append_assoc first.lines second.printed second.rest)
       (lines_append first.entries second.entries first.lines
       (second.printed ++ second.rest) first.are_lines second.are_lines);
@@ -141,7 +136,7 @@ part_all asked out0 out tally0 tally first =
 
 -- Where a walk stops.
 
--- a part stops what it belongs to, where nothing failed before it
+-- a part stops what it belongs to, if nothing failed before it
 pub stops_within : {Part Whole : Type 0} (out0 out1 out : Device) (fault : ToolFault) → IsCalm out0 out1
     → (Part → Whole) →
     StopsSink Part Part out1 out fault → StopsSink Whole Whole out0 out fault

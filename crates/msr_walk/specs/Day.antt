@@ -19,8 +19,8 @@ use Rattle.msr_walk.specs.declared.outcome.Refusal.{Refusal}
 use Rattle.msr_walk.specs.declared.outcome.Refusal.TheVariants.{CannotOpen, Listing, NotShown, Taken, Tool}
 use Rattle.msr_walk.specs.declared.outcome.Repacked.{Repacked}
 
--- What is asked of each day of an archive: the length and the tolerance; whether what an earlier walk did is left alone;
--- whether records are held against their report before they are kept.
+-- What is asked of each day of an archive: the length and the tolerance; whether what an earlier walk did is left
+-- alone; whether records are held against their report before they are kept.
 pub record Asked : Type 0 where
   pub choice : Choice
   pub resume : Bool
@@ -87,12 +87,12 @@ abbrev pub IsShown : Result (Unit {0}) Refusal → Type 0
 IsShown (Ok done) = WasShown
 IsShown (Err refusal) = IsUnkept refusal
 
--- the same where it is asked for
+-- the same if it is asked for
 abbrev pub IsShownWhere : Bool → Result (Unit {0}) Refusal → Type 0
 IsShownWhere check (Ok done) = IsTrue check → WasShown
 IsShownWhere check (Err refusal) = IsTrue check × IsUnkept refusal
 
--- Some input was repacked with these counts, and where that is asked for, what was written was shown to be the fewest.
+-- Some input was repacked with these counts, and if that is asked for, what was written was shown to be the fewest.
 pub record IsDone (asked : Asked) (repacked : Repacked) : Type 0 where
   pub answer : HasAnswer asked.choice (Ok repacked)
   pub shown : IsTrue asked.check → WasShown
@@ -112,7 +112,7 @@ IsRepackedDay asked (Err Taken) = ⊤
 IsRepackedDay asked (Err (Tool fault)) = HasAnswer asked.choice (Err fault)
 
 -- Some text is that of a report of these options, and the counts are those of this report. A report says no strictness:
--- where reading is strict it counts no record whose reverse constant does not agree, as that of a strict repack does.
+-- if reading is strict it counts no record whose reverse constant does not agree, as that of a strict repack does.
 pub record IsKept (choice : Choice) (repacked : Repacked) : Type 0 where
   pub text : List ℕ
   pub report : Report

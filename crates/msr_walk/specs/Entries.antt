@@ -98,7 +98,7 @@ adds_of channel (Skipped fault) = []
 adds_of channel (Refused refusal) = []
 adds_of channel Unshown = []
 
--- how many entries have such an outcome, or 2^64 - 1 where they are more
+-- how many entries have such an outcome, or 2^64 - 1 if they are more
 abbrev pub counted : (Outcome → Bool) → List Entry → ℕ
 counted of entries = saturated (count_by (λ entry. of entry.outcome) entries)
 

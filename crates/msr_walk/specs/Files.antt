@@ -6,7 +6,7 @@ use Rattle.msr_walk.specs.Paths.{joined}
 abbrev pub is_slash : ℕ → Bool
 is_slash byte = byte == 47
 
--- the folder of a path: what stands before its last slash, nothing where it has none
+-- the folder of a path: what stands before its last slash, nothing if it has none
 abbrev pub folder_of : List ℕ → List ℕ
 folder_of path = before_last is_slash path
 

@@ -30,7 +30,7 @@ abbrev pub summary : List Entry → List ℕ
 summary entries = flat_map channel_line (channels_of entries)
     ++ counts_line (counted is_done entries) (counted is_skipped entries) (counted is_refused entries)
 
--- a prefix of a text was printed where the walk stops: the sink failed, or else memory was refused
+-- a prefix of a text was printed when the walk stops: the sink failed, or else memory was refused
 abbrev pub StopsPrefix : Device → Device → List ℕ → ToolFault → Type 0
 StopsPrefix out0 out text fault = StopsSink (TakesPrefix out0 out text) (TakesPrefix out0 out text) out0 out fault
 
@@ -53,7 +53,7 @@ pub record TellsInPart (asked : Asked) (out0 out : Device) : Type 0 where
   pub are_lines : AreLines entries (printed ++ rest)
   pub prints : Takes out0 out printed
 
--- the same where the walk stops
+-- the same when the walk stops
 abbrev pub StopsTelling : Asked → Device → Device → ToolFault → Type 0
 StopsTelling asked out0 out fault = StopsSink (TellsInPart asked out0 out) (TellsInPart asked out0 out) out0 out fault
 
@@ -75,7 +75,7 @@ pub record IsWalkInPart (asked : Asked) (printed : List ℕ) : Type 0 where
   pub rest : List ℕ
   pub walk : IsWalk asked (printed ++ rest) entries
 
--- the whole text was printed, or a prefix of it where the walk stopped, which no input and no source can make it do
+-- the whole text was printed, or a prefix of it when the walk stopped, which no input and no source can make it do
 abbrev pub WalkEnds : Asked → (printed : List ℕ) → Result Bool ToolFault → Type 0
 WalkEnds asked printed (Ok refused) = (entries : List Entry) × IsWalk asked printed entries
     × TellsRefusals entries refused

@@ -97,7 +97,8 @@ impl Day {
         self.records.keep(rt)
     }
 
-    /// Reads the records and the report again that were written, and holds one against the other, where that is asked for.
+    /// Reads the records and the report again that were written, and holds one against the other, if that is asked
+    /// for.
     fn hold<R: Files>(&self, rt: &R, alloc: Global, check: bool) -> Result<(), Refusal>
         ensures { IsShownWhere check result }
     {
@@ -117,8 +118,8 @@ impl Day {
         )
     }
 
-    /// Repacks the day, and stamps it where it is asked for and the input did not change meanwhile; without a stamp the
-    /// next walk repacks it again. Where it is refused, nothing of it is left, but for another walk that took it over.
+    /// Repacks the day, and stamps it if that is asked for and the input did not change meanwhile; without a stamp the
+    /// next walk repacks it again. If it is refused, nothing of it is left, but for another walk that took it over.
     fn repack<R: Files>(
         &self,
         rt: &R,
@@ -152,7 +153,7 @@ impl Day {
         }
     }
 
-    /// What an earlier walk left of the day, where it is whole, was made with these options, and from the input as it is.
+    /// What an earlier walk left of the day, if it is whole, was made with these options, and from the input as it is.
     fn kept<R: Files>(&self, rt: &R, alloc: Global, options: Options) -> Option<Repacked>
         ensures { IfSome result (IsKept options) }
     {
@@ -190,7 +191,7 @@ impl Day {
             || self.stamp.may_touch(rt, input)
     }
 
-    /// Repacks the day, or leaves it alone where an earlier walk did it and that is asked for. Where it is refused, no
+    /// Repacks the day, or leaves it alone if an earlier walk did it and that is asked for. If it is refused, no
     /// records and no report of it are left, unless the archive may be touched by that, or another walk took the day
     /// over: then nothing is.
     pub fn handle<R: Files>(&self, rt: &R, alloc: Global, archive: &Archive<'_>) -> Outcome

@@ -33,7 +33,7 @@ pub fn settle<F: OpenFile>(file: &F) -> Result<(), ToolFault>
     }
 }
 
-/// Whether both names lead to one file or folder, by whatever paths or links, or the system does not tell. Where nothing
+/// Whether both names lead to one file or folder, by whatever paths or links, or the system does not tell. If nothing
 /// stands under one of them they do not.
 fn may_be_one<R: Files>(rt: &R, a: &str, b: &str) -> bool {
     let first = match fs::metadata(rt, a) {
@@ -107,7 +107,7 @@ impl NewFile {
     }
 
     /// Whether making it may touch the folder in which that other file stands, or the file itself by another name; so
-    /// it may where the system does not tell.
+    /// it may if the system does not tell.
     pub fn may_touch<R: Files>(&self, rt: &R, other: &str) -> bool {
         may_be_one(rt, folder_of(other), folder_of(self.path()))
             || may_be_one(rt, other, self.path())

@@ -56,7 +56,7 @@ fn tell<O: Sink>(
     tally: &mut Tally,
 ) -> Result<(), ToolFault>
     requires { CanCountCall (O.device out.old) }
-    // Whatever is asked for, where the entry has this outcome.
+    // Whatever is asked for, if the entry has this outcome.
     ensures told { (asked : Asked) → IsOutcomeOf asked path.now channel.now outcome →
         OnOk result (Tells asked (O.device out.old) (O.device out.new) tally.old tally.new) }
     ensures stops { (asked : Asked) → IsOutcomeOf asked path.now channel.now outcome →
@@ -108,7 +108,7 @@ fn tell_file<R: Files, O: Sink>(
     }
 }
 
-/// Links are followed. What the system does not tell of may be a folder: then it is refused where it has no list, and
+/// Links are followed. What the system does not tell of may be a folder: then it is refused if it has no list, and
 /// no part of the archive is taken for something else.
 fn may_be_folder<R: Files>(rt: &R, path: &str) -> bool {
     match fs::metadata(rt, path) {

@@ -36,7 +36,8 @@ impl<T: Drop> From<AllocFailed<T>> for ListFault {
 }
 
 impl From<io::Error> for ListFault {
-    ghost from_gives = { λ error e. (error_kind error ≡ OutOfMemory → e ≡ Memory) × (error_kind error ≢ OutOfMemory → e ≡ Listing) };
+    ghost from_gives = { λ error e. (error_kind error ≡ OutOfMemory → e ≡ Memory)
+        × (error_kind error ≢ OutOfMemory → e ≡ Listing) };
 
     fn from(error: io::Error) -> ListFault {
         match error.kind() {

@@ -55,7 +55,7 @@ fn has_names(path: &str) -> bool
     path.split('/').all(is_name)
 }
 
-/// How many levels of folders a walk goes below the folder with this path from the archive's own. `None` where it is no
+/// How many levels of folders a walk goes below the folder with this path from the archive's own. `None` if it is no
 /// path of names with `/` between them, or has more names than the folders of a day file's path.
 pub fn levels_below(folder: &str) -> Option<u8>
     ensures { IsDepthBelow folder.now result }

@@ -43,7 +43,7 @@ pub fn repack_day_of<S: Source, W: Sink, T: Sink>(
     })
 }
 
-/// The counts of the report that the source has, where it is one of these options. A report says no strictness, and a
+/// The counts of the report that the source has, if it is one of these options. A report says no strictness, and a
 /// strict repack writes what any other does that counts no mismatch.
 pub fn counts_kept<S: Source>(alloc: Global, source: &mut S, options: Options) -> Option<Repacked>
     requires { CanCountCall (S.device source.old) }

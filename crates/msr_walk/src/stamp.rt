@@ -23,7 +23,7 @@ pub struct Stamp {
 }
 
 impl Stamp {
-    /// `None` where the system does not tell it of the file with this name, or it is no regular file.
+    /// `None` if the system does not tell it of the file with this name, or it is no regular file.
     pub fn of<R: Files>(rt: &R, path: &str) -> Option<Stamp> {
         let Ok(metadata) = fs::metadata(rt, path) else {
             return None;

@@ -27,7 +27,8 @@ fn write_channels<O: Sink>(alloc: Global, out: &mut O, totals: &Totals) -> Resul
     requires { CanCountCall (O.device out.old) }
     ensures all { OnOk result (Takes (O.device out.old) (O.device out.new) (flat_map channel_line totals.now)) }
     ensures calm { OnOk result (IsCalm (O.device out.old) (O.device out.new)) }
-    ensures stops { IfErr result (StopsPrefix (O.device out.old) (O.device out.new) (flat_map channel_line totals.now)) }
+    ensures stops { IfErr result (StopsPrefix (O.device out.old) (O.device out.new)
+        (flat_map channel_line totals.now)) }
 {
     for place in 0..usize::MAX {
         let Some((name, total)) = totals.get(place) else {

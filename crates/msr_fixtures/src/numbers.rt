@@ -1,0 +1,8 @@
+//! Numbers that look like chance, the same at each run.
+
+/// The next number of a row that looks like chance.
+pub fn next_of(number: u64) -> u64 {
+    number
+        .wrapping_mul(6_364_136_223_846_793_005)
+        .wrapping_add(1_442_695_040_888_963_407)
+}
