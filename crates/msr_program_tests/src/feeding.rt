@@ -1,5 +1,5 @@
 //! Standard input that is repacked while it comes, and the file of its report.
-use crate::fixtures::{
+use msr_program_fixtures::{
     Folder, PLAIN, REPORT_OF_NOTHING, REPORT_OF_ZEROS, run_on, run_through, zeros,
 };
 use msr_tool::Behavior;
@@ -29,7 +29,7 @@ fn the_records_are_printed_and_the_report_goes_to_a_file(rt: HostRuntime) -> Res
         REPORT_OF_ZEROS.as_bytes()
     );
 
-    // The old report is replaced whole, also where it is longer.
+    // The old report is replaced whole, also if it is longer.
     let empty = run_on(&rt, &["feed", report.as_str()], &[])?;
     assert_eq!(&rt; (empty.status, empty.printed.len()), (0, 0));
     assert_eq!(&rt;
@@ -72,7 +72,7 @@ fn after_a_fault_the_report_stands_empty(rt: HostRuntime) -> Result<(), Fail> {
     folder.remove(&rt)
 }
 
-/// Where the report cannot be made nothing is read: a source that fails at its first call is not asked.
+/// If the report cannot be made, nothing is read: a source that fails at its first call is not asked.
 #[test]
 fn a_report_that_cannot_be_made(rt: HostRuntime) -> Result<(), Fail> {
     let alloc = rt.alloc();

@@ -1,14 +1,8 @@
-//! Runs over files and streams, as the program makes them.
+//! Tests of the program's tasks over files and streams, as the program does them, but for walks over archives.
 #![tactic(auto)]
 
 #[cfg(test)]
-mod archive;
-#[cfg(test)]
 mod feeding;
-#[cfg(test)]
-mod fixtures;
-#[cfg(test)]
-mod odd_folder;
 #[cfg(test)]
 mod streams;
 #[cfg(test)]

@@ -1,5 +1,5 @@
 //! Standard input and output: whole, closed, and failing at each call.
-use crate::fixtures::{
+use msr_program_fixtures::{
     LIST_OF_ZEROS, PLAIN, REPORT_OF_NOTHING, REPORT_OF_ZEROS, Ran, run_on, run_through, zeros,
 };
 use msr_tool::Behavior;

@@ -1,5 +1,5 @@
 //! The tasks over files that the test makes.
-use crate::fixtures::{
+use msr_program_fixtures::{
     Folder, LIST_OF_MISMATCHED, LIST_OF_TWO, LIST_OF_ZEROS, REPORT_OF_NOTHING, REPORT_OF_ZEROS,
     mismatched, run_on, two_segments, zeros,
 };
@@ -67,7 +67,7 @@ fn repacks_lists_and_checks_files(rt: HostRuntime) -> Result<(), Fail> {
         refused,
     )?;
 
-    // An old file under the output's name is replaced whole, also where it is longer.
+    // An old file under the output's name is replaced whole, also if it is longer.
     fs::write(&rt, packed.as_str(), zeros(rt.alloc())?.as_slice())?;
     ends(&rt, &words, 0, REPORT_OF_ZEROS, "")?;
     assert_eq!(&rt;
@@ -238,7 +238,7 @@ fn the_output_is_never_the_input(rt: HostRuntime) -> Result<(), Fail> {
     folder.remove(&rt)
 }
 
-/// A record whose reverse constant does not agree is refused where that is asked for, and counted where it is not; one
+/// A record whose reverse constant does not agree is refused if that is asked for, and counted if it is not; one
 /// that agrees is read.
 #[test]
 fn strict_tasks(rt: HostRuntime) -> Result<(), Fail> {

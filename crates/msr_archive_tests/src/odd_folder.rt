@@ -8,10 +8,10 @@ use std::{fs, io};
 /// What another program writes to a file that it took.
 pub const TAKEN: &[u8] = b"another's";
 
-/// The folder with the path, which ends in a slash, has these names, each ended by a NUL, or cannot be opened. Where the
-/// last name is cut short, reading fails there. A file gets the later name only where the earlier one is there and the
-/// one that is to be gone is not. Once the file with the name `made` is there, the other one is opened in its place. A
-/// new file with the name `taken` is replaced at once, as another program would.
+/// The folder with the path, which ends in a slash, has these names, each ended by a NUL, or cannot be opened. If the
+/// last name is cut short, reading fails there. A file gets the later name only if the earlier one is there and the one
+/// that is to be gone is not. Once the file with the name `made` is there, the other one is opened in its place. A new
+/// file with the name `taken` is replaced at once, as another program would.
 #[derive(Clone, Copy)]
 pub struct OddFolder<'a> {
     pub rt: &'a HostRuntime,
