@@ -15,8 +15,8 @@ use Rattle.msr_walk.specs.Day.{Asked}
 use Rattle.msr_walk.specs.Walk.{IsWalk, Walks}
 use Rattle.msr_command.specs.declared.done.Done.{Done}
 use Rattle.msr_command.specs.declared.done.Done.TheVariants.{Written, Checked, Walked}
-use Rattle.msr_command.specs.declared.stop.Stop.{Stop}
-use Rattle.msr_command.specs.declared.stop.Stop.TheVariants.{CannotOpen, SameFile, SameOutput, Closed, Tool}
+use Rattle.msr_command.specs.declared.task_fault.TaskFault.{TaskFault}
+use Rattle.msr_command.specs.declared.task_fault.TaskFault.TheVariants.{CannotOpen, SameFile, SameOutput, Closed, Tool}
 use Rattle.msr_command.specs.declared.words.Task.{Task}
 use Rattle.msr_command.specs.declared.words.Task.TheVariants.{Repack, List as Listing, Check, Archive, Feed}
 use Rattle.msr_command.specs.Ends.{Checks, Does, Ends, Feeds, FeedAnswers, FeedEnds, FeedsTo, IfChecked, IfWritten, IsUncreated, IsUnopened, ListEnds, ListsNamed, Over, RepackEnds, Repacks, RepacksNamed, StopsRecords, StopsReport, WalksArchive, WritesList, WritesRecords, WritesReport, days_asked}
@@ -57,7 +57,7 @@ over_said known says others source out0 out then does = record {
 
 -- a file cannot be opened or made
 
-unopened : (done : Done → Type 0) (stopped : ToolFault → Type 0) (stop : Stop) → IsUnopened stop →
+unopened : (done : Done → Type 0) (stopped : ToolFault → Type 0) (stop : TaskFault) → IsUnopened stop →
     Ends done IsUnopened stopped [] (Err stop)
 unopened done stopped (CannotOpen name) is = (tt, refl)
 unopened done stopped SameFile is = absurd is
@@ -65,7 +65,7 @@ unopened done stopped SameOutput is = absurd is
 unopened done stopped Closed is = absurd is
 unopened done stopped (Tool why) is = absurd is
 
-uncreated : (done : Done → Type 0) (stopped : ToolFault → Type 0) (stop : Stop) → IsUncreated stop →
+uncreated : (done : Done → Type 0) (stopped : ToolFault → Type 0) (stop : TaskFault) → IsUncreated stop →
     Ends done IsUncreated stopped [] (Err stop)
 uncreated done stopped (CannotOpen name) is = (tt, refl)
 uncreated done stopped SameFile is = (tt, refl)
@@ -73,31 +73,31 @@ uncreated done stopped SameOutput is = (tt, refl)
 uncreated done stopped Closed is = absurd is
 uncreated done stopped (Tool why) is = absurd is
 
-unopened_uncreated : (stop : Stop) → IsUnopened stop → IsUncreated stop
+unopened_uncreated : (stop : TaskFault) → IsUnopened stop → IsUncreated stop
 unopened_uncreated (CannotOpen name) is = tt
 unopened_uncreated SameFile is = absurd is
 unopened_uncreated SameOutput is = absurd is
 unopened_uncreated Closed is = absurd is
 unopened_uncreated (Tool why) is = absurd is
 
-pub repack_uncreated : (choice : Choice) (known : Type 0) (source out : Device) (stop : Stop) → IsUncreated stop →
+pub repack_uncreated : (choice : Choice) (known : Type 0) (source out : Device) (stop : TaskFault) → IsUncreated stop →
     Over known (RepackEnds choice (Err stop)) source out out
 repack_uncreated choice known source out stop is =
     over_none known (RepackEnds choice (Err stop)) source out out (takes_none out)
     (λ input. uncreated (IfWritten (WritesReport choice input [])) (StopsReport choice input []) stop is)
 
-pub repack_unopened : (choice : Choice) (name : List ℕ) (standard out : Device) (stop : Stop) → IsUnopened stop →
+pub repack_unopened : (choice : Choice) (name : List ℕ) (standard out : Device) (stop : TaskFault) → IsUnopened stop →
     RepacksNamed choice name standard out out (Err stop)
 repack_unopened choice name standard out stop is =
     repack_uncreated choice (name ≡ codes "-") standard out stop (unopened_uncreated stop is)
 
-pub feed_uncreated : (choice : Choice) (source out : Device) (stop : Stop) → IsUncreated stop →
+pub feed_uncreated : (choice : Choice) (source out : Device) (stop : TaskFault) → IsUncreated stop →
     Feeds choice source out out (Err stop)
 feed_uncreated choice source out stop is =
     over_none ⊤ (FeedEnds choice (Err stop)) source out out (takes_none out)
     (λ input. uncreated (IfWritten (WritesRecords choice input [])) (StopsRecords choice input []) stop is)
 
-pub list_unopened : (choice : Choice) (name : List ℕ) (standard out : Device) (stop : Stop) → IsUnopened stop →
+pub list_unopened : (choice : Choice) (name : List ℕ) (standard out : Device) (stop : TaskFault) → IsUnopened stop →
     ListsNamed choice name standard out out (Err stop)
 list_unopened choice name standard out stop is =
     over_none (name ≡ codes "-") (ListEnds choice (Err stop)) standard out out (takes_none out)
@@ -114,7 +114,7 @@ task_closed (Check asked) standard out0 out none =
 task_closed (Archive asked) standard out0 out none = record { printed = []; prints = none; ends = refl }
 task_closed (Feed asked) standard out0 out none = over_none _ _ standard out0 out none (λ input. refl)
 
-pub then_does : (task : Task) (standard out0 out1 out : Device) (result : Result Done Stop) → Takes out0 out1 [] →
+pub then_does : (task : Task) (standard out0 out1 out : Device) (result : Result Done TaskFault) → Takes out0 out1 [] →
     Does task standard out1 out result → Does task standard out0 out result
 then_does (Repack asked) standard out0 out1 out result none does = over_after _ _ standard out0 out1 out none does
 then_does (Listing asked) standard out0 out1 out result none does = over_after _ _ standard out0 out1 out none does
@@ -184,7 +184,7 @@ pub unfed : (choice : Choice) (source out0 out : Device) (why : ToolFault) →
     FeedsTo choice source out0 out (Err why) → Feeds choice source out0 out (Err (Tool why))
 unfed choice source out0 out why does = over_said _ _ _ source out0 out (λ input printed ends. ends) does
 
-pub check_unopened : (out : Device) (stop : Stop) → IsUnopened stop → Checks out out (Err stop)
+pub check_unopened : (out : Device) (stop : TaskFault) → IsUnopened stop → Checks out out (Err stop)
 check_unopened out stop is = record {
   input = [];
   text = [];

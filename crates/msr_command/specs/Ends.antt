@@ -14,8 +14,8 @@ use Rattle.msr_walk.specs.Day.{Asked}
 use Rattle.msr_walk.specs.Walk.{WalkEnds}
 use Rattle.msr_command.specs.declared.done.Done.{Done}
 use Rattle.msr_command.specs.declared.done.Done.TheVariants.{Written, Checked, Walked}
-use Rattle.msr_command.specs.declared.stop.Stop.{Stop}
-use Rattle.msr_command.specs.declared.stop.Stop.TheVariants.{CannotOpen, SameFile, SameOutput, Closed, Tool}
+use Rattle.msr_command.specs.declared.task_fault.TaskFault.{TaskFault}
+use Rattle.msr_command.specs.declared.task_fault.TaskFault.TheVariants.{CannotOpen, SameFile, SameOutput, Closed, Tool}
 use Rattle.msr_command.specs.declared.words.Archiving.{Archiving}
 use Rattle.msr_command.specs.declared.words.NoTask.{NoTask}
 use Rattle.msr_command.specs.declared.words.NoTask.TheVariants.{Ending, Memory}
@@ -31,19 +31,19 @@ status_of_done (Checked NotShown) = 3
 status_of_done (Walked refused) = if refused then 1 else 0
 
 -- 2 if the output is the input, or two outputs are one file, which is a wrong command line, and else 1
-abbrev pub status_of_stop : Stop → ℕ
-status_of_stop (CannotOpen name) = 1
-status_of_stop SameFile = 2
-status_of_stop SameOutput = 2
-status_of_stop Closed = 1
-status_of_stop (Tool fault) = 1
+abbrev pub status_of_task_fault : TaskFault → ℕ
+status_of_task_fault (CannotOpen name) = 1
+status_of_task_fault SameFile = 2
+status_of_task_fault SameOutput = 2
+status_of_task_fault Closed = 1
+status_of_task_fault (Tool fault) = 1
 
-abbrev pub status_of : Result Done Stop → ℕ
+abbrev pub status_of : Result Done TaskFault → ℕ
 status_of (Ok done) = status_of_done done
-status_of (Err stop) = status_of_stop stop
+status_of (Err stop) = status_of_task_fault stop
 
 -- a file could not be opened
-abbrev pub IsUnopened : Stop → Type 0
+abbrev pub IsUnopened : TaskFault → Type 0
 IsUnopened (CannotOpen name) = ⊤
 IsUnopened SameFile = ⊥
 IsUnopened SameOutput = ⊥
@@ -51,7 +51,7 @@ IsUnopened Closed = ⊥
 IsUnopened (Tool fault) = ⊥
 
 -- a file could not be made, or is the input or another output
-abbrev pub IsUncreated : Stop → Type 0
+abbrev pub IsUncreated : TaskFault → Type 0
 IsUncreated (CannotOpen name) = ⊤
 IsUncreated SameFile = ⊤
 IsUncreated SameOutput = ⊤
@@ -59,7 +59,7 @@ IsUncreated Closed = ⊥
 IsUncreated (Tool fault) = ⊥
 
 -- no file stops the task
-abbrev pub IsNeither : Stop → Type 0
+abbrev pub IsNeither : TaskFault → Type 0
 IsNeither stop = ⊥
 
 -- what it says that a task was done by writing, by a verdict, or by a walk
@@ -80,8 +80,8 @@ IfWalked says (Walked refused) = says refused
 
 -- How a task ends: it is done, or the engine stops, with what that says; or nothing is printed, since a file stops it
 -- that may do so, or standard output is closed.
-abbrev pub Ends : (done : Done → Type 0) → (file : Stop → Type 0) → (stopped : ToolFault → Type 0) →
-    (printed : List ℕ) → Result Done Stop → Type 0
+abbrev pub Ends : (done : Done → Type 0) → (file : TaskFault → Type 0) → (stopped : ToolFault → Type 0) →
+    (printed : List ℕ) → Result Done TaskFault → Type 0
 Ends done file stopped printed (Ok what) = done what
 Ends done file stopped printed (Err (CannotOpen name)) = file (CannotOpen name) × (printed ≡ [])
 Ends done file stopped printed (Err SameFile) = file SameFile × (printed ≡ [])
@@ -109,16 +109,16 @@ pub record StopsReport (choice : Choice) (input printed : List ℕ) (fault : Too
   pub written : List ℕ
   pub answers : ReportAnswers choice input written printed (Err fault)
 
-abbrev pub RepackEnds : Choice → Result Done Stop → (input printed : List ℕ) → Type 0
+abbrev pub RepackEnds : Choice → Result Done TaskFault → (input printed : List ℕ) → Type 0
 RepackEnds choice result input printed =
     Ends (IfWritten (WritesReport choice input printed)) IsUncreated (StopsReport choice input printed) printed result
 
 -- Repacking a source.
-abbrev pub Repacks : Choice → (source out0 out : Device) → Result Done Stop → Type 0
+abbrev pub Repacks : Choice → (source out0 out : Device) → Result Done TaskFault → Type 0
 Repacks choice source out0 out result = Over ⊤ (RepackEnds choice result) source out0 out
 
 -- Repacking the file of a name, which is standard input for `-`. What another name's file holds is not known.
-abbrev pub RepacksNamed : Choice → (name : List ℕ) → (standard out0 out : Device) → Result Done Stop → Type 0
+abbrev pub RepacksNamed : Choice → (name : List ℕ) → (standard out0 out : Device) → Result Done TaskFault → Type 0
 RepacksNamed choice name standard out0 out result = Over (name ≡ codes "-") (RepackEnds choice result) standard out0 out
 
 -- The input was listed with these counts.
@@ -126,13 +126,13 @@ pub record WritesList (choice : Choice) (input printed : List ℕ) : Type 0 wher
   pub counts : Counts
   pub listed : IsListed (settings_of choice) input printed counts
 
-abbrev pub ListEnds : Choice → Result Done Stop → (input printed : List ℕ) → Type 0
+abbrev pub ListEnds : Choice → Result Done TaskFault → (input printed : List ℕ) → Type 0
 ListEnds choice result input printed =
     Ends (IfWritten (WritesList choice input printed)) IsUnopened
     (λ fault. ListAnswers (settings_of choice) input printed (Err fault)) printed result
 
 -- Listing the file of a name.
-abbrev pub ListsNamed : Choice → (name : List ℕ) → (standard out0 out : Device) → Result Done Stop → Type 0
+abbrev pub ListsNamed : Choice → (name : List ℕ) → (standard out0 out : Device) → Result Done TaskFault → Type 0
 ListsNamed choice name standard out0 out result = Over (name ≡ codes "-") (ListEnds choice result) standard out0 out
 
 -- The input was repacked into what was printed, and this is the text of its report.
@@ -154,21 +154,21 @@ FeedAnswers choice (Err fault) input printed = StopsRecords choice input printed
 abbrev pub FeedsTo : Choice → (source out0 out : Device) → Result (Unit {0}) ToolFault → Type 0
 FeedsTo choice source out0 out result = Over ⊤ (FeedAnswers choice result) source out0 out
 
-abbrev pub FeedEnds : Choice → Result Done Stop → (input printed : List ℕ) → Type 0
+abbrev pub FeedEnds : Choice → Result Done TaskFault → (input printed : List ℕ) → Type 0
 FeedEnds choice result input printed =
     Ends (IfWritten (WritesRecords choice input printed)) IsUncreated (StopsRecords choice input printed) printed result
 
 -- Repacking standard input to standard output, and how it ends.
-abbrev pub Feeds : Choice → (standard out0 out : Device) → Result Done Stop → Type 0
+abbrev pub Feeds : Choice → (standard out0 out : Device) → Result Done TaskFault → Type 0
 Feeds choice standard out0 out result = Over ⊤ (FeedEnds choice result) standard out0 out
 
-abbrev pub CheckEnds : (input text printed : List ℕ) → Result Done Stop → Type 0
+abbrev pub CheckEnds : (input text printed : List ℕ) → Result Done TaskFault → Type 0
 CheckEnds input text printed result =
     Ends (IfChecked (λ verdict. VerdictAnswers input text printed (Ok verdict))) IsUnopened
     (λ fault. VerdictAnswers input text printed (Err fault)) printed result
 
 -- Checking some records with some report, and what was printed.
-pub record Checks (out0 out : Device) (result : Result Done Stop) : Type 0 where
+pub record Checks (out0 out : Device) (result : Result Done TaskFault) : Type 0 where
   pub input : List ℕ
   pub text : List ℕ
   pub printed : List ℕ
@@ -179,13 +179,13 @@ pub record Checks (out0 out : Device) (result : Result Done Stop) : Type 0 where
 abbrev pub days_asked : Archiving → Asked
 days_asked asked = record { choice = asked.options; resume = asked.walking.resume; check = asked.walking.check }
 
-abbrev pub ArchiveEnds : Asked → (printed : List ℕ) → Result Done Stop → Type 0
+abbrev pub ArchiveEnds : Asked → (printed : List ℕ) → Result Done TaskFault → Type 0
 ArchiveEnds asked printed result =
     Ends (IfWalked (λ refused. WalkEnds asked printed (Ok refused))) IsNeither
     (λ fault. WalkEnds asked printed (Err fault)) printed result
 
 -- Walking an archive, and what was printed.
-pub record WalksArchive (asked : Asked) (out0 out : Device) (result : Result Done Stop) : Type 0 where
+pub record WalksArchive (asked : Asked) (out0 out : Device) (result : Result Done TaskFault) : Type 0 where
   pub printed : List ℕ
   pub prints : Takes out0 out printed
   pub ends : ArchiveEnds asked printed result
@@ -197,12 +197,12 @@ pub record WasRefused (old new : Device) : Type 0 where
 
 -- Standard output was tried, and nothing was printed: it is open, and counts as before; or it is closed, as a call
 -- told.
-abbrev pub OpensOutput : (out0 out : Device) → Result (Unit {0}) Stop → Type 0
+abbrev pub OpensOutput : (out0 out : Device) → Result (Unit {0}) TaskFault → Type 0
 OpensOutput out0 out (Ok open_now) = Takes out0 out [] × (out.failures ≡ out0.failures) × (out.interruptions ≡ 0)
 OpensOutput out0 out (Err stop) = Takes out0 out [] × (stop ≡ Closed) × WasRefused out0 out
 
 -- what doing a task reads and prints, and how it ends
-abbrev pub Does : Task → (standard out0 out : Device) → Result Done Stop → Type 0
+abbrev pub Does : Task → (standard out0 out : Device) → Result Done TaskFault → Type 0
 Does (Repack asked) standard out0 out result = RepacksNamed asked.options asked.input.now standard out0 out result
 Does (Listing asked) standard out0 out result = ListsNamed asked.options asked.input.now standard out0 out result
 Does (Check asked) standard out0 out result = Checks out0 out result
@@ -212,7 +212,7 @@ Does (Feed asked) standard out0 out result = Feeds asked.options standard out0 o
 -- The words ask for a task, with none for the default, and it ended with this status.
 pub record EndsTask (words : ℕ) (standard out0 out : Device) (status : ℕ) : Type 0 where
   pub task : Task
-  pub outcome : Result Done Stop
+  pub outcome : Result Done TaskFault
   pub default : words < 2 → IsDefault task
   pub does : Does task standard out0 out outcome
   pub ended : status ≡ status_of outcome

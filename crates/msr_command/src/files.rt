@@ -2,7 +2,7 @@
 ghost use Rattle.std.specs.Prelude.{◌≡◌, IfErr};
 ghost use Rattle.msr_command.specs.Ends.{IsUncreated, IsUnopened};
 
-use crate::stop::Stop;
+use crate::task_fault::TaskFault;
 use msr_tool::ToolFault;
 use msr_walk::settle;
 use std::fs;
@@ -36,18 +36,18 @@ pub struct OpenedFile<F> {
 }
 
 /// Opens the file with this name, also if it is `-`.
-pub fn open_file<'a, R: Files>(rt: &R, name: &'a str) -> Result<OpenedFile<R::File>, Stop<'a>>
+pub fn open_file<'a, R: Files>(rt: &R, name: &'a str) -> Result<OpenedFile<R::File>, TaskFault<'a>>
     ensures { IfErr result IsUnopened }
 {
     let Ok(file) = File::open(rt, name) else {
-        return Err(Stop::CannotOpen(name));
+        return Err(TaskFault::CannotOpen(name));
     };
     match file.metadata() {
         Ok(metadata) => Ok(OpenedFile {
             file,
             id: id_of(&metadata),
         }),
-        Err(_) => Err(Stop::CannotOpen(name)),
+        Err(_) => Err(TaskFault::CannotOpen(name)),
     }
 }
 
@@ -73,27 +73,27 @@ pub fn create_output<'a, R: Files>(
     rt: &R,
     name: &'a str,
     input: Option<FileId>,
-) -> Result<R::File, Stop<'a>>
+) -> Result<R::File, TaskFault<'a>>
     ensures { IfErr result IsUncreated }
 {
     let Ok(file) = OpenOptions::new().write(true).create(true).open(rt, name) else {
-        return Err(Stop::CannotOpen(name));
+        return Err(TaskFault::CannotOpen(name));
     };
     let Ok(metadata) = file.metadata() else {
-        return Err(Stop::CannotOpen(name));
+        return Err(TaskFault::CannotOpen(name));
     };
     let Some(id) = id_of(&metadata) else {
         return Ok(file);
     };
     if input == Some(id) {
-        return Err(Stop::SameFile);
+        return Err(TaskFault::SameFile);
     }
     if id_of_standard_output(rt) == Some(id) {
-        return Err(Stop::SameOutput);
+        return Err(TaskFault::SameOutput);
     }
     match file.set_len(0) {
         Ok(()) => Ok(file),
-        Err(_) => Err(Stop::CannotOpen(name)),
+        Err(_) => Err(TaskFault::CannotOpen(name)),
     }
 }
 

@@ -6,14 +6,14 @@ mod commands;
 mod done;
 mod files;
 mod program;
-mod stop;
+mod task_fault;
 mod tasks;
 mod texts;
 mod words;
 
 pub use done::Done;
 pub use program::{complain, run};
-pub use stop::Stop;
+pub use task_fault::TaskFault;
 pub use tasks::do_task;
 pub use texts::NOT_UTF8;
 pub use words::{

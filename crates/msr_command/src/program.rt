@@ -2,10 +2,10 @@
 ghost use Rattle.std.specs.Io.KnownBytes.{Appends};
 ghost use Rattle.std.specs.Prelude.{◌≡◌, ◌⊎◌, ◌++◌, OnOk, codes, length};
 ghost use Rattle.msr_devices.specs.Device.{CanCountCall};
-ghost use Rattle.msr_command.specs.Ends.{EndsTask, EndsText, EndsWithoutTask, status_of_stop};
+ghost use Rattle.msr_command.specs.Ends.{EndsTask, EndsText, EndsWithoutTask, status_of_task_fault};
 ghost use Rattle.msr_command.specs.declared.words.NoTask.TheVariants.{Ending as WithText};
 
-use crate::stop::Stop;
+use crate::task_fault::TaskFault;
 use crate::tasks::do_task;
 use crate::words::{Ending, NoTask, read_words};
 use msr_devices::{Sink, Source, write_all};
@@ -30,8 +30,8 @@ fn write_complaint<E: Write>(errors: &mut E, text: &str) -> io::Result<()>
 }
 
 /// The line of what stopped a task, and its status.
-fn complain_of<E: Write>(errors: &mut E, stop: &Stop<'_>) -> u8
-    ensures { result ≡ status_of_stop stop.now }
+fn complain_of<E: Write>(errors: &mut E, stop: &TaskFault<'_>) -> u8
+    ensures { result ≡ status_of_task_fault stop.now }
 {
     writeln!(errors, "msrepack: {stop}").ok();
     stop.status()

@@ -7,7 +7,7 @@ use crate::done::Done;
 use crate::files::{
     FileId, create_output, id_of_standard_input, open_file, settle_standard_output,
 };
-use crate::stop::Stop;
+use crate::task_fault::TaskFault;
 use crate::words::{Archiving, Checking, Feeding, Listing, Repacking, Task};
 use msr_tool::{
     FromRead, FromWrite, Options, Sink, Source, ToolFault, check_and_tell, feed_and_report,
@@ -27,7 +27,7 @@ pub fn do_task<'a, R: Files, I: Source, O: Sink>(
     task: Task<'a>,
     input: &mut I,
     output: &mut O,
-) -> Result<Done, Stop<'a>>
+) -> Result<Done, TaskFault<'a>>
     requires input { CanCountCall (I.device input.old) }
     requires output { CanCountCall (O.device output.old) }
     ensures { Does task.entry (I.device input.old) (O.device output.old) (O.device output.new) result }
@@ -48,7 +48,7 @@ fn do_open<'a, R: Files, I: Source, O: Sink>(
     task: Task<'a>,
     input: &mut I,
     output: &mut O,
-) -> Result<Done, Stop<'a>>
+) -> Result<Done, TaskFault<'a>>
     requires input { CanCountCall (I.device input.old) }
     requires output { CanCountCall (O.device output.old) }
     ensures { Does task.entry (I.device input.old) (O.device output.old) (O.device output.new) result }
@@ -64,13 +64,13 @@ fn do_open<'a, R: Files, I: Source, O: Sink>(
 
 /// Nothing can be printed if standard output is closed, and a file that is made would stand in its place and get
 /// the text.
-fn require_open<'a, O: Sink>(output: &mut O) -> Result<(), Stop<'a>>
+fn require_open<'a, O: Sink>(output: &mut O) -> Result<(), TaskFault<'a>>
     requires { CanCountCall (O.device output.old) }
     ensures { OpensOutput (O.device output.old) (O.device output.new) result }
 {
     match output.write(&[]) {
         Ok(_) => Ok(()),
-        Err(_) => Err(Stop::Closed),
+        Err(_) => Err(TaskFault::Closed),
     }
 }
 
@@ -81,7 +81,7 @@ fn repack_file<'a, R: Files, I: Source, O: Sink>(
     asked: Repacking<'a>,
     input: &mut I,
     output: &mut O,
-) -> Result<Done, Stop<'a>>
+) -> Result<Done, TaskFault<'a>>
     requires input { CanCountCall (I.device input.old) }
     requires output { CanCountCall (O.device output.old) }
     ensures { RepacksNamed asked.entry.options asked.entry.input.now
@@ -125,7 +125,7 @@ fn repack_from<'a, R: Files, I: Source, O: Sink>(
     target: Target<'a>,
     source: &mut I,
     output: &mut O,
-) -> Result<Done, Stop<'a>>
+) -> Result<Done, TaskFault<'a>>
     requires source { CanCountCall (I.device source.old) }
     requires output { CanCountCall (O.device output.old) }
     ensures { Repacks options (I.device source.old) (O.device output.old) (O.device output.new) result }
@@ -154,7 +154,7 @@ fn feed_input<'a, R: Files, I: Source, O: Sink>(
     asked: Feeding<'a>,
     input: &mut I,
     output: &mut O,
-) -> Result<Done, Stop<'a>>
+) -> Result<Done, TaskFault<'a>>
     requires input { CanCountCall (I.device input.old) }
     requires output { CanCountCall (O.device output.old) }
     ensures { Feeds asked.entry.options (I.device input.old)
@@ -167,7 +167,7 @@ fn feed_input<'a, R: Files, I: Source, O: Sink>(
         Ok(()) => Ok(Done::Written),
         Err(fault) => {
             file.set_len(0).ok();
-            Err(Stop::Tool(fault))
+            Err(TaskFault::Tool(fault))
         }
     }
 }
@@ -203,7 +203,7 @@ fn list_file<'a, R: Files, I: Source, O: Sink>(
     asked: Listing<'a>,
     input: &mut I,
     output: &mut O,
-) -> Result<Done, Stop<'a>>
+) -> Result<Done, TaskFault<'a>>
     requires input { CanCountCall (I.device input.old) }
     requires output { CanCountCall (O.device output.old) }
     ensures { ListsNamed asked.entry.options asked.entry.input.now (I.device input.old)
@@ -228,7 +228,7 @@ fn check_files<'a, R: Files, O: Sink>(
     alloc: Global,
     asked: Checking<'a>,
     output: &mut O,
-) -> Result<Done, Stop<'a>>
+) -> Result<Done, TaskFault<'a>>
     requires { CanCountCall (O.device output.old) }
     ensures { Checks (O.device output.old) (O.device output.new) result }
 {
@@ -243,7 +243,7 @@ fn repack_archive<'a, R: Files, O: Sink>(
     alloc: Global,
     asked: Archiving<'a>,
     output: &mut O,
-) -> Result<Done, Stop<'a>>
+) -> Result<Done, TaskFault<'a>>
     requires output { CanCountCall (O.device output.old) }
     ensures { WalksArchive (days_asked asked.entry) (O.device output.old) (O.device output.new) result }
 {

@@ -6,7 +6,7 @@
 
 mod adapters;
 mod device;
-mod failure;
+mod fault;
 mod loops;
 mod memory;
 mod read_buffer;
@@ -14,7 +14,7 @@ mod write_buffer;
 
 pub use adapters::{FromRead, FromWrite};
 pub use device::{Sink, Source};
-pub use failure::{SinkFailed, SourceFailed, WriteFault};
+pub use fault::{SinkFault, SourceFault, WriteFault};
 pub use loops::{read_some, write_all, write_some};
 pub use memory::{Behavior, TestSink, TestSource};
 pub use read_buffer::{FillFault, ReadBuffer};

@@ -5,7 +5,7 @@ ghost use Rattle.msr_devices.specs.ReadBuffer.{IsFilled, StopsFilling, room_for}
 ghost use Rattle.msr_devices.specs.declared.read_buffer.FillFault.TheVariants.{Read, Memory};
 
 use crate::device::Source;
-use crate::failure::SourceFailed;
+use crate::fault::SourceFault;
 use crate::loops::read_until;
 use std::alloc::{AllocError, Global};
 use std::marker::Model;
@@ -22,10 +22,10 @@ pub enum FillFault {
     Memory,
 }
 
-impl From<SourceFailed> for FillFault {
+impl From<SourceFault> for FillFault {
     ghost from_gives = { λ _ e. e ≡ Read };
 
-    fn from(_: SourceFailed) -> FillFault {
+    fn from(_: SourceFault) -> FillFault {
         FillFault::Read
     }
 }

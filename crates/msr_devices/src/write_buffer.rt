@@ -4,8 +4,8 @@ ghost use Rattle.msr_devices.specs.Device.{CanCountCall, CountsFew, HasFailed, I
 ghost use Rattle.msr_devices.specs.WriteBuffer.{Passes};
 
 use crate::device::Sink;
-use crate::failure::SinkFailed;
-use crate::loops::{FailedAfter, write_counted};
+use crate::fault::SinkFault;
+use crate::loops::{PartialFault, write_counted};
 use std::alloc::Global;
 
 /// So many bytes wait at most when a call has ended well.
@@ -29,7 +29,7 @@ impl WriteBuffer {
     }
 
     /// Writes all that waits if it is 64 KiB or more.
-    pub fn flush_full<W: Sink>(&mut self, sink: &mut W) -> Result<(), SinkFailed>
+    pub fn flush_full<W: Sink>(&mut self, sink: &mut W) -> Result<(), SinkFault>
         requires { CanCountCall (W.device sink.old) }
         ensures passes { Passes (W.device sink.old) (W.device sink.new) self.old.bytes.items [] self.new.bytes.items }
         ensures calm { OnOk result (IsCalm (W.device sink.old) (W.device sink.new)) }
@@ -46,7 +46,7 @@ impl WriteBuffer {
     }
 
     /// Writes all that waits. At an `Err` what was not written waits.
-    pub fn flush<W: Sink>(&mut self, sink: &mut W) -> Result<(), SinkFailed>
+    pub fn flush<W: Sink>(&mut self, sink: &mut W) -> Result<(), SinkFault>
         requires { CanCountCall (W.device sink.old) }
         ensures passes { Passes (W.device sink.old) (W.device sink.new) self.old.bytes.items [] self.new.bytes.items }
         ensures empty { OnOk result (self.new.bytes.items ≡ []) }
@@ -59,11 +59,11 @@ impl WriteBuffer {
                 self.bytes.clear();
                 Ok(())
             }
-            Err(FailedAfter { written }) => {
+            Err(PartialFault { written }) => {
                 let left = self.bytes.len() - written;
                 self.bytes.copy_within(written.., 0);
                 self.bytes.truncate(left);
-                Err(SinkFailed)
+                Err(SinkFault)
             }
         }
     }

@@ -6,7 +6,7 @@ use Rattle.msr_devices.proofs.Chaining.{takes_append, calm_calm, calm_failed}
 use Rattle.msr_record.specs.declared.row.Row.{Row}
 use Rattle.msr_output.specs.Output.{Packed, segment_of_packed}
 use Rattle.msr_output.specs.Writing.{Writing, HasWritten, HasWrittenAll, StopsWriting}
-use Rattle.msr_devices.specs.declared.failure.WriteFault.TheVariants.{Write}
+use Rattle.msr_devices.specs.declared.fault.WriteFault.TheVariants.{Write}
 
 -- its bytes went through the sink or wait
 pub more_whole : (old now : Device) (bytes taken waiting more filled left : List ℕ) → bytes ≡ taken ++ waiting

@@ -27,7 +27,7 @@ use Rattle.msr_segments.specs.declared.joiner.Segment.{Segment}
 use Rattle.msr_output.specs.Opened.{AppendsMore, AppendsSome, CanEncode, CanGoOn, Gives, HasBegun, IsOpen, Opened, empty_segment, longer_by}
 use Rattle.msr_output.specs.Output.{AreWritten, Cut, IsPrefixOfOutput, IsPacked, IsWritableSegment, Packed, cuts_at, cuts_of, next_number, number_after, sample_before, segment_of_packed}
 use Rattle.msr_output.specs.Writing.{AppendsRecordOfRun, HasWritten, StopsWriting, Writing}
-use Rattle.msr_devices.specs.declared.failure.WriteFault.TheVariants.{Memory, Write}
+use Rattle.msr_devices.specs.declared.fault.WriteFault.TheVariants.{Memory, Write}
 use Rattle.msr_output.proofs.Appending.{appends_more, appends_nothing, cuts_further, number_after-append, written_append}
 use Rattle.msr_output.proofs.Existing.{all_left, all_right, enough_bytes, prefix_of_output, is_packed_by, written_longer}
 use Rattle.msr_output.proofs.BetweenSegments.{more_whole, short_sum}

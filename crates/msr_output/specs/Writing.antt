@@ -7,8 +7,8 @@ use Rattle.msr_record.specs.declared.row.Row.{Row}
 use Rattle.msr_segments.specs.declared.joiner.Segment.{Segment}
 use Rattle.msr_report.specs.declared.report.SegmentLine.{SegmentLine}
 use Rattle.msr_output.specs.Output.{Packed, Cut, IsRecordOfRun, AreWritten, IsOutput, IsPrefixOfOutput, number_after, cuts_of}
-use Rattle.msr_devices.specs.declared.failure.WriteFault.{WriteFault}
-use Rattle.msr_devices.specs.declared.failure.WriteFault.TheVariants.{Write, Memory}
+use Rattle.msr_devices.specs.declared.fault.WriteFault.{WriteFault}
+use Rattle.msr_devices.specs.declared.fault.WriteFault.TheVariants.{Write, Memory}
 
 -- what a writer shows: the length of its records, the next sequence number, and the bytes that wait
 pub record Writing : Type 0 where

@@ -1,7 +1,7 @@
 //! msr_devices: what devices do, which no clause says: how a test device plays, how large the
 //! pieces are, and each call once.
 use msr_devices::{
-    Behavior, FillFault, FromRead, FromWrite, ReadBuffer, SinkFailed, SourceFailed, TestSink,
+    Behavior, FillFault, FromRead, FromWrite, ReadBuffer, SinkFault, SourceFault, TestSink,
     TestSource, WriteBuffer, read_some, write_all, write_some,
 };
 use std::io;
@@ -127,7 +127,7 @@ fn what_was_not_written_waits(rt: HostRuntime) -> Result<(), Fail> {
         buffer.bytes.extend_from_slice(TEXT)?;
         assert_eq!(rt; buffer.flush_full(&mut sink), Ok(()));
         assert_eq!(rt; sink.bytes().len(), 0);
-        assert_eq!(rt; buffer.flush(&mut sink), Err(SinkFailed), "at {fails_at}");
+        assert_eq!(rt; buffer.flush(&mut sink), Err(SinkFault), "at {fails_at}");
         assert_eq!(rt;
             (sink.bytes().len() + buffer.bytes.len()) as u64,
             14,
@@ -202,7 +202,7 @@ fn readers_and_writers_of_std(rt: HostRuntime) {
 fn texts_of_failures(rt: HostRuntime) -> Result<(), Fail> {
     let alloc = rt.alloc();
     assert_eq!(rt;
-        format!(in alloc; "{SourceFailed}, {SinkFailed}")?.as_str(),
+        format!(in alloc; "{SourceFault}, {SinkFault}")?.as_str(),
         "the source failed, the sink failed"
     );
     let (read, memory) = (FillFault::Read, FillFault::Memory);

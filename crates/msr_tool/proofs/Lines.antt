@@ -22,8 +22,8 @@ use Rattle.msr_certificate.proofs.SegmentsRead.{all_more}
 use Rattle.msr_output.specs.Opened.{Opened, CanGoOn, HasBegun, count_of}
 use Rattle.msr_output.specs.Output.{Packed, segment_of_packed, count_of_runs}
 use Rattle.msr_output.specs.Writing.{Writing, IsLineOf, HasWritten, HasWrittenPrefix, WritesSegment, StopsWriting}
-use Rattle.msr_devices.specs.declared.failure.WriteFault.{WriteFault}
-use Rattle.msr_devices.specs.declared.failure.WriteFault.TheVariants as write
+use Rattle.msr_devices.specs.declared.fault.WriteFault.{WriteFault}
+use Rattle.msr_devices.specs.declared.fault.WriteFault.TheVariants as write
 use Rattle.msr_tool.specs.Fault.{fault_of_writing}
 use Rattle.msr_output.specs.Decided.{IsEncoded}
 use Rattle.msr_output.proofs.OpenSegments.{packs_count, refused_now, writable_now}

@@ -6,8 +6,8 @@ use Rattle.msr_devices.proofs.Chaining.{takes_none}
 use Rattle.msr_report.specs.Text.{IsReportText}
 use Rattle.msr_report.specs.Writing.{TakesPrefix}
 use Rattle.msr_report.specs.declared.report.Report.{Report}
-use Rattle.msr_devices.specs.declared.failure.WriteFault.{WriteFault}
-use Rattle.msr_devices.specs.declared.failure.WriteFault.TheVariants as write
+use Rattle.msr_devices.specs.declared.fault.WriteFault.{WriteFault}
+use Rattle.msr_devices.specs.declared.fault.WriteFault.TheVariants as write
 use Rattle.msr_verdict.specs.declared.verdict.Verdict.{Verdict}
 use Rattle.msr_tool.specs.Answer.{Answers, IsRepacked}
 use Rattle.msr_tool.specs.Checking.{CheckAnswers, IsChecked}

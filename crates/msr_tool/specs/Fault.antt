@@ -3,8 +3,8 @@ use Rattle.msr_certificate.specs.declared.fault.ReportFault.{ReportFault}
 use Rattle.msr_certificate.specs.declared.fault.ReportFault.TheVariants as report
 use Rattle.msr_input.specs.declared.fault.ReadFault.{ReadFault}
 use Rattle.msr_input.specs.declared.fault.ReadFault.TheVariants as read
-use Rattle.msr_devices.specs.declared.failure.WriteFault.{WriteFault}
-use Rattle.msr_devices.specs.declared.failure.WriteFault.TheVariants as write
+use Rattle.msr_devices.specs.declared.fault.WriteFault.{WriteFault}
+use Rattle.msr_devices.specs.declared.fault.WriteFault.TheVariants as write
 use Rattle.msr_tool.specs.declared.fault.ToolFault.{ToolFault}
 use Rattle.msr_tool.specs.declared.fault.ToolFault.TheVariants.{Input, Report, Read, Write, Memory}
 

@@ -4,7 +4,7 @@ ghost use Rattle.msr_tool.specs.Fault.{fault_of_reading, fault_of_report, fault_
 ghost use Rattle.msr_tool.specs.declared.fault.ToolFault.TheVariants.{Write, Memory};
 
 use msr_certificate::ReportFault;
-use msr_devices::{SinkFailed, WriteFault};
+use msr_devices::{SinkFault, WriteFault};
 use msr_input::{Fault, ReadFault};
 use std::alloc::{AllocError, AllocFailed};
 use thiserror::Error;
@@ -73,10 +73,10 @@ impl From<WriteFault> for ToolFault {
     }
 }
 
-impl From<SinkFailed> for ToolFault {
+impl From<SinkFault> for ToolFault {
     ghost from_gives = { λ _ e. e ≡ Write };
 
-    fn from(_: SinkFailed) -> ToolFault {
+    fn from(_: SinkFault) -> ToolFault {
         ToolFault::Write
     }
 }

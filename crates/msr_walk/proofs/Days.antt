@@ -10,8 +10,8 @@ use Rattle.msr_walk.specs.Day.{Asked, RepacksDay, HasAnswer, IsDayOutcome, IsRep
 use Rattle.msr_walk.specs.Entries.{IsDayOf, IsOutcomeOf}
 use Rattle.msr_walk.specs.declared.outcome.Outcome.{Outcome}
 use Rattle.msr_walk.specs.declared.outcome.Outcome.TheVariants.{Done, Same, Skipped, Refused, NotShown as Unshown}
-use Rattle.msr_walk.specs.declared.outcome.Refusal.{Refusal}
-use Rattle.msr_walk.specs.declared.outcome.Refusal.TheVariants.{CannotOpen, Listing, NotShown, Taken, Tool}
+use Rattle.msr_walk.specs.declared.outcome.DayFault.{DayFault}
+use Rattle.msr_walk.specs.declared.outcome.DayFault.TheVariants.{CannotOpen, Listing, NotShown, Taken, Tool}
 use Rattle.msr_walk.specs.declared.outcome.Repacked.{Repacked}
 
 pub day_stops : (choice : Choice) (source records0 records text0 text : Device) (why : ToolFault) →
@@ -47,7 +47,7 @@ day_unsettled choice source records0 records text0 text repacked does = record {
 }
 
 -- what was written is not kept
-pub day_unkept : (asked : Asked) (source records0 records text0 text : Device) (repacked : Repacked) (why : Refusal) →
+pub day_unkept : (asked : Asked) (source records0 records text0 text : Device) (repacked : Repacked) (why : DayFault) →
     RepacksDay asked.choice source records0 records text0 text (Ok repacked) → IsShownWhere asked.check (Err why)
     → IsRepackedDay asked (Err why)
 day_unkept asked source records0 records text0 text repacked CannotOpen does is = tt

@@ -15,8 +15,8 @@ use Rattle.msr_words.specs.Lengths.{bytes_of}
 use Rattle.msr_walk.specs.declared.folders.Archive.{Archive}
 use Rattle.msr_walk.specs.declared.outcome.Outcome.{Outcome}
 use Rattle.msr_walk.specs.declared.outcome.Outcome.TheVariants.{Done, Same, Skipped, Refused, NotShown as Unshown}
-use Rattle.msr_walk.specs.declared.outcome.Refusal.{Refusal}
-use Rattle.msr_walk.specs.declared.outcome.Refusal.TheVariants.{CannotOpen, Listing, NotShown, Taken, Tool}
+use Rattle.msr_walk.specs.declared.outcome.DayFault.{DayFault}
+use Rattle.msr_walk.specs.declared.outcome.DayFault.TheVariants.{CannotOpen, Listing, NotShown, Taken, Tool}
 use Rattle.msr_walk.specs.declared.outcome.Repacked.{Repacked}
 
 -- What is asked of each day of an archive: the length and the tolerance; whether what an earlier walk did is left
@@ -75,7 +75,7 @@ pub record IsUnshown : Type 0 where
   pub other : answer ≢ Ok Least
 
 -- why records that were written are not kept
-abbrev pub IsUnkept : Refusal → Type 0
+abbrev pub IsUnkept : DayFault → Type 0
 IsUnkept CannotOpen = ⊤
 IsUnkept Listing = ⊥
 IsUnkept NotShown = IsUnshown
@@ -83,12 +83,12 @@ IsUnkept Taken = ⊥
 IsUnkept (Tool fault) = fault ≡ Memory
 
 -- what holding records against their report answers
-abbrev pub IsShown : Result (Unit {0}) Refusal → Type 0
+abbrev pub IsShown : Result (Unit {0}) DayFault → Type 0
 IsShown (Ok done) = WasShown
 IsShown (Err refusal) = IsUnkept refusal
 
 -- the same if it is asked for
-abbrev pub IsShownWhere : Bool → Result (Unit {0}) Refusal → Type 0
+abbrev pub IsShownWhere : Bool → Result (Unit {0}) DayFault → Type 0
 IsShownWhere check (Ok done) = IsTrue check → WasShown
 IsShownWhere check (Err refusal) = IsTrue check × IsUnkept refusal
 
@@ -103,7 +103,7 @@ pub record IsNotShown (asked : Asked) : Type 0 where
   pub unshown : IsUnshown
 
 -- what an answer says of a day file; nothing is known of the files of the system but that they have some bytes
-abbrev pub IsRepackedDay : Asked → Result Repacked Refusal → Type 0
+abbrev pub IsRepackedDay : Asked → Result Repacked DayFault → Type 0
 IsRepackedDay asked (Ok repacked) = IsDone asked repacked
 IsRepackedDay asked (Err CannotOpen) = ⊤
 IsRepackedDay asked (Err Listing) = ⊥

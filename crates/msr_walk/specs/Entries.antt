@@ -11,7 +11,7 @@ use Rattle.msr_walk.specs.Day.{Asked, HasAnswer, IsDone, IsNotShown, IsSame}
 use Rattle.msr_walk.specs.Paths.{channel_of}
 use Rattle.msr_walk.specs.declared.outcome.Outcome.{Outcome}
 use Rattle.msr_walk.specs.declared.outcome.Outcome.TheVariants.{Done, Same, Skipped, Refused, NotShown as Unshown}
-use Rattle.msr_walk.specs.declared.outcome.Refusal.TheVariants.{CannotOpen, Listing, NotShown, Taken, Tool}
+use Rattle.msr_walk.specs.declared.outcome.DayFault.TheVariants.{CannotOpen, Listing, NotShown, Taken, Tool}
 use Rattle.msr_walk.specs.declared.tally.Tally.{Tally}
 
 -- an entry: its path from the archive's folder, and what became of it; of a day its channel too

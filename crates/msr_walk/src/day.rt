@@ -5,7 +5,7 @@ ghost use Rattle.msr_walk.specs.Files.{day_names};
 
 use crate::files::{NewFile, settle};
 use crate::folders::Archive;
-use crate::outcome::{Outcome, Refusal, Repacked};
+use crate::outcome::{Outcome, DayFault, Repacked};
 use crate::paths::join;
 use crate::repacking::{counts_kept, repack_day_of, require_shown};
 use crate::stamp::Stamp;
@@ -59,11 +59,11 @@ impl Day {
         rt: &R,
         alloc: Global,
         archive: &Archive<'_>,
-    ) -> Result<Repacked, Refusal>
+    ) -> Result<Repacked, DayFault>
         ensures { IsRepackedDay (asked_of archive.now) result }
     {
         let Ok(input) = File::open(rt, self.input.as_str()) else {
-            return Err(Refusal::CannotOpen);
+            return Err(DayFault::CannotOpen);
         };
         let mut records = self.records.create(rt)?;
         let mut report = self.report.create(rt)?;
@@ -87,8 +87,8 @@ impl Day {
     /// The stamp and the records of an earlier walk go before anything gets its name, so that what has a stamp was made
     /// whole, and no report stands beside records that are not its own; the report gets its name first, so that records
     /// that have theirs have a report.
-    fn keep<R: Files>(&self, rt: &R) -> Result<(), Refusal>
-        ensures { IfErr result (λ why. why ≡ Refusal.CannotOpen) }
+    fn keep<R: Files>(&self, rt: &R) -> Result<(), DayFault>
+        ensures { IfErr result (λ why. why ≡ DayFault.CannotOpen) }
     {
         self.stamp.sweep(rt);
         self.stamp.clear(rt)?;
@@ -99,17 +99,17 @@ impl Day {
 
     /// Reads the records and the report again that were written, and holds one against the other, if that is asked
     /// for.
-    fn hold<R: Files>(&self, rt: &R, alloc: Global, check: bool) -> Result<(), Refusal>
+    fn hold<R: Files>(&self, rt: &R, alloc: Global, check: bool) -> Result<(), DayFault>
         ensures { IsShownWhere check result }
     {
         if !check {
             return Ok(());
         }
         let Ok(records) = File::open(rt, self.records.part()) else {
-            return Err(Refusal::CannotOpen);
+            return Err(DayFault::CannotOpen);
         };
         let Ok(report) = File::open(rt, self.report.part()) else {
-            return Err(Refusal::CannotOpen);
+            return Err(DayFault::CannotOpen);
         };
         require_shown(
             alloc,
@@ -125,14 +125,14 @@ impl Day {
         rt: &R,
         alloc: Global,
         archive: &Archive<'_>,
-    ) -> Result<Repacked, Refusal>
+    ) -> Result<Repacked, DayFault>
         ensures { IsRepackedDay (asked_of archive.now) result }
     {
         let before = Stamp::of(rt, self.input.as_str());
         let result = self.write(rt, alloc, archive);
         match result {
             Ok(_) if archive.resume => self.put_stamp(rt, alloc, before),
-            Ok(_) | Err(Refusal::Taken) => {}
+            Ok(_) | Err(DayFault::Taken) => {}
             Err(_) => self.remove(rt),
         }
         result
@@ -198,7 +198,7 @@ impl Day {
         ensures { IsDayOutcome (asked_of archive.now) result }
     {
         if self.may_touch_archive(rt) {
-            return Outcome::Refused(Refusal::CannotOpen);
+            return Outcome::Refused(DayFault::CannotOpen);
         }
         if archive.resume {
             if let Some(repacked) = self.kept(rt, alloc, archive.options) {
@@ -213,12 +213,12 @@ impl Day {
 }
 
 /// What becomes of a day that is refused: what is not shown has an outcome of its own.
-fn refused(refusal: Refusal) -> Outcome
+fn refused(refusal: DayFault) -> Outcome
     ensures { (asked : Asked) → IsRepackedDay asked (Err refusal) → IsDayOutcome asked result }
 {
     match refusal {
-        Refusal::NotShown => Outcome::NotShown,
-        Refusal::CannotOpen | Refusal::Listing | Refusal::Taken | Refusal::Tool(_) => {
+        DayFault::NotShown => Outcome::NotShown,
+        DayFault::CannotOpen | DayFault::Listing | DayFault::Taken | DayFault::Tool(_) => {
             Outcome::Refused(refusal)
         }
     }

@@ -2,7 +2,7 @@
 ghost use Rattle.std.specs.Prelude.{◌≡◌, ◌⊎◌, IfErr, IfOk};
 ghost use Rattle.msr_walk.specs.Files.{folder_of, new_file};
 
-use crate::outcome::Refusal;
+use crate::outcome::DayFault;
 use crate::paths::join;
 use msr_tool::ToolFault;
 use std::alloc::{AllocError, Global};
@@ -115,11 +115,11 @@ impl NewFile {
     }
 
     /// Makes the folder, and the file beside its name, in the place of what a run that was killed left there.
-    pub fn create<R: Files>(&self, rt: &R) -> Result<R::File, Refusal>
-        ensures { IfErr result (λ why. why ≡ Refusal.CannotOpen) }
+    pub fn create<R: Files>(&self, rt: &R) -> Result<R::File, DayFault>
+        ensures { IfErr result (λ why. why ≡ DayFault.CannotOpen) }
     {
         if fs::create_dir_all(rt, folder_of(self.part())).is_err() {
-            return Err(Refusal::CannotOpen);
+            return Err(DayFault::CannotOpen);
         }
         self.sweep(rt);
         match OpenOptions::new()
@@ -128,7 +128,7 @@ impl NewFile {
             .open(rt, self.part.as_str())
         {
             Ok(file) => Ok(file),
-            Err(_) => Err(Refusal::CannotOpen),
+            Err(_) => Err(DayFault::CannotOpen),
         }
     }
 
@@ -138,43 +138,43 @@ impl NewFile {
     }
 
     /// Looks whether what stands beside its name is that file: another walk makes its own there, in the place of ours.
-    pub fn require_ours<R: Files>(&self, rt: &R, file: &R::File) -> Result<(), Refusal>
-        ensures { IfErr result (λ why. (why ≡ Refusal.CannotOpen) ⊎ (why ≡ Refusal.Taken)) }
+    pub fn require_ours<R: Files>(&self, rt: &R, file: &R::File) -> Result<(), DayFault>
+        ensures { IfErr result (λ why. (why ≡ DayFault.CannotOpen) ⊎ (why ≡ DayFault.Taken)) }
     {
         let found = match fs::symlink_metadata(rt, self.part.as_str()) {
             Ok(found) => found,
             Err(error) => match error.kind() {
-                ErrorKind::NotFound => return Err(Refusal::Taken),
-                _ => return Err(Refusal::CannotOpen),
+                ErrorKind::NotFound => return Err(DayFault::Taken),
+                _ => return Err(DayFault::CannotOpen),
             },
         };
         match file.metadata() {
             Ok(made) if is_one(&made, &found) => Ok(()),
-            Ok(_) => Err(Refusal::Taken),
-            Err(_) => Err(Refusal::CannotOpen),
+            Ok(_) => Err(DayFault::Taken),
+            Err(_) => Err(DayFault::CannotOpen),
         }
     }
 
     /// Removes an older file of its name, if there is one.
-    pub fn clear<R: Files>(&self, rt: &R) -> Result<(), Refusal>
-        ensures { IfErr result (λ why. why ≡ Refusal.CannotOpen) }
+    pub fn clear<R: Files>(&self, rt: &R) -> Result<(), DayFault>
+        ensures { IfErr result (λ why. why ≡ DayFault.CannotOpen) }
     {
         match fs::remove_file(rt, self.path.as_str()) {
             Ok(()) => Ok(()),
             Err(error) => match error.kind() {
                 ErrorKind::NotFound => Ok(()),
-                _ => Err(Refusal::CannotOpen),
+                _ => Err(DayFault::CannotOpen),
             },
         }
     }
 
     /// Gives the file its name, in the place of what had it.
-    pub fn keep<R: Files>(&self, rt: &R) -> Result<(), Refusal>
-        ensures { IfErr result (λ why. why ≡ Refusal.CannotOpen) }
+    pub fn keep<R: Files>(&self, rt: &R) -> Result<(), DayFault>
+        ensures { IfErr result (λ why. why ≡ DayFault.CannotOpen) }
     {
         match fs::rename(rt, self.part.as_str(), self.path.as_str()) {
             Ok(()) => Ok(()),
-            Err(_) => Err(Refusal::CannotOpen),
+            Err(_) => Err(DayFault::CannotOpen),
         }
     }
 

@@ -8,7 +8,7 @@ ghost use Rattle.msr_walk.specs.Walk.{StopsTelling, Tells, Walks};
 
 use crate::day::Day;
 use crate::listing::{ListFault, names_in};
-use crate::outcome::{Outcome, Refusal};
+use crate::outcome::{Outcome, DayFault};
 use crate::paths::{FOLDERS, channel_text, entry_path, join, levels_below};
 use crate::summary::write_summary;
 use crate::tally::Tally;
@@ -138,7 +138,7 @@ fn walk_folder<R: Files, O: Sink>(
         Err(ListFault::Memory) => return Err(ToolFault::Memory),
         Err(ListFault::Listing) => {
             let path = if folder.is_empty() { "." } else { folder };
-            let refused = Outcome::Refused(Refusal::Listing);
+            let refused = Outcome::Refused(DayFault::Listing);
             return tell(alloc, path, "", refused, out, tally);
         }
     };

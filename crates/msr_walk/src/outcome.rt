@@ -10,7 +10,7 @@ use thiserror::Error;
 
 /// Why a day file or a folder is refused.
 #[derive(Clone, Copy, Debug, Error)]
-pub enum Refusal {
+pub enum DayFault {
     /// A file could not be opened, or not be made under its name.
     #[error("cannot open")]
     CannotOpen,
@@ -28,14 +28,14 @@ pub enum Refusal {
     Tool(ToolFault),
 }
 
-impl From<ToolFault> for Refusal {
+impl From<ToolFault> for DayFault {
     ghost use Rattle.std.specs.Prelude.{◌≡◌};
-    ghost use Rattle.msr_walk.specs.declared.outcome.Refusal.TheVariants.{Tool};
+    ghost use Rattle.msr_walk.specs.declared.outcome.DayFault.TheVariants.{Tool};
 
     ghost from_gives = { λ fault why. why ≡ Tool fault };
 
-    fn from(fault: ToolFault) -> Refusal {
-        Refusal::Tool(fault)
+    fn from(fault: ToolFault) -> DayFault {
+        DayFault::Tool(fault)
     }
 }
 
@@ -53,7 +53,7 @@ pub enum Outcome {
     /// An earlier walk had done it, and it was left alone.
     Same(Repacked),
     Skipped(SdsFault),
-    Refused(Refusal),
+    Refused(DayFault),
     /// It was repacked, but not shown to be in the fewest records, and so not kept.
     NotShown,
 }

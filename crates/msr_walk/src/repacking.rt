@@ -4,7 +4,7 @@ ghost use Rattle.msr_devices.specs.Device.{CanCountCall};
 ghost use Rattle.msr_report.specs.Proper.{IsProper, records_of};
 ghost use Rattle.msr_walk.specs.Day.{IsKept, IsShown, RepacksDay};
 
-use crate::outcome::{Refusal, Repacked};
+use crate::outcome::{DayFault, Repacked};
 use msr_report::Report;
 use msr_tool::{
     Options, Sink, Source, ToolFault, Verdict, check_packed, read_report, repack_and_report,
@@ -72,15 +72,15 @@ pub fn require_shown<P: Source, Q: Source>(
     alloc: Global,
     packed: &mut P,
     report: &mut Q,
-) -> Result<(), Refusal>
+) -> Result<(), DayFault>
     requires packed { CanCountCall (P.device packed.old) }
     requires report { CanCountCall (Q.device report.old) }
     ensures { IsShown result }
 {
     match check_packed(alloc, packed, report) {
         Ok(Verdict::Least) => Ok(()),
-        Ok(Verdict::NotShown) => Err(Refusal::NotShown),
-        Err(ToolFault::Memory) => Err(Refusal::Tool(ToolFault::Memory)),
-        Err(_) => Err(Refusal::NotShown),
+        Ok(Verdict::NotShown) => Err(DayFault::NotShown),
+        Err(ToolFault::Memory) => Err(DayFault::Tool(ToolFault::Memory)),
+        Err(_) => Err(DayFault::NotShown),
     }
 }

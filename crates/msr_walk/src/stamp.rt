@@ -6,7 +6,7 @@ ghost use Rattle.msr_walk.specs.Stamp.{IsNotPut, stamp_text};
 ghost use Rattle.msr_walk.specs.Walk.{StopsPrefix};
 
 use crate::files::{NewFile, settle};
-use crate::outcome::Refusal;
+use crate::outcome::DayFault;
 use msr_devices::write_all;
 use msr_tool::{FromWrite, Sink, ToolFault};
 use std::alloc::{AllocError, Global};
@@ -82,7 +82,7 @@ impl Stamp {
     }
 
     /// Makes that file with this stamp.
-    pub fn put<R: Files>(self, rt: &R, alloc: Global, file: &NewFile) -> Result<(), Refusal>
+    pub fn put<R: Files>(self, rt: &R, alloc: Global, file: &NewFile) -> Result<(), DayFault>
         ensures { IfErr result IsNotPut }
     {
         let mut open = file.create(rt)?;

@@ -4,7 +4,7 @@ use thiserror::Error;
 
 /// Why a task ended before it was done.
 #[derive(Debug, Drop, Error)]
-pub enum Stop<'a> {
+pub enum TaskFault<'a> {
     /// The file with this name could not be opened, or not be made.
     #[error("cannot open {0}")]
     CannotOpen(&'a str),
@@ -22,29 +22,29 @@ pub enum Stop<'a> {
     Tool(ToolFault),
 }
 
-impl<'a> Stop<'a> {
+impl<'a> TaskFault<'a> {
     ghost use Rattle.std.specs.Prelude.{◌≡◌};
-    ghost use Rattle.msr_command.specs.Ends.{status_of_stop};
+    ghost use Rattle.msr_command.specs.Ends.{status_of_task_fault};
 
     /// The exit status of a program that ends so.
     pub fn status(&self) -> u8
-        ensures { result ≡ status_of_stop self.now }
+        ensures { result ≡ status_of_task_fault self.now }
     {
         match self {
-            Stop::CannotOpen(_) | Stop::Closed => 1,
-            Stop::SameFile | Stop::SameOutput => 2,
-            Stop::Tool(fault) => fault.status(),
+            TaskFault::CannotOpen(_) | TaskFault::Closed => 1,
+            TaskFault::SameFile | TaskFault::SameOutput => 2,
+            TaskFault::Tool(fault) => fault.status(),
         }
     }
 }
 
-impl<'a> From<ToolFault> for Stop<'a> {
+impl<'a> From<ToolFault> for TaskFault<'a> {
     ghost use Rattle.std.specs.Prelude.{◌≡◌};
-    ghost use Rattle.msr_command.specs.declared.stop.Stop.TheVariants.{Tool};
+    ghost use Rattle.msr_command.specs.declared.task_fault.TaskFault.TheVariants.{Tool};
 
     ghost from_gives = { λ fault stop. stop ≡ Tool fault };
 
-    fn from(fault: ToolFault) -> Stop<'a> {
-        Stop::Tool(fault)
+    fn from(fault: ToolFault) -> TaskFault<'a> {
+        TaskFault::Tool(fault)
     }
 }

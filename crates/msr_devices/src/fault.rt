@@ -1,6 +1,6 @@
 //! What a loop over a device answers when the device failed, and why writing stops.
 ghost use Rattle.std.specs.Prelude.{◌≡◌};
-ghost use Rattle.msr_devices.specs.declared.failure.WriteFault.TheVariants.{Write, Memory};
+ghost use Rattle.msr_devices.specs.declared.fault.WriteFault.TheVariants.{Write, Memory};
 
 use std::alloc::AllocError;
 use thiserror::Error;
@@ -8,12 +8,12 @@ use thiserror::Error;
 /// The source failed, or was interrupted 64 times in a row.
 #[derive(Clone, Copy, Debug, PartialEq, Eq, Error)]
 #[error("the source failed")]
-pub struct SourceFailed;
+pub struct SourceFault;
 
 /// The sink failed, accepted 0 bytes of a write that was not empty, or was interrupted 64 times in a row.
 #[derive(Clone, Copy, Debug, PartialEq, Eq, Error)]
 #[error("the sink failed")]
-pub struct SinkFailed;
+pub struct SinkFault;
 
 /// Why records or a text were not written whole.
 #[derive(Clone, Copy, Debug, PartialEq, Eq, Error)]
@@ -26,10 +26,10 @@ pub enum WriteFault {
     Memory,
 }
 
-impl From<SinkFailed> for WriteFault {
+impl From<SinkFault> for WriteFault {
     ghost from_gives = { λ _ e. e ≡ Write };
 
-    fn from(_: SinkFailed) -> WriteFault {
+    fn from(_: SinkFault) -> WriteFault {
         WriteFault::Write
     }
 }
