@@ -5,7 +5,7 @@ ghost use Rattle.msr_walk.specs.Files.{day_names};
 
 use crate::files::{NewFile, settle};
 use crate::folders::Archive;
-use crate::outcome::{Outcome, DayFault, Repacked};
+use crate::outcome::{DayFault, Outcome, Repacked};
 use crate::paths::join;
 use crate::repacking::{counts_kept, repack_day_of, require_shown};
 use crate::stamp::Stamp;

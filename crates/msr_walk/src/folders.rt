@@ -8,7 +8,7 @@ ghost use Rattle.msr_walk.specs.Walk.{StopsTelling, Tells, Walks};
 
 use crate::day::Day;
 use crate::listing::{ListFault, names_in};
-use crate::outcome::{Outcome, DayFault};
+use crate::outcome::{DayFault, Outcome};
 use crate::paths::{FOLDERS, channel_text, entry_path, join, levels_below};
 use crate::summary::write_summary;
 use crate::tally::Tally;
