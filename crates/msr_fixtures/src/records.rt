@@ -20,21 +20,6 @@ const LITTLE_HEADER: [u8; 64] = [
     0xe8, 0x03, 0x38, 0x00, 0x0b, 0x01, 0x08, 0x00, 0xe9, 0x03, 0x00, 0x00, 0x00, 0x00, 0x00, 0x03,
 ];
 
-/// The quality indicator of both.
-pub const QUALITY: u8 = b'D';
-
-/// Their station.
-pub const STATION: [u8; 5] = *b"TEST ";
-
-/// Their location.
-pub const LOCATION: [u8; 2] = *b"00";
-
-/// Their channel.
-pub const CHANNEL: [u8; 3] = *b"BHZ";
-
-/// Their network.
-pub const NETWORK: [u8; 2] = *b"XX";
-
 /// The instant of 2020-01-01 00:00:00, at which the records begin.
 pub const START: i64 = 1_577_836_800_000_000;
 

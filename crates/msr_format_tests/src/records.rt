@@ -5,7 +5,8 @@ ghost use Rattle.msr_header.specs.Reading.{is_quality};
 ghost use Rattle.msr_record.specs.Correction.{is_pending};
 
 use msr_fixtures::{
-    Edit, REFUSALS, START, int32_record, little_record, record, record_of_words, steim_record,
+    Edit, REFUSALS, START, int32_record, key_at, little_record, record, record_of_words,
+    steim_record,
 };
 use msr_record::{
     FaultKind, Key, Kind, Length, Record, Row, decode_record, encode_record, reverse_in,
@@ -263,19 +264,7 @@ fn key(rt: &impl Abort) -> Key
     let Some(rate) = Rate::new(20, 1) else {
         panic!(rt; "no rate")
     };
-    Key {
-        network: *b"XX",
-        station: *b"TEST ",
-        location: *b"00",
-        channel: *b"BHZ",
-        quality: b'D',
-        rate,
-        activity: 0,
-        clock: 0,
-        data_quality: 0,
-        correction: 0,
-        timing: 0,
-    }
+    key_at(rate)
 }
 
 /// A record, and what is written in it.

@@ -3,8 +3,8 @@ ghost use Rattle.std.specs.Prelude.{◌≡◌, IfSome, IsSome, OnErr};
 ghost use Rattle.msr_tool.specs.Choice.{size_of};
 
 use msr_devices::{Behavior, TestSink, TestSource};
-use msr_fixtures::{CHANNEL, LOCATION, NETWORK, QUALITY, START, STATION, next_of};
-use msr_record::{Key, encode_record};
+use msr_fixtures::{START, key_at, next_of};
+use msr_record::encode_record;
 use msr_time::{Rate, is_instant};
 use msr_tool::{Options, repack};
 use msr_words::{Kind, Length};
@@ -116,18 +116,15 @@ pub fn append(
     if !is_instant(start) || run.is_empty() || !kind.fits(None, run, record_length) {
         return Ok(());
     }
-    let key = Key {
-        network: NETWORK,
-        station: STATION,
-        location: LOCATION,
-        channel: CHANNEL,
-        quality: QUALITY,
-        rate,
-        activity: 0,
-        clock: 0,
-        data_quality: 0,
-        correction: 0,
-        timing: 0,
-    };
-    encode_record(alloc, &key, start, 1, None, run, kind, record_length, out)
+    encode_record(
+        alloc,
+        &key_at(rate),
+        start,
+        1,
+        None,
+        run,
+        kind,
+        record_length,
+        out,
+    )
 }

@@ -3,7 +3,7 @@
 ghost use Rattle.std.specs.Prelude.{◌≡◌, IfOk, length};
 
 use msr_base::Samples;
-use msr_fixtures::START;
+use msr_fixtures::{START, key_at};
 use msr_record::{Key, Kind, Row};
 use msr_segments::{
     Follow, JoinKind, Joiner, OutOfRange, Step, cuts_grow_by_rows, cuts_keep_segments,
@@ -126,19 +126,7 @@ const CASES: [Case; 10] = [
 ];
 
 fn key(rate: (i16, i16)) -> Option<Key> {
-    Some(Key {
-        network: *b"XX",
-        station: *b"TEST ",
-        location: *b"00",
-        channel: *b"BHZ",
-        quality: b'D',
-        rate: Rate::new(rate.0, rate.1)?,
-        activity: 0,
-        clock: 0,
-        data_quality: 0,
-        correction: 0,
-        timing: 0,
-    })
+    Some(key_at(Rate::new(rate.0, rate.1)?))
 }
 
 /// A row of that many samples of 0.

@@ -5,7 +5,7 @@ ghost use Rattle.msr_header.specs.Reading.{is_quality};
 ghost use Rattle.msr_report.specs.Proper.{IsProper, IsProperLine, records_of};
 
 use msr_devices::{Behavior, TestSink, WriteFault};
-use msr_fixtures::START;
+use msr_fixtures::{START, key_at};
 use msr_record::Key;
 use msr_report::{Counts, Report, SegmentLine, has_text, one_text, push_counts, push_list_line};
 use msr_time::{Rate, is_instant};
@@ -63,19 +63,7 @@ fn key(factor: i16, multiplier: i16) -> Option<Key>
     ensures { IfSome result (λ key. IsTrue (is_quality key.quality)) }
 {
     let rate = Rate::new(factor, multiplier)?;
-    Some(Key {
-        network: *b"XX",
-        station: *b"TEST ",
-        location: *b"00",
-        channel: *b"BHZ",
-        quality: b'D',
-        rate,
-        activity: 0,
-        clock: 0,
-        data_quality: 0,
-        correction: 0,
-        timing: 0,
-    })
+    Some(key_at(rate))
 }
 
 /// The first of two segments, and the second.

@@ -5,7 +5,7 @@ ghost use Rattle.msr_header.specs.Reading.{is_quality};
 ghost use Rattle.msr_record.specs.Correction.{is_pending};
 
 use msr_devices::{Behavior, TestSource};
-use msr_fixtures::START;
+use msr_fixtures::{START, key_at};
 use msr_input::ReadFault;
 use msr_record::{Key, encode_record};
 use msr_report::{Counts, Report, SegmentLine};
@@ -44,17 +44,8 @@ fn key(channel: [u8; 3]) -> Option<Key>
 {
     let rate = Rate::new(20, 1)?;
     Some(Key {
-        network: *b"XX",
-        station: *b"TEST ",
-        location: *b"00",
         channel,
-        quality: b'D',
-        rate,
-        activity: 0,
-        clock: 0,
-        data_quality: 0,
-        correction: 0,
-        timing: 0,
+        ..key_at(rate)
     })
 }
 

@@ -7,9 +7,8 @@ ghost use Rattle.msr_segments.specs.Segments.{SegmentIsInTime};
 
 use msr_base::Samples;
 use msr_devices::{Behavior, Sink, TestSink, WriteFault};
-use msr_fixtures::{Edit, START, record, steim_record};
+use msr_fixtures::{Edit, START, key_at, record, steim_record};
 use msr_output::{SegmentWriter, one_output, output_has_size, output_keeps_segments};
-use msr_record::Key;
 use msr_report::SegmentLine;
 use msr_segments::Segment;
 use msr_time::{Rate, is_instant};
@@ -39,19 +38,7 @@ fn zeros(rt: &impl Abort, alloc: Global, count: usize) -> Result<Segment, AllocE
         samples.push(0)?;
     }
     Ok(Segment {
-        key: Key {
-            network: *b"XX",
-            station: *b"TEST ",
-            location: *b"00",
-            channel: *b"BHZ",
-            quality: b'D',
-            rate,
-            activity: 0,
-            clock: 0,
-            data_quality: 0,
-            correction: 0,
-            timing: 0,
-        },
+        key: key_at(rate),
         start: START,
         samples,
     })

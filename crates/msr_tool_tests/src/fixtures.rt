@@ -3,8 +3,8 @@ ghost use Rattle.std.specs.Prelude.{◌<◌, IfOk};
 ghost use Rattle.msr_report.specs.Proper.{IsProper};
 
 use msr_devices::Behavior;
-use msr_fixtures::{Edit, START, steim_record};
-use msr_record::{Key, encode_record};
+use msr_fixtures::{Edit, START, key_at, steim_record};
+use msr_record::encode_record;
 use msr_time::{Rate, is_instant};
 use msr_tool::{Counts, Options, Report, TestSink, TestSource, ToolFault, repack};
 use msr_words::{Kind, Length};
@@ -46,19 +46,7 @@ pub fn input_of(
     rate: Rate,
     samples: &[i32],
 ) -> Result<Vec<u8>, AllocError> {
-    let key = Key {
-        network: *b"XX",
-        station: *b"TEST ",
-        location: *b"00",
-        channel: *b"BHZ",
-        quality: b'D',
-        rate,
-        activity: 0,
-        clock: 0,
-        data_quality: 0,
-        correction: 0,
-        timing: 0,
-    };
+    let key = key_at(rate);
     let Some(record_length) = Length::new(4096) else {
         panic!(rt; "no length")
     };
