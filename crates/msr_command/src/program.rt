@@ -29,12 +29,12 @@ fn write_complaint<E: Write>(errors: &mut E, text: &str) -> io::Result<()>
     writeln!(errors, "msrepack: {text}")
 }
 
-/// The line of what stopped a task, and its status.
-fn complain_of<E: Write>(errors: &mut E, stop: &TaskFault<'_>) -> u8
-    ensures { result ≡ status_of_task_fault stop.now }
+/// Prints the line of a task's fault, and gives its status.
+fn complain_of<E: Write>(errors: &mut E, fault: &TaskFault<'_>) -> u8
+    ensures { result ≡ status_of_task_fault fault.now }
 {
-    writeln!(errors, "msrepack: {stop}").ok();
-    stop.status()
+    writeln!(errors, "msrepack: {fault}").ok();
+    fault.status()
 }
 
 /// Prints the text to end with: help and the version as output, a fault of the command line as an error.
@@ -69,7 +69,7 @@ pub fn run<R: Files, I: Source, O: Sink, E: Write>(
     match read_words(alloc, words) {
         Ok(task) => match do_task(rt, alloc, task, input, output) {
             Ok(done) => done.status(),
-            Err(stop) => complain_of(errors, &stop),
+            Err(fault) => complain_of(errors, &fault),
         },
         Err(NoTask::Ending(ending)) => end(output, errors, &ending),
         Err(NoTask::Memory) => complain(errors, 1, "out of memory"),

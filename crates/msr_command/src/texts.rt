@@ -99,7 +99,8 @@ that file again with the same options: the same input gives the same records.
 
 The report is read with the form that `msrepack repack` writes. If it has another, one
 line on standard error names its first wrong line, counted from 1; if PACKED has a
-fault, one line says at which byte and why. Both have status 1, and no verdict.";
+fault, one line says at which byte and why. Both have status 1, and no verdict; it is 2
+if the command line is wrong.";
 
 /// An example of `check`.
 pub const CHECK_AFTER: &str = "Example:

@@ -576,7 +576,7 @@ fn helps_with_the_statuses(rt: HostRuntime) -> Result<(), Fail> {
         ),
         (
             &["msrepack", "check", "--help"],
-            "\nfault, one line says at which byte and why. Both have status 1, and no verdict.\n",
+            "Both have status 1, and no verdict; it is 2\nif the command line is wrong.\n",
         ),
         (
             &["msrepack", "archive", "--help"],

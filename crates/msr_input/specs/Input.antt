@@ -87,7 +87,7 @@ IsRefusedAlone strict rest kind =
 
 -- The record that the bytes begin with has no fault by itself, and ends its segment outside the supported years, after
 -- these records.
-pub record OverrunsBehind (settings : Settings) (records : List Record) (rest : List ℕ) : Type 0 where
+pub record OverrunsAfter (settings : Settings) (records : List Record) (rest : List ℕ) : Type 0 where
   pub found : Record
   pub row : Row
   pub has_row : found.row ≡ Some row
@@ -99,7 +99,7 @@ pub record OverrunsBehind (settings : Settings) (records : List Record) (rest : 
 -- out of range.
 abbrev pub IsRefusedAfter : Settings → List Record → List ℕ → FaultKind → Type 0
 IsRefusedAfter settings records rest kind =
-    IsRefusedAlone settings.strict rest kind ⊎ ((kind ≡ TimeRange) × OverrunsBehind settings records rest)
+    IsRefusedAlone settings.strict rest kind ⊎ ((kind ≡ TimeRange) × OverrunsAfter settings records rest)
 
 -- The first fault of an input: these records are read before it, and the next one is refused. The offset is that
 -- of its first byte.

@@ -111,7 +111,7 @@ pub record IsWalkedOut (bytes : ℕ) (samples : List ℤ) (start end : ℕ) (tol
   pub furthest : (b : ℕ) → IsRun (Fits Steim2 bytes) samples start b → b ≤ end
   pub narrow : IsTrue told → AreNarrowThrough samples start end
 
--- If no more is reached of the samples up to the latest end of a record.
+-- What follows if no more is reached of the samples up to the latest end of a record.
 module _ (bytes words left : ℕ) (samples : List ℤ) (start latest at : ℕ) (le : start ≤ length samples)
     (law : GreedyLaw) (words_is : words ≡ words_of bytes)
     (latest_is : latest ≡ latest_end Steim2 bytes samples start)

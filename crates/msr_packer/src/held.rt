@@ -198,47 +198,47 @@ impl Held {
         piece
     }
 
-    /// If more samples than this stand after the frontier, the piece before the next step, which has none if it is the
-    /// first.
-    pub fn step_past(&mut self, behind: usize) -> Option<Piece>
+    /// If more than `beyond` samples stand beyond the frontier, the piece before the next step, which has none if it is
+    /// the first.
+    pub fn step_past(&mut self, beyond: usize) -> Option<Piece>
         requires { IsSound self.old }
         ensures given { GivesPiece self.old self.new result }
-        ensures stays { most_any (bytes_of self.old.record_length) ≤ behind
+        ensures stays { most_any (bytes_of self.old.record_length) ≤ beyond
             → Stays self.old.current (length self.old.samples.items) → Stays self.new.current (length
             self.old.samples.items) }
         ensures few { IsNone result → IsSome self.old.current
-            → length self.old.samples.items ≤ frontier_of self.new.current + behind }
-        ensures first { IsNone result → (length self.old.samples.items ≤ frontier_of self.new.current + behind)
+            → length self.old.samples.items ≤ frontier_of self.new.current + beyond }
+        ensures first { IsNone result → (length self.old.samples.items ≤ frontier_of self.new.current + beyond)
             ⊎ IsSome self.new.current }
         ensures order { frontier_of self.old.current ≤ frontier_of self.new.current }
         ensures furthest { (start end : ℕ) → start ≤ frontier_of self.old.current
-            → frontier_of self.old.current + behind < length self.old.samples.items
+            → frontier_of self.old.current + beyond < length self.old.samples.items
             → IsRun (FitsAny (bytes_of self.old.record_length)) self.old.samples.items start end
             → end ≤ frontier_of self.new.current }
         ensures fewer { IfSome result (λ _. frontier_of self.old.current < frontier_of self.new.current) }
     {
-        if self.samples.len() - frontier_of(self.current) <= behind {
+        if self.samples.len() - frontier_of(self.current) <= beyond {
             return None;
         }
         let step = Current::next(self.samples.as_slice(), self.record_length, self.current);
         self.go_on(step)
     }
 
-    /// The next piece, if more samples than this stand after the frontier. It is shown.
-    pub fn next_piece(&mut self, behind: usize) -> Option<Piece>
+    /// The next piece, if more than `beyond` samples stand beyond the frontier. It is shown.
+    pub fn next_piece(&mut self, beyond: usize) -> Option<Piece>
         requires { IsSound self.old }
         ensures given { GivesPiece self.old self.new result }
-        ensures stays { most_any (bytes_of self.old.record_length) ≤ behind
+        ensures stays { most_any (bytes_of self.old.record_length) ≤ beyond
             → Stays self.old.current (length self.old.samples.items) → Stays self.new.current (length
             self.old.samples.items) }
-        ensures few { IsNone result → length self.old.samples.items ≤ frontier_of self.new.current + behind }
+        ensures few { IsNone result → length self.old.samples.items ≤ frontier_of self.new.current + beyond }
         ensures fewer { IfSome result (λ _. frontier_of self.old.current < frontier_of self.new.current) }
     {
-        if let Some(piece) = self.step_past(behind) {
+        if let Some(piece) = self.step_past(beyond) {
             return Some(piece);
         }
         // no piece stands before the first step
-        self.step_past(behind)
+        self.step_past(beyond)
     }
 
     /// The piece of the last step, if no sample stands after it; none if there are no samples. It is shown.

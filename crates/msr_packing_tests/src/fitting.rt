@@ -15,7 +15,7 @@ fn shortest() -> Result<Length, Fail> {
     Ok(Length::new(256).ok_or("a length")?)
 }
 
-/// How many samples of these differences, all alike, the tracker takes, of so many.
+/// How many samples of these differences, all alike, the tracker takes, of `many`.
 fn taken_of<T: Tracker + Drop>(
     many: usize,
     record_length: Length,

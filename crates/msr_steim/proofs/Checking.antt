@@ -137,7 +137,7 @@ module _ (version : Version) (order : Order) (area : List ℕ) (number count lef
   length-all : length all ≡ length passed.samples + next.place
   length-all = length-append passed.samples sums ∙ ap (λ n. length passed.samples + n) length-sums
 
-  -- the last sample, if the word has one
+  -- the last sample is the one before, if the word has none
   last_new : 0 < next.place → next.last ≡ get_or all (length all - 1) (pos 0)
   last_new some =
       let place : length all - 1 ≡ length passed.samples + (next.place - 1) = omega (arith, length-all, some) in

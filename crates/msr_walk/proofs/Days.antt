@@ -6,7 +6,7 @@ use Rattle.msr_tool.specs.Choice.{Choice}
 use Rattle.msr_tool.specs.Tasks.{Reports}
 use Rattle.msr_tool.specs.declared.fault.ToolFault.{ToolFault}
 use Rattle.msr_tool.specs.declared.fault.ToolFault.TheVariants as fault
-use Rattle.msr_walk.specs.Day.{Asked, RepacksDay, HasAnswer, IsDayOutcome, IsRepackedDay, IsShownWhere}
+use Rattle.msr_walk.specs.Day.{Asked, RepacksDay, HasAnswer, IsDayOutcome, IsRepackedDay, IsShownIfAsked}
 use Rattle.msr_walk.specs.Entries.{IsDayOf, IsOutcomeOf}
 use Rattle.msr_walk.specs.declared.outcome.Outcome.{Outcome}
 use Rattle.msr_walk.specs.declared.outcome.Outcome.TheVariants.{Done, Same, Skipped, Refused, NotShown as Unshown}
@@ -48,7 +48,7 @@ day_unsettled choice source records0 records text0 text repacked does = record {
 
 -- what was written is not kept
 pub day_unkept : (asked : Asked) (source records0 records text0 text : Device) (repacked : Repacked) (why : DayFault) →
-    RepacksDay asked.choice source records0 records text0 text (Ok repacked) → IsShownWhere asked.check (Err why)
+    RepacksDay asked.choice source records0 records text0 text (Ok repacked) → IsShownIfAsked asked.check (Err why)
     → IsRepackedDay asked (Err why)
 day_unkept asked source records0 records text0 text repacked CannotOpen does is = tt
 day_unkept asked source records0 records text0 text repacked Listing does is = absurd is.1

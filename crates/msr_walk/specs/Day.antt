@@ -88,9 +88,9 @@ IsShown (Ok done) = WasShown
 IsShown (Err refusal) = IsUnkept refusal
 
 -- the same if it is asked for
-abbrev pub IsShownWhere : Bool → Result (Unit {0}) DayFault → Type 0
-IsShownWhere check (Ok done) = IsTrue check → WasShown
-IsShownWhere check (Err refusal) = IsTrue check × IsUnkept refusal
+abbrev pub IsShownIfAsked : Bool → Result (Unit {0}) DayFault → Type 0
+IsShownIfAsked check (Ok done) = IsTrue check → WasShown
+IsShownIfAsked check (Err refusal) = IsTrue check × IsUnkept refusal
 
 -- Some input was repacked with these counts, and if that is asked for, what was written was shown to be the fewest.
 pub record IsDone (asked : Asked) (repacked : Repacked) : Type 0 where

@@ -1,6 +1,6 @@
 //! One day file: from its file to the files of its records and its report.
 ghost use Rattle.std.specs.Prelude.{◌≡◌, IfErr, IfOk, IfSome};
-ghost use Rattle.msr_walk.specs.Day.{Asked, IsDayOutcome, IsKept, IsRepackedDay, IsShownWhere, asked_of};
+ghost use Rattle.msr_walk.specs.Day.{Asked, IsDayOutcome, IsKept, IsRepackedDay, IsShownIfAsked, asked_of};
 ghost use Rattle.msr_walk.specs.Files.{day_names};
 
 use crate::files::{NewFile, settle};
@@ -100,7 +100,7 @@ impl Day {
     /// Reads the records and the report again that were written, and holds one against the other, if that is asked
     /// for.
     fn hold<R: Files>(&self, rt: &R, alloc: Global, check: bool) -> Result<(), DayFault>
-        ensures { IsShownWhere check result }
+        ensures { IsShownIfAsked check result }
     {
         if !check {
             return Ok(());

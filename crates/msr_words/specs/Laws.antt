@@ -32,7 +32,7 @@ DominanceLaw one other = (front back : List (ℤ × ℤ)) → All (λ p. IsNarro
 abbrev pub SizeLaw : ℕ → (List (ℤ × ℤ) → Type 0) → Type 0
 SizeLaw most fits = (run : List (ℤ × ℤ)) → fits run → length run ≤ most
 
--- if there is room for a header, no samples fit
+-- if there is room for a header, an empty run fits
 abbrev pub EmptyLaw : (ℕ → List (ℤ × ℤ) → Type 0) → Type 0
 EmptyLaw fits = (bytes : ℕ) → 64 ≤ bytes → fits bytes []
 

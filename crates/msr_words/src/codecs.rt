@@ -47,7 +47,7 @@ pub trait Tracker {
             ↔ fits bytes (run ++ (sample, diff) ∷ [])) };
 
     /// A prefix of what fits fits, and the part after a cut with at most `LOOK_BACK` samples before it, three at most;
-    /// no samples fit, and no more than `most`.
+    /// an empty run fits, and no run of more than `most` samples does.
     ghost laws: { TrackerLaws LOOK_BACK most fits };
 }
 

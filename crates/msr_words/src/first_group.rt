@@ -84,7 +84,7 @@ impl Following {
     }
 
     /// With one difference more before them.
-    pub fn behind(self, difference: i64) -> Following
+    pub fn preceded_by(self, difference: i64) -> Following
         requires fits { FitsBits 32 difference }
         requires room { self.all < 2 ^ 64 - 1 }
         ensures few { result.all ≤ self.all + 1 }
@@ -124,7 +124,7 @@ pub(crate) fn sizes_of<F: Fn(usize) -> i64>(
     let mut sizes = vec![in alloc; 0u8; count]?;
     let mut following = Following::nothing();
     for at in (0..count).rev() {
-        following = following.behind(difference(at));
+        following = following.preceded_by(difference(at));
         sizes[at] = following.group;
     }
     Ok(sizes)

@@ -13,24 +13,24 @@ loop-at-preserved g c =
     let some : 0 < c.loop-at.at = c.loop-at-test.true in
     let within : c.loop-at.at ≤ c.args.count = omega (arith, inv.few) in
     record {
-      few = omega (arith, c.behind-following.ensures.few, inv.few);
-      long = length-set c.loop-at.sizes.items (c.loop-at.at - 1) c.behind-following.result.group ∙ inv.long;
+      few = omega (arith, c.preceded_by-following.ensures.few, inv.few);
+      long = length-set c.loop-at.sizes.items (c.loop-at.at - 1) c.preceded_by-following.result.group ∙ inv.long;
       following = λ ds given.
           let cut = given_at _ c.args.count ds given (c.loop-at.at - 1) c.loop-at.at c.difference.result (omega arith)
           within c.difference.ensures in
-          let following : IsFollowing (c.difference.result ∷ drop c.loop-at.at ds) c.behind-following.result =
-          simp to_z-of_z at (c.behind-following.ensures.following (drop c.loop-at.at ds) (inv.following ds given)) in
-          subst (λ xs. IsFollowing xs c.behind-following.result) cut following;
+          let following : IsFollowing (c.difference.result ∷ drop c.loop-at.at ds) c.preceded_by-following.result =
+          simp to_z-of_z at (c.preceded_by-following.ensures.following (drop c.loop-at.at ds) (inv.following ds given)) in
+          subst (λ xs. IsFollowing xs c.preceded_by-following.result) cut following;
       sizes = λ ds given.
           let cut = given_at _ c.args.count ds given (c.loop-at.at - 1) c.loop-at.at c.difference.result (omega arith)
           within c.difference.ensures in
-          let group : IsFirstGroup (c.difference.result ∷ drop c.loop-at.at ds) c.behind-following.result.group
-          (c.behind-following.result.all - 1) =
-          simp to_z-of_z at (c.behind-following.ensures.group (drop c.loop-at.at ds) (inv.following ds given)) in
+          let group : IsFirstGroup (c.difference.result ∷ drop c.loop-at.at ds) c.preceded_by-following.result.group
+          (c.preceded_by-following.result.all - 1) =
+          simp to_z-of_z at (c.preceded_by-following.ensures.group (drop c.loop-at.at ds) (inv.following ds given)) in
           let long = given.long in
-          sizes_more ds (c.loop-at.at - 1) c.loop-at.at c.behind-following.result.group c.loop-at.sizes.items
+          sizes_more ds (c.loop-at.at - 1) c.loop-at.at c.preceded_by-following.result.group c.loop-at.sizes.items
           (omega arith) (inv.sizes ds given) (omega arith) (
-            c.behind-following.result.all - 1,
-            subst (λ xs. IsFirstGroup xs c.behind-following.result.group (c.behind-following.result.all - 1)) cut group,
+            c.preceded_by-following.result.all - 1,
+            subst (λ xs. IsFirstGroup xs c.preceded_by-following.result.group (c.preceded_by-following.result.all - 1)) cut group,
           );
     }

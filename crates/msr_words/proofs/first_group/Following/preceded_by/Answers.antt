@@ -6,7 +6,7 @@ use Rattle.msr_words.specs.FirstGroup.{IsFirstGroup}
 use Rattle.msr_words.specs.Window.{IsSize}
 use Rattle.msr_words.proofs.FirstGroups.{first_of, least_of}
 use Rattle.msr_words.proofs.GroupSizes.{four_is, pair_is, size_here, size_later, triple_is}
-use Rattle.msr_words.proofs.first_group.Following.behind.Goals as goal
+use Rattle.msr_words.proofs.first_group.Following.preceded_by.Goals as goal
 
 pub first_group-found-requires-clause-pair : goal.first_group-found-requires-clause-pair
 first_group-found-requires-clause-pair c = le_or_l (bit_or c.magnitude-size.result c.args.self.first) c.args.self.second
