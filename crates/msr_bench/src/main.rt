@@ -52,7 +52,8 @@ fn run_trackers(rt: &HostRuntime, record_length: Length) -> io::Result<()> {
     Ok(())
 }
 
-/// The packer and the checker, over so many samples.
+/// Runs the packer and the checker over as many samples as the first word says, or over 20,000 if
+/// it is no number.
 fn run_packer(rt: &HostRuntime, record_length: Length) -> io::Result<()> {
     let wanted = number_at(rt, 1)?;
     let calm = number_at(rt, 2)?.unwrap_or(CALM).max(1);

@@ -34,7 +34,7 @@ fn width_at(place: usize, calm: u32) -> u32
     }
 }
 
-/// So many samples: noise about 0 that spreads over so many values, and over more in events.
+/// Gives `count` samples: noise about 0 that spreads over `calm` values, and over more in events.
 pub fn made_up(alloc: Global, count: usize, calm: u32) -> Result<Vec<i32>, AllocError>
     requires { 0 < calm }
 {

@@ -22,7 +22,7 @@ pub digits_more : (ds : List ℕ) (d : ℕ) → all_ascii_digits (ds ++ d ∷ []
 digits_more [] d = grind (arith, nat_tests)
 digits_more (c ∷ cs) d = rw (digits_more cs d) (grind (arith, nat_tests))
 
--- the first so many bytes are digits, and give a number
+-- the first `i` bytes are digits, and give the number `value`
 pub record ReadsDigits (digits : List ℕ) (i : ℕ) (value : ℕ) : Type 0 where
   pub all : all_ascii_digits (take i digits) ≡ true
   pub is : value ≡ number_after 0 (take i digits)
@@ -92,7 +92,7 @@ pads (d ∷ e ∷ ds) all some few =
     pads_from (d == 48) d (e ∷ ds) refl (omega arith) few all
     (pads (e ∷ ds) (both_true (is_ascii_digit d) (all_ascii_digits (e ∷ ds)) all).1 (omega arith) (omega arith))
 
--- and the number in so many digits reads as itself
+-- and the number in `width` digits reads as itself
 zeros_are_digits : (k : ℕ) (ds : List ℕ) → all_ascii_digits ds ≡ true → all_ascii_digits (replicate k 48 ++ ds) ≡ true
 zeros_are_digits zero ds all = all
 zeros_are_digits (suc k) ds all = zeros_are_digits k ds all

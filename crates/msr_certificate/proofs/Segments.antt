@@ -5,7 +5,8 @@ use Rattle.msr_report.specs.Text.{segment_words, separators_line, end_line, IsTi
 use Rattle.msr_certificate.specs.Form.{FormLine, IsKey, IsFormLine, IsFormLineText, AreFormLineTexts, IsOpening, key_then, form_records}
 use Rattle.msr_certificate.specs.Rest.{InFirst, AtLine, tail_5}
 
--- the lines of segments after so many segments with so many records, and the last line
+-- after `segments` segments with `records` records, `w` is the lines of further segments and the
+-- last line
 pub record Tail (segments records : ℕ) (w : List ℕ) (P : Type 0) : Type 0 where
   pub lines : List FormLine
   pub each : All IsFormLine lines

@@ -1,4 +1,4 @@
--- So many segments were read, and the rest of the text may go on.
+-- Some segments were read, and the rest of the text may go on.
 use Rattle.std.proofs.Common.{◌≡◌, ◌∙◌, ap, sym, refl, arith, ℕ, zero, suc, ◌+◌, ◌*◌, ◌<◌, ◌≤◌, ◌^◌, List, [], ◌∷◌, ◌++◌, append_assoc, length, All, map, slice_index, length-append}
 use Rattle.std.proofs.lemmas.List.{append-nil}
 use Rattle.msr_words.specs.Lengths.{bytes_of}
@@ -14,7 +14,7 @@ use Rattle.msr_certificate.specs.Rest.{AtLine, InFirst, tail_5}
 use Rattle.msr_certificate.proofs.Segments.{first_line_then, Tail, tail_from_first, at_map, texts_long}
 use Rattle.msr_certificate.proofs.LineFeeds.{same_cons}
 
--- the lines of so many segments stand after the first four
+-- the lines of these segments stand after the first four
 pub record Going (text : List ℕ) (bytes tolerance : ℕ) (counts : Counts) (segments : List SegmentLine)
     (rest : List ℕ) : Type 0 where
   pub lines : List ℕ

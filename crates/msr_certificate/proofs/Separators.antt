@@ -13,7 +13,7 @@ pub record AreLeft (rest more : List ℕ) : Type 0 where
   pub each : All (λ n. n < 2 ^ 64) numbers
   pub is : rest ≡ flat_map spaced numbers ++ (10 ∷ more)
 
--- so many separators were read of a line
+-- these separators were read of a line
 pub record AreRead (text numbers rest : List ℕ) : Type 0 where
   pub is : text ≡ codes "separators" ++ (flat_map spaced numbers ++ rest)
   pub left : (separators more : List ℕ) → All (λ n. n < 2 ^ 64) separators

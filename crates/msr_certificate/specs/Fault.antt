@@ -7,13 +7,13 @@ abbrev pub IsOneLine : List ℕ → Type 0
 IsOneLine [] = Unit {0}
 IsOneLine (byte ∷ bytes) = ((byte == 10) ≡ false) × IsOneLine bytes
 
--- so many lines, each with its line feed
+-- the text is the given number of lines, each with its line feed
 abbrev pub AreLines : ℕ → List ℕ → Type 0
 AreLines zero text = text ≡ []
 AreLines (suc n) text = (line : List ℕ) × ((more : List ℕ)
     × (IsOneLine line × AreLines n more × (text ≡ line ++ (10 ∷ more))))
 
--- The text begins with so many lines, each with its line feed.
+-- The text begins with `n` lines, each with its line feed.
 pub record HasLines (text : List ℕ) (n : ℕ) : Type 0 where
   pub first : List ℕ
   pub behind : List ℕ

@@ -17,7 +17,7 @@ signed_len [] = 0
 signed_len (byte ∷ bytes) = cond (byte == 45) (1 + prefix_len is_ascii_digit bytes)
     (prefix_len is_ascii_digit (byte ∷ bytes))
 
--- so many bytes
+-- these are `count` bytes
 pub record AreBytes (count : ℕ) (bytes : List ℕ) : Type 0 where
   pub many : length bytes ≡ count
   pub each : (place : ℕ) → slice_index bytes place < 256

@@ -10,7 +10,7 @@ use msr_devices::{ReadBuffer, Source};
 use msr_report::Report;
 use std::alloc::Global;
 
-/// Whether the text has so many line feeds: then its first so many lines are whole.
+/// Whether the text has at least `count` line feeds: then its first `count` lines are whole.
 fn has_lines(text: &[u8], count: u64) -> bool
     ensures { IsTrue result ↔ (count ≤ count_by (λ byte. byte == 10) text.now) }
 {

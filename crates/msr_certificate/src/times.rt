@@ -10,7 +10,7 @@ ghost use Rattle.msr_time.specs.declared.btime.BTime.{BTime as Time};
 use crate::fields::after;
 use msr_time::BTime;
 
-/// The number that so few digits give, if all bytes are digits.
+/// Gives the number that at most 6 digits make, if all bytes are digits.
 fn value_of(digits: &[u8]) -> Option<u32>
     requires { length digits.now ≤ 6 }
     ensures { SomeIff result (all_ascii_digits digits.now ≡ true) (number_after 0 digits.now) }
@@ -25,7 +25,7 @@ fn value_of(digits: &[u8]) -> Option<u32>
     Some(value)
 }
 
-/// A number in so many digits.
+/// Reads a number in `width` digits, and gives it with the text after it.
 fn padded(text: &[u8], width: usize) -> Option<(u32, &[u8])>
     requires some { 1 ≤ width }
     requires few { width ≤ 6 }

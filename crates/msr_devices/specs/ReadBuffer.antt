@@ -11,8 +11,8 @@ pub record Window : Type 0 where
   pub ended : Bool
   pub room : ℕ
 
--- for how many bytes there is memory once so many are wanted: it grows only if they do not fit, then to 64 KiB
--- at least and to twice as much
+-- for how many bytes there is memory once `want` bytes are wanted: it grows only if they do not
+-- fit, then to 64 KiB at least and to twice as much
 abbrev pub room_for : ℕ → ℕ → ℕ
 room_for want room = if nat_le want room then room else max want (max (2 * room) 65_536)
 

@@ -113,7 +113,7 @@ pub fn write_all<W: Sink>(sink: &mut W, buf: &[u8]) -> Result<(), SinkFault>
     }
 }
 
-/// The sink failed after so many bytes.
+/// The sink failed after it took `written` bytes.
 pub(crate) struct PartialFault {
     pub written: usize,
 }

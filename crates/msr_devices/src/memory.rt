@@ -56,7 +56,7 @@ impl Script {
         Turn::Succeeds
     }
 
-    /// How many of so many bytes one call moves.
+    /// How many of `len` bytes one call moves.
     fn share_of(self, len: usize) -> usize
         ensures within { result ≤ len }
         ensures some { 0 < len → 0 < result }

@@ -424,7 +424,7 @@ fn written_plain_records(rt: HostRuntime) -> Result<(), Fail> {
     Ok(())
 }
 
-/// One record of so many samples of 0, which is read back.
+/// Writes a record of `count` samples of 0, and reads it back.
 fn record_of_zeros(
     rt: &impl Abort,
     alloc: Global,

@@ -209,7 +209,7 @@ fn are_groups(version: Version, groups: &[Group]) -> bool
     }
 }
 
-/// Appends this word so many times.
+/// Appends this word `times` times.
 fn append_words(bytes: &mut Vec<u8>, word: u32, times: usize) -> Result<(), AllocError> {
     for _ in 0..times {
         bytes.extend_from_slice(&word.to_be_bytes())?;
@@ -217,7 +217,7 @@ fn append_words(bytes: &mut Vec<u8>, word: u32, times: usize) -> Result<(), Allo
     Ok(())
 }
 
-/// Appends this group so many times.
+/// Appends this group `times` times.
 fn append_groups(groups: &mut Vec<Group>, list: &[i32], times: usize) -> Result<(), Fail> {
     for _ in 0..times {
         groups.push(Group::try_from(list).map_err(|_| "a long group")?)?;
@@ -225,7 +225,8 @@ fn append_groups(groups: &mut Vec<Group>, list: &[i32], times: usize) -> Result<
     Ok(())
 }
 
-/// Version, first and last sample, number of samples; groups, each so many times; words, each so many times.
+/// A row holds the version, the first and the last sample, and the number of samples; then the
+/// groups and the words, each with the number of times that it comes.
 type Filling<'a> = (
     Version,
     [i32; 2],

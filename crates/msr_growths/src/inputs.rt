@@ -85,7 +85,7 @@ pub fn options() -> Option<Options>
     Options::new(Length::new(256)?, 1000)
 }
 
-/// So many numbers within 1,000 counts that look like chance.
+/// Gives `count` numbers within 1,000 counts that look like chance.
 fn noise(alloc: Global, count: usize) -> Result<Vec<i32>, AllocError> {
     let mut number: u64 = 1;
     let mut samples = Vec::new(alloc);

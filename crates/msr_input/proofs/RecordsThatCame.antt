@@ -164,7 +164,7 @@ come_keeps s a b strict w w' counts offset records (Err fault.Read) come came = 
 come_keeps s a b strict w w' counts offset records (Err fault.Memory) come came =
     λ other. come_filled s a b strict w w' counts offset 0 records come came
 
--- if it did, so many bytes came
+-- if the source failed, these records came, and the bytes that wait after them
 pub come_short : {X : Type 0} (s a b : Device) (strict : Bool) (w w' : Window) (counts : Counts) (offset : ℕ)
     (records : List Record) (result : Result (Option X) ReadFault)
     → HaveCome s a (at_window strict w counts offset) records

@@ -17,7 +17,7 @@ use Rattle.msr_input.specs.Steps.{fault_at, may_change, StopsDecoding}
 use Rattle.msr_record.proofs.FirstBytes.{SameRecord, own_same}
 use Rattle.msr_input.proofs.Strict.{alone_same}
 
--- a refusal of so many bytes stays one
+-- a refusal of 1048576 bytes or more stays one, whatever follows them
 pub still_refused : (strict : Bool) (bytes rest : List ℕ) (kind : FaultKind) → AreBytes bytes
     → 1_048_576 ≤ length bytes → IsRefusedAlone strict bytes kind → IsRefusedAlone strict (bytes ++ rest) kind
 still_refused strict bytes rest kind are long refused =

@@ -53,8 +53,8 @@ left_to_read source reading = left_with source reading.waiting
 abbrev pub HoldsRecord : List ℕ → Type 0
 HoldsRecord bytes = (header : Header) × (header_of bytes ≡ Ok header)
 
--- for how many bytes there is room at most once a record of so many was awaited: for 64 KiB, or for twice as many
--- as the record has, or as many as before
+-- for how many bytes there is room at most once a record of `size` bytes was awaited: for 64 KiB,
+-- or for twice as many as the record has, or for as many as before
 abbrev pub room_with : ℕ → ℕ → ℕ
 room_with size before = max (max before 65_536) (2 * size)
 

@@ -34,8 +34,9 @@ abbrev pub fault_at : ℕ → FaultKind → ReadFault
 fault_at offset refusal.Memory = fault.Memory
 fault_at offset kind = fault.Input (record { offset = offset; kind = kind })
 
--- whether a refusal of so many bytes might not be one of more: a header may be cut, or its chain, or the record.
--- What stands after the header is decided by the record's own bytes, which are there.
+-- whether a refusal of `size` bytes might not be one of more bytes: a header may be cut, or its
+-- chain, or the record. What stands after the header is decided by the record's own bytes, which
+-- are there.
 abbrev pub may_change : FaultKind → ℕ → Bool
 may_change (refusal.Header reason) size = nat_lt size 1_048_576
 may_change kind size = false

@@ -11,7 +11,7 @@ use Rattle.msr_output.specs.Opened.{HasBegun, Opened}
 use Rattle.msr_output.specs.Output.{Packed, cuts_of, segment_of_packed}
 use Rattle.msr_output.specs.Writing.{HasWritten, Writing}
 
--- so many bytes went into the sink, which are decided
+-- the bytes that went into the sink are decided, in records of `size` bytes
 pub record HasWrittenDecided (size : ℕ) (start now : Device) (segments : List Segment) : Type 0 where
   pub bytes : List ℕ
   pub takes : Takes start now bytes

@@ -22,8 +22,9 @@ pub record Packed : Type 0 where
 abbrev pub segment_of_packed : Packed → Segment
 segment_of_packed packed = packed.segment
 
--- The runs are a packing of the segment into records of so many bytes, and no packing has fewer. No two of the
--- separators, which are as many as the runs, fit one record. Both are the one canonical choice.
+-- The runs are a packing of the segment into records of `size` bytes, and no packing has fewer. No
+-- two of the separators, which are as many as the runs, fit one record. Both are the one canonical
+-- choice.
 pub record IsPacked (size : ℕ) (packed : Packed) : Type 0 where
   pub packing : IsPacking size packed.segment.samples packed.runs
   pub least : IsLeast size packed.segment.samples packed.runs
@@ -44,9 +45,9 @@ pub record IsRowOfRun (segment : Segment) (run : Run) (row : Row) : Type 0 where
   pub kind : row.kind ≡ run.kind
   pub samples : row.samples ≡ slice_range segment.samples run.start run.end
 
--- The bytes are the record of the run with that sequence number, of so many bytes. Whatever follows, they have
--- that row; and if its own times are of the supported years, they are a record without a fault, whose reverse
--- constant agrees.
+-- The bytes are the record of the run with the sequence number `number`, and are `size` bytes.
+-- Whatever follows, they have that row; and if its own times are of the supported years, they are a
+-- record without a fault, whose reverse constant agrees.
 pub record IsRecordOfRun (size number : ℕ) (segment : Segment) (run : Run) (row : Row) (bytes : List ℕ) : Type 0 where
   pub of_run : IsRowOfRun segment run row
   pub size_is : length bytes ≡ size
@@ -93,7 +94,8 @@ AreWritten size number (cut ∷ cuts) rows bytes =
     (other_rows : List Row) × (rest : List ℕ) × WritesFirst size number cut rows bytes other_rows rest
     × AreWritten size (next_number number) cuts other_rows rest
 
--- The output of these segments, each packed so, in records of so many bytes; these are the rows of the records.
+-- The bytes are the output of these segments, each packed so, in records of `size` bytes; the rows
+-- are those of the records.
 pub record IsOutput (size : ℕ) (packed : List Packed) (rows : List Row) (bytes : List ℕ) : Type 0 where
   pub packings : All (IsPacked size) packed
   pub records : AreWritten size 1 (flat_map cuts_of packed) rows bytes

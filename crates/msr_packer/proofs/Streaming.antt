@@ -169,7 +169,7 @@ take_behind [] ys m n e = let same : m ≡ n = omega arith in ap (λ k. take k y
 take_behind (x ∷ xs) ys zero n e = absurd (omega arith)
 take_behind (x ∷ xs) ys (suc m) n e = ap (λ l. x ∷ l) (take_behind xs ys m n (omega arith))
 
--- so many of the samples are held then
+-- the first `end - from` of the samples are held then
 pub held_there : (held samples whole cut : List ℤ) (count from end : ℕ) → whole ≡ held ++ take count samples
     → cut ≡ take end whole → from ≡ length held → from ≤ end → end ≤ length whole
     → cut ≡ held ++ take (end - from) samples

@@ -35,7 +35,8 @@ holding_of held ended = record {
 abbrev pub pushed : Holding → ℕ
 pushed packer = packer.offset + length packer.held
 
--- After these samples were pushed to a packer of records of so many bytes, these runs and separators were given.
+-- After these samples were pushed to a packer of records of `bytes` bytes, these runs and
+-- separators were given.
 pub record Packs (bytes : ℕ) (samples : List ℤ) (runs : List Run) (separators : List ℕ)
     (packer : Holding) : Type 0 where
   pub size : packer.size ≡ bytes

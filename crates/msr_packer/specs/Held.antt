@@ -36,7 +36,7 @@ abbrev pub start_of : Option Current → ℕ
 start_of None = 0
 start_of (Some current) = current.start
 
--- the step ends before the last of so many samples, so that it stays whatever follows
+-- the step ends before the last of `number` samples, so that it stays whatever follows
 abbrev pub Stays : Option Current → ℕ → Type 0
 Stays None number = ⊤
 Stays (Some current) number = current.end < number
@@ -53,7 +53,8 @@ abbrev pub Holds : List ℤ → List Run → List ℕ → Held → Type 0
 Holds samples runs separators held = IsWindow
     (bytes_of held.record_length) samples runs separators held.samples.items held.offset held.current
 
--- the step starts at its frontier or before, ends after it, within so many samples, and is no longer than a record
+-- the step starts at its frontier or before, ends after it, within `number` samples, and is no
+-- longer than a record
 pub record IsInside (bytes number : ℕ) (current : Current) : Type 0 where
   pub before : current.start ≤ current.frontier
   pub on : current.frontier < current.end

@@ -20,8 +20,8 @@ pub record IsStreaming (held : Held) (live : Live) : Type 0 where
       (length held.samples.items) live
   pub few : length held.samples.items ≤ 2 * most_any (bytes_of held.record_length) + 2
 
--- After these samples were pushed to a packer of records of so many bytes, these runs and separators were given. It
--- holds at most two longest runs, a sample before them and one after.
+-- After these samples were pushed to a packer of records of `bytes` bytes, these runs and
+-- separators were given. It holds at most two longest runs, a sample before them and one after.
 pub record Streams (bytes : ℕ) (samples : List ℤ) (runs : List Run) (separators : List ℕ)
     (packer : Holding) : Type 0 where
   pub packs : Packs bytes samples runs separators packer

@@ -13,9 +13,9 @@ use msr_words::{AnyKind, Length, Tracker};
 use std::alloc::{AllocError, Global};
 use std::marker::Model;
 
-/// Takes the samples of a segment in blocks, and gives the runs of the packing one after another: each when so many
-/// samples are there that its step ends before the last, whatever their kind. Each step is found once, over all that
-/// is held.
+/// Takes the samples of a segment in blocks, and gives the runs of the packing one after another:
+/// each when enough samples are there that its step ends before the last, whatever their kind. Each
+/// step is found once, over all that is held.
 #[derive(Drop)]
 pub struct BlockPacker {
     held: Held,

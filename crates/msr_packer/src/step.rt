@@ -64,8 +64,8 @@ struct Reach {
     narrow: bool,
 }
 
-/// What Steim-2 reaches, if the least of its groups has so many differences: those of a group of two or more
-/// are narrow.
+/// Gives what Steim-2 reaches, if the least of its groups has `least` differences: those of a group
+/// of two or more are narrow.
 fn reach_to(samples: &[i32], end: usize, least: usize) -> Reach
     ensures end { result.end ≡ end }
     ensures groups { IsTrue result.narrow → 1 < least }
@@ -290,7 +290,8 @@ fn steim1_step(samples: &[i32], record_length: Length, frontier: usize, end: usi
     here
 }
 
-/// Whether more than so many of the differences of the samples from `start` to `end - 1` are of more than 10 bits.
+/// Tells whether more than `most` of the differences of the samples from `start` to `end - 1` are
+/// of more than 10 bits.
 fn has_more_wide(samples: &[i32], start: usize, end: usize, most: usize) -> bool
     requires order { start ≤ end }
     requires within { end ≤ length samples.now }

@@ -118,8 +118,9 @@ impl StreamPacker {
         Ok(taken.piece)
     }
 
-    /// Takes samples up to the one that decides the next step, or all of them if none does, as so many single pushes
-    /// would, of which only the last gives a piece. If memory is refused none was taken, and no samples are shown.
+    /// Takes samples up to the one that decides the next step, or all of them if none does, as if
+    /// each was pushed alone; at most the last of these pushes gives a piece. If memory is refused
+    /// none was taken, and no samples are shown.
     pub fn push_some(&mut self, samples: &[i32]) -> Result<Taken, AllocError>
         requires { pushed self.old + length samples.now < 2 ^ 64 }
         ensures given { (bytes : ℕ) (before : List ℤ) (runs : List Run) (separators : List ℕ)

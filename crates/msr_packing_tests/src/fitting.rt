@@ -15,7 +15,7 @@ fn shortest() -> Result<Length, Fail> {
     Ok(Length::new(256).ok_or("a length")?)
 }
 
-/// How many samples of these differences, all alike, the tracker takes, of `many`.
+/// How many of `many` samples, all alike and of this difference, the tracker takes.
 fn taken_of<T: Tracker + Drop>(
     many: usize,
     record_length: Length,
@@ -31,7 +31,7 @@ fn taken_of<T: Tracker + Drop>(
     many
 }
 
-/// The same, of four hundred.
+/// How many of four hundred such samples the tracker takes.
 fn taken<T: Tracker + Drop>(record_length: Length, sample: i32, difference: i64) -> usize {
     taken_of::<T>(400, record_length, sample, difference)
 }

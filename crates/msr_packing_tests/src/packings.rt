@@ -13,21 +13,23 @@ use std::alloc::{AllocError, Global};
 use std::process::Abort;
 use std::test::Fail;
 
-/// The samples of a row.
+/// The samples of a row are made in one of these ways; the first number says how many there are.
 #[derive(Clone, Copy, Debug)]
 enum Made {
     Zeros(usize),
-    /// -20000 at even places and 20000 at odd ones.
+    /// They are -20000 at even places and 20000 at odd ones.
     Signs(usize),
-    /// So many: 1000000 at even places and 1020000 at odd ones, but this one at the places from 84 to 88.
+    /// They are 1000000 at even places and 1020000 at odd ones, but the sample given at the places
+    /// from 84 to 88.
     Swings(usize, i32),
-    /// 8388607 at even places and -8388608 at odd ones.
+    /// They are 8388607 at even places and -8388608 at odd ones.
     Bounds(usize),
-    /// The two samples that lie furthest apart, in turn.
+    /// They are the two samples that lie furthest apart, in turn.
     Extremes(usize),
-    /// So many, by a seed, of noise of that height.
+    /// They are noise by a seed, of the given height.
     Noise(usize, u64, u32),
-    /// So many, by a seed, of noise of two heights in turn, each for so many samples.
+    /// They are noise by a seed, of two heights in turn; the last number says how many samples each
+    /// of these lasts.
     Turns(usize, u64, u32, u32, usize),
 }
 
@@ -380,7 +382,7 @@ fn stream_of(
     given.with_last(packer.end())
 }
 
-/// At most so many samples pushed at a time.
+/// What a stream packer gives, if at most `size` samples are pushed at a time.
 fn in_some(
     alloc: Global,
     samples: &[i32],
@@ -439,7 +441,7 @@ fn add_last(packer: &mut BlockPacker, given: &mut Streamed) -> Result<(), AllocE
     Ok(())
 }
 
-/// What a packer gives, if so many samples are pushed at a time.
+/// What a block packer gives, if `size` samples are pushed at a time.
 fn in_blocks(
     alloc: Global,
     samples: &[i32],

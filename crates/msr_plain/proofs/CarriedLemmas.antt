@@ -119,7 +119,7 @@ carried width area xs rest fit e = rw e (record {
   each = λ place h. each_back width xs rest place fit h;
 })
 
--- an area carries one list of so many samples
+-- an area carries at most one list of samples of each length
 pub carries_one : (width : Width) (order : Order) (area : List ℕ) (xs ys : List ℤ)
     → CarriesPlain width order area xs → CarriesPlain width order area ys → length xs ≡ length ys → xs ≡ ys
 carries_one width order area xs ys first second same =

@@ -63,8 +63,8 @@ impl<'a> Clone for PlainSamples<'a> {
     }
 }
 
-/// The first `count` samples that the area carries, as `decode_plain` gives them, or `None` if the area
-/// is too short for so many. Bytes after them are not looked at. Takes no memory.
+/// Gives the first `count` samples that the area carries, as `decode_plain` gives them, or `None`
+/// if the area is too short for them. Bytes after them are not looked at. It takes no memory.
 pub fn plain_samples<'a>(
     width: Width,
     order: Order,

@@ -14,7 +14,7 @@ pub fn filled_area_carries()
         → CarriesPlain width Order.Big (bytes_of_all width samples ++ rest) samples }
 {}
 
-/// An area carries one list of so many samples, or it is too short for so many.
+/// An area carries at most one list of samples of each length, and none for which it is too short.
 pub fn one_outcome()
     ensures samples { (width : Width) (order : Order) (area : List ℕ) (xs ys : List ℤ)
         → CarriesPlain width order area xs → CarriesPlain width order area ys → length xs ≡ length ys

@@ -41,7 +41,7 @@ impl Width {
 /// Why the samples of an area were not given.
 #[derive(Clone, Copy, Debug, PartialEq, Eq, Error)]
 pub enum PlainFault {
-    /// The area is shorter than so many numbers.
+    /// The area is too short for the given number of samples.
     #[error("the area is too short for its samples")]
     DataShort,
     /// There is no memory for the samples.

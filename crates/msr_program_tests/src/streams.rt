@@ -6,7 +6,7 @@ use msr_tool::Behavior;
 use std::process::Abort;
 use std::test::Fail;
 
-/// Moves so many bytes in a call, and fails at one.
+/// Moves at most `most` bytes in a call, and fails at the call `at`.
 fn failing(most: usize, at: u64) -> Behavior {
     Behavior {
         most,

@@ -325,7 +325,8 @@ fn failures(rt: HostRuntime) {
     );
 }
 
-/// How long the first record is that a source gives, which moves so many bytes in a call and fails at that one.
+/// How long the first record is that a source gives which moves at most `most` bytes in a call and
+/// fails at the call `fails_at`.
 fn first_of(
     alloc: Global,
     bytes: &[u8],

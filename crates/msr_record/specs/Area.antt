@@ -20,18 +20,18 @@ Carries Int32 order area samples = CarriesPlain FourBytes order area samples
 Carries Steim1 order area samples = CarriesSteim One order area samples
 Carries Steim2 order area samples = CarriesSteim Two order area samples
 
--- why an area of integers does not carry so many samples: it ends before the last one
+-- why an area of integers does not carry `count` samples: it ends before the last one
 abbrev pub IntegersHaveFault : Width → List ℕ → ℕ → FaultKind → Type 0
 IntegersHaveFault width area count DataShort = length area < size_of width * count
 IntegersHaveFault width area count _ = ⊥
 
--- why frames do not carry so many samples: they end first, or an undefined word comes first
+-- why frames do not carry `count` samples: they end first, or an undefined word comes first
 abbrev pub FramesHaveFault : Version → Order → List ℕ → ℕ → FaultKind → Type 0
 FramesHaveFault version order area count DataShort = EndsBefore version order area count
 FramesHaveFault version order area count (BadCode word) = IsUndefinedBefore version order area count word
 FramesHaveFault version order area count _ = ⊥
 
--- why the area does not carry so many samples
+-- why the area does not carry `count` samples
 abbrev pub AreaHasFault : Kind → Order → List ℕ → ℕ → FaultKind → Type 0
 AreaHasFault Int16 order area count fault = IntegersHaveFault TwoBytes area count fault
 AreaHasFault Int24 order area count fault = IntegersHaveFault ThreeBytes area count fault

@@ -53,12 +53,12 @@ header_for key time micros sequence count kind exponent frames = record {
   chain_end = 64;
 }
 
--- The frame count of blockette 1001, for so many data words: the frames that these and the two constants
--- need, of fifteen words each beside their codes, or 0 if a byte does not hold the number.
+-- The frame count of blockette 1001 for `words` data words is how many frames these and the two
+-- constants need, of fifteen words each beside their codes, or 0 if a byte does not hold it.
 abbrev pub frame_count : ℕ → ℕ
 frame_count words = let frames = (words + 2 + 14) / 15 in if nat_le frames 255 then frames else 0
 
--- the data area of so many bytes is these samples as numbers, one after the other, then zeros
+-- the data area of `size` bytes is these samples as numbers, one after the other, then zeros
 pub record AreNumbers (width : Width) (samples : List ℤ) (size frames : ℕ) (area : List ℕ) : Type 0 where
   pub bytes_are : area ≡ bytes_of_all width samples ++ replicate (size - size_of width * length samples) 0
   pub frames_are : frames ≡ 0
@@ -73,7 +73,7 @@ pub record AreFrames (version : Version) (before : Option ℤ) (samples : List �
       (slice_index_or samples (length samples - 1) (pos 0)) groups (size / 64)
   pub frames_are : frames ≡ frame_count (length groups)
 
--- the data area of so many bytes that is written for these samples, with the frame count for it
+-- the data area of `size` bytes that is written for these samples, with the frame count for it
 abbrev pub IsWrittenArea : Kind → Option ℤ → List ℤ → ℕ → ℕ → List ℕ → Type 0
 IsWrittenArea Int16 before samples size frames area = AreNumbers TwoBytes samples size frames area
 IsWrittenArea Int24 before samples size frames area = AreNumbers ThreeBytes samples size frames area

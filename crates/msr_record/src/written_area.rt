@@ -25,7 +25,7 @@ pub fn are_32_bit(run: &[i32])
     }
 }
 
-/// The frame count for so many groups of differences.
+/// Gives the frame count for `groups` groups of differences.
 fn frame_count(groups: usize) -> u8
     requires { groups < 2 ^ 32 }
     ensures { result ≡ frame_count groups }

@@ -39,7 +39,7 @@ rate_text rate = signed_decimal rate.factor ++ (32 ∷ signed_decimal rate.multi
 abbrev pub flags_text : Key → List ℕ
 flags_text key = hex_text key.activity ++ (32 ∷ (hex_text key.clock ++ (32 ∷ hex_text key.data_quality)))
 
--- a number in at least so many digits, with leading zeros
+-- the number is written in at least `width` digits, with leading zeros
 abbrev pub padded_decimal : ℕ → ℕ → List ℕ
 padded_decimal width n = replicate (width - length (decimal n)) 48 ++ decimal n
 

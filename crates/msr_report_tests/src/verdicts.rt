@@ -85,7 +85,7 @@ fn push_record(
     )
 }
 
-/// The two records of those samples; the second begins so many microseconds late.
+/// Gives the two records of those samples; the second begins `late` microseconds late.
 fn packed(rt: &impl Abort, alloc: Global, late: i64) -> Result<Vec<u8>, AllocError> {
     let samples = samples();
     let (Some(first), Some(second)) = (samples.get(..85), samples.get(85..)) else {

@@ -28,7 +28,7 @@ const SECOND: &[Edit<'static>] = &[
     Edit::Bytes(76, &[0x40, 0x00, 0x00, 0x00]),
 ];
 
-/// So many samples of 0 at 20 samples a second.
+/// Gives a segment of `count` samples of 0 at 20 samples a second.
 fn zeros(rt: &impl Abort, alloc: Global, count: usize) -> Result<Segment, AllocError> {
     let Some(rate) = Rate::new(20, 1) else {
         panic!(rt; "no rate")
@@ -128,7 +128,8 @@ fn digits(rt: &impl Abort, record: &[u8]) -> [u8; 6] {
     *number
 }
 
-/// What a sink of that behavior holds after two segments of so many samples, and why it does not hold all.
+/// What a sink of that behavior holds after two segments of `count` samples, and why it does not
+/// hold all.
 fn written(
     rt: &impl Abort,
     alloc: Global,

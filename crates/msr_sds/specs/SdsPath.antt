@@ -32,7 +32,7 @@ in_folders p file =
 abbrev pub text_of : SdsPath → List ℕ
 text_of p = in_folders p (file_name p)
 
--- so many decimal digits
+-- the text is `count` decimal digits
 abbrev pub AreDigits : ℕ → List ℕ → Type 0
 AreDigits count text = (length text ≡ count) × All (λ b. IsTrue (is_ascii_digit b)) text
 

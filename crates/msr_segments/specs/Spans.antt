@@ -11,7 +11,7 @@ use Rattle.msr_segments.specs.declared.span.Span.{Span}
 use Rattle.msr_segments.specs.declared.follow.Step.{Step}
 use Rattle.msr_segments.specs.declared.follow.Step.TheVariants.{Begins, Joins}
 
--- so many samples of that key, the first at that instant
+-- this span has `count` samples of that key, the first of them at that instant
 abbrev pub span_of : Key → ℤ → ℕ → Span
 span_of key start count = record { key = key; start = start; count = count }
 

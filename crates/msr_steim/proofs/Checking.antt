@@ -53,7 +53,7 @@ alone version code word at next old new zeroth same inner =
 
 -- ---- word after word
 
--- the words below this number gave all samples but so many, and this was the last
+-- the words below `number` gave all but `left` of `count` samples, and `last` is the last one given
 pub record ArePassed (version : Version) (order : Order) (area : List ℕ) (number count left : ℕ)
     (last : ℤ) : Type 0 where
   pub samples : List ℤ

@@ -80,7 +80,7 @@ pub codes_below : (version : Version) (gs : List (List ℤ)) (ns : List ℕ) →
 codes_below version gs [] = tt
 codes_below version gs (n ∷ ns) = (code_lt version (length (group_in gs n)), codes_below version gs ns)
 
--- so many codes are a number below this
+-- the codes of `k` words, as digits of base 4, give a number below 4 ^ k
 pub codes_lt : (version : Version) (gs : List (List ℤ)) (number k : ℕ)
     → number_from_digits 4 (map (code_in version gs) (range_with_len number k)) < 4 ^ k
 codes_lt version gs number k =

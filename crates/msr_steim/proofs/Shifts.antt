@@ -23,7 +23,7 @@ high_signed width field high = rw (le-ltb field (2 ^ (width - 1)) high) refl
 
 -- ---- what a shift to the left keeps
 
--- so many lowest bits, shifted up
+-- a word's lowest `bits` bits, shifted up, are the lowest `bits + left` bits of the shifted word
 shifted_up : (word left bits : ℕ) → (word * 2 ^ left) % 2 ^ (bits + left) ≡ (word % 2 ^ bits) * 2 ^ left
 shifted_up word left bits =
     let some : 0 < 2 ^ bits = pow_pos bits in
@@ -42,7 +42,7 @@ shifted_up word left bits =
         scaled : (r b k : ℕ) → r < b → 0 < k → r * k < b * k
         scaled r b k small some = grind arith
 
--- the field below so many bits, shifted up to the highest bit, and what stands below it
+-- the field with `below` fields below it is shifted up to the highest bits; `rest` stands below it
 field_up : (word below width : ℕ) → (below + 1) * width ≤ 32
     → (rest : ℕ) × (rest < 2 ^ (32 - width)) × (word * 2 ^ (32 - (below + 1) * width) % 2 ^ 32
     ≡ (word / 2 ^ (below * width) % 2 ^ width) * 2 ^ (32 - width) + rest)

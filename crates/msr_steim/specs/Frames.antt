@@ -30,12 +30,12 @@ frame_word version first last groups number =
     else if number == 2 then cast_unsigned w32 last
     else group_word version (group_in groups number)
 
--- the words of so many frames
+-- the words that stand in `frames` frames
 abbrev pub frame_words : Version → ℤ → ℤ → List (List ℤ) → ℕ → List ℕ
 frame_words version first last groups frames =
     map (frame_word version first last groups) (range_with_len 0 (16 * frames))
 
--- an area of so many frames: their words, big-endian
+-- an area of `frames` frames consists of their words, big-endian
 abbrev pub frame_bytes : Version → ℤ → ℤ → List (List ℤ) → ℕ → List ℕ
 frame_bytes version first last groups frames =
     flat_map (big_bytes 4) (frame_words version first last groups frames)

@@ -24,7 +24,7 @@ word_differences version order area number =
     numbers_of (word_layout version order area number)
     (arranged_word version order (code_of order area number) area number)
 
--- the differences of so many words, from this one on
+-- the differences that the given number of words hold, from this word on
 abbrev pub differences_of : Version → Order → List ℕ → ℕ → ℕ → List ℤ
 differences_of version order area number zero = []
 differences_of version order area number (suc words) =
@@ -40,7 +40,7 @@ pub record HasFields (version : Version) (order : Order) (area : List ℕ) (numb
   pub layout_is : word_layout version order area number
       ≡ Some (record { count = fields.count; width = fields.width })
 
--- The area carries so many samples, and the last of them is the reverse constant or not.
+-- The area carries `count` samples. `agrees` says whether the last of them is the reverse constant.
 pub record HasSamples (version : Version) (order : Order) (area : List ℕ) (count : ℕ) (agrees : Bool) : Type 0 where
   pub samples : List ℤ
   pub carried : CarriesSteim version order area samples

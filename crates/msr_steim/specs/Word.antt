@@ -21,7 +21,7 @@ twos_complement width (negsuc n) = 2 ^ width - suc n
 unfoldable pub signed_of : ℕ → ℕ → ℤ
 signed_of width field = if nat_lt field (2 ^ (width - 1)) then pos field else negsuc (2 ^ width - 1 - field)
 
--- the numbers in the lowest so many fields of a word, the highest first
+-- the numbers that stand in the given number of lowest fields of a word, the highest first
 unfoldable pub numbers_in : ℕ → ℕ → ℕ → List ℤ
 numbers_in word width zero = []
 numbers_in word width (suc below) = signed_of width
@@ -116,7 +116,7 @@ padding_of Two n = 0
 abbrev pub as_read : Version → List ℤ → List ℤ
 as_read version differences = differences ++ replicate (padding_of version (length differences)) (pos 0)
 
--- the code of the word of a group of so many differences; a word with none has code 0
+-- the code that the word of a group of `n` differences has; a word with none has code 0
 abbrev pub group_code : Version → ℕ → ℕ
 group_code One n =
     if n == 1 then 3 else if n == 2 then 2 else if n == 3 then 1
@@ -126,7 +126,7 @@ group_code Two n =
     else if n == 4 then 1 else if n == 5 then 3 else if n == 6 then 3
     else if n == 7 then 3 else 0
 
--- the top two bits of the word of a group of so many differences, if they are no part of its fields
+-- the top two bits that the word of `n` differences has, if they are no part of its fields
 abbrev pub group_top : Version → ℕ → ℕ
 group_top One n = 0
 group_top Two n =

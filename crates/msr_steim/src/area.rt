@@ -204,8 +204,8 @@ pub fn decode_steim(
     })
 }
 
-/// An area carries one list of so many samples, or its words end first, or one undefined word comes
-/// first.
+/// For each number of samples, an area carries one list of this length, or its words end first, or
+/// one undefined word comes first.
 pub fn one_outcome()
     ensures samples { (version : Version) (order : Order) (area : List ℕ) (xs ys : List ℤ)
         → CarriesSteim version order area xs → CarriesSteim version order area ys → length xs ≡ length ys

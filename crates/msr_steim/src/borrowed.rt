@@ -14,7 +14,7 @@ use msr_base::Order;
 use std::alloc::AllocError;
 use std::marker::Model;
 
-/// The fields of a word that are left: so many of so many bits each, in its lowest bits.
+/// `count` fields of `word` are left, of `width` bits each: they stand in its lowest bits.
 #[derive(Clone, Copy, Debug, PartialEq, Eq)]
 struct Fields {
     word: u32,

@@ -1,4 +1,4 @@
-//! Whether an area carries so many samples, told without memory for them.
+//! Tells whether an area carries a given number of samples, without memory for them.
 
 ghost use Rattle.std.specs.Prelude.{◌≤◌, ℕ, IfOk, IsErrOf, length};
 ghost use Rattle.msr_steim.specs.Area.{EndsBefore, IsUndefinedBefore};
@@ -53,8 +53,8 @@ fn check_words(version: Version, order: Order, area: &[u8], count: u16) -> Resul
     Err(SteimFault::DataShort)
 }
 
-/// Whether the last of the first `count` samples that the area carries is the reverse constant, or why it
-/// does not carry so many.
+/// Tells whether the last of the first `count` samples that the area carries is the reverse
+/// constant, or why it does not carry `count` samples.
 pub(crate) fn check_area(
     version: Version,
     order: Order,

@@ -117,7 +117,7 @@ pub fn read_word(version: Version, code: u8, word: u32) -> Result<Group, BadCode
     Ok(fields_of(word, layout))
 }
 
-/// How a group of so many differences is written.
+/// How a group of `count` differences is written.
 pub(crate) fn layout_of_group(version: Version, count: usize) -> Option<GroupLayout>
     ensures some { IsSome result ↔ IsSome (group_width version count) }
     ensures width { IfSome result (λ layout. group_width version count ≡ Some layout.width) }

@@ -86,7 +86,7 @@ impl Rate {
         ensures found { (r : ℤ) × IsRoundedNominal self.now t0 n r × SomeIff result (IsInstant r) r }
         ensures only { (r : ℤ) → IsRoundedNominal self.now t0 n r → SomeIff result (IsInstant r) r }
 
-        // No two instants of the supported years lie so many samples apart.
+        // No two instants of the supported years lie 2^63 samples or more apart.
         ensures few { IsInstant t0 → IsSome result → n < 2 ^ 63 }
     {
         let instant = self.rounded(t0, n);

@@ -88,12 +88,12 @@ pub record LinesAll (size : ℕ) (start now : Device) (segments : List Segment) 
   pub are_lines : AreLinesOf packed lines
   pub forms : All IsFormLine (map form_line lines)
 
--- a segment that has not ended takes samples, in records of so many bytes
+-- a segment that has not ended takes samples, in records of `size` bytes
 pub record GoesOn (size : ℕ) (opened : Opened) : Type 0 where
   pub can : CanGoOn false opened
   pub same_size : opened.size ≡ size
 
--- with so many samples more its times are of the supported years
+-- with `more` further samples its times are of the supported years
 pub record CanGrow (more : ℕ) (opened : Opened) : Type 0 where
   pub number : count_of opened + more < 2 ^ 64
   pub in_time : SpanIsInTime (span_of opened.key opened.start (count_of opened + more))

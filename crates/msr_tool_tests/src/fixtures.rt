@@ -74,7 +74,7 @@ pub fn input_of(
     Ok(input)
 }
 
-/// Records of so many bytes, joined by that tolerance.
+/// Chooses records of `bytes` bytes, joined by that tolerance.
 pub fn choice(rt: &impl Abort, bytes: u32, tolerance: u32) -> Options {
     let Some(record_length) = Length::new(bytes) else {
         panic!(rt; "no length")
@@ -132,7 +132,7 @@ pub fn repacked(alloc: Global, input: &[u8], options: Options) -> Outcome
     repacked_through(alloc, input, options, PLAIN, PLAIN)
 }
 
-/// How many samples each record of so many bytes has, and its encoding.
+/// How many samples each record of `size` bytes has, and its encoding.
 pub fn shapes(alloc: Global, bytes: &[u8], size: usize) -> Result<Vec<(u16, u8)>, AllocError>
     requires { 0 < size }
 {

@@ -34,7 +34,7 @@ struct Worked {
     separators: &'static [u64],
 }
 
-/// The line of a segment with so many samples.
+/// The line is that of a segment of `samples` samples, as it was worked out.
 fn is_line_of(rt: &impl Abort, line: &SegmentLine, worked: Worked, rate: Rate, samples: u64) {
     let name = worked.name;
     assert_eq!(rt; (line.key.rate, line.start), (rate, START), "{name}");

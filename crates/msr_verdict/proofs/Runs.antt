@@ -23,7 +23,7 @@ total_snoc rows row =
     ∙ ap (λ (xs : List ℤ). samples_of rows ++ xs)
     (append-nil row.samples)) ∙ length-append (samples_of rows) row.samples
 
--- the run of a row, after so many samples
+-- the run that a row is, after `at` samples
 abbrev pub run_behind : ℕ → Row → Run
 run_behind at row = record { start = at; end = at + length row.samples; kind = row.kind }
 

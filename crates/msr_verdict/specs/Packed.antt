@@ -17,7 +17,7 @@ use Rattle.msr_input.specs.declared.fault.ReadFault.TheVariants.{Input, Read, Me
 use Rattle.msr_verdict.specs.declared.verdict.Verdict.{Verdict}
 use Rattle.msr_verdict.specs.declared.verdict.Verdict.TheVariants.{Least, NotShown}
 
--- the runs that rows are, one after another, if so many samples stand before them
+-- the runs that rows are, one after another, if `at` samples stand before them
 abbrev pub runs_of_rows : ℕ → List Row → List Run
 runs_of_rows at [] = []
 runs_of_rows at (row ∷ rows) =

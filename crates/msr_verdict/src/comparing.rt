@@ -11,7 +11,7 @@ use msr_words::Run;
 use std::alloc::Global;
 use std::marker::Model;
 
-/// The line is of a segment with that key and start, so many samples and so many records.
+/// Whether the line has the segment's key and start, `samples` samples and `records` records.
 fn is_line_of(line: &SegmentLine, segment: &Segment, samples: u64, records: usize) -> bool
     ensures { IsTrue result ↔ (line.now.key ≡ segment.now.key) × (line.now.start ≡ segment.now.start)
         × (line.now.samples ≡ samples) × (line.now.records ≡ records) }

@@ -18,7 +18,7 @@ is_other byte other = grind (arith, nat_tests)
 is_one : (byte : ℕ) → byte ≡ 47 → not (is_slash byte) ≡ false
 is_one byte one = grind (arith, nat_tests)
 
--- so many bytes stand after the last slash
+-- `n` bytes stand after the last slash
 after_slash : (path : List ℕ) (n : ℕ) → n ≤ length path
     → ((i : ℕ) → length path ≤ i + n → i < length path → get_or path i 0 ≢ 47) →
     (n < length path → get_or path (length path - 1 - n) 0 ≡ 47) → suffix_len (λ byte. not (is_slash byte)) path ≡ n

@@ -172,7 +172,7 @@ impl Day {
         }
     }
 
-    /// Whether the file of the records is as long as so many are.
+    /// Whether the file of the records is as long as `records` records are.
     fn has_records<R: Files>(&self, rt: &R, records: u64, options: Options) -> bool {
         let Some(bytes) = records.checked_mul(u64::from(options.length().bytes())) else {
             return false;

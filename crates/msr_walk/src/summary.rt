@@ -37,7 +37,7 @@ fn write_channels<O: Sink>(alloc: Global, out: &mut O, totals: &Totals) -> Resul
         let line = channel_line(alloc, name, total)?;
         write_all(out, line.as_bytes())?;
     }
-    // No memory holds so many.
+    // No memory holds `usize::MAX` channels.
     Err(ToolFault::Memory)
 }
 

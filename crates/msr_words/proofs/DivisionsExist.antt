@@ -103,7 +103,7 @@ module _ (version : Version) where
             nowhere first.0 first.1 first.2)
       ]
 
-  -- so many groups, and no division has fewer
+  -- `n` groups suffice for the differences, and no division has fewer
   record IsFewest (n : ℕ) (ds : List ℤ) : Type 0 where
     can : CanDivide version n ds
     fewest : (m : ℕ) → CanDivide version m ds → n ≤ m

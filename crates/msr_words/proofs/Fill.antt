@@ -312,7 +312,7 @@ some_codes (suc k) =
 
 -- ---- frame by frame
 
--- so many frames are filled
+-- the first `frame` frames are filled
 pub record IsFramed (version : Version) (gs : List (List ℤ)) (ds : List ℤ) (first last : ℤ) (frame at used : ℕ)
     (old area : List ℕ) : Type 0 where
   pub left : IsCanonicalDivision version (drop (15 * frame - 2) gs) (drop at ds)
@@ -320,7 +320,7 @@ pub record IsFramed (version : Version) (gs : List (List ℤ)) (ds : List ℤ) (
   pub bytes : area ≡ flat_map (big_bytes 4) (map (frame_word version first last gs)
       (range_with_len 0 (16 * frame))) ++ drop (4 * (16 * frame)) old
 
--- and so many words of the next one, after its codes, which are still 0
+-- and so are `slot` words of the next one, after its codes, which are still 0
 pub record IsFilled (version : Version) (gs : List (List ℤ)) (ds : List ℤ) (first last : ℤ)
     (frame slot at used codes : ℕ) (old area : List ℕ) : Type 0 where
   pub left : IsCanonicalDivision version (drop (15 * frame + slot - 2) gs) (drop at ds)

@@ -78,7 +78,8 @@ half_is width small =
     let few : 2 ^ (width - 1) ≤ 2 ^ 31 = pow-le-pow_right {n = 2} (lit< tt) {i = width - 1} {j = 31} (omega arith) in
     omega arith
 
--- the sum of these numbers' fields, and of so many halves
+-- `fields` is the sum of these numbers in `i` fields, and `halves` that of half of each field's
+-- range
 pub record IsOffset (width i fields halves : ℕ) (xs : List ℤ) : Type 0 where
   pub few : (fields + halves) % 18446744073709551616 < 2 ^ (i * width)
   pub same : bit_xor ((fields + halves) % 18446744073709551616) halves ≡ joined_fields width xs

@@ -38,7 +38,7 @@ one_before n size ds within is three can =
       can = subst (λ m. CanDivide One m (drop size ds)) same can;
     })
 
--- the same, if so many words are left
+-- the same holds if `n` words are left, of which this is one
 after_one : (n size : ℕ) (ds : List ℤ) → 0 < n → size ≤ length ds → IsGroup One (take size ds) → (size ≡ 3 → ⊥)
     → CanDivide One (n - 1) (drop size ds) → CanDivide One n ds
 after_one n size ds some within is three can =

@@ -55,7 +55,7 @@ module _ (bytes : ℕ) (run : List (ℤ × ℤ)) (x d : ℤ) (own : ℕ) (counts
   last : map (λ p. p.1) (run ++ (x, d) ∷ []) ≡ map (λ p. p.1) run ++ d ∷ []
   last = map-append (λ (p : ℤ × ℤ). p.1) run ((x, d) ∷ [])
 
-  -- so few that they can be counted
+  -- the samples of a record are so few that they can be counted
   fits_steim1 : (more : List (ℤ × ℤ)) → 4 * words_of bytes ≤ most_counted → FitsSteim One bytes more
       → Fits Steim1 bytes more
   fits_steim1 more few h = let size = size_steim One bytes more h in (omega arith, h)

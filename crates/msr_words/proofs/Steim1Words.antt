@@ -39,7 +39,7 @@ to_rest ds m at width is =
 
 -- ---- groups by the bits of their differences
 
--- so many differences from p on share a word
+-- `size` differences from `p` on share a word
 pub record Shares (ds : List ℤ) (p size : ℕ) : Type 0 where
   pub some : 1 ≤ size
   pub most : size ≤ 4

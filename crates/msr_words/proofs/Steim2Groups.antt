@@ -18,7 +18,8 @@ use Rattle.msr_words.proofs.Parts.{HasDivision, HasParts}
 abbrev pub IsOfBits : ℕ → ℤ → Type 0
 IsOfBits bits d = (neg_ℤ (pos (2 ^ (bits - 1))) ≤ℤ d) × (d ≤ℤ pos (2 ^ (bits - 1) - 1))
 
--- the bits of each of so many differences in one Steim-2 word: 1, 2, 3, 4, 5, 6 or 7 of 30, 15, 10, 8, 6, 5 or 4 bits
+-- how many bits each difference has in a Steim-2 word of the given number of them: if there are 1,
+-- 2, 3, 4, 5, 6 or 7, each has 30, 15, 10, 8, 6, 5 or 4 bits
 abbrev pub steim2_bits : ℕ → ℕ
 steim2_bits zero = 0
 steim2_bits (suc zero) = 30

@@ -46,8 +46,8 @@ abbrev pub EndLaw : Type 0
 EndLaw = (kind : Kind) (bytes : ℕ) (samples : List ℤ) (a end : ℕ) → IsEnd kind bytes samples a end → (c : ℕ)
     → a ≤ c → (IsRun (Fits kind bytes) samples a c ↔ c ≤ end)
 
--- so many differences stand in as many words as there are, each with the longest group from where the one before it
--- ended
+-- the first `reach` differences stand in `words` words, each with the longest group from the place
+-- on at which the one before it ended
 abbrev pub IsGreedyReach : ℕ → List ℤ → ℕ → Type 0
 IsGreedyReach zero ds reach = reach ≡ 0
 IsGreedyReach (suc words) ds reach = (count : ℕ) × (rest : ℕ) × IsLongestGroup ds count

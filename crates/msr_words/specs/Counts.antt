@@ -3,19 +3,20 @@ use Rattle.std.specs.Prelude.{◌≡◌, ◌<◌, ◌≤◌, ℕ, suc, zero, ℤ
 use Rattle.msr_steim.specs.declared.word.Version.{Version}
 use Rattle.msr_steim.specs.Word.{IsGroupAt, IsInnerGroup}
 
--- The newest first: these differences are divided into exactly so many groups that others may follow.
+-- These differences, the newest first, are divided into exactly the given number of groups that
+-- others may follow.
 abbrev pub Parts : Version → ℕ → List ℤ → Type 0
 Parts version zero past = past ≡ []
 Parts version (suc n) past = (group : List ℤ) × (rest : List ℤ) × IsInnerGroup version group × Parts version n rest
     × (past ≡ group ++ rest)
 
--- into at most so many
+-- they are divided into at most `n` such groups
 pub record AtMost (version : Version) (n : ℕ) (past : List ℤ) : Type 0 where
   pub number : ℕ
   pub few : number ≤ n
   pub parts : Parts version number past
 
--- into at most so many, of which the newest is a group at its place
+-- they are divided into at most `n` groups, of which the newest is a group at its place
 pub record EndsIn (version : Version) (last : Bool) (n : ℕ) (past : List ℤ) : Type 0 where
   pub group : List ℤ
   pub rest : List ℤ

@@ -5,8 +5,8 @@ use Rattle.msr_steim.specs.Frames.{frame_bytes}
 use Rattle.msr_words.specs.Canonical.{IsCanonicalDivision}
 use Rattle.msr_words.specs.Segment.{differences}
 
--- the area is frames of the canonical groups, so many, of the run's differences; the constants are the first and the
--- last sample
+-- the area is `frames` frames of the canonical groups of the run's differences, which are `number`
+-- groups; the constants are the first and the last sample
 pub record IsFilledArea (version : Version) (before : Option ℤ) (run : List ℤ) (frames : ℕ) (area : List ℕ)
     (number : ℕ) : Type 0 where
   pub groups : List (List ℤ)

@@ -9,8 +9,8 @@ pub record IsLeast (ds : List ℤ) (number : ℕ) : Type 0 where
   pub can : CanDivide One number ds
   pub fewest : (n : ℕ) → CanDivide One n ds → number ≤ n
 
--- A first group of this size leaves differences of which so many is the least number of groups. No other first group
--- leaves fewer, and no longer one as few.
+-- After a first group of `size` differences, `after` is the least number of groups of the others.
+-- No other first group leaves fewer, and no longer one leaves as few.
 pub record IsFirstGroup (ds : List ℤ) (size after : ℕ) : Type 0 where
   pub within : size ≤ length ds
   pub group : IsGroupAt One (size == length ds) (take size ds)
@@ -18,7 +18,7 @@ pub record IsFirstGroup (ds : List ℤ) (size after : ℕ) : Type 0 where
   pub best : (other n : ℕ) → other ≤ length ds → IsGroupAt One (other == length ds) (take other ds)
       → CanDivide One n (drop other ds) → (after ≤ n) × (n ≤ after → other ≤ size)
 
--- the canonical division of these differences begins with a group of this size, and has so many groups
+-- the canonical division of these differences begins with a group of this size
 abbrev pub IsCanonicalFirst : List ℤ → ℕ → Type 0
 IsCanonicalFirst ds size = (after : ℕ) × IsFirstGroup ds size after
 
@@ -27,7 +27,7 @@ pub record AreSizes (ds : List ℤ) (from : ℕ) (sizes : List ℕ) : Type 0 whe
   pub long : length sizes ≡ length ds
   pub each : (at : ℕ) → from ≤ at → at < length ds → IsCanonicalFirst (drop at ds) (slice_index sizes at)
 
--- these are the differences that are given by their places, so many
+-- these are the `count` differences that `gives` relates to their places
 pub record AreGiven (gives : ℕ → ℤ → Type 0) (count : ℕ) (ds : List ℤ) : Type 0 where
   pub long : length ds ≡ count
   pub each : (at : ℕ) (d : ℤ) → at < count → gives at d → d ≡ slice_index_or ds at (pos 0)
@@ -48,8 +48,8 @@ pub record IsBest (all one two three pair triple four size after : ℕ) : Type 0
   pub which : ((size ≡ 1) × (after ≡ all)) ⊎ (((size ≡ 2) × (pair < 32768) × (after ≡ one))
       ⊎ (((size ≡ 3) × (triple < 128) × (two ≡ 0) × (after ≡ 0)) ⊎ ((size ≡ 4) × (four < 128) × (after ≡ three))))
 
--- The least number of groups before the newest, which is one difference, two of this size, or four of this size; if
--- there is none, so many as there are words.
+-- `fewest` is the least number of groups before the newest, which is one difference, two of this
+-- size, or four of this size; if there is no such group, it is `words`.
 pub record AreFewest (now one three size pair four words fewest : ℕ) : Type 0 where
   pub of_one : size < 2147483648 → fewest ≤ now
   pub of_two : pair < 32768 → fewest ≤ one

@@ -3,7 +3,7 @@ use Rattle.std.specs.Prelude.{◌≡◌, ℕ, ◌+◌, ◌<◌, ◌≤◌, ◌�
 use Rattle.msr_steim.specs.declared.word.Version.TheVariants.{Two}
 use Rattle.msr_steim.specs.Word.{FitsBits, IsGroup, group_width}
 
--- of differences that are each of the size of this one, so many have room in one Steim-2 word
+-- of differences that are each of the size of `d`, at most `capacity` have room in one Steim-2 word
 pub record IsCapacity (d : ℤ) (capacity : ℕ) : Type 0 where
   pub most : capacity ≤ 7
   pub exact : (n width : ℕ) → group_width Two n ≡ Some width → (FitsBits width d ↔ n ≤ capacity)

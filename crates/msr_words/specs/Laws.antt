@@ -10,7 +10,7 @@ use Rattle.msr_words.specs.RecordLength.{words_of}
 abbrev pub PrefixLaw : (List (ℤ × ℤ) → Type 0) → Type 0
 PrefixLaw fits = (front back : List (ℤ × ℤ)) → fits (front ++ back) → fits front
 
--- if a run is cut, the part after the cut fits with at most so many of the samples before it
+-- if a run is cut, the part after the cut fits with at most `places` of the samples before it
 abbrev pub BackStepLaw : ℕ → (List (ℤ × ℤ) → Type 0) → Type 0
 BackStepLaw places fits =
     (front back : List (ℤ × ℤ)) → fits (front ++ back) →

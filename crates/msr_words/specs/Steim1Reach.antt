@@ -9,12 +9,13 @@ use Rattle.msr_words.specs.Division.{CanDivide}
 abbrev pub IsOfBitsAt : List ℤ → ℕ → ℕ → Type 0
 IsOfBitsAt ds at width = (at < length ds) × FitsBits width (slice_index_or ds at (pos 0))
 
--- the first so many differences stand in at most so many words that others may follow: none of them holds three
+-- the first `count` differences stand in at most `words` words that others may follow: none of
+-- these holds three
 abbrev pub StandIn : ℕ → List ℤ → ℕ → Type 0
 StandIn words ds count = AtMost One words (reverse (take count ds))
 
--- So many words hold the first `reach` differences, and no more. `spare` says that the last of these is of 8 bits, and
--- that they hold those before it, too: it may then stand in the next word.
+-- `words` words hold the first `reach` differences, and no more. `spare` says that the last is of 8
+-- bits, and that the words hold those before it, too: it may then stand in the next word.
 pub record IsSteim1Reach (words : ℕ) (ds : List ℤ) (reach : ℕ) (spare : Bool) : Type 0 where
   pub within : reach ≤ length ds
   pub stand : StandIn words ds reach
@@ -25,8 +26,9 @@ pub record IsSteim1Reach (words : ℕ) (ds : List ℤ) (reach : ℕ) (spare : Bo
 abbrev pub BeginsWithThree : List ℤ → Type 0
 BeginsWithThree ds = IsOfBitsAt ds 0 8 × IsOfBitsAt ds 1 8 × IsOfBitsAt ds 2 8
 
--- The next word reaches so many of the differences that are left: four of 8 bits; three, with a spare one before them;
--- two of 16 bits; one of 32 bits; or none. `after` says whether the last of them is spare in turn.
+-- The next word reaches `size` of the differences that are left: four of 8 bits; three, with a
+-- spare one before them; two of 16 bits; one of 32 bits; or none. `after` says whether the last of
+-- them is spare in turn.
 pub record IsSteim1Word (ds : List ℤ) (spare : Bool) (size : ℕ) (after : Bool) : Type 0 where
   pub which :
       ((size ≡ 4) × BeginsWithThree ds × IsOfBitsAt ds 3 8 × (after ≡ spare))
@@ -42,7 +44,7 @@ abbrev pub Steim1WordLaw : Type 0
 Steim1WordLaw = (words : ℕ) (ds : List ℤ) (reach size : ℕ) (spare after : Bool) → IsSteim1Reach words ds reach spare
     → IsSteim1Word (drop reach ds) spare size after → 0 < size → IsSteim1Reach (suc words) ds (reach + size) after
 
--- so many words hold the first `reach` differences, of which the last word may hold three, and no more
+-- `words` words hold the first `reach` differences, and no more; the last word may hold three
 pub record IsSteim1End (words : ℕ) (ds : List ℤ) (reach : ℕ) : Type 0 where
   pub within : reach ≤ length ds
   pub fits : CanDivide One words (take reach ds)

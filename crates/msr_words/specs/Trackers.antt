@@ -40,8 +40,8 @@ pub record FollowsSteim2 (bytes : ℕ) (run : List (ℤ × ℤ)) (left count mos
   pub number : IsTrue fits → length run + more ≡ most_of Steim2 bytes
   pub past : IsFalse fits → Fits Steim2 bytes run → ⊥
 
--- The least counts are those of the differences, the newest first. No division into so many words has more differences
--- than can be counted.
+-- The least counts are those of the differences, the newest first. No division into `words` words
+-- has more differences than can be counted.
 pub record FollowsSteim1 (words : ℕ) (ds : List ℤ) (own : ℕ) (counts : LeastCounts) (fits : Bool) : Type 0 where
   pub words_is : own ≡ words
   pub countable : 4 * words ≤ most_counted

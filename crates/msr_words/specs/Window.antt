@@ -5,7 +5,7 @@ use Rattle.msr_steim.specs.Word.{FitsBits}
 use Rattle.msr_words.specs.Segment.{difference_at}
 use Rattle.msr_words.specs.declared.window.Window.{Window}
 
--- so much is the size of a number: it is one of `width` bits if the size is below half the power
+-- `size` is the size of `d`: `d` is of `width` bits exactly if `size` is below half the power
 abbrev pub IsSize : ℤ → ℕ → Type 0
 IsSize d size = (width : ℕ) → (FitsBits width d ↔ size < 2 ^ (width - 1))
 
@@ -14,7 +14,7 @@ pub record IsTaken (d : ℤ) (size : ℕ) (kept : ℤ) : Type 0 where
   pub size_is : IsSize d size
   pub same : FitsSigned w32 d → kept ≡ d
 
--- the first so many places have the differences of the samples from `first` on
+-- the first `count` places have the differences of the samples from `first` on
 pub record AreTaken (samples : List ℤ) (first count : ℕ) (sizes : List ℕ) (kept : List ℤ) : Type 0 where
   pub each : (k : ℕ) → k < count → IsTaken (difference_at samples (first + k)) (get_or sizes k 0)
       (get_or kept k (pos 0))

@@ -28,8 +28,8 @@ pub trait Tracker {
     /// How many samples a record of that many bytes has at most.
     ghost most: { ℕ → ℕ };
 
-    /// How many starts before a cut may be needed when a run is cut: the part after the cut fits with
-    /// at most so many of the samples before it. If it is 0, each part after a cut fits by itself.
+    /// How many starts before a cut may be needed: the part after the cut fits with at most
+    /// `LOOK_BACK` of the samples before it. If it is 0, each part after a cut fits by itself.
     const LOOK_BACK: usize;
 
     /// How many samples a record of that length has at most.

@@ -9,7 +9,7 @@ ghost use Rattle.msr_words.specs.Groups.{IsCapacity, IsOneBelow};
 ghost use Rattle.msr_words.specs.Bounds.{is_wide};
 ghost use Rattle.msr_words.specs.Laws.{IsNarrow};
 
-/// One more than so many groups; past `words`, more than `words`.
+/// Gives the number of groups that is one above `fewest`; past `words`, it gives `words + 1`.
 fn one_more(fewest: u32, words: u32) -> u32
     requires { words < 2 ^ 31 }
     ensures { (n : ℕ) → n ≤ words → (result ≤ n ↔ fewest < n) }
@@ -64,8 +64,9 @@ impl LeastCounts {
         }
     }
 
-    /// The least number of groups before the newest one, which ends in a difference of this size, if that one and the
-    /// one before it, and it and the three before it, are so large; if there is none, so many as there are words.
+    /// Gives the least number of groups before the newest one, which ends in a difference of this
+    /// size; `pair` is the size of it and the one before it together, `four` that of it and the
+    /// three before it. If there is no such group, it gives `words`.
     fn fewest_before(self, size: u64, pair: u64, four: u64, words: u32) -> u32
         requires pair { size ≤ pair }
         requires four { pair ≤ four }

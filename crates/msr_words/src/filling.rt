@@ -25,7 +25,7 @@ pub(crate) struct NextWord {
     pub empty: usize,
 }
 
-/// How a group of so many differences is written.
+/// How a group of a given number of differences is written.
 #[derive(Clone, Copy, Debug)]
 struct Form {
     code: u32,
@@ -43,8 +43,8 @@ pub(crate) fn field_of(difference: i64, width: u32) -> u64
     difference.cast_unsigned() & (u64::MAX >> (64 - width))
 }
 
-/// The fields of so many differences of the run side by side. It is called near the ends of a run alone, and is kept
-/// out of the loop over words.
+/// Gives the fields of `size` differences of the run, from `at` on, side by side. It is called near
+/// the ends of a run alone, and is kept out of the loop over words.
 #[inline(never)]
 pub(crate) fn fields_from(
     before: Option<i32>,
@@ -68,7 +68,7 @@ pub(crate) fn fields_from(
     fields as u32
 }
 
-/// The form of a group of so many differences.
+/// Gives the form of a group of `size` differences.
 fn form_of(size: usize) -> Form
     requires some { 1 ≤ size }
     requires most { size ≤ 7 }
@@ -92,9 +92,10 @@ fn form_of(size: usize) -> Form
     Form { code, top, width }
 }
 
-/// The fields of so many differences from a place of the window on, side by side: their sum, each moved to its place,
-/// in which a negative one borrows from those before it. Half of each field's range added to all takes the loans back,
-/// and is taken off without a carry. Inlined where size and width are literals, no loop is left.
+/// Gives the fields of `size` differences from a place of the window on, side by side: their sum,
+/// each moved to its place, in which a negative one borrows from those before it. Half of each
+/// field's range added to all takes the loans back, and is taken off without a carry. If it is
+/// inlined with literals as size and width, no loop is left.
 #[inline(always)]
 pub(crate) fn fields_seen(window: &Window, place: usize, size: usize, width: u32) -> u32
     requires positive { 0 < width }

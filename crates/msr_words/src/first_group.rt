@@ -109,8 +109,8 @@ impl Following {
     }
 }
 
-/// For each of so many differences, which are given by their places, the size of the group that begins there in the
-/// division that is written.
+/// Gives for each of `count` differences, which `difference` gives by their places, the size of the
+/// group that begins there in the division that is written.
 pub(crate) fn sizes_of<F: Fn(usize) -> i64>(
     alloc: Global,
     count: usize,

@@ -100,8 +100,8 @@ impl Kind {
     }
 }
 
-/// The differences of the run, the first of them from `before`, can be divided into so many Steim-1 groups.
-/// It stops when the differences up to one cannot.
+/// Tells whether the differences of the run, the first of them from `before`, can be divided into
+/// at most `words` Steim-1 groups. It stops when the differences up to one cannot.
 fn fits_steim1(before: Option<i32>, run: &[i32], words: u32) -> bool
     requires { words < 2 ^ 31 }
     ensures { IsTrue result ↔ CanDivide One words (differences before run.now) }
@@ -148,8 +148,8 @@ pub(crate) fn longest_group(before: Option<i32>, run: &[i32], at: usize) -> usiz
     run.len() - at
 }
 
-/// The differences of the run can be divided into so many Steim-2 groups. Each part of a group is a group,
-/// so it is enough to take the longest one from the start on.
+/// Tells whether the differences of the run can be divided into at most `words` Steim-2 groups.
+/// Each part of a group is a group, so it is enough to take the longest one from the start on.
 fn fits_steim2(before: Option<i32>, run: &[i32], words: u32) -> bool
     ensures { IsTrue result ↔ CanDivide Two words (differences before run.now) }
 {

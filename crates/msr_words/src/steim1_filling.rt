@@ -20,8 +20,8 @@ use crate::kinds::difference_after;
 use crate::window::Window;
 use std::alloc::{AllocError, Global};
 
-/// How a group of so many differences is written: the code of its word, of how many bits each is, and how many bits
-/// below them are left 0.
+/// How a group of a given number of differences is written: the code of its word, of how many bits
+/// each is, and how many bits below them are left 0.
 #[derive(Clone, Copy, Debug)]
 struct Form {
     code: u32,
@@ -29,7 +29,7 @@ struct Form {
     left: u32,
 }
 
-/// The form of a group of so many differences.
+/// Gives the form of a group of `size` differences.
 fn form_of(size: usize) -> Form
     requires some { 1 ≤ size }
     requires most { size ≤ 4 }
@@ -149,7 +149,8 @@ pub(crate) fn steim1_word(
     word_outside(before, run, at, usize::from(sizes[at]))
 }
 
-/// The size of the difference so many places ahead of one, or the greatest if none is left there.
+/// Gives the size of the difference `ahead` places after the one at `at`, or the greatest size if
+/// none is left there.
 fn size_ahead(before: Option<i32>, run: &[i32], at: usize, ahead: usize) -> u64
     requires few { ahead ≤ 4 }
     requires within { at < length run.now }

@@ -76,7 +76,8 @@ impl Window {
         }
     }
 
-    /// Takes the differences of the samples from `first` on, always so many that the loop is laid out whole.
+    /// Takes the differences of the samples from `first` on, always `PLACES` of them, so that the
+    /// loop is laid out whole.
     #[inline(always)]
     fn take(&mut self, samples: &[i32], first: usize)
         requires some { 0 < first }

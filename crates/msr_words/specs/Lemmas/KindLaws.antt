@@ -44,7 +44,7 @@ prefix_int32 bytes front back h = omega (arith, length-append front back)
 pub back_step_int32 : (bytes : ℕ) → BackStepLaw 0 (FitsInt32 bytes)
 back_step_int32 bytes = back_step_by_suffix (FitsInt32 bytes) (λ front back h. omega (arith, length-append front back))
 
--- if many samples of so many bytes have room, fewer do
+-- if `many` samples of `size` bytes have room, fewer do
 fewer_have_room : (size bytes few many : ℕ) → few ≤ many → size * many + 64 ≤ bytes → size * few + 64 ≤ bytes
 fewer_have_room size bytes few many less room = let bytes_less = mul-le-mul_left size less in omega arith
 
@@ -124,7 +124,7 @@ back_step_steim version bytes front back h =
     let high = r.2 in
     (r.0, omega arith, omega arith, subst (CanDivide version (words_of bytes)) same r.3)
 
--- as many samples of so many bytes as have room
+-- if `count` samples of `size` bytes have room, `count` is at most (bytes - 64) / size
 size_integers : (size bytes count : ℕ) → 0 < size → size * count + 64 ≤ bytes → count ≤ (bytes - 64) / size
 size_integers size bytes count some room = le-div count (bytes - 64) size some
     (omega (arith, mul_comm count size, room))
