@@ -73,7 +73,7 @@ INPUTS = [
 
 
 def later(record, seconds):
-    """A big-endian record that starts so many seconds later."""
+    """The big-endian record, which starts `seconds` later."""
     year, day_of_year, hour, minute, second, unused, fraction = struct.unpack_from(">HHBBBBH", record, 20)
     seconds += second + 60 * (minute + 60 * (hour + 24 * (day_of_year - 1)))
     start = datetime.datetime(year, 1, 1) + datetime.timedelta(seconds=seconds)
@@ -160,7 +160,7 @@ class Bench:
         return self.digest()
 
     def prepared(self, block, copies):
-        """A file of so many copies of the block, and the digest of each way's output, which is right."""
+        """A file of `copies` of the block, and the digest of each way's output, which is right."""
         name = f"{self.folder}/in"
         with open(name, "wb") as out:
             out.writelines(repeated(block.records, block.seconds, copies))

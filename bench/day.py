@@ -40,7 +40,7 @@ def made_up(count):
 
 
 def record(number, length, encoding, start, samples):
-    """A big-endian record of channel XX.BENCH.00.HHZ that starts so many samples after 2020-01-01 00:00:00."""
+    """A big-endian record of channel XX.BENCH.00.HHZ that starts `start` samples after 2020-01-01 00:00:00."""
     code = {1: "h", 3: "i"}[encoding]
     second, rest = divmod(start, RATE)
     day, second = divmod(second, 86400)

@@ -106,7 +106,7 @@ def allowed_of(case, call, hit, fault):
 
 
 def without(text, calls, at, short):
-    """The bytes that a file has if a write to it took so many and kept none of them."""
+    """The bytes that a file has if a write to it took `short` bytes and kept none of them."""
     before = [call for call in calls[:at] if call.kind == "writing" and call.target == calls[at].target]
     begin = sum(int(call.result) for call in before)
     return text[:begin] + text[begin + short :]

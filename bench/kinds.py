@@ -66,7 +66,7 @@ def word_at(differences, at, end):
 
 
 def write_steim2(name, samples, length=512, most=65535):
-    """Records of Steim-2 of this length, each filled as far as its words reach, with no more than so many samples."""
+    """Records of Steim-2 of this length, each filled as far as its words reach, with at most `most` samples."""
     differences = [0] + [after - before for before, after in zip(samples, samples[1:])]
     places = (length - 64) // 64 * 15
     start = number = 0

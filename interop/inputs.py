@@ -30,7 +30,7 @@ Form = collections.namedtuple(
 
 
 def btime(order, micros, fine):
-    """Start as 10 bytes, so many microseconds after the start of 2020; `fine` of them stand in blockette 1001."""
+    """Start as 10 bytes, `micros` microseconds after the start of 2020; `fine` of them stand in blockette 1001."""
     it = EPOCH + datetime.timedelta(microseconds=micros - fine)
     parts = (it.year, it.timetuple().tm_yday, it.hour, it.minute, it.second, 0, it.microsecond // 100)
     return struct.pack(f"{order}HHBBBBH", *parts)
