@@ -1,11 +1,13 @@
-//! msr_words: runs worked out by hand, by the trackers, by `Kind::fits` and by `groups`.
+//! msr_words and msr_filling: runs worked out by hand, by the trackers, by `Kind::fits`, by `groups` and by the areas
+//! that are filled.
 
 ghost use Rattle.std.specs.Prelude.{◌≤◌, length};
 
+use msr_filling::{fill_steim1, fill_steim2};
 use msr_steim::Version;
 use msr_words::{
     AnyKind, Codec, Int16, Int24, Int32, Kind, Length, Run, Steim1, Steim2, Tracker, Window,
-    difference, fill_steim1, fill_steim2, first_kind, groups, one_division, run_fits,
+    difference, first_kind, groups, one_division, run_fits,
 };
 use std::alloc::{AllocError, Global};
 use std::process::Abort;

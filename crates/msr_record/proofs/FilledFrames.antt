@@ -8,7 +8,7 @@ use Rattle.msr_steim.specs.Frames.{frame_bytes}
 use Rattle.msr_steim.specs.declared.word.Version.{Version}
 use Rattle.msr_words.specs.declared.lengths.Length.{Length}
 use Rattle.msr_words.specs.Division.{CanDivide}
-use Rattle.msr_words.specs.Filled.{IsFilledArea}
+use Rattle.msr_filling.specs.Filled.{IsFilledArea}
 use Rattle.msr_words.specs.Lengths.{bytes_of}
 use Rattle.msr_words.specs.RecordLength.{words_of}
 use Rattle.msr_words.specs.Segment.{differences}

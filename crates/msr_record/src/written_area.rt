@@ -10,10 +10,11 @@ ghost use Rattle.msr_words.specs.Segment.{differences, points};
 ghost use Rattle.msr_record.specs.Area.{Carries, ReverseAgrees};
 ghost use Rattle.msr_record.specs.Written.{AreFrames, IsWrittenArea, frame_count};
 
+use msr_filling::{fill_steim1, fill_steim2};
 use msr_header::Order;
 use msr_plain::{Width, fill_plain};
 use msr_steim::Version;
-use msr_words::{Kind, Length, fill_steim1, fill_steim2};
+use msr_words::{Kind, Length};
 use std::alloc::{AllocError, Global};
 
 /// Each sample has 32 bits, which is known of it once it is read.

@@ -2,7 +2,7 @@
 use Rattle.std.proofs.Common.{◌≡◌, ◌↔◌, ◌<◌, ◌≤◌, ℕ, zero, suc, ◌+◌, ◌-◌, ℤ, pos, Bool, true, false, eqb, List, [], ◌∷◌, ◌++◌, length, take, drop, get_or, refl, sym, ap, ◌∙◌, subst, arith, inl, inr, append_assoc, length-append, set, ◌≢◌, get_or-set_other, get_or-set_same, length-set, drop-cons}
 use Rattle.std.specs.List.{AllByRecursion}
 use Rattle.std.proofs.lemmas.Bool.{cases_lt, eq-eqb, ne_eqb}
-use Rattle.std.proofs.lemmas.List.{append-nil, nil_from_length, take-append-drop, take_at, drop_at, drop_all, drop-drop, length-drop, length-take-le}
+use Rattle.std.proofs.lemmas.List.{append-nil, nil_from_length, take-append-drop, drop_all, drop-drop, length-drop, length-take-le}
 use Rattle.msr_steim.specs.declared.word.Version.TheVariants.{One}
 use Rattle.msr_steim.specs.Area.{differences}
 use Rattle.msr_steim.specs.Word.{AreGroups, FitsBits, IsGroup, IsGroupAt}
@@ -11,8 +11,7 @@ use Rattle.msr_words.specs.Canonical.{DividesFrom, IsCanonicalDivision}
 use Rattle.msr_words.specs.FirstGroup.{AreGiven, AreSizes, IsBest, IsCanonicalFirst, IsFirstGroup, IsLeast}
 use Rattle.msr_words.specs.Lemmas.LeastCounts.{a_group_has_few}
 use Rattle.msr_words.specs.Lemmas.SteimLaws.{head_group, none_divides, one_has_few, size_law, tail_groups}
-use Rattle.msr_words.proofs.WrittenDivision.{at_place_is, divides_can, group_fits, no_groups, starts_with, tail_chosen, with_first}
-use Rattle.msr_words.specs.NextWord.{IsNext}
+use Rattle.msr_words.proofs.WrittenDivision.{at_place_is, divides_can, group_fits, starts_with, with_first}
 
 -- ---- the best size
 
@@ -131,7 +130,7 @@ module _ (d : ℤ) (ds : List ℤ) (all one two three pair triple four size afte
 
 -- ---- one group more
 
-fewer : (n : ℕ) (ds : List ℤ) → CanDivide One (suc n - 1) ds → CanDivide One n ds
+pub fewer : (n : ℕ) (ds : List ℤ) → CanDivide One (suc n - 1) ds → CanDivide One n ds
 fewer n ds can = let same : suc n - 1 ≡ n = omega arith in subst (λ m. CanDivide One m ds) same can
 
 module _ (ds : List ℤ) (size after : ℕ) (first : IsFirstGroup ds size after) where
@@ -197,48 +196,6 @@ module _ (ds : List ℤ) (size after : ℕ) (first : IsFirstGroup ds size after)
           rest.longest,
         );
       }
-
-  pub next_first : (gs : List (List ℤ)) → IsCanonicalDivision One gs ds → IsNext One gs ds size
-  next_first [] chosen =
-      let e : 0 ≡ length ds = ap length chosen.join in
-      let s = first_some in
-      let w = first.within in absurd (omega arith)
-  next_first (g ∷ gs) chosen =
-      let d = starts_with One g gs ds chosen.are_groups chosen.join in
-      let b = first.best (length g) (length gs) d.within d.group (fewer (length gs) (drop (length g) ds) d.can) in
-      let left = first.left.can in
-      let are : AreGroups One (take size ds ∷ left.groups) =
-      with_first One size ds left.groups first.within first.group left.are_groups left.join in
-      let joined : differences (take size ds ∷ left.groups) ≡ ds = ap (λ x. take size ds ++ x) left.join
-      ∙ take-append-drop size ds in
-      let few = chosen.fewest (take size ds ∷ left.groups) are joined in
-      let few' = left.few in
-      let short : length g ≤ size = b.1 (omega arith) in
-      let long : length (take size ds) ≤ length g =
-      chosen.longest.0 (take size ds) left.groups are (joined ∙ sym chosen.join) (omega (arith, b.0)) in
-      let size_is : length (take size ds) ≡ size = length-take-le size ds first.within in
-      let same : length g ≡ size = omega arith in
-      let front : g ≡ take size ds = sym (take_at g (differences gs) size same) ∙ ap (take size) chosen.join in
-      let back : differences gs ≡ drop size ds = sym (drop_at g (differences gs) size same)
-      ∙ ap (drop size) chosen.join in
-      let s = first_some in
-      record {
-        group = front;
-        rest = subst (IsCanonicalDivision One gs) back (tail_chosen One g gs ds chosen);
-        none = λ e. absurd (omega arith);
-        some = λ s. omega arith;
-      }
-
-pub next_none : (gs : List (List ℤ)) (ds : List ℤ) (size : ℕ) → length ds ≡ 0 → size ≡ 0
-    → IsCanonicalDivision One gs ds → IsNext One gs ds size
-next_none gs ds size end none chosen =
-    let no : gs ≡ [] = no_groups One gs chosen.are_groups (ap length chosen.join ∙ end) in
-    let nil : ds ≡ [] = nil_from_length ds end in
-    let empty : IsCanonicalDivision One [] [] = subst (λ hs. IsCanonicalDivision One hs []) no
-    (subst (IsCanonicalDivision One gs) nil chosen) in
-    subst (λ hs. IsNext One hs ds size) (sym no)
-    (subst (λ xs. IsNext One [] xs size) (sym nil) (subst (IsNext One [] []) (sym none)
-    (record { group = refl; rest = empty; none = λ e. refl; some = λ s. absurd (omega arith) })))
 
 -- ---- the whole division
 

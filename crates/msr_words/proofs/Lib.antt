@@ -3,15 +3,11 @@ pub mod WrittenDivision
 pub mod DecidedStatements
 pub mod Dominance
 pub mod DivisionsExist
-pub mod Fill
-pub mod FillFields
 pub mod FillSizes
-pub mod FilledAreas
 pub mod FirstGroups
 pub mod Greedy
 pub mod GreedyReach
 pub mod GroupSizes
-pub mod Offsets
 pub mod Parts
 pub mod Plain
 pub mod Pushes
@@ -19,7 +15,6 @@ pub mod RecordLengths
 pub mod Runs
 pub mod Steim1Ahead
 pub mod Steim1Counts
-pub mod Steim1Next
 pub mod Steim1Pushes
 pub mod Steim1Runs
 pub mod Steim1Words

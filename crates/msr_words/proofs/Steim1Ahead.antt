@@ -7,7 +7,7 @@ use Rattle.std.proofs.lemmas.List.{drop_all, length-drop, length-take-le}
 use Rattle.std.proofs.lemmas.Nat.{le_or_l, le_or_r, or_lt}
 use Rattle.msr_steim.specs.declared.word.Version.TheVariants.{One}
 use Rattle.msr_steim.specs.Word.{FitsBits, IsGroup, IsGroupAt, IsInnerGroup}
-use Rattle.msr_words.specs.Bounds.{BeginsWithFour}
+use Rattle.msr_words.specs.Bounds.{BeginsWithFour, IsBeforeFour}
 use Rattle.msr_words.specs.Canonical.{DividesFrom}
 use Rattle.msr_words.specs.Division.{CanDivide}
 use Rattle.msr_words.specs.FirstGroup.{IsCanonicalFirst, IsLeast, IsSizeAt}
@@ -399,3 +399,36 @@ module _ (ds : List ℤ) (one two three four five : ℕ) (h1 : IsSizeAt ds 0 one
       let bits = middle_bits ds one two three four h1 h2 h3 h4 middle in
       four_are (drop 1 ds) (to_rest ds 1 0 8 bits.0, to_rest ds 1 1 8 bits.1, to_rest ds 1 2 8 bits.2)
       (to_rest ds 1 3 8 ((h5 8 (lit≤ tt)).0 last))
+
+  -- a larger one comes first, with room for the first of these
+  pub before_four : bit_or one two < 32768 → 128 ≤ one → bit_or (bit_or two three) four < 128 → five < 128
+      → IsBeforeFour ds
+  before_four small large middle last =
+      let bits = pair_bits ds one two h1 h2 small in
+      record {
+        large = λ f. let below = (h1 8 (lit≤ tt)).1 (bits.0.0, f) in let never : ⊥ = omega arith in never;
+        room = bits.0.1;
+        four = next_four middle last;
+      }
+
+  -- and then they are of these sizes
+  pub four_behind : IsBeforeFour ds
+      → (bit_or one two < 32768) × (two < 128) × (bit_or (bit_or two three) four < 128) × (128 ≤ one) × (five < 128)
+  four_behind is =
+      let enough = is.four.enough in
+      let l = length-drop 1 ds in
+      let some : 0 < length ds = omega arith in
+      let second = next_at ds 0 is.four (lit< tt) in
+      let two_small : two < 128 = (h2 8 (lit≤ tt)).1 second in
+      let one_small : one < 32768 = (h1 16 (lit≤ tt)).1 (some, is.room) in
+      let large : 128 ≤ one = elim (cases_lt one 128) [
+        | inl less ↦ absurd (is.large ((h1 8 (lit≤ tt)).0 less).1)
+        | inr not ↦ not
+      ] in (
+        or_lt 15 one two one_small (omega arith),
+        two_small,
+        middle_small ds one two three four h1 h2 h3 h4 second (next_at ds 1 is.four (lit< tt))
+            (next_at ds 2 is.four (lit< tt)),
+        large,
+        (h5 8 (lit≤ tt)).1 (next_at ds 3 is.four (lit< tt)),
+      )

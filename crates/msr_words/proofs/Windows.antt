@@ -1,5 +1,5 @@
 -- The differences that a window has, with their sizes.
-use Rattle.std.proofs.Common.{◌≡◌, ◌<◌, ◌≤◌, ◌<ℤ◌, ℕ, zero, suc, ◌+◌, ◌-◌, ◌^◌, ℤ, pos, negsuc, ◌+ℤ◌, ◌-ℤ◌, nat_abs, get_or, slice_set, drop, List, ◌∷◌, length, Option, None, lit<, sym, ap, ◌∙◌, subst, arith, bit_or, inl, inr, w32, FitsSigned}
+use Rattle.std.proofs.Common.{◌≡◌, ◌<◌, ◌≤◌, ◌<ℤ◌, ℕ, zero, suc, ◌+◌, ◌-◌, ◌^◌, ℤ, pos, negsuc, ◌+ℤ◌, ◌-ℤ◌, nat_abs, get_or, slice_set, drop, List, ◌∷◌, length, Option, None, lit<, sym, ap, ◌∙◌, subst, arith, bit_or, inl, inr}
 use Rattle.std.specs.Prelude.{set}
 use Rattle.std.proofs.lemmas.Bool.{cases_eq}
 use Rattle.std.proofs.lemmas.Int.{ints}
@@ -57,6 +57,7 @@ window_on samples at at' window le is = record {
   before = (let b = is.before in omega arith);
   within = is.within;
   most = is.most;
+  whole = is.whole;
   until = is.until;
   later = is.later;
   taken = is.taken;
@@ -161,20 +162,6 @@ module _ (ds : List ℤ) (sizes : List ℕ) (kept : List ℤ) (place : ℕ) (see
       (longest_7 (d 0) (d 1) (d 2) (d 3) (d 4) (d 5) (d 6) (drop 7 ds) (m 0) (m 1) (m 2) (m 3) (m 4) (m 5) (m 6)
       (h 0 (omega arith)) (h 1 (omega arith)) (h 2 (omega arith)) (h 3 (omega arith)) (h 4 (omega arith))
       (h 5 (omega arith)) (h 6 (omega arith)) p)
-
--- a kept difference of few bits is the difference
-pub kept_there : (ds : List ℤ) (sizes : List ℕ) (kept : List ℤ) (place k width : ℕ) → AreSeen ds sizes kept place
-    → k < 7 → 0 < width → width ≤ 32 → FitsBits width (get_or ds k (pos 0))
-    → get_or kept (place + k) (pos 0) ≡ get_or ds k (pos 0)
-kept_there ds sizes kept place k width seen less positive small fits =
-    (seen.each k less).same (narrower (get_or ds k (pos 0)) fits)
-  where
-    most : 2 ^ (width - 1) ≤ 2147483648
-    most = pow-le-pow_right {n = 2} (lit< tt) {i = width - 1} {j = 31} (omega arith)
-
-    narrower : (z : ℤ) → FitsBits width z → FitsSigned w32 z
-    narrower (pos n) f = record { sfits = (let b = most in omega arith) }
-    narrower (negsuc n) f = record { sfits = (let b = most in omega arith) }
 
 -- ---- the size at a place
 

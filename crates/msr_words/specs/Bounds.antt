@@ -1,5 +1,5 @@
 -- What the differences of a run tell of the records that hold it.
-use Rattle.std.specs.Prelude.{◌≡◌, ℕ, zero, suc, ◌+◌, ◌-◌, ◌*◌, ◌^◌, ◌≤◌, ◌↔◌, min, ℤ, pos, negsuc, Bool, not, nat_lt, List, ◌∷◌, length, map, take, drop, count_by, All}
+use Rattle.std.specs.Prelude.{◌≡◌, ℕ, zero, suc, ◌+◌, ◌-◌, ◌*◌, ◌^◌, ◌≤◌, ◌↔◌, min, ℤ, pos, negsuc, Bool, not, nat_lt, List, ◌∷◌, length, map, take, drop, count_by, get_or, All}
 use Rattle.std.specs.List.{AllByRecursion}
 use Rattle.msr_steim.specs.declared.word.Version.{Version}
 use Rattle.msr_steim.specs.declared.word.Version.TheVariants.{One}
@@ -30,6 +30,12 @@ WideLaw = (version : Version) (words : ℕ) (ds : List ℤ) → CanDivide versio
 pub record BeginsWithFour (ds : List ℤ) : Type 0 where
   pub enough : 4 ≤ length ds
   pub small : AllByRecursion (FitsBits 8) (take 4 ds)
+
+-- a larger one that has room for the first of four of 8 bits beside it
+pub record IsBeforeFour (ds : List ℤ) : Type 0 where
+  pub large : FitsBits 8 (get_or ds 0 (pos 0)) → ⊥
+  pub room : FitsBits 16 (get_or ds 0 (pos 0))
+  pub four : BeginsWithFour (drop 1 ds)
 
 -- the first difference of a Steim-1 record can be left out, unless it shares a word with three others
 abbrev pub LookBackLaw : Type 0

@@ -11,11 +11,8 @@ pub mod Counts
 pub mod AreCounts
 pub mod FirstGroup
 pub mod Following
-pub mod Filled
-pub mod NextWord
 pub mod Groups
 pub mod Bounds
-pub mod Sizing
 pub mod Steim1Reach
 pub mod Trackers
 pub mod Window

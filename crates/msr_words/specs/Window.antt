@@ -1,6 +1,6 @@
 -- The differences of a stretch of samples, taken together.
-use Rattle.std.specs.Prelude.{◌≡◌, ◌<◌, ◌≤◌, ◌↔◌, ℕ, ◌+◌, ◌-◌, ◌^◌, ℤ, pos, List, length, get_or, FitsSigned}
-use Rattle.std.specs.Int.{w32}
+use Rattle.std.specs.Prelude.{◌≡◌, ◌<◌, ◌≤◌, ◌↔◌, ℕ, ◌+◌, ◌-◌, ◌^◌, ℤ, pos, List, length, get_or}
+use Rattle.std.specs.Int.{int_wrap, w32}
 use Rattle.msr_steim.specs.Word.{FitsBits}
 use Rattle.msr_words.specs.Segment.{difference_at}
 use Rattle.msr_words.specs.declared.window.Window.{Window}
@@ -9,10 +9,10 @@ use Rattle.msr_words.specs.declared.window.Window.{Window}
 abbrev pub IsSize : ℤ → ℕ → Type 0
 IsSize d size = (width : ℕ) → (FitsBits width d ↔ size < 2 ^ (width - 1))
 
--- what is kept of a difference: its size and, if it is of 32 bits, itself
+-- what is kept of a difference: its size and, cut to 32 bits, itself
 pub record IsTaken (d : ℤ) (size : ℕ) (kept : ℤ) : Type 0 where
   pub size_is : IsSize d size
-  pub same : FitsSigned w32 d → kept ≡ d
+  pub cut : kept ≡ int_wrap w32 d
 
 -- the first `count` places have the differences of the samples from `first` on
 pub record AreTaken (samples : List ℤ) (first count : ℕ) (sizes : List ℕ) (kept : List ℤ) : Type 0 where
@@ -25,11 +25,16 @@ pub record AreSeen (ds : List ℤ) (sizes : List ℕ) (kept : List ℤ) (place :
   pub each : (k : ℕ) → k < 7 → IsTaken (get_or ds k (pos 0)) (get_or sizes (place + k) 0)
       (get_or kept (place + k) (pos 0))
 
+-- from this place on the window has the first seven of these differences
+abbrev pub Shows : Window → List ℤ → ℕ → Type 0
+Shows window ds place = AreSeen ds window.sizes window.kept place
+
 -- a window of these samples that begins at the sample `at` or before it
 pub record IsWindow (samples : List ℤ) (at : ℕ) (window : Window) : Type 0 where
   pub before : window.first ≤ at
   pub within : window.end ≤ length samples
   pub most : window.end ≤ window.first + 64
+  pub whole : window.first < window.end → window.end ≡ window.first + 64
   pub until : window.until ≤ window.end - 6
   pub later : window.first < window.end → 0 < window.first
   pub taken : AreTaken samples window.first (window.end - window.first) window.sizes window.kept

@@ -127,6 +127,7 @@ impl LeastCounts {
 }
 
 /// How far a number is from 0, or from -1 if it is negative.
+#[inline]
 pub fn magnitude(number: i64) -> u64
     ensures { (width : ℕ) → (FitsBits width number ↔ result < 2 ^ (width - 1)) }
 {

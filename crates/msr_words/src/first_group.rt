@@ -37,6 +37,7 @@ impl Following {
     ghost use Rattle.msr_words.specs.Following.{IsFollowing};
 
     /// Nothing follows.
+    #[inline]
     pub fn nothing() -> Following
         ensures few { result.all ≡ 0 }
         ensures following { IsFollowing [] result }
@@ -55,6 +56,7 @@ impl Following {
 
     /// The first group of a difference and these, if that one and the next, the next two, and the next three are
     /// so large.
+    #[inline]
     fn first_group(self, pair: u64, triple: u64, four: u64) -> FirstGroup
         requires pair { pair ≤ triple }
         requires triple { triple ≤ four }
@@ -84,6 +86,7 @@ impl Following {
     }
 
     /// With one difference more before them.
+    #[inline]
     pub fn preceded_by(self, difference: i64) -> Following
         requires fits { FitsBits 32 difference }
         requires room { self.all < 2 ^ 64 - 1 }
@@ -111,7 +114,7 @@ impl Following {
 
 /// Gives for each of `count` differences, which `difference` gives by their places, the size of the
 /// group that begins there in the division that is written.
-pub(crate) fn sizes_of<F: Fn(usize) -> i64>(
+pub fn sizes_of<F: Fn(usize) -> i64>(
     alloc: Global,
     count: usize,
     difference: F,

@@ -134,7 +134,7 @@ fn tested_capacity(diff: i64) -> u8
 }
 
 /// How many differences of the run, from this one on, stand together in a Steim-2 word, as many as can.
-pub(crate) fn longest_group(before: Option<i32>, run: &[i32], at: usize) -> usize
+pub fn longest_group(before: Option<i32>, run: &[i32], at: usize) -> usize
     requires { at ≤ length run.now }
     ensures { IsLongestGroup (drop at (differences before run.now)) result }
 {
@@ -166,7 +166,8 @@ fn fits_steim2(before: Option<i32>, run: &[i32], words: u32) -> bool
 }
 
 /// The difference of a sample of a run from the one before it.
-pub(crate) fn difference_after(before: Option<i32>, run: &[i32], at: usize) -> i64
+#[inline]
+pub fn difference_after(before: Option<i32>, run: &[i32], at: usize) -> i64
     requires { at < length run.now }
     ensures { result ≡ difference_from before run.now at }
 {
@@ -238,6 +239,7 @@ pub struct Run {
 }
 
 /// The difference of a sample of a segment from the one before it; that of the first is 0.
+#[inline]
 pub fn difference(samples: &[i32], at: usize) -> i64
     requires { at < length samples.now }
     ensures { result ≡ difference_at samples.now at }

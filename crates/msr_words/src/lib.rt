@@ -7,12 +7,9 @@ mod codecs;
 mod counts;
 mod division;
 mod existence;
-mod filling;
 mod first_group;
-mod frames;
 mod kinds;
 mod lengths;
-mod steim1_filling;
 mod window;
 
 pub use any_kind::AnyKind;
@@ -24,9 +21,10 @@ pub use codecs::{Codec, Int16, Int24, Int32, Integers, Steim1, Steim2, Tracker};
 pub use counts::{is_narrow, magnitude, wide_one};
 pub use division::{groups, one_division};
 pub use existence::{division_exists, fitting_is_decided};
-pub use filling::fill_steim2;
-pub use kinds::{Kind, Run, difference, first_kind, run_fits, steim2_dominates};
+pub use first_group::sizes_of;
+pub use kinds::{
+    Kind, Run, difference, difference_after, first_kind, longest_group, run_fits, steim2_dominates,
+};
 pub use lengths::Length;
 pub use msr_steim::fits_bits;
-pub use steim1_filling::fill_steim1;
 pub use window::{FourSizes, Window};

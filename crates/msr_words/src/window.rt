@@ -1,14 +1,15 @@
 //! Differences with their sizes, taken a stretch at a time: a loop over places that are there takes a fraction of the
 //! instructions of one difference after another.
 
-ghost use Rattle.std.specs.Prelude.{◌≡◌, ◌<◌, ◌≤◌, ◌+◌, ◌-ℤ◌, ℕ, ℤ, List, None, IfSome, IsNone, IsTrue, drop, length};
+ghost use Rattle.std.specs.Prelude.{◌≡◌, ◌<◌, ◌≤◌, ◌+◌, ◌-ℤ◌, ◌↔◌, ℕ, ℤ, pos, List, Option, None, IfSome, IsNone, IsSome, IsTrue, drop, get_or, length};
+ghost use Rattle.std.specs.Int.{int_wrap, w32};
 ghost use Rattle.std.specs.List.{AllByRecursion};
 ghost use Rattle.msr_steim.specs.Word.{FitsBits};
-ghost use Rattle.msr_words.specs.Bounds.{BeginsWithFour};
+ghost use Rattle.msr_words.specs.Bounds.{IsBeforeFour};
 ghost use Rattle.msr_words.specs.FirstGroup.{IsCanonicalFirst, IsSizeAt};
 ghost use Rattle.msr_words.specs.Groups.{IsLongestGroup};
 ghost use Rattle.msr_words.specs.Segment.{differences};
-ghost use Rattle.msr_words.specs.Window.{AreSeen, IsSize, IsWindow};
+ghost use Rattle.msr_words.specs.Window.{IsSize, IsWindow, Shows};
 
 use crate::kinds::longest_group;
 
@@ -18,14 +19,14 @@ const PLACES: usize = 64;
 /// The differences of the samples from `first` to `end - 1`, with their sizes; at first of none.
 #[derive(Debug, Drop)]
 pub struct Window {
-    pub(crate) first: usize,
-    pub(crate) end: usize,
+    first: usize,
+    end: usize,
     /// Before this sample the window has the difference of each and those of the next six.
-    pub(crate) until: usize,
+    until: usize,
     /// How far each is from 0, or from -1 if it is negative.
-    pub(crate) sizes: [u32; 64],
+    sizes: [u32; 64],
     /// Each itself, if it is of 32 bits.
-    pub(crate) kept: [i32; 64],
+    kept: [i32; 64],
 }
 
 /// The size of the difference of a sample from the one before it, by a test of 32 bits, of which a vector holds more.
@@ -101,13 +102,14 @@ impl Window {
     /// Whether the window has the differences of a sample and of the next six. It moves on if it has not, and
     /// there are samples enough.
     #[inline(always)]
-    pub(crate) fn reaches(&mut self, samples: &[i32], at: usize) -> bool
+    fn reaches(&mut self, samples: &[i32], at: usize) -> bool
         requires within { at ≤ length samples.now }
         requires window { IsWindow samples.now at self.old }
         ensures window { IsWindow samples.now at self.new }
         ensures some { IsTrue result → 0 < at }
         ensures seven { IsTrue result → at + 7 ≤ self.new.end }
         ensures until { IsTrue result → at < self.new.until }
+        ensures more { IsTrue result → 64 < length samples.now }
         ensures always { 0 < at → 64 < length samples.now → at + 7 ≤ length samples.now → IsTrue result }
     {
         if at < self.until {
@@ -120,12 +122,40 @@ impl Window {
         true
     }
 
+    /// The place in the window of a sample's difference, if those of the next six are there too. The window moves on
+    /// to them if there are samples enough.
+    #[inline(always)]
+    pub fn place_of(&mut self, samples: &[i32], at: usize) -> Option<usize>
+        requires within { at ≤ length samples.now }
+        requires window { IsWindow samples.now at self.old }
+        ensures window { IsWindow samples.now at self.new }
+        ensures shown { IfSome result (λ place. (before : Option ℤ)
+            → Shows self.new (drop at (differences before samples.now)) place) }
+        ensures room { IfSome result (λ place. place + 7 ≤ 64) }
+        ensures exact { IsSome result ↔ (0 < at) × (at + 7 ≤ length samples.now) × (64 < length samples.now) }
+    {
+        if self.reaches(samples, at) {
+            return Some(at - self.first);
+        }
+        None
+    }
+
+    /// The difference so many places after one, cut to 32 bits.
+    #[inline(always)]
+    pub fn difference_ahead(&self, place: usize, ahead: usize) -> i32
+        requires room { place + ahead < 64 }
+        requires few { ahead < 7 }
+        ensures { (ds : List ℤ) → Shows self.now ds place → result ≡ int_wrap w32 (get_or ds ahead (pos 0)) }
+    {
+        self.kept[place + ahead]
+    }
+
     /// How many differences from a place on stand together in a word, as many as can: by the bits that are set in the
     /// size of any of them.
     #[inline(always)]
-    pub(crate) fn longest_from(&self, place: usize) -> usize
+    pub fn longest_from(&self, place: usize) -> usize
         requires { place + 7 ≤ 64 }
-        ensures longest { (ds : List ℤ) → AreSeen ds self.now.sizes self.now.kept place → IsLongestGroup ds result }
+        ensures longest { (ds : List ℤ) → Shows self.now ds place → IsLongestGroup ds result }
         ensures most { result ≤ 7 }
     {
         let one = self.sizes[place];
@@ -157,12 +187,11 @@ impl Window {
     /// written. It is not told if four of 8 bits come after a larger one that has room for the
     /// first of them beside it: whether it takes that one depends on all that follow.
     #[inline(always)]
-    pub(crate) fn first_steim1_group(&self, place: usize) -> Option<usize>
+    pub fn first_steim1_group(&self, place: usize) -> Option<usize>
         requires { place + 7 ≤ 64 }
-        ensures first { (ds : List ℤ) → AreSeen ds self.now.sizes self.now.kept place
+        ensures first { (ds : List ℤ) → Shows self.now ds place
             → AllByRecursion (FitsBits 32) ds → IfSome result (IsCanonicalFirst ds) }
-        ensures none { (ds : List ℤ) → AreSeen ds self.now.sizes self.now.kept place → IsNone result
-            → BeginsWithFour (drop 1 ds) }
+        ensures none { (ds : List ℤ) → Shows self.now ds place → (IsNone result ↔ IsBeforeFour ds) }
     {
         let one = self.sizes[place];
         let two = self.sizes[place + 1];

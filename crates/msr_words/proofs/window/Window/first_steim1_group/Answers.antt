@@ -1,11 +1,11 @@
 -- By the sizes of the first five differences.
-use Rattle.std.proofs.Common.{arith, ◌<◌, ◌≤◌, ◌+◌, ℕ, ℤ, List, length, drop, get_or, bit_or, lit<, refl}
+use Rattle.std.proofs.Common.{arith, ◌<◌, ◌≤◌, ◌+◌, ℕ, ℤ, List, length, get_or, bit_or, lit<, refl}
 use Rattle.std.specs.List.{AllByRecursion}
 use Rattle.msr_steim.specs.Word.{FitsBits}
-use Rattle.msr_words.specs.Bounds.{BeginsWithFour}
+use Rattle.msr_words.specs.Bounds.{IsBeforeFour}
 use Rattle.msr_words.specs.FirstGroup.{IsCanonicalFirst, IsSizeAt}
 use Rattle.msr_words.specs.Window.{AreSeen}
-use Rattle.msr_words.proofs.Steim1Ahead.{four_small, next_four, one_apart, two_before, two_few, two_large}
+use Rattle.msr_words.proofs.Steim1Ahead.{before_four, four_behind, four_small, one_apart, two_before, two_few, two_large}
 use Rattle.msr_words.proofs.Windows.{size_seen}
 use Rattle.msr_words.proofs.window.Window.first_steim1_group.Goals as goal
 
@@ -43,8 +43,14 @@ module _ (ds : List ℤ) (sizes : List ℕ) (kept : List ℤ) (place : ℕ) (see
   before fits = two_before ds one (s 1) (s 2) (s 3) (s 4) h1 (at 1 (lit< tt)) (at 2 (lit< tt)) (at 3 (lit< tt))
       (at 4 (lit< tt)) fits
 
-  none : bit_or (bit_or (s 1) (s 2)) (s 3) < 128 → s 4 < 128 → BeginsWithFour (drop 1 ds)
-  none = next_four ds one (s 1) (s 2) (s 3) (s 4) h1 (at 1 (lit< tt)) (at 2 (lit< tt)) (at 3 (lit< tt)) (at 4 (lit< tt))
+  untold : bit_or one (s 1) < 32768 → 128 ≤ one → bit_or (bit_or (s 1) (s 2)) (s 3) < 128 → s 4 < 128 → IsBeforeFour ds
+  untold = before_four ds one (s 1) (s 2) (s 3) (s 4) h1 (at 1 (lit< tt)) (at 2 (lit< tt)) (at 3 (lit< tt))
+      (at 4 (lit< tt))
+
+  behind : IsBeforeFour ds → (bit_or one (s 1) < 32768) × (s 1 < 128) × (bit_or (bit_or (s 1) (s 2)) (s 3) < 128)
+      × (128 ≤ one) × (s 4 < 128)
+  behind = four_behind ds one (s 1) (s 2) (s 3) (s 4) h1 (at 1 (lit< tt)) (at 2 (lit< tt)) (at 3 (lit< tt))
+      (at 4 (lit< tt))
 
 pub returns-then-one-two-ge32768-clause-first : goal.returns-then-one-two-ge32768-clause-first
 returns-then-one-two-ge32768-clause-first c ds seen fits =
@@ -69,7 +75,49 @@ returns-else-self-place-lt128-clause-first c ds seen fits =
     before ds c.args.self.now.sizes c.args.self.now.kept c.args.place seen fits c.if-one-two-ge32768.false
     c.if-one-lt128.false c.if-self-place-lt128.false
 
+pub returns-then-one-two-ge32768-clause-none : goal.returns-then-one-two-ge32768-clause-none
+returns-then-one-two-ge32768-clause-none c ds seen = (
+  λ none. absurd (grind (arith, none)),
+  λ is.
+      let h = behind ds c.args.self.now.sizes c.args.self.now.kept c.args.place seen is in
+      let never : ⊥ = omega (arith, h.0, c.if-one-two-ge32768.true) in absurd never,
+)
+
+pub returns-then-two-ge128-clause-none : goal.returns-then-two-ge128-clause-none
+returns-then-two-ge128-clause-none c ds seen = (
+  λ none. absurd (grind (arith, none)),
+  λ is.
+      let h = behind ds c.args.self.now.sizes c.args.self.now.kept c.args.place seen is in
+      let never : ⊥ = omega (arith, h.1, c.if-two-ge128.true) in absurd never,
+)
+
+pub returns-then-four-ge128-clause-none : goal.returns-then-four-ge128-clause-none
+returns-then-four-ge128-clause-none c ds seen = (
+  λ none. absurd (grind (arith, none)),
+  λ is.
+      let h = behind ds c.args.self.now.sizes c.args.self.now.kept c.args.place seen is in
+      let never : ⊥ = omega (arith, h.2, c.if-four-ge128.true) in absurd never,
+)
+
+pub returns-then-one-lt128-clause-none : goal.returns-then-one-lt128-clause-none
+returns-then-one-lt128-clause-none c ds seen = (
+  λ none. absurd (grind (arith, none)),
+  λ is.
+      let h = behind ds c.args.self.now.sizes c.args.self.now.kept c.args.place seen is in
+      let never : ⊥ = omega (arith, h.3, c.if-one-lt128.true) in absurd never,
+)
+
+pub returns-else-self-place-lt128-clause-none : goal.returns-else-self-place-lt128-clause-none
+returns-else-self-place-lt128-clause-none c ds seen = (
+  λ none. absurd (grind (arith, none)),
+  λ is.
+      let h = behind ds c.args.self.now.sizes c.args.self.now.kept c.args.place seen is in
+      let never : ⊥ = omega (arith, h.4, c.if-self-place-lt128.false) in absurd never,
+)
+
 pub returns-then-self-place-lt128-clause-none : goal.returns-then-self-place-lt128-clause-none
-returns-then-self-place-lt128-clause-none c ds seen untold =
-    none ds c.args.self.now.sizes c.args.self.now.kept c.args.place seen c.if-four-ge128.false
-    c.if-self-place-lt128.true
+returns-then-self-place-lt128-clause-none c ds seen = (
+  λ none. untold ds c.args.self.now.sizes c.args.self.now.kept c.args.place seen c.if-one-two-ge32768.false
+      c.if-one-lt128.false c.if-four-ge128.false c.if-self-place-lt128.true,
+  λ is. refl,
+)

@@ -1,5 +1,6 @@
-use Rattle.std.proofs.Common.{rules, arith, ◌≡◌, ◌+◌, ◌-◌, ◌-ℤ◌, ◌%◌, pos, slice_index_or, sym, subst, ◌∙◌, w32, SFits, FitsSigned, to_z, of_z}
-use Rattle.std.proofs.lemmas.Int.{int_wrap_fits, to_z-of_z, wrapping_sub_is}
+use Rattle.std.proofs.Common.{rules, arith, ◌≡◌, ◌+◌, ◌-◌, ◌-ℤ◌, ◌%◌, pos, slice_index_or, sym, ap, subst, ◌∙◌, w32, SFits, to_z, of_z}
+use Rattle.std.specs.Int.{int_wrap}
+use Rattle.std.proofs.lemmas.Int.{to_z-of_z, wrapping_sub_is}
 use Rattle.msr_words.specs.Segment.{difference_at}
 use Rattle.msr_words.specs.Window.{IsSize}
 use Rattle.msr_words.proofs.Pushes.{difference_at_later}
@@ -23,8 +24,6 @@ loop-place-preserved c =
     (search rules) (search rules)
     (record {
       size_is = subst (λ d. IsSize d c.size_after.result) (sym is) size;
-      same = λ f.
-          let f' : FitsSigned w32 (sample -ℤ before) = subst (FitsSigned w32) is f in
-          wrapping_sub_is w32 sample before fits' fits ∙ int_wrap_fits w32 (sample -ℤ before) f' ∙ sym is;
+      cut = wrapping_sub_is w32 sample before fits' fits ∙ ap (int_wrap w32) (sym is);
     })
     c.loop-place.invariant

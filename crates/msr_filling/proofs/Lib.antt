@@ -1,0 +1,6 @@
+pub mod Fill
+pub mod FillFields
+pub mod FilledAreas
+pub mod NextGroups
+pub mod Offsets
+pub mod Steim1Next

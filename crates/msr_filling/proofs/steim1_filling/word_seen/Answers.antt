@@ -1,0 +1,13 @@
+-- By the size.
+use Rattle.std.proofs.Common.{arith, ◌≡◌, take, subst, sym}
+use Rattle.msr_steim.specs.declared.word.Version.TheVariants.{One}
+use Rattle.msr_steim.specs.Word.{IsGroup, group_word}
+use Rattle.msr_filling.proofs.steim1_filling.word_seen.Goals as goal
+
+pub returns-in_default-clause-word : goal.returns-in_default-clause-word
+returns-in_default-clause-word c ds seen group =
+    let few = c.requires.most in
+    let some = c.requires.full in
+    let is : c.args.size ≡ 4 = grind (arith, c.in_default) in
+    subst (λ n. c.formed-in_default.result.word ≡ group_word One (take n ds)) (sym is)
+    (c.formed-in_default.ensures.word ds seen (subst (λ n. IsGroup One (take n ds)) is group))

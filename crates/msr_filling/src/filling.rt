@@ -1,0 +1,236 @@
+//! The Steim-2 words of a run, written in place.
+
+ghost use Rattle.std.specs.Prelude.{◌≡◌, ◌<◌, ◌≤◌, ◌+◌, ◌-◌, ◌*◌, ◌/◌, ◌%◌, ◌^◌, ℤ, List, Some, length, drop, take};
+ghost use Rattle.std.specs.List.{AllByRecursion};
+ghost use Rattle.msr_steim.specs.declared.word.Version.TheVariants.{Two};
+ghost use Rattle.msr_steim.specs.Word.{FitsBits, group_code, group_top, group_width, group_word, joined_fields, twos_complement};
+ghost use Rattle.msr_words.specs.Division.{CanDivide};
+ghost use Rattle.msr_filling.specs.Filled.{IsFilledArea};
+ghost use Rattle.msr_words.specs.Groups.{IsLongestGroup};
+ghost use Rattle.msr_filling.specs.NextWord.{IsNextWord};
+ghost use Rattle.msr_words.specs.Segment.{differences};
+ghost use Rattle.msr_words.specs.Window.{IsWindow, Shows};
+
+use crate::frames::{Sizing, fill_frames};
+use msr_words::{Window, difference_after, longest_group};
+
+/// A word, with its code, and how many differences it holds.
+#[derive(Clone, Copy, Debug)]
+pub(crate) struct NextWord {
+    pub size: usize,
+    pub code: u32,
+    pub word: u32,
+    /// 1 if no difference is left, else 0.
+    pub empty: usize,
+}
+
+/// How a group of a given number of differences is written.
+#[derive(Clone, Copy, Debug)]
+struct Form {
+    code: u32,
+    top: u32,
+    width: u32,
+}
+
+/// The field of `width` bits that a difference of that many bits is in two's complement.
+pub(crate) fn field_of(difference: i64, width: u32) -> u64
+    requires positive { 0 < width }
+    requires small { width ≤ 32 }
+    ensures same { FitsBits width difference → result ≡ twos_complement width difference }
+    ensures within { result < 2 ^ width }
+{
+    difference.cast_unsigned() & (u64::MAX >> (64 - width))
+}
+
+/// Gives the fields of `size` differences of the run, from `at` on, side by side. It is called near
+/// the ends of a run alone, and is kept out of the loop over words.
+#[inline(never)]
+pub(crate) fn fields_from(
+    before: Option<i32>,
+    run: &[i32],
+    at: usize,
+    size: usize,
+    width: u32,
+) -> u32
+    requires positive { 0 < width }
+    requires within { size * width ≤ 32 }
+    requires room { at + size ≤ length run.now }
+    requires fit { AllByRecursion (FitsBits width) (take size (drop at (differences before run.now))) }
+    ensures same { result ≡ joined_fields width (take size (drop at (differences before run.now))) }
+    ensures few { result < 2 ^ (size * width) }
+{
+    let mut fields: u64 = 0;
+    for next in at..at + size {
+        let difference = difference_after(before, run, next);
+        fields = (fields << width) | field_of(difference, width);
+    }
+    fields as u32
+}
+
+/// Gives the form of a group of `size` differences.
+fn form_of(size: usize) -> Form
+    requires some { 1 ≤ size }
+    requires most { size ≤ 7 }
+    ensures width { group_width Two size ≡ Some result.width }
+    ensures positive { 0 < result.width }
+    ensures within { size * result.width ≤ 32 }
+    ensures code { result.code ≡ group_code Two size }
+    ensures small { result.code < 4 }
+    ensures top { result.top ≡ group_top Two size }
+    ensures room { result.top * 2 ^ 30 + 2 ^ (size * result.width) ≤ 2 ^ 32 }
+{
+    let (code, top, width) = match size {
+        1 => (2, 1, 30),
+        2 => (2, 2, 15),
+        3 => (2, 3, 10),
+        4 => (1, 0, 8),
+        5 => (3, 0, 6),
+        6 => (3, 1, 5),
+        _ => (3, 2, 4),
+    };
+    Form { code, top, width }
+}
+
+/// Gives the fields of `size` differences from a place of the window on, side by side: their sum,
+/// each moved to its place, in which a negative one borrows from those before it. Half of each
+/// field's range added to all takes the loans back, and is taken off without a carry. If it is
+/// inlined with literals as size and width, no loop is left.
+#[inline(always)]
+pub(crate) fn fields_seen(window: &Window, place: usize, size: usize, width: u32) -> u32
+    requires positive { 0 < width }
+    requires within { size * width ≤ 32 }
+    requires room { place + size ≤ 64 }
+    requires most { size ≤ 7 }
+    ensures same { (ds : List ℤ) → Shows window.now ds place
+        → AllByRecursion (FitsBits width) (take size ds) → result ≡ joined_fields width (take size ds) }
+{
+    let mut fields: u64 = 0;
+    let mut halves: u64 = 0;
+    for next in 0..size {
+        let difference = i64::from(window.difference_ahead(place, next));
+        fields = (fields << width).wrapping_add(difference.cast_unsigned());
+        halves = (halves << width) | (1 << (width - 1));
+    }
+    ((fields.wrapping_add(halves) ^ halves) & u64::from(u32::MAX)) as u32
+}
+
+/// The word of this longest group, of this form, from a place of the window on.
+#[inline(always)]
+fn formed(window: &Window, place: usize, size: usize, form: Form) -> NextWord
+    requires room { place + 7 ≤ 64 }
+    requires full { 1 ≤ size }
+    requires most { size ≤ 7 }
+    requires width { group_width Two size ≡ Some form.width }
+    requires positive { 0 < form.width }
+    requires within { size * form.width ≤ 32 }
+    requires code { form.code ≡ group_code Two size }
+    requires small { form.code < 4 }
+    requires top { form.top ≡ group_top Two size }
+    requires space { form.top * 2 ^ 30 + 2 ^ (size * form.width) ≤ 2 ^ 32 }
+    ensures size { result.size ≡ size }
+    ensures some { result.empty ≡ 0 }
+    ensures code { result.code ≡ group_code Two result.size }
+    ensures small { result.code < 4 }
+    ensures word { (ds : List ℤ) → Shows window.now ds place
+        → IsLongestGroup ds result.size → result.word ≡ group_word Two (take result.size ds) }
+{
+    let fields = fields_seen(window, place, size, form.width);
+    NextWord {
+        size,
+        code: form.code,
+        word: (form.top << 30).wrapping_add(fields),
+        empty: 0,
+    }
+}
+
+/// The word of the longest group from a place of the window on.
+#[inline(always)]
+fn word_seen(window: &Window, place: usize) -> NextWord
+    requires { place + 7 ≤ 64 }
+    ensures longest { (ds : List ℤ) → Shows window.now ds place
+        → IsLongestGroup ds result.size }
+    ensures some { result.empty ≡ 0 }
+    ensures code { result.code ≡ group_code Two result.size }
+    ensures small { result.code < 4 }
+    ensures word { (ds : List ℤ) → Shows window.now ds place
+        → IsLongestGroup ds result.size → result.word ≡ group_word Two (take result.size ds) }
+{
+    match window.longest_from(place) {
+        1 => formed(window, place, 1, form_of(1)),
+        2 => formed(window, place, 2, form_of(2)),
+        3 => formed(window, place, 3, form_of(3)),
+        4 => formed(window, place, 4, form_of(4)),
+        5 => formed(window, place, 5, form_of(5)),
+        6 => formed(window, place, 6, form_of(6)),
+        7 => formed(window, place, 7, form_of(7)),
+        _ => NextWord {
+            size: 0,
+            code: 0,
+            word: 0,
+            empty: 0,
+        },
+    }
+}
+
+/// The word of the longest group from that difference on, of differences taken one after another.
+/// It is kept out of the loop over words, which is faster without it.
+#[inline(never)]
+fn word_outside(before: Option<i32>, run: &[i32], at: usize) -> NextWord
+    requires { at ≤ length run.now }
+    ensures longest { IsLongestGroup (drop at (differences before run.now)) result.size }
+    ensures some { at < length run.now → result.empty ≡ 0 }
+    ensures none { at ≡ length run.now → result.empty ≡ 1 }
+    ensures code { result.code ≡ group_code Two result.size }
+    ensures small { result.code < 4 }
+    ensures word { result.word ≡ group_word Two (take result.size (drop at (differences before run.now))) }
+{
+    let size = longest_group(before, run, at);
+    if size == 0 {
+        return NextWord {
+            size: 0,
+            code: 0,
+            word: 0,
+            empty: usize::from(at == run.len()),
+        };
+    }
+    let form = form_of(size);
+    let fields = fields_from(before, run, at, size, form.width);
+    NextWord {
+        size,
+        code: form.code,
+        word: (form.top << 30) + fields,
+        empty: 0,
+    }
+}
+
+/// The word of the longest group from that difference on.
+#[inline(always)]
+pub(crate) fn steim2_word(
+    before: Option<i32>,
+    run: &[i32],
+    window: &mut Window,
+    at: usize,
+) -> NextWord
+    requires within { at ≤ length run.now }
+    requires window { IsWindow run.now at window.old }
+    ensures window { IsWindow run.now at window.new }
+    ensures next { IsNextWord Two (drop at (differences before run.now)) result }
+{
+    if let Some(place) = window.place_of(run, at) {
+        return word_seen(window, place);
+    }
+    word_outside(before, run, at)
+}
+
+/// Fills the area, of whole frames, with the words of the run's differences, big-endian: each group in turn is the
+/// longest, and the constants are the first and the last sample. Gives the number of groups. If there is no room for
+/// these, nothing is said of the area.
+#[inline(never)]
+pub fn fill_steim2(before: Option<i32>, run: &[i32], area: &mut [u8]) -> usize
+    requires some { 1 ≤ length run.now }
+    requires frames { length area.old % 64 ≡ 0 }
+    ensures filled { CanDivide Two (15 * (length area.old / 64) - 2) (differences before run.now)
+        → IsFilledArea Two before run.now (length area.old / 64) area.new result }
+{
+    fill_frames(Sizing::Longest, before, run, &[], area).unwrap()
+}

@@ -1,0 +1,9 @@
+//! The frames of one record: the words of a run of Steim-1 or Steim-2, written in place.
+#![tactic(auto)]
+
+mod filling;
+mod frames;
+mod steim1_filling;
+
+pub use filling::fill_steim2;
+pub use steim1_filling::fill_steim1;

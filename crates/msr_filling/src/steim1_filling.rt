@@ -1,0 +1,276 @@
+//! The Steim-1 words of a run, written in place.
+
+ghost use Rattle.std.specs.Prelude.{◌≡◌, ◌<◌, ◌≤◌, ◌+◌, ◌-◌, ◌*◌, ◌/◌, ◌%◌, ℤ, List, IfOk, IfSome, IsNone, Some, length, drop, take};
+ghost use Rattle.std.specs.List.{AllByRecursion};
+ghost use Rattle.msr_steim.specs.declared.word.Version.TheVariants.{One};
+ghost use Rattle.msr_steim.specs.Word.{FitsBits, IsGroup, group_code, group_width, group_word, padding_of};
+ghost use Rattle.msr_words.specs.Bounds.{BeginsWithFour};
+ghost use Rattle.msr_words.specs.Division.{CanDivide};
+ghost use Rattle.msr_filling.specs.Filled.{IsFilledArea};
+ghost use Rattle.msr_words.specs.FirstGroup.{AreSizes, IsCanonicalFirst, IsSizeAt};
+ghost use Rattle.msr_filling.specs.NextWord.{IsNextWord};
+ghost use Rattle.msr_words.specs.Segment.{differences};
+ghost use Rattle.msr_words.specs.Window.{IsWindow, Shows};
+
+use crate::filling::{NextWord, fields_from, fields_seen};
+use crate::frames::{Sizing, fill_frames};
+use msr_words::{Window, difference_after, magnitude, sizes_of};
+use std::alloc::{AllocError, Global};
+
+/// How a group of a given number of differences is written: the code of its word, of how many bits
+/// each is, and how many bits below them are left 0.
+#[derive(Clone, Copy, Debug)]
+struct Form {
+    code: u32,
+    width: u32,
+    left: u32,
+}
+
+/// Gives the form of a group of `size` differences.
+fn form_of(size: usize) -> Form
+    requires some { 1 ≤ size }
+    requires most { size ≤ 4 }
+    ensures width { group_width One size ≡ Some result.width }
+    ensures positive { 0 < result.width }
+    ensures code { result.code ≡ group_code One size }
+    ensures small { result.code < 4 }
+    ensures left { result.left ≡ padding_of One size * result.width }
+    ensures within { size * result.width + result.left ≤ 32 }
+{
+    let (code, width, left) = match size {
+        1 => (3, 32, 0),
+        2 => (2, 16, 0),
+        3 => (1, 8, 8),
+        _ => (1, 8, 0),
+    };
+    Form { code, width, left }
+}
+
+/// The word of this group, of this form, from a place of the window on.
+#[inline(always)]
+fn formed(window: &Window, place: usize, size: usize, form: Form) -> NextWord
+    requires room { place + 7 ≤ 64 }
+    requires full { 1 ≤ size }
+    requires most { size ≤ 4 }
+    requires width { group_width One size ≡ Some form.width }
+    requires positive { 0 < form.width }
+    requires code { form.code ≡ group_code One size }
+    requires small { form.code < 4 }
+    requires left { form.left ≡ padding_of One size * form.width }
+    requires within { size * form.width + form.left ≤ 32 }
+    ensures size { result.size ≡ size }
+    ensures some { result.empty ≡ 0 }
+    ensures code { result.code ≡ group_code One size }
+    ensures small { result.code < 4 }
+    ensures word { (ds : List ℤ) → Shows window.now ds place → IsGroup One (take size ds)
+        → result.word ≡ group_word One (take size ds) }
+{
+    let fields = fields_seen(window, place, size, form.width);
+    NextWord {
+        size,
+        code: form.code,
+        word: fields << form.left,
+        empty: 0,
+    }
+}
+
+/// The word of this group from a place of the window on.
+#[inline(always)]
+fn word_seen(window: &Window, place: usize, size: usize) -> NextWord
+    requires room { place + 7 ≤ 64 }
+    requires full { 1 ≤ size }
+    requires most { size ≤ 4 }
+    ensures size { result.size ≡ size }
+    ensures some { result.empty ≡ 0 }
+    ensures code { result.code ≡ group_code One size }
+    ensures small { result.code < 4 }
+    ensures word { (ds : List ℤ) → Shows window.now ds place → IsGroup One (take size ds)
+        → result.word ≡ group_word One (take size ds) }
+{
+    match size {
+        1 => formed(window, place, 1, form_of(1)),
+        2 => formed(window, place, 2, form_of(2)),
+        3 => formed(window, place, 3, form_of(3)),
+        _ => formed(window, place, 4, form_of(4)),
+    }
+}
+
+/// The word of this group, of differences taken one after another.
+fn word_outside(before: Option<i32>, run: &[i32], at: usize, size: usize) -> NextWord
+    requires full { 1 ≤ size }
+    requires most { size ≤ 4 }
+    requires room { at + size ≤ length run.now }
+    requires group { IsGroup One (take size (drop at (differences before run.now))) }
+    ensures size { result.size ≡ size }
+    ensures some { result.empty ≡ 0 }
+    ensures code { result.code ≡ group_code One size }
+    ensures small { result.code < 4 }
+    ensures word { result.word ≡ group_word One (take size (drop at (differences before run.now))) }
+{
+    let form = form_of(size);
+    let fields = fields_from(before, run, at, size, form.width);
+    NextWord {
+        size,
+        code: form.code,
+        word: fields << form.left,
+        empty: 0,
+    }
+}
+
+/// The word of the group that begins with that difference, or 0 if none is left.
+#[inline(always)]
+pub(crate) fn steim1_word(
+    before: Option<i32>,
+    run: &[i32],
+    sizes: &[u8],
+    window: &mut Window,
+    at: usize,
+) -> NextWord
+    requires within { at ≤ length run.now }
+    requires window { IsWindow run.now at window.old }
+    requires sizes { AreSizes (differences before run.now) 0 sizes.now }
+    ensures window { IsWindow run.now at window.new }
+    ensures next { IsNextWord One (drop at (differences before run.now)) result }
+{
+    if let Some(place) = window.place_of(run, at) {
+        return word_seen(window, place, usize::from(sizes[at]));
+    }
+    if at == run.len() {
+        return NextWord {
+            size: 0,
+            code: 0,
+            word: 0,
+            empty: 1,
+        };
+    }
+    word_outside(before, run, at, usize::from(sizes[at]))
+}
+
+/// Gives the size of the difference `ahead` places after the one at `at`, or the greatest size if
+/// none is left there.
+fn size_ahead(before: Option<i32>, run: &[i32], at: usize, ahead: usize) -> u64
+    requires few { ahead ≤ 4 }
+    requires within { at < length run.now }
+    ensures { IsSizeAt (drop at (differences before run.now)) ahead result }
+{
+    let place = at + ahead;
+    if place >= run.len() {
+        return u64::MAX;
+    }
+    magnitude(difference_after(before, run, place))
+}
+
+/// What `Window::first_steim1_group` tells, of differences taken one after another; three can be
+/// left alone here.
+fn first_group_outside(before: Option<i32>, run: &[i32], at: usize) -> Option<usize>
+    requires within { at < length run.now }
+    requires fits { AllByRecursion (FitsBits 32) (differences before run.now) }
+    ensures first { IfSome result (IsCanonicalFirst (drop at (differences before run.now))) }
+    ensures none { IsNone result → BeginsWithFour (drop 1 (drop at (differences before run.now))) }
+{
+    let one = size_ahead(before, run, at, 0);
+    let two = size_ahead(before, run, at, 1);
+    if one | two >= 32_768 {
+        return Some(1);
+    }
+    if two >= 128 {
+        return Some(2);
+    }
+    let three = size_ahead(before, run, at, 2);
+    if run.len() - at == 3 {
+        return if one | three < 128 { Some(3) } else { Some(2) };
+    }
+    let four = two | three | size_ahead(before, run, at, 3);
+    if four >= 128 {
+        return Some(2);
+    }
+    if one < 128 {
+        return Some(4);
+    }
+    if size_ahead(before, run, at, 4) < 128 {
+        None
+    } else {
+        Some(2)
+    }
+}
+
+/// The word of the group that begins with that difference, if the next ones tell its size, of
+/// differences taken one after another. It is kept out of the loop over words.
+#[inline(never)]
+fn word_outside_ahead(before: Option<i32>, run: &[i32], at: usize) -> Option<NextWord>
+    requires within { at < length run.now }
+    requires fits { AllByRecursion (FitsBits 32) (differences before run.now) }
+    ensures next { IfSome result (IsNextWord One (drop at (differences before run.now))) }
+    ensures none { IsNone result → BeginsWithFour (drop 1 (drop at (differences before run.now))) }
+{
+    let size = first_group_outside(before, run, at)?;
+    Some(word_outside(before, run, at, size))
+}
+
+/// The word of the group that begins with that difference, or 0 if none is left; none if the
+/// next differences do not tell its size.
+#[inline(always)]
+pub(crate) fn steim1_word_ahead(
+    before: Option<i32>,
+    run: &[i32],
+    window: &mut Window,
+    at: usize,
+) -> Option<NextWord>
+    requires within { at ≤ length run.now }
+    requires window { IsWindow run.now at window.old }
+    requires fits { AllByRecursion (FitsBits 32) (differences before run.now) }
+    ensures window { IsWindow run.now at window.new }
+    ensures next { IfSome result (IsNextWord One (drop at (differences before run.now))) }
+    ensures none { IsNone result → BeginsWithFour (drop 1 (drop at (differences before run.now))) }
+{
+    if let Some(place) = window.place_of(run, at) {
+        let size = window.first_steim1_group(place)?;
+        return Some(word_seen(window, place, size));
+    }
+    if at == run.len() {
+        return Some(NextWord {
+            size: 0,
+            code: 0,
+            word: 0,
+            empty: 1,
+        });
+    }
+    word_outside_ahead(before, run, at)
+}
+
+/// Fills the area as `fill_steim1` does, by the sizes of all groups, found from the run's end on.
+#[inline(never)]
+fn fill_by_sizes(
+    alloc: Global,
+    before: Option<i32>,
+    run: &[i32],
+    area: &mut [u8],
+) -> Result<usize, AllocError>
+    requires some { 1 ≤ length run.now }
+    requires frames { length area.old % 64 ≡ 0 }
+    requires fits { CanDivide One (15 * (length area.old / 64) - 2) (differences before run.now) }
+    ensures { IfOk result (IsFilledArea One before run.now (length area.old / 64) area.new) }
+{
+    let sizes = sizes_of(alloc, run.len(), |at| difference_after(before, run, at))?;
+    Ok(fill_frames(Sizing::Given, before, run, &sizes, area).unwrap())
+}
+
+/// Fills the area, of whole frames, with the words of the run's differences, big-endian: the groups
+/// of the division that is written, and as constants the first and the last sample. Gives the number
+/// of groups. Memory is taken only if the next differences do not tell the size of each group.
+pub fn fill_steim1(
+    alloc: Global,
+    before: Option<i32>,
+    run: &[i32],
+    area: &mut [u8],
+) -> Result<usize, AllocError>
+    requires some { 1 ≤ length run.now }
+    requires frames { length area.old % 64 ≡ 0 }
+    requires fits { CanDivide One (15 * (length area.old / 64) - 2) (differences before run.now) }
+    ensures { IfOk result (IsFilledArea One before run.now (length area.old / 64) area.new) }
+{
+    if let Some(used) = fill_frames(Sizing::Ahead, before, run, &[], area) {
+        return Ok(used);
+    }
+    fill_by_sizes(alloc, before, run, area)
+}
