@@ -25,7 +25,7 @@ pub struct Window {
     until: usize,
     /// How far each is from 0, or from -1 if it is negative.
     sizes: [u32; 64],
-    /// Each itself, if it is of 32 bits.
+    /// Each itself, cut to 32 bits.
     kept: [i32; 64],
 }
 
@@ -99,29 +99,6 @@ impl Window {
         self.until = self.end - 6;
     }
 
-    /// Whether the window has the differences of a sample and of the next six. It moves on if it has not, and
-    /// there are samples enough.
-    #[inline(always)]
-    fn reaches(&mut self, samples: &[i32], at: usize) -> bool
-        requires within { at ≤ length samples.now }
-        requires window { IsWindow samples.now at self.old }
-        ensures window { IsWindow samples.now at self.new }
-        ensures some { IsTrue result → 0 < at }
-        ensures seven { IsTrue result → at + 7 ≤ self.new.end }
-        ensures until { IsTrue result → at < self.new.until }
-        ensures more { IsTrue result → 64 < length samples.now }
-        ensures always { 0 < at → 64 < length samples.now → at + 7 ≤ length samples.now → IsTrue result }
-    {
-        if at < self.until {
-            return true;
-        }
-        if at == 0 || samples.len() <= PLACES || samples.len() - at < 7 {
-            return false;
-        }
-        self.take(samples, at.min(samples.len() - PLACES));
-        true
-    }
-
     /// The place in the window of a sample's difference, if those of the next six are there too. The window moves on
     /// to them if there are samples enough.
     #[inline(always)]
@@ -134,10 +111,14 @@ impl Window {
         ensures room { IfSome result (λ place. place + 7 ≤ 64) }
         ensures exact { IsSome result ↔ (0 < at) × (at + 7 ≤ length samples.now) × (64 < length samples.now) }
     {
-        if self.reaches(samples, at) {
+        if at < self.until {
             return Some(at - self.first);
         }
-        None
+        if at == 0 || samples.len() <= PLACES || samples.len() - at < 7 {
+            return None;
+        }
+        self.take(samples, at.min(samples.len() - PLACES));
+        Some(at - self.first)
     }
 
     /// The difference so many places after one, cut to 32 bits.
@@ -223,8 +204,8 @@ impl Window {
         ensures window { IsWindow run.now at self.new }
         ensures longest { IsLongestGroup (drop at (differences before run.now)) result }
     {
-        if self.reaches(run, at) {
-            return self.longest_from(at - self.first);
+        if let Some(place) = self.place_of(run, at) {
+            return self.longest_from(place);
         }
         longest_group(before, run, at)
     }
@@ -251,8 +232,7 @@ impl Window {
         ensures third { IsSizeAt (drop at (differences None samples.now)) 2 result.third }
         ensures fourth { IsSizeAt (drop at (differences None samples.now)) 3 result.fourth }
     {
-        if self.reaches(samples, at) {
-            let place = at - self.first;
+        if let Some(place) = self.place_of(samples, at) {
             return FourSizes {
                 first: self.sizes[place],
                 second: self.sizes[place + 1],

@@ -1,8 +1,20 @@
--- The window has the differences from there on.
-use Rattle.msr_words.proofs.Windows.{window_seen}
+-- The window has the differences from there on, as it is or when it has moved on.
+use Rattle.std.proofs.Common.{arith, ◌≤◌, ◌+◌}
+use Rattle.msr_words.specs.Window.{IsWindow}
+use Rattle.msr_words.proofs.Windows.{window_on, window_seen}
 use Rattle.msr_words.proofs.window.Window.place_of.Goals as goal
 
-pub returns-then-reaches-clause-shown : goal.returns-then-reaches-clause-shown
-returns-then-reaches-clause-shown c before =
-    window_seen c.args.samples.now c.args.at c.reaches.new.self before c.reaches.ensures.window
-    (c.reaches.ensures.seven c.if-reaches.true)
+pub returns-then-at-self-clause-shown : goal.returns-then-at-self-clause-shown
+returns-then-at-self-clause-shown c before =
+    window_seen c.args.samples.now c.args.at c.args.self.now before c.requires.window
+    (omega (arith, c.requires.window.until, c.if-at-self.true))
+
+pub returns-clause-shown : goal.returns-clause-shown
+returns-clause-shown c before =
+    let least = c.min.ensures in
+    let many = c.if-samples-le-PLACES.false in
+    let seven = c.if-samples-at-lt7.false in
+    let on : IsWindow c.args.samples.now c.args.at c.take.new.self =
+    window_on c.args.samples.now c.min.result c.args.at c.take.new.self (omega arith) c.take.ensures.window in
+    let end : c.args.at + 7 ≤ c.take.new.self.end = omega (arith, c.take.ensures.end) in
+    window_seen c.args.samples.now c.args.at c.take.new.self before on end
