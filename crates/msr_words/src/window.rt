@@ -121,7 +121,7 @@ impl Window {
         Some(at - self.first)
     }
 
-    /// The difference so many places after one, cut to 32 bits.
+    /// The difference `ahead` places after the one at `place`, cut to 32 bits.
     #[inline(always)]
     pub fn difference_ahead(&self, place: usize, ahead: usize) -> i32
         requires room { place + ahead < 64 }
