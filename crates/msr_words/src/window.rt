@@ -1,7 +1,7 @@
 //! Differences with their sizes, taken a stretch at a time: a loop over places that are there takes a fraction of the
 //! instructions of one difference after another.
 
-ghost use Rattle.std.specs.Prelude.{◌≡◌, ◌<◌, ◌≤◌, ◌+◌, ◌-ℤ◌, ◌↔◌, ℕ, ℤ, pos, List, Option, None, IfSome, IsNone, IsSome, IsTrue, drop, get_or, length};
+ghost use Rattle.std.specs.Prelude.{◌≡◌, ◌<◌, ◌≤◌, ◌+◌, ◌-ℤ◌, ◌↔◌, ℕ, ℤ, pos, List, Option, None, IfSome, IsNone, IsSome, drop, get_or, length};
 ghost use Rattle.std.specs.Int.{int_wrap, w32};
 ghost use Rattle.std.specs.List.{AllByRecursion};
 ghost use Rattle.msr_steim.specs.Word.{FitsBits};

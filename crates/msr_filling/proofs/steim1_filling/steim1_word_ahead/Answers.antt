@@ -17,7 +17,8 @@ here : (c : goal.In_ok-size) → IsSizeThere c.args.before c.args.run.now c.args
 here c =
     let ds = differences c.args.before c.args.run.now in
     size_there c.args.before c.args.run.now c.args.at c.in_ok-size.size (less_seen c)
-    (c.in_ok-size.ensures.first (drop c.args.at ds) (c.in-Some.ensures.shown c.args.before) (fits_from c.args.at ds c.requires.fits))
+    (c.in_ok-size.ensures.first (drop c.args.at ds) (c.in-Some.ensures.shown c.args.before)
+    (fits_from c.args.at ds c.requires.fits))
 
 pub returns-in_err-size-clause-none : goal.returns-in_err-size-clause-none
 returns-in_err-size-clause-none c untold =

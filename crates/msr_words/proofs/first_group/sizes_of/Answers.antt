@@ -19,7 +19,8 @@ loop-at-preserved g c =
           let cut = given_at _ c.args.count ds given (c.loop-at.at - 1) c.loop-at.at c.difference.result (omega arith)
           within c.difference.ensures in
           let following : IsFollowing (c.difference.result ∷ drop c.loop-at.at ds) c.preceded_by-following.result =
-          simp to_z-of_z at (c.preceded_by-following.ensures.following (drop c.loop-at.at ds) (inv.following ds given)) in
+          simp to_z-of_z
+          at (c.preceded_by-following.ensures.following (drop c.loop-at.at ds) (inv.following ds given)) in
           subst (λ xs. IsFollowing xs c.preceded_by-following.result) cut following;
       sizes = λ ds given.
           let cut = given_at _ c.args.count ds given (c.loop-at.at - 1) c.loop-at.at c.difference.result (omega arith)
@@ -31,6 +32,7 @@ loop-at-preserved g c =
           sizes_more ds (c.loop-at.at - 1) c.loop-at.at c.preceded_by-following.result.group c.loop-at.sizes.items
           (omega arith) (inv.sizes ds given) (omega arith) (
             c.preceded_by-following.result.all - 1,
-            subst (λ xs. IsFirstGroup xs c.preceded_by-following.result.group (c.preceded_by-following.result.all - 1)) cut group,
+            subst (λ xs. IsFirstGroup xs c.preceded_by-following.result.group (c.preceded_by-following.result.all - 1))
+                cut group,
           );
     }
