@@ -53,7 +53,7 @@ fn run_trackers(rt: &HostRuntime, record_length: Length) -> io::Result<()> {
 }
 
 /// Runs the packer and the checker over as many samples as the first word says, or over 20,000 if
-/// it is no number.
+/// it is missing or no number.
 fn run_packer(rt: &HostRuntime, record_length: Length) -> io::Result<()> {
     let wanted = number_at(rt, 1)?;
     let calm = number_at(rt, 2)?.unwrap_or(CALM).max(1);

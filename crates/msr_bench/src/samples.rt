@@ -34,7 +34,8 @@ fn width_at(place: usize, calm: u32) -> u32
     }
 }
 
-/// Gives `count` samples: noise about 0 that spreads over `calm` values, and over more in events.
+/// Gives `count` samples: noise about 0 that spreads over `calm` values, and in events over 2^20,
+/// then 2^14, then 2^10.
 pub fn made_up(alloc: Global, count: usize, calm: u32) -> Result<Vec<i32>, AllocError>
     requires { 0 < calm }
 {

@@ -565,7 +565,7 @@ fn helps_with_what_is_done(rt: HostRuntime) -> Result<(), Fail> {
 
 #[test]
 fn helps_with_the_statuses(rt: HostRuntime) -> Result<(), Fail> {
-    let rows: [(&'static [&'static str], &'static str); 5] = [
+    let rows: [(&'static [&'static str], &'static str); 6] = [
         (
             &["msrepack", "repack", "--help"],
             "\nStatus 0 if all was written, 1 after a fault, 2 if the command line is wrong.\n",
@@ -576,7 +576,11 @@ fn helps_with_the_statuses(rt: HostRuntime) -> Result<(), Fail> {
         ),
         (
             &["msrepack", "check", "--help"],
-            "Both have status 1, and no verdict; it is 2\nif the command line is wrong.\n",
+            "\nfault, one line says at which byte and why. Both have status 1, and no verdict; it is 2\n",
+        ),
+        (
+            &["msrepack", "check", "--help"],
+            " it is 2\nif the command line is wrong.\n",
         ),
         (
             &["msrepack", "archive", "--help"],

@@ -6,7 +6,7 @@ use msr_tool::Behavior;
 use std::process::Abort;
 use std::test::Fail;
 
-/// Moves at most `most` bytes in a call, and fails at the call `at`.
+/// Moves at most `most` bytes in a call, and fails at the call `at`, counted from 0.
 fn failing(most: usize, at: u64) -> Behavior {
     Behavior {
         most,

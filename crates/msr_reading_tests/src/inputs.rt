@@ -326,7 +326,7 @@ fn failures(rt: HostRuntime) {
 }
 
 /// How long the first record is that a source gives which moves at most `most` bytes in a call and
-/// fails at the call `fails_at`.
+/// fails at the call `fails_at`, counted from 0.
 fn first_of(
     alloc: Global,
     bytes: &[u8],

@@ -257,7 +257,7 @@ fn each_call_in_turn(rt: HostRuntime) -> Result<(), Fail> {
     Ok(())
 }
 
-/// There are enough segments that their records are written in two pieces.
+/// There are enough segments for their records to be written in two pieces.
 #[test]
 fn a_long_output_fails_in_its_midst(rt: HostRuntime) -> Result<(), Fail> {
     let alloc = rt.alloc();
