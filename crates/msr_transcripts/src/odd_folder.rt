@@ -40,6 +40,53 @@ impl<'a> OddFolder<'a> {
             taken: "",
         }
     }
+
+    /// With this one odd.
+    pub fn with(self, name: &str, value: &'a str) -> OddFolder<'a> {
+        match name {
+            "folder" => OddFolder {
+                path: value,
+                ..self
+            },
+            "names" => OddFolder {
+                names: listed(value),
+                ..self
+            },
+            "earlier" => OddFolder {
+                earlier: value,
+                ..self
+            },
+            "later" => OddFolder {
+                later: value,
+                ..self
+            },
+            "made" => OddFolder {
+                made: value,
+                ..self
+            },
+            "other" => OddFolder {
+                other: value,
+                ..self
+            },
+            "gone" => OddFolder {
+                gone: value,
+                ..self
+            },
+            _ => OddFolder {
+                taken: value,
+                ..self
+            },
+        }
+    }
+}
+
+/// The names of a folder that cannot be opened, that cannot be read to its end, or that has a name that is not UTF-8.
+fn listed(text: &str) -> Option<&'static [u8]> {
+    match text {
+        "cut" => Some(b"XX.TEST.00.BHN"),
+        "latin" => Some(b"a\0\xff\0"),
+        _ => None,
+    }
 }
 
 /// The names of a folder.
