@@ -116,7 +116,7 @@ fn archive<'a>(alloc: Global) -> Result<Command<'a>, AllocError> {
 }
 
 /// The command line of the program.
-pub fn command<'a>(alloc: Global) -> Result<Command<'a>, AllocError> {
+pub(crate) fn command<'a>(alloc: Global) -> Result<Command<'a>, AllocError> {
     Command::new(alloc, "msrepack")
         .bin_name("msrepack")?
         .version("0.1.0")

@@ -6,7 +6,7 @@ use msr_tool::Verdict;
 
 /// What a task that was done ends with.
 #[derive(Clone, Copy, Debug, PartialEq, Eq)]
-pub enum Done {
+pub(crate) enum Done {
     /// Everything was written.
     Written,
     /// A verdict was printed.
@@ -17,7 +17,7 @@ pub enum Done {
 
 impl Done {
     /// The exit status of a program that ends so.
-    pub fn status(&self) -> u8
+    pub(crate) fn status(&self) -> u8
         ensures { result ≡ status_of_done self.now }
     {
         match self {

@@ -12,7 +12,7 @@ use std::rt::Files;
 
 /// Which regular file it is, whatever its names: its device, and its number there.
 #[derive(Clone, Copy, Debug, PartialEq, Eq)]
-pub struct FileId {
+pub(crate) struct FileId {
     device: u64,
     number: u64,
 }
@@ -30,13 +30,16 @@ fn id_of(metadata: &Metadata) -> Option<FileId> {
 
 /// A file that was opened to be read.
 #[derive(Drop)]
-pub struct OpenedFile<F> {
+pub(crate) struct OpenedFile<F> {
     pub file: F,
     pub id: Option<FileId>,
 }
 
 /// Opens the file with this name, also if it is `-`.
-pub fn open_file<'a, R: Files>(rt: &R, name: &'a str) -> Result<OpenedFile<R::File>, TaskFault<'a>>
+pub(crate) fn open_file<'a, R: Files>(
+    rt: &R,
+    name: &'a str,
+) -> Result<OpenedFile<R::File>, TaskFault<'a>>
     ensures { IfErr result IsUnopened }
 {
     let Ok(file) = File::open(rt, name) else {
@@ -52,7 +55,7 @@ pub fn open_file<'a, R: Files>(rt: &R, name: &'a str) -> Result<OpenedFile<R::Fi
 }
 
 /// Which file standard input is redirected from, if the system tells it.
-pub fn id_of_standard_input<R: Files>(rt: &R) -> Option<FileId> {
+pub(crate) fn id_of_standard_input<R: Files>(rt: &R) -> Option<FileId> {
     match fs::metadata(rt, "/dev/stdin") {
         Ok(metadata) => id_of(&metadata),
         Err(_) => None,
@@ -69,7 +72,7 @@ fn id_of_standard_output<R: Files>(rt: &R) -> Option<FileId> {
 
 /// Creates the file with this name, or opens it and cuts it to nothing, unless it is the input by some name, or what
 /// standard output is redirected to: then it is left as it is.
-pub fn create_output<'a, R: Files>(
+pub(crate) fn create_output<'a, R: Files>(
     rt: &R,
     name: &'a str,
     input: Option<FileId>,
@@ -99,7 +102,7 @@ pub fn create_output<'a, R: Files>(
 
 /// Waits until the system has stored what was printed, if standard output is redirected to a regular file that can
 /// be opened once more.
-pub fn settle_standard_output<R: Files>(rt: &R) -> Result<(), ToolFault>
+pub(crate) fn settle_standard_output<R: Files>(rt: &R) -> Result<(), ToolFault>
     ensures { IfErr result (λ fault. fault ≡ ToolFault.Write) }
 {
     let Ok(metadata) = fs::metadata(rt, "/dev/stdout") else {

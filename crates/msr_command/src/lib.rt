@@ -11,10 +11,7 @@ mod tasks;
 mod texts;
 mod words;
 
-pub use done::Done;
 pub use program::{complain, run};
-pub use task_fault::TaskFault;
-pub use tasks::do_task;
 pub use texts::NOT_UTF8;
 pub use words::{
     Archiving, Checking, Ending, Feeding, Folders, Listing, NoTask, Repacking, Task, Walking,

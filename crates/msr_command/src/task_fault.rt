@@ -4,7 +4,7 @@ use thiserror::Error;
 
 /// Why a task ended before it was done.
 #[derive(Debug, Drop, Error)]
-pub enum TaskFault<'a> {
+pub(crate) enum TaskFault<'a> {
     /// The file with this name could not be opened, or not be made.
     #[error("cannot open {0}")]
     CannotOpen(&'a str),
@@ -27,7 +27,7 @@ impl<'a> TaskFault<'a> {
     ghost use Rattle.msr_command.specs.Ends.{status_of_task_fault};
 
     /// The exit status of a program that ends so.
-    pub fn status(&self) -> u8
+    pub(crate) fn status(&self) -> u8
         ensures { result ≡ status_of_task_fault self.now }
     {
         match self {

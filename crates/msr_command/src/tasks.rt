@@ -21,7 +21,7 @@ use std::rt::Files;
 
 /// Does what was asked for: reads files, and `input` if a name is `-`; writes files, and to `output` what is to be
 /// printed.
-pub fn do_task<'a, R: Files, I: Source, O: Sink>(
+pub(crate) fn do_task<'a, R: Files, I: Source, O: Sink>(
     rt: &R,
     alloc: Global,
     task: Task<'a>,

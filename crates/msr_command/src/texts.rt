@@ -1,10 +1,10 @@
 //! The texts of help, and of faults that clap does not find.
 
 /// What the program does, in a line.
-pub const ABOUT: &str = "Repacks miniSEED into the fewest records of one length";
+pub(crate) const ABOUT: &str = "Repacks miniSEED into the fewest records of one length";
 
 /// What the program does.
-pub const LONG_ABOUT: &str = "Repacks miniSEED into the fewest records of one length.
+pub(crate) const LONG_ABOUT: &str = "Repacks miniSEED into the fewest records of one length.
 
 msrepack joins the neighbouring records of a file into segments and writes each
 segment again in records of one length, as few as can hold it. Samples stay as they
@@ -18,7 +18,7 @@ order: 16-bit, 24-bit and 32-bit integers, Steim-1 and Steim-2. A file with anyt
 else is refused with the place and the reason. No record that has samples is skipped.";
 
 /// The end of the program's help: statuses and examples.
-pub const AFTER: &str = "With no words msrepack does what `msrepack repack -` does.
+pub(crate) const AFTER: &str = "With no words msrepack does what `msrepack repack -` does.
 
 Statuses:
   0  done
@@ -33,10 +33,11 @@ Examples:
   msrepack archive sds packed reports";
 
 /// What `repack` does, in a line.
-pub const REPACK_ABOUT: &str = "Writes the segments of a file in the fewest records, and a report";
+pub(crate) const REPACK_ABOUT: &str =
+    "Writes the segments of a file in the fewest records, and a report";
 
 /// What `repack` does.
-pub const REPACK_LONG_ABOUT: &str =
+pub(crate) const REPACK_LONG_ABOUT: &str =
     "Writes the segments of a file in the fewest records, and a report.
 
 The records go to OUT, the report to standard output. The records are big-endian,
@@ -56,16 +57,16 @@ has only a prefix of the records: do not keep it.
 Status 0 if all was written, 1 after a fault, 2 if the command line is wrong.";
 
 /// Examples of `repack`.
-pub const REPACK_AFTER: &str = "Examples:
+pub(crate) const REPACK_AFTER: &str = "Examples:
   msrepack repack day.mseed                     how few records of 512 bytes would do
   msrepack repack --length 4096 day.mseed packed.mseed > packed.txt
   cat day.mseed | msrepack repack - packed.mseed";
 
 /// What `list` does, in a line.
-pub const LIST_ABOUT: &str = "Lists the segments of a file";
+pub(crate) const LIST_ABOUT: &str = "Lists the segments of a file";
 
 /// What `list` does.
-pub const LIST_LONG_ABOUT: &str = "Lists the segments of a file.
+pub(crate) const LIST_LONG_ABOUT: &str = "Lists the segments of a file.
 
 Prints a line for each segment, with its name, quality, rate, flags, start and number
 of samples, and a last line that counts the records: all of them, those without
@@ -74,14 +75,16 @@ samples, and those whose last sample is not the reverse constant.
 Status 0 if the list is whole, 1 after a fault, 2 if the command line is wrong.";
 
 /// An example of `list`.
-pub const LIST_AFTER: &str = "Example:
+pub(crate) const LIST_AFTER: &str = "Example:
   msrepack list --tolerance 5000 day.mseed";
 
 /// What `check` does, in a line.
-pub const CHECK_ABOUT: &str = "Says whether a report shows that packed records are the fewest";
+pub(crate) const CHECK_ABOUT: &str =
+    "Says whether a report shows that packed records are the fewest";
 
 /// What `check` does.
-pub const CHECK_LONG_ABOUT: &str = "Says whether a report shows that packed records are the fewest.
+pub(crate) const CHECK_LONG_ABOUT: &str =
+    "Says whether a report shows that packed records are the fewest.
 
 Reads the report and then the records, and prints one of two verdicts:
 
@@ -103,15 +106,15 @@ fault, one line says at which byte and why. Both have status 1, and no verdict; 
 if the command line is wrong.";
 
 /// An example of `check`.
-pub const CHECK_AFTER: &str = "Example:
+pub(crate) const CHECK_AFTER: &str = "Example:
   msrepack repack --length 4096 day.mseed packed.mseed > packed.txt
   msrepack check packed.mseed packed.txt";
 
 /// What `archive` does, in a line.
-pub const ARCHIVE_ABOUT: &str = "Repacks every day file of an SDS archive";
+pub(crate) const ARCHIVE_ABOUT: &str = "Repacks every day file of an SDS archive";
 
 /// What `archive` does.
-pub const ARCHIVE_LONG_ABOUT: &str =
+pub(crate) const ARCHIVE_LONG_ABOUT: &str =
     "Repacks every day file of an archive that is kept as a SeisComP Data Structure.
 
 Walks the folders below ROOT, names in the order of their bytes, and repacks each file
@@ -142,15 +145,15 @@ removed, also if they were there before. The walk goes on after a refused file.
 Status 0 if all was walked and nothing refused, else 1; 2 if the command line is wrong.";
 
 /// Examples of `archive`.
-pub const ARCHIVE_AFTER: &str = "Examples:
+pub(crate) const ARCHIVE_AFTER: &str = "Examples:
   msrepack archive --length 4096 sds packed reports > log.txt
   msrepack archive --resume --check --below 2020/XX sds packed reports > log.txt";
 
 /// What `feed` does, in a line.
-pub const FEED_ABOUT: &str = "Repacks standard input to standard output while it comes";
+pub(crate) const FEED_ABOUT: &str = "Repacks standard input to standard output while it comes";
 
 /// What `feed` does.
-pub const FEED_LONG_ABOUT: &str = "Repacks standard input to standard output while it comes.
+pub(crate) const FEED_LONG_ABOUT: &str = "Repacks standard input to standard output while it comes.
 
 The records go to standard output, as `repack` writes them, and each as soon as it is
 decided: whenever msrepack waits for more input, every record that no later sample can
@@ -165,97 +168,97 @@ then one line on standard error says why, and the records are only the first one
 Status 0 if all was written, 1 after a fault, 2 if the command line is wrong.";
 
 /// An example of `feed`.
-pub const FEED_AFTER: &str = "Example:
+pub(crate) const FEED_AFTER: &str = "Example:
   nc station 18000 | msrepack feed --length 4096 report.txt > packed.mseed";
 
 /// The report of `feed`.
-pub const FEED_REPORT: &str = "The file to write the report to, at the end";
+pub(crate) const FEED_REPORT: &str = "The file to write the report to, at the end";
 
 /// `--below`, in a line.
-pub const BELOW: &str = "Walk only this folder of the archive. May be repeated";
+pub(crate) const BELOW: &str = "Walk only this folder of the archive. May be repeated";
 
 /// `--below`.
-pub const LONG_BELOW: &str =
+pub(crate) const LONG_BELOW: &str =
     "Walk only this folder of the archive, given by its path from ROOT, as 2020/XX/TEST/BHZ.D.
 May be repeated, for folders of which none is another or stands below it: they are
 walked in the order in which they are given. All paths are still counted from ROOT";
 
 /// `--resume`, in a line.
-pub const RESUME: &str = "Leave files alone that an earlier walk with this option did";
+pub(crate) const RESUME: &str = "Leave files alone that an earlier walk with this option did";
 
 /// `--resume`.
-pub const LONG_RESUME: &str =
+pub(crate) const LONG_RESUME: &str =
     "Leave files alone that an earlier walk with this option did: their records and their
 report are whole, of this length and tolerance, and made from an input of the same size
 and time of change. For them one line is printed, which counts as one of those done:
 `same PATH read N written M`";
 
 /// `--check`, in a line.
-pub const CHECKED: &str = "Hold records against their report before they get their name";
+pub(crate) const CHECKED: &str = "Hold records against their report before they get their name";
 
 /// `--check`.
-pub const LONG_CHECKED: &str =
+pub(crate) const LONG_CHECKED: &str =
     "Hold records against their report, as `check` does, before they get their name. If the
 report does not show that they are the fewest, neither is kept, and `notshown PATH` is
 printed, which counts as one of those refused";
 
 /// The first folder of `archive`.
-pub const ROOT: &str = "The folder of the archive";
+pub(crate) const ROOT: &str = "The folder of the archive";
 
 /// The second folder of `archive`.
-pub const OUT_FOLDER: &str = "The folder of the records. It is made if it is missing";
+pub(crate) const OUT_FOLDER: &str = "The folder of the records. It is made if it is missing";
 
 /// The third folder of `archive`.
-pub const REPORTS: &str = "The folder of the reports. It is made if it is missing";
+pub(crate) const REPORTS: &str = "The folder of the reports. It is made if it is missing";
 
 /// The first file of `check`.
-pub const PACKED: &str = "The file with the packed records";
+pub(crate) const PACKED: &str = "The file with the packed records";
 
 /// The second file of `check`.
-pub const REPORT: &str = "The file with their report";
+pub(crate) const REPORT: &str = "The file with their report";
 
 /// `--length`.
-pub const LENGTH: &str =
+pub(crate) const LENGTH: &str =
     "Bytes of each record written: 256, 512, 1024, 2048, 4096, 8192, 16384, 32768 or 65536";
 
 /// `--tolerance`, in a line.
-pub const TOLERANCE: &str =
+pub(crate) const TOLERANCE: &str =
     "Microseconds by which a record may be early or late and still join a segment: 1 to 1000000";
 
 /// `--tolerance`.
-pub const LONG_TOLERANCE: &str =
+pub(crate) const LONG_TOLERANCE: &str =
     "Microseconds by which a record may be early or late and still join a segment: 1 to
 1000000. The expected time is counted from the start of the segment, so that small
 errors do not add up";
 
 /// `--strict`, in a line.
-pub const STRICT: &str = "Refuse a record whose last sample is not its reverse constant";
+pub(crate) const STRICT: &str = "Refuse a record whose last sample is not its reverse constant";
 
 /// `--strict`.
-pub const LONG_STRICT: &str =
+pub(crate) const LONG_STRICT: &str =
     "Refuse a record whose last sample is not its reverse constant, as `18 ReverseMismatch`.
 Without it such records are read, and counted as mismatched";
 
 /// The input of `repack` and `list`.
-pub const IN: &str = "The file to read, or - for standard input";
+pub(crate) const IN: &str = "The file to read, or - for standard input";
 
 /// The output of `repack`.
-pub const OUT: &str = "The file to write the records to. Without it they are not kept";
+pub(crate) const OUT: &str = "The file to write the records to. Without it they are not kept";
 
 /// The length is not that of a record.
-pub const NOT_A_LENGTH: &str = "msrepack: not a record length\n";
+pub(crate) const NOT_A_LENGTH: &str = "msrepack: not a record length\n";
 
 /// The output and the input have one name.
-pub const SAME_FILE: &str = "msrepack: the output is the input\n";
+pub(crate) const SAME_FILE: &str = "msrepack: the output is the input\n";
 
 /// Two folders are one, or one stands below another.
-pub const OVERLAP: &str = "msrepack: the folders overlap\n";
+pub(crate) const OVERLAP: &str = "msrepack: the folders overlap\n";
 
 /// What stands after `--below` is no path of one to four names.
-pub const NOT_BELOW: &str = "msrepack: not a folder of an archive\n";
+pub(crate) const NOT_BELOW: &str = "msrepack: not a folder of an archive\n";
 
 /// No command was found; clap lets no such line through.
-pub const NO_COMMAND: &str = "error: no command\n";
+pub(crate) const NO_COMMAND: &str = "error: no command\n";
 
 /// A word is not UTF-8.
 pub const NOT_UTF8: &str = "error: invalid UTF-8 was detected in one or more arguments\n";

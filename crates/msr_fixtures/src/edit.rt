@@ -137,7 +137,7 @@ fn edit_one(order: Order, bytes: &mut [u8], edit: Edit<'_>) {
 }
 
 /// Makes these edits, one after another.
-pub fn edit_all(order: Order, bytes: &mut [u8], edits: &[Edit<'_>]) {
+pub(crate) fn edit_all(order: Order, bytes: &mut [u8], edits: &[Edit<'_>]) {
     for edit in edits {
         edit_one(order, bytes, *edit);
     }

@@ -47,7 +47,7 @@ impl RecordReader {
 
     /// A reader before the first record; a strict one refuses a record whose reverse constant does not agree. It
     /// takes no memory yet.
-    pub fn new(alloc: Global, strict: bool) -> RecordReader
+    pub(crate) fn new(alloc: Global, strict: bool) -> RecordReader
         ensures strict { result.strict ≡ strict }
         ensures none { (start : Device) → HaveCome start start result [] }
     {
@@ -69,7 +69,10 @@ impl RecordReader {
     /// further read; so is a refusal of what stands after its header. One of the header waits for the input's end
     /// or for as many bytes as the longest record has, since more could change it.
     #[inline(always)]
-    pub fn next<R: Source, F: FromRecord>(&mut self, source: &mut R) -> Result<Option<F>, ReadFault>
+    pub(crate) fn next<R: Source, F: FromRecord>(
+        &mut self,
+        source: &mut R,
+    ) -> Result<Option<F>, ReadFault>
         requires { CanCountCall (R.device source.old) }
         ensures came { (start : Device) (records : List Found) → HaveCome start (R.device source.old) self.old records
             → MatchResult result
@@ -104,7 +107,7 @@ impl RecordReader {
     }
 
     /// Whether the bytes of the next record have come, by its header.
-    pub fn holds_record(&self) -> bool
+    pub(crate) fn holds_record(&self) -> bool
         ensures { IsTrue result ↔ HoldsRecord self.now.waiting }
     {
         read_header(self.buffer.bytes()).is_ok()
@@ -112,7 +115,7 @@ impl RecordReader {
 
     /// Passes the record that [`next`](Self::next) gave, by its outline, and counts it.
     #[inline(always)]
-    pub fn pass(&mut self, outline: &Outline)
+    pub(crate) fn pass(&mut self, outline: &Outline)
         requires { (found : Found) × IsNext self.old outline.now found }
         ensures passed { (start now : Device) (records : List Found) (found : Found)
             → HaveCome start now self.old records → IsNext self.old outline.now found
@@ -126,14 +129,14 @@ impl RecordReader {
     }
 
     /// The counts of the records that were passed.
-    pub fn counts(&self) -> Counts
+    pub(crate) fn counts(&self) -> Counts
         ensures { result ≡ self.now.counts }
     {
         self.counts
     }
 
     /// How many bytes they had.
-    pub fn offset(&self) -> u64
+    pub(crate) fn offset(&self) -> u64
         ensures { result ≡ self.now.offset }
     {
         self.offset

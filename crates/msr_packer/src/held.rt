@@ -38,7 +38,7 @@ impl Default for Piece {
 /// A step whose run is cut where the next one starts: at its end, in the first of these kinds, or at the sample
 /// before, in the other.
 #[derive(Clone, Copy, Debug)]
-pub struct Current {
+pub(crate) struct Current {
     pub frontier: usize,
     pub start: usize,
     pub end: usize,
@@ -47,7 +47,7 @@ pub struct Current {
 }
 
 /// The frontier of the next step.
-pub fn frontier_of(current: Option<Current>) -> usize
+pub(crate) fn frontier_of(current: Option<Current>) -> usize
     ensures { result ≡ frontier_of current }
 {
     match current {
@@ -57,7 +57,7 @@ pub fn frontier_of(current: Option<Current>) -> usize
 }
 
 /// Where the samples begin that were not given yet.
-pub fn start_of(current: Option<Current>) -> usize
+pub(crate) fn start_of(current: Option<Current>) -> usize
     ensures { result ≡ start_of current }
 {
     match current {
@@ -67,7 +67,7 @@ pub fn start_of(current: Option<Current>) -> usize
 }
 
 /// The kind of the last step.
-pub fn likely_of(current: Option<Current>) -> Kind {
+pub(crate) fn likely_of(current: Option<Current>) -> Kind {
     match current {
         Some(current) => current.whole,
         None => Kind::Steim2,
@@ -75,7 +75,7 @@ pub fn likely_of(current: Option<Current>) -> Kind {
 }
 
 /// The piece that ends where the next run starts.
-pub fn piece_of(offset: u64, current: Option<Current>, next: usize) -> Option<Piece>
+pub(crate) fn piece_of(offset: u64, current: Option<Current>, next: usize) -> Option<Piece>
     requires { HasPlaces offset next current }
     ensures { result ≡ piece_of offset current next }
 {
@@ -96,7 +96,7 @@ pub fn piece_of(offset: u64, current: Option<Current>, next: usize) -> Option<Pi
 
 impl Current {
     /// The next step, as it was found, with the kinds of its run.
-    pub fn of(
+    pub(crate) fn of(
         samples: &[i32],
         record_length: Length,
         current: Option<Current>,
@@ -123,7 +123,7 @@ impl Current {
     }
 
     /// The next step.
-    pub fn next(samples: &[i32], record_length: Length, current: Option<Current>) -> Current
+    pub(crate) fn next(samples: &[i32], record_length: Length, current: Option<Current>) -> Current
         requires { frontier_of current < length samples.now }
         ensures { IsNext (bytes_of record_length) samples.now current result }
     {
@@ -138,7 +138,7 @@ impl Current {
 }
 
 /// Takes the first samples away.
-pub fn remove_front(held: &mut Vec<i32>, count: usize)
+pub(crate) fn remove_front(held: &mut Vec<i32>, count: usize)
     requires { count ≤ length held.old.items }
     ensures { held.new.items ≡ drop count held.old.items }
 {
@@ -150,7 +150,7 @@ pub fn remove_front(held: &mut Vec<i32>, count: usize)
 /// The last samples of a segment, with the step whose piece comes next. It shows the samples of the piece that was
 /// given last.
 #[derive(Drop)]
-pub struct Held {
+pub(crate) struct Held {
     pub record_length: Length,
     pub samples: Vec<i32>,
     /// How many samples of the segment stand before those that are held.
@@ -164,7 +164,7 @@ pub struct Held {
 
 impl Held {
     /// Of no samples. It takes no memory yet.
-    pub fn empty(alloc: Global, record_length: Length) -> Held
+    pub(crate) fn empty(alloc: Global, record_length: Length) -> Held
         ensures size { result.record_length ≡ record_length }
         ensures none { Holds [] [] [] result }
         ensures sound { IsSound result }
@@ -183,7 +183,7 @@ impl Held {
     }
 
     /// Goes on to the next step, and gives the piece before it, which is shown.
-    pub fn go_on(&mut self, step: Current) -> Option<Piece>
+    pub(crate) fn go_on(&mut self, step: Current) -> Option<Piece>
         requires sound { IsSound self.old }
         requires next { IsNext (bytes_of self.old.record_length) self.old.samples.items self.old.current step }
         ensures given { GivesPiece self.old self.new result }
@@ -200,7 +200,7 @@ impl Held {
 
     /// If more than `beyond` samples stand beyond the frontier, the piece before the next step, which has none if it is
     /// the first.
-    pub fn step_past(&mut self, beyond: usize) -> Option<Piece>
+    pub(crate) fn step_past(&mut self, beyond: usize) -> Option<Piece>
         requires { IsSound self.old }
         ensures given { GivesPiece self.old self.new result }
         ensures stays { most_any (bytes_of self.old.record_length) ≤ beyond
@@ -225,7 +225,7 @@ impl Held {
     }
 
     /// The next piece, if more than `beyond` samples stand beyond the frontier. It is shown.
-    pub fn next_piece(&mut self, beyond: usize) -> Option<Piece>
+    pub(crate) fn next_piece(&mut self, beyond: usize) -> Option<Piece>
         requires { IsSound self.old }
         ensures given { GivesPiece self.old self.new result }
         ensures stays { most_any (bytes_of self.old.record_length) ≤ beyond
@@ -242,7 +242,7 @@ impl Held {
     }
 
     /// The piece of the last step, if no sample stands after it; none if there are no samples. It is shown.
-    pub fn last_piece(&mut self) -> Option<Piece>
+    pub(crate) fn last_piece(&mut self) -> Option<Piece>
         requires sound { IsSound self.old }
         requires end { length self.old.samples.items ≤ frontier_of self.old.current }
         ensures sound { IsSound self.new }
@@ -265,14 +265,14 @@ impl Held {
     }
 
     /// How many samples no step needs any more: those before the one before the run.
-    pub fn unneeded(&self) -> usize
+    pub(crate) fn unneeded(&self) -> usize
         ensures { result ≡ start_of self.now.current - 1 }
     {
         start_of(self.current).saturating_sub(1)
     }
 
     /// Takes the samples away that no step needs any more. None is shown then.
-    pub fn forget(&mut self)
+    pub(crate) fn forget(&mut self)
         requires { IsSound self.old }
         ensures sound { IsSound self.new }
         ensures holds { (samples : List ℤ) (runs : List Run) (separators : List ℕ)
@@ -312,7 +312,7 @@ impl Held {
 
     /// Takes the samples away that no step needs any more, if they are at least as many as the others: then each
     /// sample that is moved is paid for by one that goes.
-    pub fn make_room(&mut self)
+    pub(crate) fn make_room(&mut self)
         requires { IsSound self.old }
         ensures sound { IsSound self.new }
         ensures holds { (samples : List ℤ) (runs : List Run) (separators : List ℕ)
@@ -334,7 +334,7 @@ impl Held {
     }
 
     /// The samples that are shown.
-    pub fn shown(&self) -> &[i32]
+    pub(crate) fn shown(&self) -> &[i32]
         requires { IsSound self.now }
         ensures { result.now ≡ shown_by self.now }
     {
@@ -342,7 +342,7 @@ impl Held {
     }
 
     /// The sample before those that are shown, if there is one.
-    pub fn before(&self) -> Option<i32>
+    pub(crate) fn before(&self) -> Option<i32>
         requires { IsSound self.now }
         ensures { result ≡ before_shown self.now }
     {

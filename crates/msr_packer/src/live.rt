@@ -12,7 +12,7 @@ use msr_words::{Int16, Int24, Int32, Kind, Length, Steim1, Steim2, Tracker};
 
 /// A tracker of one of the kinds.
 #[derive(Clone, Copy, Debug)]
-pub enum KindTracker {
+pub(crate) enum KindTracker {
     Steim2(Steim2),
     Steim1(Steim1),
     Int16(Int16),
@@ -106,7 +106,7 @@ impl KindTracker {
 
 /// A run from `start` on that all samples fit so far, with its tracker.
 #[derive(Clone, Copy, Debug)]
-pub struct Live {
+pub(crate) struct Live {
     pub start: usize,
     pub tracker: KindTracker,
 }
@@ -129,7 +129,7 @@ impl Live {
     }
 
     /// Of the one sample after a frontier, Steim-2 if that takes it.
-    pub fn first(samples: &[i32], record_length: Length, frontier: usize) -> Live
+    pub(crate) fn first(samples: &[i32], record_length: Length, frontier: usize) -> Live
         requires { length samples.now ≡ frontier + 1 }
         ensures { IsLive (bytes_of record_length) samples.now frontier (length samples.now) result }
     {
@@ -144,7 +144,7 @@ impl Live {
     }
 
     /// Of no samples.
-    pub fn empty(record_length: Length) -> Live
+    pub(crate) fn empty(record_length: Length) -> Live
         ensures { IsLive (bytes_of record_length) [] 0 0 result }
     {
         Live {
@@ -155,7 +155,7 @@ impl Live {
 
     /// The step from the frontier, if the samples from `from` on decide it. Else the run stays, or is one of
     /// another kind that all samples fit.
-    pub fn decide(
+    pub(crate) fn decide(
         &mut self,
         samples: &[i32],
         record_length: Length,

@@ -48,7 +48,7 @@ fn next_word(sizes: FourSizes, spare: bool) -> NextWord
 }
 
 /// The greatest end of a run of Steim-1 from `start` on.
-pub fn steim1_reach(samples: &[i32], record_length: Length, start: usize) -> usize
+pub(crate) fn steim1_reach(samples: &[i32], record_length: Length, start: usize) -> usize
     requires { start ≤ length samples.now }
     ensures { IsEnd FirstSteim (bytes_of record_length) samples.now start result }
 {

@@ -19,7 +19,7 @@ use msr_words::{
 
 /// One record more: it starts at `start`, reaches to `end`, and is of that kind.
 #[derive(Clone, Copy, Debug, PartialEq, Eq)]
-pub struct Step {
+pub(crate) struct Step {
     pub start: usize,
     pub end: usize,
     pub kind: Kind,
@@ -42,7 +42,7 @@ impl Step {
 
 /// Ends of runs from a frontier, by their kind. One that is not needed is the frontier itself.
 #[derive(Clone, Copy, Debug, PartialEq, Eq)]
-pub struct Ends {
+pub(crate) struct Ends {
     pub steim2: usize,
     pub steim1: usize,
     pub int16: usize,
@@ -52,7 +52,7 @@ pub struct Ends {
 
 /// A step, with the ends that tell the kind of its run when that is cut.
 #[derive(Clone, Copy, Debug, PartialEq, Eq)]
-pub struct Found {
+pub(crate) struct Found {
     pub step: Step,
     pub ends: Ends,
 }
@@ -382,7 +382,12 @@ fn integers_alone(samples: &[i32], record_length: Length, frontier: usize) -> Op
 
 /// The step from a frontier. `likely` is the kind that is tried first if it is Int16; the step is the same whatever it
 /// is.
-pub fn next_step(samples: &[i32], record_length: Length, frontier: usize, likely: Kind) -> Found
+pub(crate) fn next_step(
+    samples: &[i32],
+    record_length: Length,
+    frontier: usize,
+    likely: Kind,
+) -> Found
     requires { frontier ≤ length samples.now }
     ensures step { IsStep (FitsAny (bytes_of record_length)) samples.now frontier result.step.end result.step.start }
     ensures kind { IsRun (Fits result.step.kind
@@ -399,7 +404,7 @@ pub fn next_step(samples: &[i32], record_length: Length, frontier: usize, likely
 }
 
 /// The step from a frontier, over all kinds.
-pub fn step_from(samples: &[i32], record_length: Length, frontier: usize) -> Found
+pub(crate) fn step_from(samples: &[i32], record_length: Length, frontier: usize) -> Found
     requires { frontier ≤ length samples.now }
     ensures step { IsStep (FitsAny (bytes_of record_length)) samples.now frontier result.step.end result.step.start }
     ensures kind { IsRun (Fits result.step.kind

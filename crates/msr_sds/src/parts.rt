@@ -10,7 +10,7 @@ use msr_time::BTime;
 
 /// The parts of a path. Those that stand in it twice are kept once.
 #[derive(Clone, Copy)]
-pub struct Parts<'a> {
+pub(crate) struct Parts<'a> {
     pub year: &'a str,
     pub network: &'a str,
     pub station: &'a str,
@@ -145,7 +145,7 @@ impl<'a> Parts<'a> {
     }
 
     /// The parts of a path, if each is of its form.
-    pub fn read(text: &'a str) -> Option<Parts<'a>>
+    pub(crate) fn read(text: &'a str) -> Option<Parts<'a>>
         ensures found { IfSome result (λ parts. ReadsAs text.now (parts_of parts)) }
         ensures only { (path : SdsPath) → ReadsAs text.now path
             → IsSomeAnd result (λ parts. parts_of parts ≡ path) }
@@ -155,7 +155,7 @@ impl<'a> Parts<'a> {
     }
 
     /// Whether the year is from 1900 to 2100 and has the day.
-    pub fn have_date(&self) -> bool
+    pub(crate) fn have_date(&self) -> bool
         requires { HasForm (parts_of self.now) }
         ensures { IsTrue result ↔ HasDate (parts_of self.now) }
     {

@@ -7,7 +7,7 @@ use msr_record::Key;
 
 /// Where the samples of a row or of a segment lie.
 #[derive(Clone, Copy, Debug)]
-pub struct Span {
+pub(crate) struct Span {
     /// Their key.
     pub key: Key,
     /// The instant of the first sample, in microseconds from 1970-01-01 00:00:00.
@@ -18,7 +18,7 @@ pub struct Span {
 
 impl Span {
     /// Whether a row at `row` continues the segment at this span.
-    pub fn is_continued_by(&self, row: &Span, tolerance: u32) -> bool
+    pub(crate) fn is_continued_by(&self, row: &Span, tolerance: u32) -> bool
         ensures { IsTrue result ↔ Continues tolerance self.now row.now }
     {
         row.key == self.key
@@ -29,7 +29,7 @@ impl Span {
     }
 
     /// The span with the samples of `row` after its own, unless the last of them is out of range.
-    pub fn longer_by(&self, row: &Span) -> Option<Span>
+    pub(crate) fn longer_by(&self, row: &Span) -> Option<Span>
         requires row { (1 ≤ row.now.count) × (row.now.count ≤ 65_535) }
         requires count { self.now.count ≤ 2 ^ 63 }
         requires start { IsInstant self.now.start }

@@ -14,7 +14,7 @@ use std::marker::Model;
 /// Writes the segments of the rows that it takes, and keeps the line of each that has ended. It holds no more samples
 /// than an open segment does. All calls take the same sink. After an `Err` it is not used again.
 #[derive(Drop)]
-pub struct LinedWriter {
+pub(crate) struct LinedWriter {
     writer: SegmentWriter,
     lines: Vec<SegmentLine>,
     last: Option<OpenSegment>,
@@ -42,7 +42,7 @@ impl LinedWriter {
     ghost use Rattle.msr_tool.specs.Writing.{CanGrow, CanTakeRow, GoesOn, HasLined, LinesAll, LinesMore, StopsLining, all_with, current_after, current_with, ended_by, ended_with, longer_current, segments_with};
 
     /// A writer before the first row.
-    pub fn new(alloc: Global, length: Length) -> LinedWriter
+    pub(crate) fn new(alloc: Global, length: Length) -> LinedWriter
         ensures size { result.writing.size ≡ bytes_of length }
         ensures last { result.last ≡ None }
         ensures none { (start : Device) → HasLined start start result [] None }
@@ -147,7 +147,7 @@ impl LinedWriter {
 
     /// Takes the next record. One whose row begins a segment ends the segment before it, whose line is kept.
     #[inline(always)]
-    pub fn take<W: Sink>(&mut self, sink: &mut W, next: NextRecord) -> Result<(), ToolFault>
+    pub(crate) fn take<W: Sink>(&mut self, sink: &mut W, next: NextRecord) -> Result<(), ToolFault>
         requires count { CanCountCall (W.device sink.old) }
         requires last { IfSome self.old.last (GoesOn self.old.writing.size) }
         requires row { IfSome next.row (CanTakeRow self.old.last) }
@@ -170,7 +170,7 @@ impl LinedWriter {
     }
 
     /// Writes all that waits, while records may still come.
-    pub fn flush<W: Sink>(&mut self, sink: &mut W) -> Result<(), ToolFault>
+    pub(crate) fn flush<W: Sink>(&mut self, sink: &mut W) -> Result<(), ToolFault>
         requires count { CanCountCall (W.device sink.old) }
         requires last { IfSome self.old.last (GoesOn self.old.writing.size) }
         ensures written { (start : Device) (packed : List Packed) (current : Option Segment)
@@ -189,7 +189,7 @@ impl LinedWriter {
     }
 
     /// Ends the last segment, writes all that waits, and gives the lines.
-    pub fn finish<W: Sink>(self, sink: &mut W) -> Result<Vec<SegmentLine>, ToolFault>
+    pub(crate) fn finish<W: Sink>(self, sink: &mut W) -> Result<Vec<SegmentLine>, ToolFault>
         requires count { CanCountCall (W.device sink.old) }
         requires last { IfSome self.last (GoesOn self.writing.size) }
         ensures written { (start : Device) (packed : List Packed) (current : Option Segment)

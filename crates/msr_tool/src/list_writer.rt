@@ -15,7 +15,7 @@ use std::marker::Model;
 /// Writes a line for each segment of the rows that it takes, and one for the counts. It holds no samples.
 /// All calls take the same sink.
 #[derive(Drop)]
-pub struct ListWriter {
+pub(crate) struct ListWriter {
     alloc: Global,
     buffer: WriteBuffer,
     last: Option<OpenSegment>,
@@ -52,7 +52,7 @@ impl ListWriter {
     ghost use Rattle.msr_tool.specs.Writing.{ended_by};
 
     /// A writer before the first row.
-    pub fn new(alloc: Global) -> ListWriter
+    pub(crate) fn new(alloc: Global) -> ListWriter
         ensures last { result.last ≡ None }
         ensures few_wait { length result.waiting < 65536 }
         ensures none { (start : Device) → HasListed start start result.waiting [] }
@@ -65,7 +65,11 @@ impl ListWriter {
     }
 
     /// Takes the next row. One that begins a segment ends the one before it, whose line is written.
-    pub fn take<W: Sink>(&mut self, sink: &mut W, next: &NextOutline) -> Result<(), ToolFault>
+    pub(crate) fn take<W: Sink>(
+        &mut self,
+        sink: &mut W,
+        next: &NextOutline,
+    ) -> Result<(), ToolFault>
         requires count { CanCountCall (W.device sink.old) }
         requires last { IfSome self.old.last IsOpenInBounds }
         requires few_wait { length self.old.waiting < 65536 }
@@ -96,7 +100,7 @@ impl ListWriter {
     }
 
     /// Writes the line of the last segment, that of the counts, and all that waits.
-    pub fn finish<W: Sink>(self, sink: &mut W, counts: &Counts) -> Result<(), ToolFault>
+    pub(crate) fn finish<W: Sink>(self, sink: &mut W, counts: &Counts) -> Result<(), ToolFault>
         requires count { CanCountCall (W.device sink.old) }
         requires last { IfSome self.last IsOpenInBounds }
         ensures written { (start : Device) (segments : List Joined) (current : Option Joined)

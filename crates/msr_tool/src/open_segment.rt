@@ -7,7 +7,7 @@ use msr_record::Key;
 
 /// The segment that was begun last, as its line tells it: without its samples.
 #[derive(Clone, Copy, Debug)]
-pub struct OpenSegment {
+pub(crate) struct OpenSegment {
     /// The segment's key.
     pub key: Key,
     /// The instant of the first sample, in microseconds from 1970-01-01 00:00:00.

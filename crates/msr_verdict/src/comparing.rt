@@ -25,7 +25,7 @@ fn is_line_of(line: &SegmentLine, segment: &Segment, samples: u64, records: usiz
 /// How far the segments agree with the lines of one report. It keeps the runs of the open segment, and none
 /// once a segment or a record disagreed.
 #[derive(Drop)]
-pub struct Comparing {
+pub(crate) struct Comparing {
     place: usize,
     runs: Vec<Run>,
     samples: u64,
@@ -46,7 +46,7 @@ impl Comparing {
     ghost use Rattle.msr_verdict.specs.Compared.{ComparesEnded, AddsPiece, IsShownAt};
 
     /// Before the first segment.
-    pub fn new(alloc: Global) -> Comparing
+    pub(crate) fn new(alloc: Global) -> Comparing
         ensures { result ≡ record { place = 0; runs = []; samples = 0; agrees = true } }
     {
         Comparing {
@@ -78,7 +78,7 @@ impl Comparing {
     }
 
     /// Compares the segment that ended, if one did, with its line.
-    pub fn compare(&mut self, report: &Report, ended: Option<Segment>)
+    pub(crate) fn compare(&mut self, report: &Report, ended: Option<Segment>)
         ensures compared { ComparesEnded
             (bytes_of report.now.length) report.now.segments.items self.old ended self.new }
         ensures few { IfSome ended (λ segment. length segment.samples < 2 ^ 64) }
@@ -93,7 +93,7 @@ impl Comparing {
     }
 
     /// Adds the run of a record to the open segment; `None` for a record that agrees with no report.
-    pub fn add(&mut self, piece: Option<Piece>) -> Result<(), ReadFault>
+    pub(crate) fn add(&mut self, piece: Option<Piece>) -> Result<(), ReadFault>
         ensures added { OnOk result (AddsPiece self.old piece self.new) }
         ensures memory { IfErr result (λ fault. fault ≡ ReadFault.Memory) }
     {
@@ -118,7 +118,7 @@ impl Comparing {
     }
 
     /// The verdict, when the last segment was compared.
-    pub fn verdict(&self, report: &Report) -> Verdict
+    pub(crate) fn verdict(&self, report: &Report) -> Verdict
         ensures { (result ≡ Verdict.Least) ↔ ((self.now.agrees ≡ true)
             × (self.now.place ≡ length report.now.segments.items)) }
     {

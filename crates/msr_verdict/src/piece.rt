@@ -9,7 +9,7 @@ use msr_words::{Kind, Length};
 
 /// The samples of a record: how many, and how they are stored.
 #[derive(Clone, Copy, Debug)]
-pub struct Piece {
+pub(crate) struct Piece {
     /// How many samples there are.
     pub count: u64,
     /// How they are stored.
@@ -17,7 +17,7 @@ pub struct Piece {
 }
 
 /// The record's samples, if it has some, and that length.
-pub fn piece_of(found: &Record, record_length: Length) -> Option<Piece>
+pub(crate) fn piece_of(found: &Record, record_length: Length) -> Option<Piece>
     ensures { MatchOption result
         (IsFull (bytes_of record_length) found.now → ⊥)
         (IsPieceOf (bytes_of record_length) found.now) }

@@ -18,7 +18,7 @@ use std::rt::Files;
 
 /// The files of a day.
 #[derive(Drop)]
-pub struct Day {
+pub(crate) struct Day {
     input: String,
     records: NewFile,
     report: NewFile,
@@ -41,7 +41,7 @@ impl Model for Day {
 
 impl Day {
     /// The files of the day with this path in the archive.
-    pub fn new(alloc: Global, archive: &Archive<'_>, path: &str) -> Result<Day, AllocError>
+    pub(crate) fn new(alloc: Global, archive: &Archive<'_>, path: &str) -> Result<Day, AllocError>
         ensures { IfOk result (λ day.
             day ≡ day_names archive.now.root.now archive.now.out.now archive.now.reports.now path.now) }
     {
@@ -194,7 +194,7 @@ impl Day {
     /// Repacks the day, or leaves it alone if an earlier walk did it and that is asked for. If it is refused, no
     /// records and no report of it are left, unless the archive may be touched by that, or another walk took the day
     /// over: then nothing is.
-    pub fn handle<R: Files>(&self, rt: &R, alloc: Global, archive: &Archive<'_>) -> Outcome
+    pub(crate) fn handle<R: Files>(&self, rt: &R, alloc: Global, archive: &Archive<'_>) -> Outcome
         ensures { IsDayOutcome (asked_of archive.now) result }
     {
         if self.may_touch_archive(rt) {

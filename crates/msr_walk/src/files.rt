@@ -63,7 +63,7 @@ fn folder_of(path: &str) -> &str
 /// A file to be made in a folder that may be missing. It is written beside its name, and gets the name once it is
 /// whole.
 #[derive(Drop)]
-pub struct NewFile {
+pub(crate) struct NewFile {
     path: String,
     part: String,
 }
@@ -79,7 +79,12 @@ impl Model for NewFile {
 
 impl NewFile {
     /// The file below that folder with that path and ending.
-    pub fn new(alloc: Global, folder: &str, path: &str, ending: &str) -> Result<NewFile, AllocError>
+    pub(crate) fn new(
+        alloc: Global,
+        folder: &str,
+        path: &str,
+        ending: &str,
+    ) -> Result<NewFile, AllocError>
         ensures { IfOk result (λ file. file ≡ new_file folder.now path.now ending.now) }
     {
         let mut path = join(alloc, folder, path)?;
@@ -93,14 +98,14 @@ impl NewFile {
     }
 
     /// The name that it gets.
-    pub fn path(&self) -> &str
+    pub(crate) fn path(&self) -> &str
         ensures { result.now ≡ self.now.path }
     {
         self.path.as_str()
     }
 
     /// The name beside it, under which it is written.
-    pub fn part(&self) -> &str
+    pub(crate) fn part(&self) -> &str
         ensures { result.now ≡ self.now.part }
     {
         self.part.as_str()
@@ -108,14 +113,14 @@ impl NewFile {
 
     /// Whether making it may touch the folder in which that other file stands, or the file itself by another name; so
     /// it may if the system does not tell.
-    pub fn may_touch<R: Files>(&self, rt: &R, other: &str) -> bool {
+    pub(crate) fn may_touch<R: Files>(&self, rt: &R, other: &str) -> bool {
         may_be_one(rt, folder_of(other), folder_of(self.path()))
             || may_be_one(rt, other, self.path())
             || may_be_one(rt, other, self.part())
     }
 
     /// Makes the folder, and the file beside its name, in the place of what a run that was killed left there.
-    pub fn create<R: Files>(&self, rt: &R) -> Result<R::File, DayFault>
+    pub(crate) fn create<R: Files>(&self, rt: &R) -> Result<R::File, DayFault>
         ensures { IfErr result (λ why. why ≡ DayFault.CannotOpen) }
     {
         if fs::create_dir_all(rt, folder_of(self.part())).is_err() {
@@ -133,12 +138,12 @@ impl NewFile {
     }
 
     /// Removes what a run that was killed left beside its name, as far as the system lets.
-    pub fn sweep<R: Files>(&self, rt: &R) {
+    pub(crate) fn sweep<R: Files>(&self, rt: &R) {
         fs::remove_file(rt, self.part.as_str()).ok();
     }
 
     /// Looks whether what stands beside its name is that file: another walk makes its own there, in the place of ours.
-    pub fn require_ours<R: Files>(&self, rt: &R, file: &R::File) -> Result<(), DayFault>
+    pub(crate) fn require_ours<R: Files>(&self, rt: &R, file: &R::File) -> Result<(), DayFault>
         ensures { IfErr result (λ why. (why ≡ DayFault.CannotOpen) ⊎ (why ≡ DayFault.Taken)) }
     {
         let found = match fs::symlink_metadata(rt, self.part.as_str()) {
@@ -156,7 +161,7 @@ impl NewFile {
     }
 
     /// Removes an older file of its name, if there is one.
-    pub fn clear<R: Files>(&self, rt: &R) -> Result<(), DayFault>
+    pub(crate) fn clear<R: Files>(&self, rt: &R) -> Result<(), DayFault>
         ensures { IfErr result (λ why. why ≡ DayFault.CannotOpen) }
     {
         match fs::remove_file(rt, self.path.as_str()) {
@@ -169,7 +174,7 @@ impl NewFile {
     }
 
     /// Gives the file its name, in the place of what had it.
-    pub fn keep<R: Files>(&self, rt: &R) -> Result<(), DayFault>
+    pub(crate) fn keep<R: Files>(&self, rt: &R) -> Result<(), DayFault>
         ensures { IfErr result (λ why. why ≡ DayFault.CannotOpen) }
     {
         match fs::rename(rt, self.part.as_str(), self.path.as_str()) {
@@ -179,7 +184,7 @@ impl NewFile {
     }
 
     /// Removes the file and an older one of its name, as far as the system lets.
-    pub fn remove<R: Files>(&self, rt: &R) {
+    pub(crate) fn remove<R: Files>(&self, rt: &R) {
         fs::remove_file(rt, self.path.as_str()).ok();
         self.sweep(rt);
     }

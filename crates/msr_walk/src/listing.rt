@@ -13,7 +13,7 @@ use std::{fs, io};
 
 /// Why a folder has no list.
 #[derive(Clone, Copy)]
-pub enum ListFault {
+pub(crate) enum ListFault {
     /// It cannot be read, or a name in it is not UTF-8.
     Listing,
     Memory,
@@ -48,7 +48,11 @@ impl From<io::Error> for ListFault {
 }
 
 /// The names in the folder, in the order of their bytes.
-pub fn names_in<R: Files>(rt: &R, alloc: Global, folder: &str) -> Result<Vec<String>, ListFault>
+pub(crate) fn names_in<R: Files>(
+    rt: &R,
+    alloc: Global,
+    folder: &str,
+) -> Result<Vec<String>, ListFault>
     ensures { IfOk result (λ names. IsSorted string_cmp names.items) }
 {
     let mut names = Vec::new(alloc);

@@ -10,7 +10,7 @@ use thiserror::Error;
 
 /// Why a day file or a folder is refused.
 #[derive(Clone, Copy, Debug, Error)]
-pub enum DayFault {
+pub(crate) enum DayFault {
     /// A file could not be opened, or not be made under its name.
     #[error("cannot open")]
     CannotOpen,
@@ -41,14 +41,14 @@ impl From<ToolFault> for DayFault {
 
 /// How many records a day file had, and how many were written for it.
 #[derive(Clone, Copy)]
-pub struct Repacked {
+pub(crate) struct Repacked {
     pub read: u64,
     pub written: u64,
 }
 
 /// What became of an entry.
 #[derive(Clone, Copy)]
-pub enum Outcome {
+pub(crate) enum Outcome {
     Done(Repacked),
     /// An earlier walk had done it, and it was left alone.
     Same(Repacked),
@@ -60,7 +60,7 @@ pub enum Outcome {
 
 impl Outcome {
     /// The line that tells it of the entry with this path.
-    pub fn line(self, alloc: Global, path: &str) -> Result<String, AllocError>
+    pub(crate) fn line(self, alloc: Global, path: &str) -> Result<String, AllocError>
         ensures { IfOk result (λ line. IsLineOf path.now self (string_bytes line)) }
     {
         match self {

@@ -9,7 +9,7 @@ use std::alloc::{AllocError, Global};
 
 /// The path of what stands below a folder. A folder without a name has nothing below it: the answer is the path that
 /// no file has.
-pub fn join(alloc: Global, folder: &str, path: &str) -> Result<String, AllocError>
+pub(crate) fn join(alloc: Global, folder: &str, path: &str) -> Result<String, AllocError>
     ensures { IfOk result (λ text. string_bytes text ≡ joined folder.now path.now) }
 {
     if folder.is_empty() {
@@ -23,7 +23,7 @@ pub fn join(alloc: Global, folder: &str, path: &str) -> Result<String, AllocErro
 
 /// The path, from the archive's folder, of an entry of the folder with this path, which is empty for the archive's
 /// own.
-pub fn entry_path(alloc: Global, folder: &str, name: &str) -> Result<String, AllocError>
+pub(crate) fn entry_path(alloc: Global, folder: &str, name: &str) -> Result<String, AllocError>
     ensures { IfOk result (λ text. string_bytes text ≡ below folder.now name.now) }
 {
     if folder.is_empty() {
@@ -33,7 +33,7 @@ pub fn entry_path(alloc: Global, folder: &str, name: &str) -> Result<String, All
 }
 
 /// How many folders a path of a day file has.
-pub const FOLDERS: u8 = 4;
+pub(crate) const FOLDERS: u8 = 4;
 
 /// `.` and `..` are other names of folders that have names of their own.
 fn is_name(name: &str) -> bool
@@ -69,7 +69,7 @@ pub fn levels_below(folder: &str) -> Option<u8>
 }
 
 /// NET.STA.LOC.CHAN
-pub fn channel_text(alloc: Global, name: &SdsName<'_>) -> Result<String, AllocError>
+pub(crate) fn channel_text(alloc: Global, name: &SdsName<'_>) -> Result<String, AllocError>
     ensures { IfOk result (λ text. string_bytes text ≡ channel_of name.now) }
 {
     let network = name.network();

@@ -23,7 +23,7 @@ fn records_written(report: &Report) -> u64
 }
 
 /// Repacks a day, and counts its records.
-pub fn repack_day_of<S: Source, W: Sink, T: Sink>(
+pub(crate) fn repack_day_of<S: Source, W: Sink, T: Sink>(
     alloc: Global,
     source: &mut S,
     records: &mut W,
@@ -45,7 +45,11 @@ pub fn repack_day_of<S: Source, W: Sink, T: Sink>(
 
 /// The counts of the report that the source has, if it is one of these options. A report says no strictness, and a
 /// strict repack writes what any other does that counts no mismatch.
-pub fn counts_kept<S: Source>(alloc: Global, source: &mut S, options: Options) -> Option<Repacked>
+pub(crate) fn counts_kept<S: Source>(
+    alloc: Global,
+    source: &mut S,
+    options: Options,
+) -> Option<Repacked>
     requires { CanCountCall (S.device source.old) }
     ensures { IfSome result (IsKept options) }
 {
@@ -68,7 +72,7 @@ pub fn counts_kept<S: Source>(alloc: Global, source: &mut S, options: Options) -
 }
 
 /// Holds packed records against their report.
-pub fn require_shown<P: Source, Q: Source>(
+pub(crate) fn require_shown<P: Source, Q: Source>(
     alloc: Global,
     packed: &mut P,
     report: &mut Q,

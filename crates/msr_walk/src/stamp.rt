@@ -16,7 +16,7 @@ use std::rt::Files;
 
 /// The size of a regular file, and the time at which it was last changed.
 #[derive(Clone, Copy, PartialEq, Eq)]
-pub struct Stamp {
+pub(crate) struct Stamp {
     bytes: u64,
     seconds: i64,
     nanoseconds: i64,
@@ -24,7 +24,7 @@ pub struct Stamp {
 
 impl Stamp {
     /// `None` if the system does not tell it of the file with this name, or it is no regular file.
-    pub fn of<R: Files>(rt: &R, path: &str) -> Option<Stamp> {
+    pub(crate) fn of<R: Files>(rt: &R, path: &str) -> Option<Stamp> {
         let Ok(metadata) = fs::metadata(rt, path) else {
             return None;
         };
@@ -59,7 +59,7 @@ impl Stamp {
     }
 
     /// Whether that file has this stamp, and nothing else.
-    pub fn stands_in<R: Files>(
+    pub(crate) fn stands_in<R: Files>(
         self,
         rt: &R,
         alloc: Global,
@@ -82,7 +82,7 @@ impl Stamp {
     }
 
     /// Makes that file with this stamp.
-    pub fn put<R: Files>(self, rt: &R, alloc: Global, file: &NewFile) -> Result<(), DayFault>
+    pub(crate) fn put<R: Files>(self, rt: &R, alloc: Global, file: &NewFile) -> Result<(), DayFault>
         ensures { IfErr result IsNotPut }
     {
         let mut open = file.create(rt)?;

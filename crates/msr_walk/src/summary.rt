@@ -42,7 +42,11 @@ fn write_channels<O: Sink>(alloc: Global, out: &mut O, totals: &Totals) -> Resul
 }
 
 /// Writes a line for each channel, in the order of their first files that were done, and the line of the counts.
-pub fn write_summary<O: Sink>(alloc: Global, out: &mut O, tally: &Tally) -> Result<(), ToolFault>
+pub(crate) fn write_summary<O: Sink>(
+    alloc: Global,
+    out: &mut O,
+    tally: &Tally,
+) -> Result<(), ToolFault>
     requires { CanCountCall (O.device out.old) }
     ensures all { (entries : List Entry) → IsTally entries tally.now →
         OnOk result (Takes (O.device out.old) (O.device out.new) (summary entries)) }

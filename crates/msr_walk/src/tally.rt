@@ -9,7 +9,7 @@ use std::alloc::{AllocError, Global};
 /// How many entries had each outcome, and the totals of the channels with a file that was done, in this walk or an
 /// earlier one.
 #[derive(Drop)]
-pub struct Tally {
+pub(crate) struct Tally {
     pub done: u64,
     pub skipped: u64,
     pub refused: u64,
@@ -18,7 +18,7 @@ pub struct Tally {
 
 impl Tally {
     /// Nothing told yet.
-    pub fn new(alloc: Global) -> Tally
+    pub(crate) fn new(alloc: Global) -> Tally
         ensures { IsTally [] result }
     {
         Tally {
@@ -30,7 +30,7 @@ impl Tally {
     }
 
     /// Counts one entry more. The channel is that of a day that was done.
-    pub fn add(&mut self, channel: &str, outcome: Outcome) -> Result<(), AllocError>
+    pub(crate) fn add(&mut self, channel: &str, outcome: Outcome) -> Result<(), AllocError>
         ensures { (before : List Entry) (entry : Entry) → IsTally before self.old → entry.channel ≡ channel.now
             → entry.outcome ≡ outcome → OnOk result (IsTally (before ++ entry ∷ []) self.new) }
     {

@@ -32,7 +32,7 @@ fn has_word_left(count: u32, words: u32) -> bool
 /// the number of words and greater if there is none so small, and how large its newest differences are, or
 /// `u64::MAX` if there are fewer.
 #[derive(Clone, Copy, Debug, PartialEq, Eq)]
-pub struct LeastCounts {
+pub(crate) struct LeastCounts {
     /// Of all differences.
     now: u32,
     /// Of all but the newest.
@@ -50,7 +50,7 @@ impl LeastCounts {
     ghost use Rattle.msr_words.specs.AreCounts.{AreCounts};
 
     /// Of no differences.
-    pub fn none() -> LeastCounts
+    pub(crate) fn none() -> LeastCounts
         ensures { (words : ℕ) → AreCounts words [] result }
     {
         LeastCounts {
@@ -88,7 +88,7 @@ impl LeastCounts {
     }
 
     /// With one difference more.
-    pub fn with(self, difference: i64, words: u32) -> LeastCounts
+    pub(crate) fn with(self, difference: i64, words: u32) -> LeastCounts
         requires { words < 2 ^ 31 }
         ensures { (past : List ℤ) → AreCounts words past self → AreCounts words (difference ∷ past) result }
     {
@@ -115,7 +115,7 @@ impl LeastCounts {
     }
 
     /// Whether the words hold the run, which may end in a group of three.
-    pub fn within(self, words: u32) -> bool
+    pub(crate) fn within(self, words: u32) -> bool
         ensures { (past : List ℤ) → 0 < length past → AreCounts words past self
             → (IsTrue result ↔ EndsIn One true words past) }
     {
@@ -147,7 +147,7 @@ fn one_below(size: u64, limit: u64) -> u8
 
 /// The greatest number of differences, each of the size of this one, that one Steim-2 word holds.
 /// It counts the widths that are enough, from 30 bits for one to 4 bits for seven, with no branch.
-pub fn steim2_capacity(diff: i64) -> u8
+pub(crate) fn steim2_capacity(diff: i64) -> u8
     ensures { IsCapacity diff result }
 {
     let size = magnitude(diff);

@@ -38,7 +38,7 @@ impl Following {
 
     /// Nothing follows.
     #[inline]
-    pub fn nothing() -> Following
+    pub(crate) fn nothing() -> Following
         ensures few { result.all ≡ 0 }
         ensures following { IsFollowing [] result }
     {
@@ -87,7 +87,7 @@ impl Following {
 
     /// With one difference more before them.
     #[inline]
-    pub fn preceded_by(self, difference: i64) -> Following
+    pub(crate) fn preceded_by(self, difference: i64) -> Following
         requires fits { FitsBits 32 difference }
         requires room { self.all < 2 ^ 64 - 1 }
         ensures few { result.all ≤ self.all + 1 }
