@@ -79,7 +79,12 @@ fn edits_write_their_fields() -> Result<(), Fail> {
 
 /// All words of four bytes are this one.
 fn repeats(bytes: &[u8], word: [u8; 4]) -> bool {
-    bytes.chunks(4).all(|part| part == word.as_slice())
+    for part in bytes.chunks(4) {
+        if part != word.as_slice() {
+            return false;
+        }
+    }
+    true
 }
 
 #[test]

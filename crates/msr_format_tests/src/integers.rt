@@ -129,7 +129,10 @@ fn short_areas(rt: HostRuntime) -> Result<(), Fail> {
 
 /// The area begins with these bytes, and the others are 0.
 fn is_filled(area: &[u8], bytes: &[u8]) -> bool {
-    area.starts_with(bytes) && area.iter().skip(bytes.len()).all(|byte| *byte == 0)
+    match area.get(bytes.len()..) {
+        Some(rest) => area.starts_with(bytes) && rest.iter().all(|byte| *byte == 0),
+        None => false,
+    }
 }
 
 #[test]

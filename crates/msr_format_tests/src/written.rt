@@ -19,9 +19,10 @@ struct Run<'a> {
 
 /// The record of that length, if the run can be written: what the call asks for is tested first.
 fn encoded(alloc: Global, rate: Rate, run: &Run<'_>, length: Length) -> Option<Vec<u8>> {
-    let fits = run.kind.fits(run.before, run.samples, length) && !run.samples.is_empty();
-    let numbered = run.sequence >= 1 && run.sequence <= 999_999;
-    if !fits || !numbered || !is_instant(run.start) {
+    if !run.kind.fits(run.before, run.samples, length) || run.samples.is_empty() {
+        return None;
+    }
+    if run.sequence < 1 || run.sequence > 999_999 || !is_instant(run.start) {
         return None;
     }
     let mut out = Vec::new(alloc);

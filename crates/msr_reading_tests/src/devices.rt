@@ -69,18 +69,20 @@ fn sources_play_their_behavior(rt: HostRuntime) -> Result<(), Fail> {
     expect(fills(rt.alloc(), (0, 0, None, 14)), "0 stands for 1")
 }
 
-/// The text is written to the sink, as far as that goes.
-fn takes(mut sink: TestSink, held: usize) -> bool {
-    let written = write_all(&mut sink, TEXT).is_ok();
-    written == (held == 14) && Some(sink.bytes()) == TEXT.get(..held)
-}
-
-/// A sink that fails by an error, and one that fails by accepting nothing, play so.
+/// A sink that fails by an error, and one that fails by accepting nothing, take the text so.
 fn both_take(alloc: Global, row: Played) -> bool {
     let (most, interruptions, fails_at, held) = row;
     let behavior = behavior(most, interruptions, fails_at);
-    takes(TestSink::new(Vec::new(alloc), behavior), held)
-        && takes(TestSink::accepting_nothing(Vec::new(alloc), behavior), held)
+    for mut sink in [
+        TestSink::new(Vec::new(alloc), behavior),
+        TestSink::accepting_nothing(Vec::new(alloc), behavior),
+    ] {
+        let written = write_all(&mut sink, TEXT).is_ok();
+        if written != (held == 14) || Some(sink.bytes()) != TEXT.get(..held) {
+            return false;
+        }
+    }
+    true
 }
 
 #[test]
@@ -125,35 +127,23 @@ fn a_window_moves_on(rt: HostRuntime) -> Result<(), Fail> {
     expect(more, "eight bytes more")
 }
 
-/// A buffer in which the text waits, which is too little for a piece.
-fn waiting(alloc: Global, sink: &mut TestSink) -> Option<WriteBuffer> {
-    let mut buffer = WriteBuffer::new(alloc);
-    buffer.bytes.extend_from_slice(TEXT).ok()?;
-    buffer.flush_full(sink).ok()?;
-    if sink.bytes().is_empty() {
-        Some(buffer)
-    } else {
-        None
-    }
-}
-
-/// After the failure of that call what was not written waits, and the next call writes it.
-fn writes_on(alloc: Global, fails_at: u64) -> bool {
+/// The text waits, which is too little for a piece. After the failure of that call what was not written waits, and the
+/// next call writes it.
+fn writes_on(alloc: Global, fails_at: u64) -> Result<bool, AllocError> {
     let behavior = behavior(1, 0, Some(fails_at));
     let mut sink = TestSink::accepting_nothing(Vec::new(alloc), behavior);
-    let Some(mut buffer) = waiting(alloc, &mut sink) else {
-        return false;
-    };
-    buffer.flush(&mut sink) == Err(SinkFault)
-        && sink.bytes().len() + buffer.bytes.len() == 14
-        && buffer.flush(&mut sink) == Ok(())
-        && sink.bytes() == TEXT
+    let mut buffer = WriteBuffer::new(alloc);
+    buffer.bytes.extend_from_slice(TEXT)?;
+    let waits = buffer.flush_full(&mut sink) == Ok(()) && sink.bytes().is_empty();
+    let failed = buffer.flush(&mut sink) == Err(SinkFault)
+        && sink.bytes().len() + buffer.bytes.len() == 14;
+    Ok(waits && failed && buffer.flush(&mut sink) == Ok(()) && sink.bytes() == TEXT)
 }
 
 #[test]
 fn what_was_not_written_waits(rt: HostRuntime) -> Result<(), Fail> {
     for fails_at in 0..14 {
-        expect_at(writes_on(rt.alloc(), fails_at), fails_at)?;
+        expect_at(writes_on(rt.alloc(), fails_at)?, fails_at)?;
     }
     Ok(())
 }
