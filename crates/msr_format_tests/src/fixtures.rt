@@ -1,6 +1,8 @@
 //! msr_fixtures: where an edit writes, and what.
-use msr_fixtures::{Edit, header_bytes, little_record, record, record_of_words, steim_record};
-use std::process::Abort;
+use msr_fixtures::{
+    Edit, expect, header_bytes, little_record, record, record_of_words, steim_record,
+};
+use std::test::Fail;
 
 /// An edit, where it writes, and the bytes in either order.
 type Row<'a> = (Edit<'a>, usize, &'a [u8], &'a [u8]);
@@ -52,24 +54,12 @@ fn differ_there(found: &[u8], base: &[u8], at: usize, part: &[u8]) -> bool {
 }
 
 /// Headers and records with the edit of a row differ there from those without.
-fn edit_writes(rt: &impl Abort, row: Row<'_>) {
+fn is_edited(row: Row<'_>) -> bool {
     let (edit, at, big, little) = row;
-    assert!(rt;
-        differ_there(&header_bytes(&[edit]), &header_bytes(&[]), at, big),
-        "{edit:?}"
-    );
-    assert!(rt;
-        differ_there(&record(&[edit]), &record(&[]), at, big),
-        "{edit:?}"
-    );
-    assert!(rt;
-        differ_there(&little_record(&[edit]), &little_record(&[]), at, little),
-        "{edit:?}"
-    );
-    assert!(rt;
-        differ_there(&steim_record(&[edit]), &steim_record(&[]), at, big),
-        "{edit:?}"
-    );
+    differ_there(&header_bytes(&[edit]), &header_bytes(&[]), at, big)
+        && differ_there(&record(&[edit]), &record(&[]), at, big)
+        && differ_there(&steim_record(&[edit]), &steim_record(&[]), at, big)
+        && differ_there(&little_record(&[edit]), &little_record(&[]), at, little)
 }
 
 /// The rows, as an array that no proof looks into.
@@ -78,18 +68,30 @@ fn rows() -> [Row<'static>; 24] {
 }
 
 #[test]
-fn edits_write_their_fields(rt: HostRuntime) {
+fn edits_write_their_fields() -> Result<(), Fail> {
     for row in rows() {
-        edit_writes(&rt, row);
+        if !is_edited(row) {
+            return Err(Fail::new(format_args!("{:?}", row.0)));
+        }
     }
+    Ok(())
+}
+
+/// All words of four bytes are this one.
+fn repeats(bytes: &[u8], word: [u8; 4]) -> bool {
+    for part in bytes.chunks(4) {
+        if part != word.as_slice() {
+            return false;
+        }
+    }
+    true
 }
 
 #[test]
-fn words_fill_frames(rt: HostRuntime) {
+fn words_fill_frames() -> Result<(), Fail> {
     let bytes = record_of_words([1, 2, 3, 4], &[Edit::Bytes(252, &[5, 6, 7, 8, 9])]);
-    assert!(rt; differ_there(&bytes, &record(&[]), 76, bytes.get(76..).unwrap_or(&[])));
-    for word in bytes.get(76..252).unwrap_or(&[]).chunks(4) {
-        assert!(rt; word == [1, 2, 3, 4].as_slice());
-    }
-    assert!(rt; bytes.ends_with([5, 6, 7, 8].as_slice()));
+    let edited = differ_there(&bytes, &record(&[]), 76, &bytes[76..]);
+    expect(edited, "what stands before the words")?;
+    expect(repeats(&bytes[76..252], [1, 2, 3, 4]), "the words")?;
+    expect(bytes.ends_with([5, 6, 7, 8].as_slice()), "the last word")
 }

@@ -1,9 +1,8 @@
-//! msr_header: headers from outside, which say that the layout is the standard's, and the faults'
-//! texts.
-use msr_fixtures::{Edit, header_bytes, little_record, record};
-use msr_header::{Header, HeaderFault, Order, Timing, read_header, write_header};
+//! msr_header: headers from outside, which say that the layout is the standard's. What is refused stands in
+//! refusals.rt.
+use msr_fixtures::{Edit, expect, header_bytes, little_record, record};
+use msr_header::{Header, Order, Timing, read_header, write_header};
 use msr_time::BTime;
-use std::process::Abort;
 use std::test::Fail;
 
 fn time(year: u16, clock: (u8, u8, u8), fract: u16) -> BTime {
@@ -51,20 +50,18 @@ fn header() -> Header {
     }
 }
 
-/// The header is written as that of the record after these edits, and read from there.
-fn assert_written(rt: &impl Abort, edits: &[Edit<'_>], header: Header) {
-    assert!(rt; write_header(&header) == header_bytes(edits), "{edits:?}");
-    assert_read(rt, &record(edits), header);
-}
+/// Edits of the record of 301 samples, and the header that it then has.
+type Row = (&'static str, &'static [Edit<'static>], Header);
 
-/// The record has this header.
-fn assert_read(rt: &impl Abort, record: &[u8; 256], header: Header) {
-    assert!(rt; read_header(record) == Ok(header), "{header:?}");
-}
+const SECOND: &[Edit<'static>] = &[
+    Edit::Sequence(*b"000002"),
+    Edit::Clock(0, 0, 15, 500),
+    Edit::Samples(1),
+    Edit::Frames(1),
+];
 
 /// The headers of records whose bytes are given, as edits of the first one's.
-#[test]
-fn written(rt: HostRuntime) {
+fn given_rows() -> [Row; 4] {
     let second = Header {
         sequence: *b"000002",
         time: time(2020, (0, 0, 15), 500),
@@ -72,44 +69,40 @@ fn written(rt: HostRuntime) {
         timing: timing(0, 1),
         ..header()
     };
-    let edits = &[
-        Edit::Sequence(*b"000002"),
-        Edit::Clock(0, 0, 15, 500),
-        Edit::Samples(1),
-        Edit::Frames(1),
-    ];
-    assert_written(&rt, &[], header());
-    assert_written(&rt, edits, second);
     let steim1 = Header {
         samples: 87,
         encoding: 10,
         ..header()
     };
-    assert_written(&rt, &[Edit::Samples(87), Edit::Encoding(10)], steim1);
     let integers = Header {
         samples: 2,
         encoding: 3,
         timing: timing(0, 0),
         ..header()
     };
-    let edits = &[Edit::Samples(2), Edit::Encoding(3), Edit::Frames(0)];
-    assert_written(&rt, edits, integers);
+    [
+        ("as it is", &[], header()),
+        ("the record after it", SECOND, second),
+        ("Steim-1", &[Edit::Samples(87), Edit::Encoding(10)], steim1),
+        (
+            "integers",
+            &[Edit::Samples(2), Edit::Encoding(3), Edit::Frames(0)],
+            integers,
+        ),
+    ]
 }
 
-#[test]
-fn written_times_and_flags(rt: HostRuntime) {
+fn timed_rows() -> [Row; 3] {
     let third = Header {
         time: time(2020, (0, 1, 40), 3333),
         timing: timing(33, 3),
         ..header()
     };
-    assert_written(&rt, &[Edit::Clock(0, 1, 40, 3333), Edit::Micros(33)], third);
     let early = Header {
         time: time(2020, (0, 0, 0), 37),
         timing: timing(63, 3),
         ..header()
     };
-    assert_written(&rt, &[Edit::Clock(0, 0, 0, 37), Edit::Micros(63)], early);
     let flagged = Header {
         factor: -10,
         multiplier: -2,
@@ -124,36 +117,94 @@ fn written_times_and_flags(rt: HostRuntime) {
         }),
         ..header()
     };
-    let edits = &[
-        Edit::Rate(-10, -2),
-        Edit::Activity(2),
-        Edit::Clocking(4),
-        Edit::DataQuality(8),
-        Edit::Correction(-12),
-        Edit::TimingQuality(90),
-        Edit::Micros(-50),
-    ];
-    assert_written(&rt, edits, flagged);
+    [
+        (
+            "33 microseconds",
+            &[Edit::Clock(0, 1, 40, 3333), Edit::Micros(33)],
+            third,
+        ),
+        (
+            "63 microseconds",
+            &[Edit::Clock(0, 0, 0, 37), Edit::Micros(63)],
+            early,
+        ),
+        (
+            "rate, flags, correction and quality",
+            &[
+                Edit::Rate(-10, -2),
+                Edit::Activity(2),
+                Edit::Clocking(4),
+                Edit::DataQuality(8),
+                Edit::Correction(-12),
+                Edit::TimingQuality(90),
+                Edit::Micros(-50),
+            ],
+            flagged,
+        ),
+    ]
 }
 
-/// Headers in the other order, of a year whose bytes are the same in either, and with bytes that are written otherwise.
+fn is_read(record: &[u8; 256], header: &Header) -> bool {
+    read_header(record) == Ok(*header)
+}
+
+/// The header is written as that of the record after these edits, and read from there.
+fn is_written(edits: &[Edit<'_>], header: &Header) -> bool {
+    write_header(header) == header_bytes(edits) && is_read(&record(edits), header)
+}
+
 #[test]
-fn read(rt: HostRuntime) {
+fn written() -> Result<(), Fail> {
+    for (name, edits, header) in &given_rows() {
+        expect(is_written(edits, header), name)?;
+    }
+    Ok(())
+}
+
+#[test]
+fn written_times_and_flags() -> Result<(), Fail> {
+    for (name, edits, header) in &timed_rows() {
+        expect(is_written(edits, header), name)?;
+    }
+    Ok(())
+}
+
+/// A missing blockette 1001 is written as one of zeros, and the order is not looked at.
+#[test]
+fn written_otherwise() -> Result<(), Fail> {
+    let untimed = Header {
+        order: Order::Little,
+        timing: None,
+        chain_end: 56,
+        ..header()
+    };
+    let written = write_header(&untimed) == header_bytes(&[Edit::Frames(0)]);
+    expect(written, "without blockette 1001")
+}
+
+#[test]
+fn read_in_the_other_order() -> Result<(), Fail> {
     let little = Header {
         order: Order::Little,
         ..header()
     };
-    assert_read(&rt, &little_record(&[]), little);
+    expect(is_read(&little_record(&[]), &little), "little-endian")?;
     let micros = Header {
         timing: timing(-50, 3),
         ..little
     };
-    assert_read(&rt, &little_record(&[Edit::Micros(-50)]), micros);
+    let edited = little_record(&[Edit::Micros(-50)]);
+    expect(is_read(&edited, &micros), "50 microseconds earlier")
+}
+
+/// Of a year whose bytes are the same in either order, and with bytes that are written otherwise.
+#[test]
+fn read() -> Result<(), Fail> {
     let later = Header {
         time: time(2056, (0, 0, 0), 0),
         ..header()
     };
-    assert_read(&rt, &record(&[Edit::Day(2056, 1)]), later);
+    expect(is_read(&record(&[Edit::Day(2056, 1)]), &later), "2056")?;
     let edits = &[
         Edit::Bytes(0, &[0x20, 0x00]),
         Edit::Quality(b'M'),
@@ -168,116 +219,48 @@ fn read(rt: HostRuntime) {
         data_order: Order::Little,
         ..header()
     };
-    assert_read(&rt, &record(edits), other);
+    expect(
+        is_read(&record(edits), &other),
+        "bytes that are written otherwise",
+    )
 }
 
 /// Without blockette 1001, and with the blockettes in another place.
-#[test]
-fn read_chains(rt: HostRuntime) {
+fn chains() -> [Row; 3] {
     let untimed = Header {
         timing: None,
         chain_end: 56,
         ..header()
     };
-    assert_read(&rt, &record(&[Edit::After1000(0)]), untimed);
-    let exchanged = &[
-        Edit::Bytes(48, &[0x03, 0xe9, 0x00, 0x38, 0, 0, 0, 3]),
-        Edit::Bytes(56, &[0x03, 0xe8, 0, 0, 11, 1, 8, 0]),
-    ];
-    assert_read(&rt, &record(exchanged), header());
-    let far = &[
-        Edit::After1000(128),
-        Edit::Bytes(128, &[0x03, 0xe9, 0, 0, 0, 0, 0, 3]),
-    ];
     let ends_later = Header {
         chain_end: 136,
         ..header()
     };
-    assert_read(&rt, &record(far), ends_later);
-}
-
-/// A missing blockette 1001 is written as one of zeros, and the order is not looked at.
-#[test]
-fn written_otherwise(rt: HostRuntime) {
-    let untimed = Header {
-        order: Order::Little,
-        timing: None,
-        chain_end: 56,
-        ..header()
-    };
-    assert!(rt; write_header(&untimed) == header_bytes(&[Edit::Frames(0)]));
-}
-
-#[test]
-fn refusals(rt: HostRuntime) {
-    let rows: [(&[Edit<'_>], HeaderFault); 17] = [
-        (&[Edit::Quality(b'X')], HeaderFault::NotARecord),
-        (&[Edit::Bytes(0, &[0x41])], HeaderFault::NotARecord),
-        (&[Edit::Bytes(7, &[0x41])], HeaderFault::NotARecord),
-        (&[Edit::Day(2019, 366)], HeaderFault::BadTime),
-        (&[Edit::Day(0, 1)], HeaderFault::BadTime),
-        (&[Edit::After1000(48)], HeaderFault::BadChain),
+    [
+        ("no blockette 1001", &[Edit::After1000(0)], untimed),
         (
-            &[Edit::After1000(56), Edit::After1001(48)],
-            HeaderFault::BadChain,
+            "blockette 1001 first",
+            &[
+                Edit::Bytes(48, &[0x03, 0xe9, 0x00, 0x38, 0, 0, 0, 3]),
+                Edit::Bytes(56, &[0x03, 0xe8, 0, 0, 11, 1, 8, 0]),
+            ],
+            header(),
         ),
-        (&[Edit::After1000(52)], HeaderFault::BadChain),
-        (&[Edit::After1000(65535)], HeaderFault::BadChain),
-        (&[Edit::SecondType(500)], HeaderFault::OtherBlockette(500)),
-        (&[Edit::SecondType(1000)], HeaderFault::TwiceBlockette(1000)),
-        (&[Edit::FirstBlockette(0)], HeaderFault::NoBlockette1000),
-        (&[Edit::Exponent(6)], HeaderFault::BadExponent),
-        (&[Edit::Exponent(21)], HeaderFault::BadExponent),
-        (&[Edit::DataOrder(2)], HeaderFault::BadOrder),
         (
+            "blockette 1001 far away",
             &[
                 Edit::After1000(128),
-                Edit::Exponent(7),
-                Edit::Bytes(128, &[0x03, 0xe9, 0, 0, 0, 0, 0, 0]),
+                Edit::Bytes(128, &[0x03, 0xe9, 0, 0, 0, 0, 0, 3]),
             ],
-            HeaderFault::ChainPastRecord,
+            ends_later,
         ),
-        (
-            &[Edit::DataOrder(2), Edit::Exponent(6)],
-            HeaderFault::BadExponent,
-        ),
-    ];
-    for (edits, fault) in rows {
-        assert!(rt; read_header(&record(edits)) == Err(fault), "{edits:?}");
-    }
+    ]
 }
 
 #[test]
-fn refusals_of_cut_records(rt: HostRuntime) {
-    let bytes = record(&[]);
-    for (length, fault) in [
-        (0, HeaderFault::Truncated),
-        (47, HeaderFault::Truncated),
-        (200, HeaderFault::RecordCut),
-    ] {
-        let Some(shown) = bytes.get(..length) else {
-            panic!(rt; "no {length} bytes")
-        };
-        assert!(rt; read_header(shown) == Err(fault), "{length} bytes");
-    }
-}
-
-#[test]
-fn texts_of_faults(rt: HostRuntime) -> Result<(), Fail> {
-    for (fault, text) in [
-        (HeaderFault::Truncated, "1 Truncated"),
-        (HeaderFault::NotARecord, "2 NotARecord"),
-        (HeaderFault::BadTime, "3 BadTime"),
-        (HeaderFault::BadChain, "4 BadChain"),
-        (HeaderFault::OtherBlockette(500), "5 OtherBlockette 500"),
-        (HeaderFault::TwiceBlockette(1000), "6 TwiceBlockette 1000"),
-        (HeaderFault::NoBlockette1000, "7 NoBlockette1000"),
-        (HeaderFault::BadExponent, "8 BadExponent"),
-        (HeaderFault::BadOrder, "9 BadOrder"),
-        (HeaderFault::RecordCut, "10 RecordCut"),
-        (HeaderFault::ChainPastRecord, "11 ChainPastRecord"),
-    ] {
-        assert_eq!(rt; format!(in rt.alloc(); "{fault}")?.as_str(), text);
+fn read_chains() -> Result<(), Fail> {
+    for (name, edits, header) in &chains() {
+        expect(is_read(&record(edits), header), name)?;
     }
     Ok(())
 }

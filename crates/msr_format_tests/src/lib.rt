@@ -10,8 +10,16 @@ mod integers;
 #[cfg(test)]
 mod records;
 #[cfg(test)]
+mod refusals;
+#[cfg(test)]
 mod samples;
 #[cfg(test)]
 mod steim;
 #[cfg(test)]
 mod times;
+#[cfg(test)]
+mod words;
+#[cfg(test)]
+mod worked;
+#[cfg(test)]
+mod written;

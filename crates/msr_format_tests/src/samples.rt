@@ -1,25 +1,34 @@
 //! msr_base: what no clause says: that a call succeeds, and the text of a list.
 use msr_base::Samples;
+use msr_fixtures::expect;
+use std::alloc::{AllocError, Global};
 use std::test::Fail;
+
+/// The sample -1, and those that follow.
+fn grown(alloc: Global, others: &[i32]) -> Result<Samples, AllocError> {
+    let mut samples = Samples::new(alloc);
+    samples.push(-1)?;
+    samples.extend_from_slice(others)?;
+    Ok(samples)
+}
 
 #[test]
 fn samples_grow(rt: HostRuntime) -> Result<(), Fail> {
-    let mut samples = Samples::new(rt.alloc());
-    assert!(rt; samples.is_empty());
-    samples.push(-1)?;
-    samples.extend_from_slice(&[2, -3])?;
-    assert_eq!(rt; samples.len(), 3);
-    let mut others = Samples::new(rt.alloc());
-    others.push(-1)?;
-    assert!(rt; samples != others);
-    others.extend_from_slice(&[2, -3])?;
-    assert!(rt; samples == others);
-    assert_eq!(rt;
-        format!(in rt.alloc(); "{samples:?}")?.as_str(),
-        "Samples { values: [-1, 2, -3] }"
-    );
-    let values = samples.into_vec();
-    assert_eq!(rt; values.as_slice(), [-1, 2, -3].as_slice());
-    assert!(rt; Samples::from_vec(values) == others);
-    Ok(())
+    let one = grown(rt.alloc(), &[])?;
+    let three = grown(rt.alloc(), &[2, -3])?;
+    expect(Samples::new(rt.alloc()).is_empty(), "no samples")?;
+    expect(three.len() == 3 && three != one, "how many there are")?;
+    let text = format!(in rt.alloc(); "{three:?}")?;
+    expect(
+        text.as_str() == "Samples { values: [-1, 2, -3] }",
+        "their text",
+    )
+}
+
+#[test]
+fn samples_are_a_vector(rt: HostRuntime) -> Result<(), Fail> {
+    let values = grown(rt.alloc(), &[2, -3])?.into_vec();
+    expect(values.as_slice() == [-1, 2, -3].as_slice(), "the vector")?;
+    let again = Samples::from_vec(values) == grown(rt.alloc(), &[2, -3])?;
+    expect(again, "the samples of the vector")
 }

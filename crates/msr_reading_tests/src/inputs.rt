@@ -1,14 +1,13 @@
 //! msr_input: what readers do, which no clause says: printed faults, sources that play, and each
 //! call once.
-use msr_base::Counts;
+use crate::devices::expect_at;
 use msr_devices::{Behavior, FillFault, TestSource};
-use msr_fixtures::{Edit, START, int32_record};
+use msr_fixtures::{Edit, START, expect, int32_record};
 use msr_header::HeaderFault;
-use msr_input::{Fault, NextOutline, ReadFault, RowReader, SegmentReader, Settings};
+use msr_input::{Fault, NextOutline, NextRecord, ReadFault, RowReader, SegmentReader, Settings};
 use msr_record::FaultKind;
 use msr_segments::{Segment, Step};
-use std::alloc::Global;
-use std::process::Abort;
+use std::alloc::{AllocError, Global};
 use std::test::Fail;
 
 /// Edits of the record of 48 samples: without samples,
@@ -87,139 +86,233 @@ fn joining() -> [u8; 768] {
 /// Where a segment begins, and how many samples it has.
 type Place = (i64, usize);
 
-/// The place of the segment that was given, if one was.
-fn given(rt: &impl Abort, next: Result<Option<Segment>, ReadFault>) -> Option<Place> {
-    match next {
-        Ok(Some(segment)) => Some((segment.start, segment.samples.len())),
-        Ok(None) => None,
-        Err(fault) => panic!(rt; "{fault}"),
-    }
+/// The place of a segment, if there is one.
+fn place(segment: Option<Segment>) -> Option<Place> {
+    let segment = segment?;
+    Some((segment.start, segment.samples.len()))
 }
 
-/// The first two segments that end before the last one of these bytes, the last one, and the counts.
-fn segments_of(
-    rt: &impl Abort,
+/// What is read of an input: the first two segments that end before its end, the last one, and the counts.
+#[derive(Clone, Copy)]
+struct Read {
+    given: [Option<Place>; 2],
+    last: Option<Place>,
+    counts: [u64; 3],
+}
+
+/// The bytes are read so when they come so.
+fn is_read(
     alloc: Global,
     bytes: &[u8],
     behavior: Behavior,
-) -> (Option<Place>, Option<Place>, Option<Place>, Counts) {
+    want: &Read,
+) -> Result<bool, ReadFault> {
     let mut source = TestSource::new(bytes, behavior);
     let mut reader = SegmentReader::new(alloc, LENIENT);
-    let first = given(rt, reader.next_segment(&mut source));
-    let second = given(rt, reader.next_segment(&mut source));
-    let third = given(rt, reader.next_segment(&mut source));
-    assert_eq!(rt; third, None);
+    let first = place(reader.next_segment(&mut source)?);
+    let second = place(reader.next_segment(&mut source)?);
+    let third = place(reader.next_segment(&mut source)?);
     let counts = reader.counts();
-    let last = reader
-        .finish()
-        .map(|segment| (segment.start, segment.samples.len()));
-    (first, second, last, counts)
+    Ok(
+        [first, second] == want.given
+            && third.is_none()
+            && place(reader.finish()) == want.last
+            && [counts.read, counts.empty, counts.mismatched] == want.counts,
+    )
 }
 
-/// How many segments were given before the bytes were refused, and why they are; the second call tells it again.
-fn fault_of(rt: &impl Abort, alloc: Global, bytes: &[u8], strict: bool) -> (u32, ReadFault) {
-    let settings = Settings {
-        tolerance: 10_000,
-        strict,
+/// Of the two records that join.
+const JOINED: Read = Read {
+    given: [None, None],
+    last: Some((START, 96)),
+    counts: [3, 1, 0],
+};
+
+const WITH_GAPS: Read = Read {
+    given: [Some((START, 48)), Some((START + 3_400_000, 48))],
+    last: Some((START + 10_000_000, 1)),
+    counts: [3, 0, 1],
+};
+
+const NOTHING: Read = Read {
+    given: [None, None],
+    last: None,
+    counts: [0, 0, 0],
+};
+
+#[test]
+fn segments_of_inputs(rt: HostRuntime) -> Result<(), Fail> {
+    let joining = joining();
+    let gaps = three(
+        &int32_record(&[]),
+        &int32_record(LATER),
+        &int32_record(MISMATCHED),
+    );
+    let slow = Behavior {
+        most: 1,
+        interruptions: 63,
+        fails_at: None,
     };
+    let rows: [(&str, &[u8], Behavior, &Read); 4] = [
+        (
+            "an empty record between two that join",
+            &joining,
+            WHOLE,
+            &JOINED,
+        ),
+        (
+            "one byte for each read between interruptions",
+            &joining,
+            slow,
+            &JOINED,
+        ),
+        ("gaps", &gaps, WHOLE, &WITH_GAPS),
+        ("no bytes", &[], WHOLE, &NOTHING),
+    ];
+    for (name, bytes, behavior, want) in rows {
+        expect(is_read(rt.alloc(), bytes, behavior, want)?, name)?;
+    }
+    Ok(())
+}
+
+fn is_text(alloc: Global, fault: ReadFault, text: &str) -> Result<bool, AllocError> {
+    Ok(format!(in alloc; "{fault}")?.as_str() == text)
+}
+
+/// How many segments are given before the bytes are refused, and why they are; the second call tells it again.
+fn fault_of(alloc: Global, bytes: &[u8], settings: Settings) -> Option<(u32, ReadFault)> {
     let mut source = TestSource::new(bytes, WHOLE);
     let mut reader = SegmentReader::new(alloc, settings);
     let first = reader.next_segment(&mut source);
     let second = reader.next_segment(&mut source);
     match (first, second) {
-        (Err(fault), Err(again)) => {
-            assert_eq!(rt; fault, again);
-            (0, fault)
-        }
-        (Ok(Some(_)), Err(fault)) => (1, fault),
-        _ => panic!(rt; "no fault"),
+        (Err(fault), Err(again)) if fault == again => Some((0, fault)),
+        (Ok(Some(_)), Err(fault)) => Some((1, fault)),
+        _ => None,
     }
 }
 
-#[test]
-fn an_empty_record_between_two_that_join(rt: HostRuntime) {
-    let found = segments_of(&rt, rt.alloc(), &joining(), WHOLE);
-    let counts = Counts {
-        read: 3,
-        empty: 1,
-        mismatched: 0,
-    };
-    assert_eq!(rt; found, (None, None, Some((START, 96)), counts));
-}
-
-#[test]
-fn segments_end_at_a_gap(rt: HostRuntime) {
-    let bytes = three(
-        &int32_record(&[]),
-        &int32_record(LATER),
-        &int32_record(MISMATCHED),
-    );
-    let counts = Counts {
-        read: 3,
-        empty: 0,
-        mismatched: 1,
-    };
-    let want = (
-        Some((START, 48)),
-        Some((START + 3_400_000, 48)),
-        Some((START + 10_000_000, 1)),
-        counts,
-    );
-    assert_eq!(rt; segments_of(&rt, rt.alloc(), &bytes, WHOLE), want);
+/// The input is refused with this text, after that many segments.
+fn is_refused(
+    alloc: Global,
+    bytes: &[u8],
+    settings: Settings,
+    segments: u32,
+    text: &str,
+) -> Result<bool, AllocError> {
+    match fault_of(alloc, bytes, settings) {
+        Some((given, fault)) => Ok(given == segments && is_text(alloc, fault, text)?),
+        None => Ok(false),
+    }
 }
 
 /// Strict reading refuses a record for its reverse constant, before its time is looked at.
 #[test]
 fn reverse_constants_that_do_not_agree(rt: HostRuntime) -> Result<(), Fail> {
     let first = int32_record(&[]);
-    let two_records = two(&first, &int32_record(MISMATCHED));
+    let differs = two(&first, &int32_record(MISMATCHED));
     let late = two(&first, &int32_record(MISMATCHED_LATE));
     let cut = int32_record(&[
         Edit::Samples(65535),
         Edit::Encoding(11),
         Edit::Bytes(75, &[0x01]),
     ]);
-    let rows: [(&[u8], bool, &str); 5] = [
-        (&two_records, true, "offset 256: 18 ReverseMismatch"),
-        (&late, true, "offset 256: 18 ReverseMismatch"),
-        (&late, false, "offset 256: 17 TimeRange"),
-        (&cut, true, "offset 0: 12 DataShort"),
-        (&cut, false, "offset 0: 12 DataShort"),
+    let rows: [(&str, &[u8], Settings, &str); 5] = [
+        (
+            "differs",
+            &differs,
+            STRICT,
+            "offset 256: 18 ReverseMismatch",
+        ),
+        (
+            "differs, and late",
+            &late,
+            STRICT,
+            "offset 256: 18 ReverseMismatch",
+        ),
+        ("late", &late, LENIENT, "offset 256: 17 TimeRange"),
+        ("differs, and cut", &cut, STRICT, "offset 0: 12 DataShort"),
+        ("cut", &cut, LENIENT, "offset 0: 12 DataShort"),
     ];
-    for (bytes, strict, want) in rows {
-        let (given, fault) = fault_of(&rt, rt.alloc(), bytes, strict);
-        assert_eq!(rt; given, 0, "{want}");
-        assert_eq!(rt; format!(in rt.alloc(); "{fault}")?.as_str(), want);
+    for (name, bytes, settings, text) in rows {
+        expect(is_refused(rt.alloc(), bytes, settings, 0, text)?, name)?;
     }
-    let mut reader = RowReader::new(rt.alloc(), STRICT);
-    let mut source = TestSource::new(&two_records, WHOLE);
-    assert_eq!(rt;
-        told(&rt, reader.next_outline(&mut source)),
-        Some((Step::Begins, 48))
+    Ok(())
+}
+
+#[test]
+fn faults_stand_at_their_records(rt: HostRuntime) -> Result<(), Fail> {
+    let joined = joining();
+    let refused = int32_record(&[Edit::SecondType(500)]);
+    let gaps = three(&int32_record(&[]), &int32_record(LATER), &refused);
+
+    // the second row joins some milliseconds before its nominal start, so its last sample counts as of 2101
+    let end = three(
+        &int32_record(NEAR_THE_END),
+        &int32_record(AT_THE_END),
+        &refused,
     );
-    match reader.next_outline(&mut source) {
-        Ok(_) => panic!(rt; "a row"),
-        Err(fault) => {
-            assert_eq!(rt;
-                format!(in rt.alloc(); "{fault}")?.as_str(),
-                "offset 256: 18 ReverseMismatch"
-            );
-        }
+    let rows: [(&str, &[u8], u32, &str); 6] = [
+        (
+            "44 bytes of a record",
+            &joined[..300],
+            0,
+            "offset 256: 1 Truncated",
+        ),
+        (
+            "255 bytes of a record",
+            &joined[..511],
+            0,
+            "offset 256: 10 RecordCut",
+        ),
+        (
+            "1 byte of a record",
+            &joined[..513],
+            0,
+            "offset 512: 1 Truncated",
+        ),
+        (
+            "all but the first byte",
+            &joined[1..],
+            0,
+            "offset 0: 2 NotARecord",
+        ),
+        ("after a gap", &gaps, 1, "offset 512: 5 OtherBlockette 500"),
+        ("joined into 2101", &end, 0, "offset 256: 17 TimeRange"),
+    ];
+    for (name, bytes, segments, text) in rows {
+        expect(
+            is_refused(rt.alloc(), bytes, LENIENT, segments, text)?,
+            name,
+        )?;
     }
     Ok(())
 }
 
 /// What the next row does, and how many samples it has, if there is one.
-fn told(rt: &impl Abort, next: Result<Option<NextOutline>, ReadFault>) -> Option<(Step, u16)> {
-    match next {
-        Ok(Some(next)) => Some((next.step, next.row.count)),
-        Ok(None) => None,
-        Err(fault) => panic!(rt; "{fault}"),
+fn told(next: Option<NextOutline>) -> Option<(Step, u16)> {
+    let next = next?;
+    Some((next.step, next.row.count))
+}
+
+#[test]
+fn strict_readers_of_rows(rt: HostRuntime) -> Result<(), Fail> {
+    let bytes = two(&int32_record(&[]), &int32_record(MISMATCHED));
+    let mut reader = RowReader::new(rt.alloc(), STRICT);
+    let mut source = TestSource::new(&bytes, WHOLE);
+    let first = told(reader.next_outline(&mut source)?);
+    expect(first == Some((Step::Begins, 48)), "the first row")?;
+    match reader.next_outline(&mut source) {
+        Ok(_) => Err(Fail::new("a second row")),
+        Err(fault) => {
+            let is = is_text(rt.alloc(), fault, "offset 256: 18 ReverseMismatch")?;
+            expect(is, "the text")
+        }
     }
 }
 
 #[test]
-fn rows_begin_and_join(rt: HostRuntime) {
+fn rows_begin_and_join(rt: HostRuntime) -> Result<(), Fail> {
     let bytes = three(
         &int32_record(&[]),
         &int32_record(NEXT),
@@ -227,20 +320,27 @@ fn rows_begin_and_join(rt: HostRuntime) {
     );
     let mut source = TestSource::new(&bytes, WHOLE);
     let mut reader = RowReader::new(rt.alloc(), LENIENT);
-    let first = told(&rt, reader.next_outline(&mut source));
-    let second = told(&rt, reader.next_outline(&mut source));
-    let third = told(&rt, reader.next_outline(&mut source));
-    let end = told(&rt, reader.next_outline(&mut source));
-    assert_eq!(rt; first, Some((Step::Begins, 48)));
-    assert_eq!(rt; second, Some((Step::Joins, 48)));
-    assert_eq!(rt; third, Some((Step::Begins, 1)));
-    assert_eq!(rt; end, None);
-    assert_eq!(rt; reader.counts().read, 3);
+    let first = told(reader.next_outline(&mut source)?);
+    let second = told(reader.next_outline(&mut source)?);
+    let third = told(reader.next_outline(&mut source)?);
+    let end = told(reader.next_outline(&mut source)?);
+    expect(first == Some((Step::Begins, 48)), "the first row")?;
+    expect(second == Some((Step::Joins, 48)), "the second row")?;
+    expect(third == Some((Step::Begins, 1)), "the third row")?;
+    expect(end.is_none() && reader.counts().read == 3, "the end")
+}
+
+/// Whether a record was given, with or without a row as it was asked for.
+fn has_row(next: Result<Option<NextRecord>, ReadFault>, row: bool) -> bool {
+    match next {
+        Ok(Some(next)) => next.row.is_some() == row,
+        _ => false,
+    }
 }
 
 /// Two records come with the first read, and the second one is given without another.
 #[test]
-fn records_at_hand_need_no_read(rt: HostRuntime) {
+fn records_at_hand_need_no_read(rt: HostRuntime) -> Result<(), Fail> {
     let bytes = two(&int32_record(EMPTY), &int32_record(&[]));
     let once = Behavior {
         most: 512,
@@ -249,80 +349,44 @@ fn records_at_hand_need_no_read(rt: HostRuntime) {
     };
     let mut source = TestSource::new(&bytes, once);
     let mut reader = RowReader::new(rt.alloc(), LENIENT);
-    assert!(rt; !reader.holds_record());
-    let Ok(Some(empty)) = reader.next_record(&mut source) else {
-        panic!(rt; "no record")
-    };
-    assert!(rt; empty.row.is_none());
-    assert!(rt; reader.holds_record());
-    let Ok(Some(second)) = reader.next_record(&mut source) else {
-        panic!(rt; "no second record")
-    };
-    assert!(rt; second.row.is_some());
-    assert!(rt; !reader.holds_record());
-    assert_eq!(rt;
-        reader.next_record(&mut source).err(),
-        Some(ReadFault::Read)
-    );
-}
-
-#[test]
-fn no_bytes(rt: HostRuntime) {
-    let counts = Counts {
-        read: 0,
-        empty: 0,
-        mismatched: 0,
-    };
-    assert_eq!(rt;
-        segments_of(&rt, rt.alloc(), &[], WHOLE),
-        (None, None, None, counts)
-    );
-}
-
-#[test]
-fn one_byte_for_each_read_between_interruptions(rt: HostRuntime) {
-    let slow = Behavior {
-        most: 1,
-        interruptions: 63,
-        fails_at: None,
-    };
-    let (first, second, last, counts) = segments_of(&rt, rt.alloc(), &joining(), slow);
-    assert_eq!(rt; (first, second, last), (None, None, Some((START, 96))));
-    assert_eq!(rt; counts.read, 3);
+    let before = reader.holds_record();
+    let empty = has_row(reader.next_record(&mut source), false);
+    let between = reader.holds_record();
+    let second = has_row(reader.next_record(&mut source), true);
+    let after = reader.holds_record();
+    let failed = reader.next_record(&mut source).err() == Some(ReadFault::Read);
+    expect(!before && empty, "the first record")?;
+    expect(between && second, "the second record")?;
+    expect(!after && failed, "the read after them")
 }
 
 /// What the first call answers when the source plays so.
-fn failure_of(rt: &impl Abort, alloc: Global, bytes: &[u8], behavior: Behavior) -> ReadFault {
+fn failure_of(alloc: Global, bytes: &[u8], behavior: Behavior) -> Option<ReadFault> {
     let mut source = TestSource::new(bytes, behavior);
     let mut reader = SegmentReader::new(alloc, LENIENT);
-    match reader.next_segment(&mut source) {
-        Ok(_) => panic!(rt; "no failure"),
-        Err(fault) => fault,
-    }
+    reader.next_segment(&mut source).err()
 }
 
 /// A source that fails is neither taken for one that has ended, nor for one with a fault.
 #[test]
-fn failures(rt: HostRuntime) {
+fn failures(rt: HostRuntime) -> Result<(), Fail> {
     let bytes = joining();
-    for fails_at in 0u64..=9 {
+    for fails_at in 0..=9 {
         let behavior = Behavior {
             most: 90,
             interruptions: 1,
             fails_at: Some(fails_at),
         };
-        let fault = failure_of(&rt, rt.alloc(), &bytes, behavior);
-        assert_eq!(rt; fault, ReadFault::Read, "at {fails_at}");
+        let failed = failure_of(rt.alloc(), &bytes, behavior) == Some(ReadFault::Read);
+        expect_at(failed, fails_at)?;
     }
     let interrupted = Behavior {
         most: 90,
         interruptions: 64,
         fails_at: None,
     };
-    assert_eq!(rt;
-        failure_of(&rt, rt.alloc(), &bytes, interrupted),
-        ReadFault::Read
-    );
+    let failed = failure_of(rt.alloc(), &bytes, interrupted) == Some(ReadFault::Read);
+    expect(failed, "64 interruptions")
 }
 
 /// How long the first record is that a source gives which moves at most `most` bytes in a call and
@@ -349,21 +413,34 @@ fn first_of(
 #[test]
 fn records_are_given_once_they_are_there(rt: HostRuntime) -> Result<(), Fail> {
     let bytes = two(&int32_record(&[]), &int32_record(NEXT));
-    let mut long = Vec::new(rt.alloc());
-    long.extend_from_slice(&int32_record(&[Edit::Exponent(17)]))?;
+    let mut long = int32_record(&[Edit::Exponent(17)]).to_vec(rt.alloc())?;
     long.resize(140_000, 0)?;
-    let rows: [(&[u8], usize, u64, u32); 5] = [
-        (&bytes, 256, 1, 256),
-        (&bytes, 1, 256, 256),
-        (&bytes, 100, 3, 256),
-        (&bytes, 512, 1, 256),
-        (long.as_slice(), 40_000, 4, 131_072),
+    let rows: [(&str, &[u8], usize, u64, u32); 5] = [
+        ("256 bytes a read", &bytes, 256, 1, 256),
+        ("1 byte a read", &bytes, 1, 256, 256),
+        ("100 bytes a read", &bytes, 100, 3, 256),
+        ("both in one read", &bytes, 512, 1, 256),
+        ("40000 bytes a read", long.as_slice(), 40_000, 4, 131_072),
     ];
-    for (bytes, most, fails_at, want) in rows {
+    for (name, bytes, most, fails_at, length) in rows {
         let first = first_of(rt.alloc(), bytes, most, fails_at);
-        assert_eq!(rt; first, Ok(Some(want)), "{most} bytes a read");
+        expect(first == Ok(Some(length)), name)?;
     }
     Ok(())
+}
+
+/// The first call answers a fault with this text.
+fn is_first(
+    alloc: Global,
+    bytes: &[u8],
+    most: usize,
+    fails_at: u64,
+    text: &str,
+) -> Result<bool, AllocError> {
+    match first_of(alloc, bytes, most, fails_at) {
+        Ok(_) => Ok(false),
+        Err(fault) => is_text(alloc, fault, text),
+    }
 }
 
 /// A refusal is given once no more bytes could change it, and not before.
@@ -372,47 +449,28 @@ fn refusals_wait_where_bytes_could_change_them(rt: HostRuntime) -> Result<(), Fa
     let bytes = int32_record(&[]);
     let coded = int32_record(&[Edit::Encoding(4)]);
     let misplaced = int32_record(&[Edit::Quality(b'X')]);
-    let rows: [(&[u8], usize, u64, &str); 6] = [
-        (&bytes, 1, 47, "read fault"),
-        (&bytes, 50, 1, "read fault"),
-        (&bytes, 1, 255, "read fault"),
-        (&bytes[..255], 255, 2, "offset 0: 10 RecordCut"),
-        (&coded, 256, 1, "offset 0: 15 OtherEncoding 4"),
-        (&misplaced, 256, 1, "read fault"),
+    let rows: [(&str, &[u8], usize, u64, &str); 6] = [
+        ("47 bytes", &bytes, 1, 47, "read fault"),
+        ("50 bytes", &bytes, 50, 1, "read fault"),
+        ("255 bytes", &bytes, 1, 255, "read fault"),
+        (
+            "255 bytes and the end",
+            &bytes[..255],
+            255,
+            2,
+            "offset 0: 10 RecordCut",
+        ),
+        (
+            "another encoding",
+            &coded,
+            256,
+            1,
+            "offset 0: 15 OtherEncoding 4",
+        ),
+        ("another quality", &misplaced, 256, 1, "read fault"),
     ];
-    for (bytes, most, fails_at, want) in rows {
-        match first_of(rt.alloc(), bytes, most, fails_at) {
-            Ok(_) => panic!(rt; "a record"),
-            Err(fault) => assert_eq!(rt; format!(in rt.alloc(); "{fault}")?.as_str(), want),
-        }
-    }
-    Ok(())
-}
-
-#[test]
-fn faults_stand_at_their_records(rt: HostRuntime) -> Result<(), Fail> {
-    let joined = joining();
-    let refused = int32_record(&[Edit::SecondType(500)]);
-    let gaps = three(&int32_record(&[]), &int32_record(LATER), &refused);
-
-    // the second row joins some milliseconds before its nominal start, so its last sample counts as of 2101
-    let end = three(
-        &int32_record(NEAR_THE_END),
-        &int32_record(AT_THE_END),
-        &refused,
-    );
-    let rows: [(&[u8], u32, &str); 6] = [
-        (&joined[..300], 0, "offset 256: 1 Truncated"),
-        (&joined[..511], 0, "offset 256: 10 RecordCut"),
-        (&joined[..513], 0, "offset 512: 1 Truncated"),
-        (&joined[1..], 0, "offset 0: 2 NotARecord"),
-        (&gaps, 1, "offset 512: 5 OtherBlockette 500"),
-        (&end, 0, "offset 256: 17 TimeRange"),
-    ];
-    for (bytes, segments, want) in rows {
-        let (given, fault) = fault_of(&rt, rt.alloc(), bytes, false);
-        assert_eq!(rt; given, segments, "{want}");
-        assert_eq!(rt; format!(in rt.alloc(); "{fault}")?.as_str(), want);
+    for (name, bytes, most, fails_at, text) in rows {
+        expect(is_first(rt.alloc(), bytes, most, fails_at, text)?, name)?;
     }
     Ok(())
 }
@@ -422,14 +480,13 @@ fn texts(rt: HostRuntime) -> Result<(), Fail> {
     let kind = FaultKind::Header(HeaderFault::OtherBlockette(500));
     let fault = Fault { offset: 0, kind };
     let text = format!(in rt.alloc(); "{fault}")?;
-    assert_eq!(rt; text.as_str(), "offset 0: 5 OtherBlockette 500");
-    let rows: [(ReadFault, &str); 3] = [
+    expect(text.as_str() == "offset 0: 5 OtherBlockette 500", "a fault")?;
+    for (fault, text) in [
         (ReadFault::Input(fault), "offset 0: 5 OtherBlockette 500"),
         (FillFault::Read.into(), "read fault"),
         (FillFault::Memory.into(), "out of memory"),
-    ];
-    for (fault, want) in rows {
-        assert_eq!(rt; format!(in rt.alloc(); "{fault}")?.as_str(), want);
+    ] {
+        expect(is_text(rt.alloc(), fault, text)?, text)?;
     }
     Ok(())
 }

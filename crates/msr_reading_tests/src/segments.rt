@@ -3,16 +3,15 @@
 ghost use Rattle.std.specs.Prelude.{◌≡◌, IfOk, length};
 
 use msr_base::Samples;
-use msr_fixtures::{START, key_at};
+use msr_fixtures::{START, expect, key_at};
 use msr_record::{Key, Kind, Row};
 use msr_segments::{
-    Follow, JoinKind, Joiner, OutOfRange, Step, cuts_grow_by_rows, cuts_keep_segments,
+    Follow, JoinFault, JoinKind, Joiner, OutOfRange, Step, cuts_grow_by_rows, cuts_keep_segments,
     followers_stand_with_joiners, overruns_are_out_of_range, rows_have_one_division,
     steps_are_pushes,
 };
 use msr_time::{Rate, is_instant};
 use std::alloc::{AllocError, Global};
-use std::process::Abort;
 use std::test::Fail;
 
 const TOLERANCE: u32 = 1000;
@@ -34,11 +33,15 @@ const SAME_RATE: (i16, i16) = (200, -10);
 /// The factor and multiplier of a row, its start and its number of samples, and what it does.
 struct Given((i16, i16), i64, u16, Result<Step, OutOfRange>);
 
-/// Rows, and the starts and numbers of samples of their segments.
+/// Where a segment begins, and how many samples it has.
+type Place = (i64, usize);
+
+/// Rows, and the places of their segments.
+#[derive(Drop)]
 struct Case {
     name: &'static str,
     rows: &'static [Given],
-    segments: &'static [(i64, usize)],
+    segments: &'static [Place],
 }
 
 const CASES: [Case; 10] = [
@@ -125,6 +128,11 @@ const CASES: [Case; 10] = [
     },
 ];
 
+/// The cases, as an array that no proof looks into.
+fn cases() -> [Case; 10] {
+    CASES
+}
+
 fn key(rate: (i16, i16)) -> Option<Key> {
     Some(key_at(Rate::new(rate.0, rate.1)?))
 }
@@ -143,86 +151,112 @@ fn row(alloc: Global, key: Key, start: i64, count: u16) -> Result<Row, AllocErro
     })
 }
 
-/// Pushes a row that must do this, and gives the start and length of the segment that it ended.
+/// The row that is refused is handed back, and had to be refused.
+fn is_refused(fault: &JoinFault, given: &Given) -> bool {
+    let Given(_, start, count, does) = given;
+    *does == REFUSED
+        && fault.kind == JoinKind::TimeRange
+        && fault.row.start == *start
+        && fault.row.samples.len() == usize::from(*count)
+}
+
+/// Pushes a row, and gives the place of the segment that it ended.
 fn push(
-    rt: &impl Abort,
     alloc: Global,
     joiner: &mut Joiner,
     given: &Given,
     name: &str,
-) -> Result<Option<(i64, usize)>, Fail> {
+) -> Result<Option<Place>, Fail> {
     let Given(rate, start, count, does) = given;
     let key = key(*rate).ok_or("no rate")?;
-    assert!(rt; *count > 0 && is_instant(*start), "{name}");
+    if *count == 0 || !is_instant(*start) {
+        return Err("no row".into());
+    }
     match joiner.push(row(alloc, key, *start, *count)?) {
         Ok(ended) => {
-            assert_ne!(rt; *does, REFUSED, "{name}");
+            expect(*does != REFUSED, name)?;
             Ok(ended.map(|segment| (segment.start, segment.samples.len())))
         }
         Err(fault) => {
-            assert_eq!(rt; *does, REFUSED, "{name}");
-            assert_eq!(rt; fault.kind, JoinKind::TimeRange, "{name}");
-            assert_eq!(rt;
-                (fault.row.start, fault.row.samples.len()),
-                (*start, usize::from(*count))
-            );
+            expect(is_refused(&fault, given), name)?;
             Ok(None)
         }
     }
 }
 
+/// The places of the segments that the rows of a case join into.
+fn joined(alloc: Global, case: &Case) -> Result<Vec<Place>, Fail> {
+    let mut joiner = Joiner::new(alloc, TOLERANCE);
+    let mut segments = Vec::new(alloc);
+    for given in case.rows {
+        if let Some(segment) = push(alloc, &mut joiner, given, case.name)? {
+            segments.push(segment)?;
+        }
+    }
+    if let Some(last) = joiner.finish() {
+        segments.push((last.start, last.samples.len()))?;
+    }
+    Ok(segments)
+}
+
 #[test]
 fn joiners_give_the_segments(rt: HostRuntime) -> Result<(), Fail> {
-    let alloc = rt.alloc();
-    for case in &CASES {
-        let mut joiner = Joiner::new(alloc, TOLERANCE);
-        let mut segments = Vec::new(alloc);
-        for given in case.rows {
-            if let Some(segment) = push(&rt, alloc, &mut joiner, given, case.name)? {
-                segments.push(segment)?;
-            }
-        }
-        if let Some(last) = joiner.finish() {
-            segments.push((last.start, last.samples.len()))?;
-        }
-        assert_eq!(rt; segments.as_slice(), case.segments, "{}", case.name);
+    for case in &cases() {
+        let segments = joined(rt.alloc(), case)?;
+        expect(segments.as_slice() == case.segments, case.name)?;
     }
     Ok(())
 }
 
-#[test]
-fn followers_tell_where_segments_begin(rt: HostRuntime) -> Result<(), Fail> {
-    for case in &CASES {
-        let mut follow = Follow::new(TOLERANCE);
-        for Given(rate, start, count, does) in case.rows {
-            let key = key(*rate).ok_or("no rate")?;
-            assert!(rt; *count > 0 && is_instant(*start), "{}", case.name);
-            assert_eq!(rt; follow.step(&key, *start, *count), *does, "{}", case.name);
+/// A follower tells of each row what it does.
+fn are_followed(rows: &[Given]) -> bool {
+    let mut follow = Follow::new(TOLERANCE);
+    for Given(rate, start, count, does) in rows {
+        let Some(key) = key(*rate) else {
+            return false;
+        };
+        if *count == 0 || !is_instant(*start) || follow.step(&key, *start, *count) != *does {
+            return false;
         }
     }
+    true
+}
+
+#[test]
+fn followers_tell_where_segments_begin() -> Result<(), Fail> {
+    for case in &cases() {
+        expect(are_followed(case.rows), case.name)?;
+    }
     Ok(())
+}
+
+/// A row of two samples, the second greater by one.
+fn rising(alloc: Global, key: Key, start: i64, first: i32) -> Result<Row, AllocError>
+    ensures start { IfOk result (λ row. row.start ≡ start) }
+    ensures samples { IfOk result (λ row. length row.samples ≡ 2) }
+{
+    Ok(Row {
+        key,
+        start,
+        kind: Kind::Int32,
+        samples: Samples::from_vec([first, first.wrapping_add(1)].to_vec(alloc)?),
+    })
 }
 
 #[test]
 fn samples_are_joined_in_order(rt: HostRuntime) -> Result<(), Fail> {
-    let alloc = rt.alloc();
     let key = key((1, 1)).ok_or("no rate")?;
-    let mut joiner = Joiner::new(alloc, TOLERANCE);
+    let mut joiner = Joiner::new(rt.alloc(), TOLERANCE);
     for (start, first) in [(START, 1), (START + 2_000_000, 3), (START + 4_000_000, 5)] {
-        let samples = Samples::from_vec([first, first + 1].to_vec(alloc)?);
-        let kind = Kind::Int32;
-        let ended = joiner.push(Row {
-            key,
-            start,
-            kind,
-            samples,
-        })?;
-        assert!(rt; ended.is_none());
+        let ended = joiner.push(rising(rt.alloc(), key, start, first)?);
+        expect(matches!(ended, Ok(None)), "a row that joins")?;
     }
     let segment = joiner.finish().ok_or("no segment")?;
-    assert_eq!(rt; segment.key, key);
-    assert_eq!(rt; segment.samples.as_slice(), [1, 2, 3, 4, 5, 6].as_slice());
-    Ok(())
+    expect(segment.key == key, "the key")?;
+    expect(
+        segment.samples.as_slice() == [1, 2, 3, 4, 5, 6].as_slice(),
+        "the samples",
+    )
 }
 
 #[test]
