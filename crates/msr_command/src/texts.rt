@@ -152,11 +152,11 @@ pub const FEED_ABOUT: &str = "Repacks standard input to standard output while it
 /// What `feed` does.
 pub const FEED_LONG_ABOUT: &str = "Repacks standard input to standard output while it comes.
 
-The records go to standard output, as `repack` writes them, and each as soon as it is
-decided: whenever msrepack waits for more input, every record that no later sample can
-change has been written. So at most the samples of two records of the length L are not
-yet in one. The last records of a segment come when a record begins another segment,
-or at the end of the input.
+The records go to standard output, as `repack` writes them, while the samples come:
+whenever msrepack waits for more input, all but the last samples have been written, at
+most twice as many as one record of the length L can hold, and no later sample changes
+what was written. The last records of a segment come when a record begins another
+segment, or at the end of the input.
 
 The report goes to the file REPORT at the end. It is made, or cut to nothing, before
 anything is read, and it stands empty if standard input is refused, or a call fails:

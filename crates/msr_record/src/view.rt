@@ -87,7 +87,8 @@ impl<'a> RecordView<'a> {
         }
     }
 
-    /// Whether the last sample is the reverse constant, as `Record` says. Reads all samples.
+    /// Whether the last sample is the reverse constant, as `Record` says. It was compared when the area was looked at,
+    /// so no sample is read for it.
     pub fn reverse_agrees(&self) -> bool
         ensures { result ≡ self.now.found.reverse_agrees }
     {

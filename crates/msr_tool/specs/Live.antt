@@ -9,8 +9,8 @@ use Rattle.msr_input.specs.Reading.{HoldsRecord}
 use Rattle.msr_output.specs.Decided.{IsDecidedOutput}
 use Rattle.msr_tool.specs.Choice.{Choice, settings_of, size_of}
 
--- These records came from the source, and after them no whole one. Every record that their rows decide went into the
--- sink.
+-- These records came from the source, and after them no whole one. What their rows give went into the sink, but for
+-- the last samples of the segment that goes on.
 pub record IsLive (choice : Choice) (source0 source sink0 sink : Device) : Type 0 where
   pub input : List ℕ
   pub records : List Record

@@ -48,7 +48,7 @@ pub fn repack<R: Source, W: Sink>(
 }
 
 /// Repacks as `repack` does, a source whose bytes come little by little: whenever it reads, all records are written
-/// that are decided by then.
+/// but those of the last samples of a segment that goes on, at most twice as many as the longest record holds.
 pub fn feed<R: Source, W: Sink>(
     alloc: Global,
     source: &mut R,
@@ -66,7 +66,7 @@ pub fn feed<R: Source, W: Sink>(
     ensures read { IsErrOf result ToolFault.Read ↔ HasFailed (R.device source.old) (R.device source.new) }
     ensures write { IsErrOf result ToolFault.Write ↔ HasFailed (W.device sink.old) (W.device sink.new) }
 
-    // When a read fails, which may be any, all that is decided by the records that came before it was written.
+    // When a read fails, which may be any, all was written but at most two longest runs of samples at the end.
     ensures live { IsErrOf result ToolFault.Read
         → IsLive options (R.device source.old) (R.device source.new) (W.device sink.old) (W.device sink.new) }
     ensures few_source { CountsFew (R.device source.old) (R.device source.new) }

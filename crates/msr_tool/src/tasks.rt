@@ -50,7 +50,7 @@ pub fn repack_and_report<R: Source, W: Sink, T: Sink>(
     Ok(report)
 }
 
-/// The same as `feed` repacks: whenever it reads, all records that are decided were written.
+/// The same as `feed` repacks: whenever it reads, all records but those of the last samples were written.
 pub fn feed_and_report<R: Source, W: Sink, T: Sink>(
     alloc: Global,
     source: &mut R,
@@ -76,7 +76,7 @@ pub fn feed_and_report<R: Source, W: Sink, T: Sink>(
     ensures untold_at_read { HasFailed (R.device source.old) (R.device source.new) → text.new ≡ text.old }
     ensures untold_at_write { HasFailed (W.device records.old) (W.device records.new) → text.new ≡ text.old }
 
-    // When a read fails, all that is decided by the records that came before it was written.
+    // When a read fails, all was written but at most two longest runs of samples at the end.
     ensures live { IsErrOf result ToolFault.Read → IsLive options (R.device source.old) (R.device source.new)
         (W.device records.old) (W.device records.new) }
     ensures few_source { CountsFew (R.device source.old) (R.device source.new) }
