@@ -4,9 +4,10 @@
     bench/growths.py [--only NAME] [--program FILE]
 
 The program msr_growths makes one call and prints what it answers. growths.c, loaded before the C library, refuses the
-first growth, then the second, and so on until a run ends without a refusal; once that growth alone, once all from it on.
-Each run has to answer as the undisturbed one, or that memory ran out, and then what is left or was written is a first
-part of the usual; if nothing was refused it has to answer as the undisturbed one.
+first growth of the call, then the second, and so on until a run ends without a refusal; once that growth alone, once
+all from it on. What is right stands in the file `stdout` of msr_growths, which the gate compares too. A run is right if
+it ends with status 0 and each of its lines is right: the usual line, or that memory ran out, or what is left or was
+written then. If nothing was refused each line has to be the usual one; a run that ends by a signal is wrong.
 The last line is `N growths refused, M answered that memory ran out, K wrong`, and the status 0 if none is wrong.
 """
 import argparse
@@ -16,19 +17,59 @@ import sys
 import tempfile
 
 ROOT = os.path.dirname(os.path.dirname(os.path.abspath(__file__)))
-# How it is told that memory ran out: by an error's name, or by the line of a call that is made many times.
-TOLD = ("Err(AllocError)", "Err(Memory)", "refused true")
+CRATE = f"{ROOT}/crates/msr_growths"
+SECONDS = 60
+# How it is told that memory ran out: by an error's name, or by the line of an object that takes one thing after another.
+TOLD = ("AllocError", "Memory", "refused true")
 
 
-def list_in(printed):
-    """The last list that is printed: what a call leaves, or has written."""
-    return printed.rpartition("[")[2].partition("]")[0].split(", ") if "[" in printed else []
+def usual_blocks(text):
+    """The lines of each call by its name, which is the line before them. A name is never a line of an answer."""
+    blocks = {}
+    for line in text.splitlines():
+        if line.split(" ")[0].removesuffix(":") in CALLS:
+            lines = blocks[line] = []
+        else:
+            lines.append(line)
+    return blocks
 
 
-def usual_begins_with(usual, printed):
-    """If it is told that memory ran out, what is left or was written is a first part of the usual."""
-    left = [it for it in list_in(printed) if it]
-    return left == list_in(usual)[: len(left)]
+CALLS = (
+    "Samples::push Samples::extend_from_slice decode_plain decode_steim groups pack StreamPacker::push decode_record"
+    " encode_record Joiner::push repack list_segments write_text read_report check_packed path_text Totals::add"
+).split()
+
+
+def begins(usual, line, apart):
+    """What is left or was written is a first part of the usual, in whole words if they are apart."""
+    if not apart:
+        return usual.startswith(line.rstrip('"'))
+    words, wanted = line.rstrip("]").split(), usual.rstrip("]").split()
+    return [it.rstrip(",") for it in words] == [it.rstrip(",") for it in wanted[: len(words)]]
+
+
+def is_line_right(usual, line, told_before, told, all_from_there):
+    """A line of a run of which a growth was refused."""
+    if line == usual:
+        return True
+    if line in TOLD:
+        return usual not in TOLD
+    # The sink has a first part of what is written if the call has just told that memory ran out.
+    if line.startswith("written"):
+        return told_before and begins(usual, line, apart=False)
+    # An object that was refused a growth stands as it was: asked again it goes on, and ends as usual.
+    return line.startswith("left") and told and all_from_there and begins(usual, line, apart=True)
+
+
+def are_lines_right(usual, lines, all_from_there):
+    told = sum(it in TOLD for it in lines)
+    if len(lines) != len(usual) or (told > 1 and not all_from_there):
+        return False
+    before = [False, *(it in TOLD for it in lines)]
+    return all(
+        is_line_right(wanted, line, told_before, told > 0, all_from_there)
+        for wanted, line, told_before in zip(usual, lines, before)
+    )
 
 
 class Bench:
@@ -39,39 +80,51 @@ class Bench:
         self.refused = self.told = self.wrong = 0
 
     def run(self, name, growth=0, all_from_there=False):
-        """What the call prints, its status, and how many growths there were."""
+        """The lines that the call prints below its name, and how many growths there were; None if the run did not end
+        with status 0, or did not end, or printed another name."""
         settings = dict(os.environ, LD_PRELOAD=self.library, GROWTHS=self.count)
         if growth:
             settings["GROWTH"] = str(growth)
         if all_from_there:
             settings["GROWTH_ALL"] = "1"
-        words = [self.program, name] if name else [self.program]
-        ended = subprocess.run(words, env=settings, capture_output=True, timeout=60, check=False)
+        if os.path.exists(self.count):
+            os.remove(self.count)
+        try:
+            words = [self.program, name]
+            ended = subprocess.run(words, env=settings, capture_output=True, timeout=SECONDS, check=False)
+        except subprocess.TimeoutExpired:
+            return None
+        lines = ended.stdout.decode(errors="replace").splitlines()
+        if ended.returncode != 0 or lines[:1] != [name] or not os.path.exists(self.count):
+            return None
         with open(self.count, encoding="ascii") as it:
-            return ended.stdout.decode(), ended.returncode, int(it.read())
+            return lines[1:], int(it.read())
 
     def judge(self, name, usual, growth, all_from_there):
-        printed, status, made = self.run(name, growth, all_from_there)
+        """Whether the run is right, and whether its growth was reached."""
+        ended = self.run(name, growth, all_from_there)
+        if ended is None:
+            self.refused += 1
+            return False, True
+        lines, made = ended
         if growth > made:
-            return printed == usual and status == 0
+            return lines == usual, False
         self.refused += 1
-        if any(it in printed for it in TOLD):
-            self.told += 1
-            return status == 0 and usual_begins_with(usual, printed)
-        # before the call its inputs are made, and after it the answer is printed
-        not_reached = printed.startswith("not reached")
-        return printed == usual or not_reached or (status != 0 and usual.startswith(printed))
+        self.told += any(it in TOLD for it in lines)
+        return are_lines_right(usual, lines, all_from_there), True
 
-    def try_call(self, name):
-        usual, status, made = self.run(name)
-        if status != 0 or any(it in usual for it in TOLD):
-            print(f"{name}: {usual.strip()}")
+    def try_call(self, name, usual):
+        ended = self.run(name)
+        if ended is None or ended[0] != usual:
             self.wrong += 1
+            print(f"{name}: wrong without a refusal")
             return
-        told = self.told
+        told, made = self.told, ended[1]
         for all_from_there in (False, True):
+            # Only the run after the last growth is to end without a refusal.
             for growth in range(1, made + 2):
-                if not self.judge(name, usual, growth, all_from_there):
+                right, reached = self.judge(name, usual, growth, all_from_there)
+                if not right or (growth <= made and not reached):
                     self.wrong += 1
                     print(f"{name}: wrong at growth {growth}{' and after' if all_from_there else ''}")
         if self.told == told:
@@ -82,13 +135,15 @@ class Bench:
 def main():
     words = argparse.ArgumentParser(description=__doc__.splitlines()[0])
     words.add_argument("--only", metavar="NAME", help="this call alone")
-    words.add_argument("--program", default=f"{ROOT}/crates/msr_growths/out/msr_growths")
+    words.add_argument("--program", default=f"{CRATE}/out/msr_growths")
     given = words.parse_args()
+    with open(f"{CRATE}/stdout", encoding="ascii") as it:
+        blocks = usual_blocks(it.read())
     with tempfile.TemporaryDirectory() as folder:
         bench = Bench(given.program, folder)
-        names = [given.only] if given.only else bench.run(None)[0].splitlines()
-        for name in names:
-            bench.try_call(name)
+        for name, usual in blocks.items():
+            if given.only in (None, name):
+                bench.try_call(name, usual)
     print(f"{bench.refused} growths refused, {bench.told} answered that memory ran out, {bench.wrong} wrong")
     return 1 if bench.wrong else 0
 

@@ -1,15 +1,14 @@
-//! What the calls are made with: noise as samples, as records, and as what becomes of them.
+//! What the calls are made with: samples whose packings were worked out by hand, and records of them.
 ghost use Rattle.std.specs.Prelude.{◌≡◌, IfSome, IsSome, OnErr};
 ghost use Rattle.msr_tool.specs.Choice.{size_of};
 
-use msr_devices::{Behavior, TestSink, TestSource};
-use msr_fixtures::{START, key_at, next_of};
+use msr_devices::{Behavior, TestSink};
+use msr_fixtures::{START, key_at};
 use msr_record::encode_record;
 use msr_time::{Rate, is_instant};
-use msr_tool::{Options, repack};
+use msr_tool::Options;
 use msr_words::{Kind, Length};
 use std::alloc::{AllocError, Global};
-use std::io;
 
 /// A device that moves all that it is given, and never fails.
 pub const PLAIN: Behavior = Behavior {
@@ -18,90 +17,77 @@ pub const PLAIN: Behavior = Behavior {
     fails_at: None,
 };
 
-/// How much room a sink has beforehand, so that it takes no memory while the calls are counted.
+/// How much room a sink has beforehand, so that it takes no memory while growths are counted.
 const ROOM: usize = 65_536;
 
-/// What the calls are made with.
-#[derive(Drop)]
-pub struct Inputs {
-    /// Noise.
-    pub samples: Vec<i32>,
-    /// The samples in records of 4096 bytes, as numbers of 32 bits.
-    pub records: Vec<u8>,
-    /// The first of them in a record of 512 bytes.
-    pub steim2: Vec<u8>,
-    /// The records again, packed.
-    pub packed: Vec<u8>,
-    /// The text of their report.
-    pub text: Vec<u8>,
+/// A sink with room for all that is written.
+pub fn sink(alloc: Global) -> Result<TestSink, AllocError> {
+    Ok(TestSink::new(Vec::with_capacity(alloc, ROOM)?, PLAIN))
 }
 
-impl Inputs {
-    /// `None` if a record would not take its samples, or the tool refuses its own records.
-    pub fn made_up(rt: &HostRuntime) -> io::Result<Option<Inputs>> {
-        let alloc = rt.alloc();
-        let samples = noise(alloc, 3000)?;
-        let mut records = Vec::new(alloc);
-        for (number, run) in samples.chunks(1000).enumerate() {
-            append(alloc, number as u64, run, Kind::Int32, 4096, &mut records)?;
-        }
-        let mut steim2 = Vec::new(alloc);
-        let run = samples.get(..100).unwrap_or(&[]);
-        append(alloc, 0, run, Kind::Steim2, 512, &mut steim2)?;
-        let mut packed = TestSink::new(room(alloc)?, PLAIN);
-        let mut text = TestSink::new(room(alloc)?, PLAIN);
-        let Some(options) = options() else {
-            return Ok(None);
-        };
-        let mut source = TestSource::new(records.as_slice(), PLAIN);
-        let Ok(report) = repack(alloc, &mut source, &mut packed, options) else {
-            return Ok(None);
-        };
-        if report.write_text(alloc, &mut text).is_err() {
-            return Ok(None);
-        }
-        let packed = packed.bytes().to_vec(alloc)?;
-        let text = text.bytes().to_vec(alloc)?;
-        Ok(Some(Inputs {
-            samples,
-            records,
-            steim2,
-            packed,
-            text,
-        }))
-    }
-}
-
-/// Room for what a sink takes.
-pub fn room(alloc: Global) -> Result<Vec<u8>, AllocError> {
-    Vec::with_capacity(alloc, ROOM)
-}
-
-/// Records of 256 bytes.
-pub fn options() -> Option<Options>
-    ensures some { IsSome result }
-    ensures size { IfSome result (λ options. size_of options ≡ 256) }
+/// Records of so many bytes, if there are such records, and a tolerance of 1000 microseconds.
+pub fn options(bytes: u32) -> Option<Options>
+    ensures { IfSome result (λ options. size_of options ≡ bytes) }
 {
-    Options::new(Length::new(256)?, 1000)
+    Options::new(Length::new(bytes)?, 1000)
 }
 
-/// Gives `count` numbers within 1,000 counts that look like chance.
-fn noise(alloc: Global, count: usize) -> Result<Vec<i32>, AllocError> {
-    let mut number: u64 = 1;
+/// -20000 and 20000 in turn: a record of 256 bytes holds 96 of the 97 as 16-bit integers.
+fn signs(alloc: Global) -> Result<Vec<i32>, AllocError> {
     let mut samples = Vec::new(alloc);
-    for _ in 0..count {
-        number = next_of(number);
-        samples.push(((number >> 33) % 1000) as i32)?;
+    for place in 0..97 {
+        samples.push(if place % 2 == 0 { -20_000 } else { 20_000 })?;
     }
     Ok(samples)
 }
 
-/// Appends the record of a run of samples, a thousand of which are before it for each number, if it takes them.
+/// 1000000 at even places and 1020000 at odd ones, but 1000000 from place 84 to 88: 173 samples, the second run of which
+/// begins before the frontier.
+fn pause(alloc: Global) -> Result<Vec<i32>, AllocError> {
+    let mut samples = Vec::new(alloc);
+    for place in 0..173 {
+        let low = place % 2 == 0 || (84 <= place && place <= 88);
+        samples.push(if low { 1_000_000 } else { 1_020_000 })?;
+    }
+    Ok(samples)
+}
+
+/// 1000000 at even places and 1020000 at odd ones up to place 83, then 1020000 three times: one record of 256 bytes as
+/// Steim-1.
+pub fn swings(alloc: Global) -> Result<Vec<i32>, AllocError> {
+    let mut samples = Vec::new(alloc);
+    for place in 0..87 {
+        let low = place % 2 == 0 && place < 84;
+        samples.push(if low { 1_000_000 } else { 1_020_000 })?;
+    }
+    Ok(samples)
+}
+
+/// The samples with that name.
+pub fn samples(alloc: Global, name: &str) -> Result<Vec<i32>, AllocError> {
+    match name {
+        "signs" => signs(alloc),
+        "pause" => pause(alloc),
+        "zeros" => vec![in alloc; 0; 302],
+        _ => Ok(Vec::new(alloc)),
+    }
+}
+
+/// What a record is made of beside the header that all share.
+#[derive(Clone, Copy)]
+pub struct Part<'a> {
+    /// Microseconds from the start of the first record.
+    pub after: i64,
+    pub sequence: u32,
+    pub before: Option<i32>,
+    pub run: &'a [i32],
+    pub kind: Kind,
+}
+
+/// Appends the record of a part, if it takes its samples.
 pub fn append(
     alloc: Global,
-    number: u64,
-    run: &[i32],
-    kind: Kind,
+    part: Part<'_>,
     bytes: u32,
     out: &mut Vec<u8>,
 ) -> Result<(), AllocError>
@@ -110,21 +96,65 @@ pub fn append(
     let (Some(rate), Some(record_length)) = (Rate::new(20, 1), Length::new(bytes)) else {
         return Ok(());
     };
-    let Some(start) = rate.nominal(START, number.saturating_mul(1000)) else {
+    let Part {
+        after,
+        sequence,
+        before,
+        run,
+        kind,
+    } = part;
+    let start = START.saturating_add(after);
+    let is_counted = 1 <= sequence && sequence <= 999_999;
+    if !is_instant(start) || !is_counted || run.is_empty() {
         return Ok(());
-    };
-    if !is_instant(start) || run.is_empty() || !kind.fits(None, run, record_length) {
+    }
+    if !kind.fits(before, run, record_length) {
         return Ok(());
     }
     encode_record(
         alloc,
         &key_at(rate),
         start,
-        1,
-        None,
+        sequence,
+        before,
         run,
         kind,
         record_length,
         out,
     )
+}
+
+/// Three records of 100 samples of 0, of which the first two join.
+fn three_records(alloc: Global) -> Result<Vec<u8>, AllocError> {
+    let mut records = Vec::new(alloc);
+    for (sequence, after) in [(1, 0), (2, 5_000_700), (3, 10_001_400)] {
+        let part = Part {
+            after,
+            sequence,
+            before: None,
+            run: &[0; 100],
+            kind: Kind::Int32,
+        };
+        append(alloc, part, 4096, &mut records)?;
+    }
+    Ok(records)
+}
+
+/// The input with that name, records of 4096 bytes with numbers of 32 bits: three records, or one with the samples of the
+/// name.
+pub fn input(alloc: Global, name: &str) -> Result<Vec<u8>, AllocError> {
+    if name == "three" {
+        return three_records(alloc);
+    }
+    let mut records = Vec::new(alloc);
+    let samples = samples(alloc, name)?;
+    let part = Part {
+        after: 0,
+        sequence: 1,
+        before: None,
+        run: samples.as_slice(),
+        kind: Kind::Int32,
+    };
+    append(alloc, part, 4096, &mut records)?;
+    Ok(records)
 }

@@ -1,54 +1,108 @@
 //! Calls of the tool, and of its reports.
 
-use crate::inputs::{Inputs, PLAIN, options, room};
-use msr_devices::{TestSink, TestSource};
-use msr_tool::{check_packed, list_segments, read_report, repack};
+use crate::inputs::{PLAIN, input, options, sink};
+use crate::printing::{hexadecimal, report, written_text};
+use msr_tool::{TestSource, check_packed, list_segments, read_report, repack};
 use std::io;
 
-/// `read_report`.
-pub fn read(rt: &HostRuntime, inputs: &Inputs) -> io::Result<()> {
-    let mut source = TestSource::new(inputs.text.as_slice(), PLAIN);
-    let report = read_report(rt.alloc(), &mut source);
-    println!(rt; "{report:?}")
-}
-
-/// `Report::write_text`.
-pub fn write(rt: &HostRuntime, inputs: &Inputs) -> io::Result<()> {
-    let mut source = TestSource::new(inputs.text.as_slice(), PLAIN);
-    let Ok(report) = read_report(rt.alloc(), &mut source) else {
-        return println!(rt; "not reached: no report");
-    };
-    let mut sink = TestSink::new(room(rt.alloc())?, PLAIN);
-    let written = report.write_text(rt.alloc(), &mut sink);
-    println!(rt; "{written:?}, {:?}", sink.bytes())
-}
-
-/// `repack`.
-pub fn repack_all(rt: &HostRuntime, inputs: &Inputs) -> io::Result<()> {
-    let Some(options) = options() else {
+/// `repack` of the input with that name.
+pub fn repack_input(rt: &HostRuntime, name: &str, row: &str) -> io::Result<()> {
+    let Some(options) = options(256) else {
         return Ok(());
     };
-    let mut source = TestSource::new(inputs.records.as_slice(), PLAIN);
-    let mut sink = TestSink::new(room(rt.alloc())?, PLAIN);
-    let report = repack(rt.alloc(), &mut source, &mut sink, options);
-    println!(rt; "{report:?}, {:?}", sink.bytes())
+    let bytes = input(rt.alloc(), row)?;
+    let mut source = TestSource::new(bytes.as_slice(), PLAIN);
+    let mut sink = sink(rt.alloc())?;
+    println!(rt; "{name} {row}")?;
+    match repack(rt.alloc(), &mut source, &mut sink, options) {
+        Ok(found) => report(rt, &found)?,
+        Err(fault) => println!(rt; "{fault:?}")?,
+    }
+    print!(rt; "written ")?;
+    hexadecimal(rt, sink.bytes())?;
+    println!(rt; "")
 }
 
-/// `list_segments`.
-pub fn list(rt: &HostRuntime, inputs: &Inputs) -> io::Result<()> {
-    let Some(options) = options() else {
+/// `list_segments` of three records.
+pub fn list(rt: &HostRuntime, name: &str) -> io::Result<()> {
+    let Some(options) = options(256) else {
         return Ok(());
     };
-    let mut source = TestSource::new(inputs.records.as_slice(), PLAIN);
-    let mut sink = TestSink::new(room(rt.alloc())?, PLAIN);
-    let counts = list_segments(rt.alloc(), &mut source, &mut sink, options);
-    println!(rt; "{counts:?}, {:?}", sink.bytes())
+    let bytes = input(rt.alloc(), "three")?;
+    let mut source = TestSource::new(bytes.as_slice(), PLAIN);
+    let mut sink = sink(rt.alloc())?;
+    println!(rt; "{name}")?;
+    match list_segments(rt.alloc(), &mut source, &mut sink, options) {
+        Ok(counts) => println!(rt;
+            "read {} empty {} mismatched {}",
+            counts.read, counts.empty, counts.mismatched
+        )?,
+        Err(fault) => println!(rt; "{fault:?}")?,
+    }
+    written_text(rt, &sink)
 }
 
-/// `check_packed`.
-pub fn check(rt: &HostRuntime, inputs: &Inputs) -> io::Result<()> {
-    let mut packed = TestSource::new(inputs.packed.as_slice(), PLAIN);
-    let mut report = TestSource::new(inputs.text.as_slice(), PLAIN);
-    let verdict = check_packed(rt.alloc(), &mut packed, &mut report);
-    println!(rt; "{verdict:?}")
+/// `write_text` of the report of that input, which is empty if nothing has its name.
+pub fn write(rt: &HostRuntime, name: &str, row: &str, bytes: u32) -> io::Result<()> {
+    let Some(options) = options(bytes) else {
+        return Ok(());
+    };
+    let records = input(rt.alloc(), row)?;
+    let mut source = TestSource::new(records.as_slice(), PLAIN);
+    let Ok(found) = repack(rt.alloc(), &mut source, &mut sink(rt.alloc())?, options) else {
+        return Ok(());
+    };
+    let mut sink = sink(rt.alloc())?;
+    println!(rt; "{name} {row}")?;
+    match found.write_text(rt.alloc(), &mut sink) {
+        Ok(()) => println!(rt; "well")?,
+        Err(fault) => println!(rt; "{fault:?}")?,
+    }
+    written_text(rt, &sink)
+}
+
+/// `read_report` of the report of the samples with a pause.
+pub fn read(rt: &HostRuntime, name: &str) -> io::Result<()> {
+    let Some(options) = options(256) else {
+        return Ok(());
+    };
+    let bytes = input(rt.alloc(), "pause")?;
+    let mut source = TestSource::new(bytes.as_slice(), PLAIN);
+    let Ok(found) = repack(rt.alloc(), &mut source, &mut sink(rt.alloc())?, options) else {
+        return Ok(());
+    };
+    let mut text = sink(rt.alloc())?;
+    if found.write_text(rt.alloc(), &mut text).is_err() {
+        return Ok(());
+    }
+    let mut source = TestSource::new(text.bytes(), PLAIN);
+    println!(rt; "{name}")?;
+    match read_report(rt.alloc(), &mut source) {
+        Ok(found) => report(rt, &found),
+        Err(fault) => println!(rt; "{fault:?}"),
+    }
+}
+
+/// `check_packed` of the records of the samples with a pause, with their report.
+pub fn check(rt: &HostRuntime, name: &str) -> io::Result<()> {
+    let Some(options) = options(256) else {
+        return Ok(());
+    };
+    let bytes = input(rt.alloc(), "pause")?;
+    let mut source = TestSource::new(bytes.as_slice(), PLAIN);
+    let mut packed = sink(rt.alloc())?;
+    let Ok(found) = repack(rt.alloc(), &mut source, &mut packed, options) else {
+        return Ok(());
+    };
+    let mut text = sink(rt.alloc())?;
+    if found.write_text(rt.alloc(), &mut text).is_err() {
+        return Ok(());
+    }
+    let mut records = TestSource::new(packed.bytes(), PLAIN);
+    let mut source = TestSource::new(text.bytes(), PLAIN);
+    println!(rt; "{name}")?;
+    match check_packed(rt.alloc(), &mut records, &mut source) {
+        Ok(verdict) => println!(rt; "{verdict:?}"),
+        Err(fault) => println!(rt; "{fault:?}"),
+    }
 }

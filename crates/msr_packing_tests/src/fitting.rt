@@ -3,14 +3,14 @@
 
 ghost use Rattle.std.specs.Prelude.{◌≤◌, length};
 
+use crate::rows::holds;
 use msr_filling::{fill_steim1, fill_steim2};
-use msr_steim::Version;
+use msr_steim::{Group, Version};
 use msr_words::{
     AnyKind, Codec, Int16, Int24, Int32, Kind, Length, Run, Steim1, Steim2, Tracker, Window,
     difference, first_kind, groups, one_division, run_fits,
 };
 use std::alloc::{AllocError, Global};
-use std::process::Abort;
 use std::test::Fail;
 
 fn shortest() -> Result<Length, Fail> {
@@ -38,10 +38,11 @@ fn taken<T: Tracker + Drop>(record_length: Length, sample: i32, difference: i64)
     taken_of::<T>(400, record_length, sample, difference)
 }
 
-#[test]
-fn how_many_samples_a_record_holds(rt: HostRuntime) -> Result<(), Fail> {
-    let length = shortest()?;
-    for (sample, int16, int24) in [
+/// A sample, and how many like it a record of 256 bytes holds as 16-bit and as 24-bit integers.
+type Height = (i32, usize, usize);
+
+fn heights() -> [Height; 9] {
+    [
         (0, 96, 64),
         (32_767, 96, 64),
         (-32_768, 96, 64),
@@ -51,11 +52,20 @@ fn how_many_samples_a_record_holds(rt: HostRuntime) -> Result<(), Fail> {
         (-8_388_608, 0, 64),
         (8_388_608, 0, 0),
         (-8_388_609, 0, 0),
-    ] {
-        assert_eq!(rt; taken::<Int16>(length, sample, 0), int16);
-        assert_eq!(rt; taken::<Int24>(length, sample, 0), int24);
-    }
-    for (difference, steim1, steim2) in [
+    ]
+}
+
+fn height_is_right(record_length: Length, row: Height) -> bool {
+    let (sample, int16, int24) = row;
+    taken::<Int16>(record_length, sample, 0) == int16
+        && taken::<Int24>(record_length, sample, 0) == int24
+}
+
+/// A difference, and how many like it a record of 256 bytes holds as Steim-1 and as Steim-2.
+type Step = (i64, usize, usize);
+
+fn steps() -> [Step; 20] {
+    [
         (0, 172, 301),
         (7, 172, 301),
         (-8, 172, 301),
@@ -76,14 +86,38 @@ fn how_many_samples_a_record_holds(rt: HostRuntime) -> Result<(), Fail> {
         (-2_147_483_648, 43, 0),
         (2_147_483_648, 0, 0),
         (4_294_967_295, 0, 0),
-    ] {
-        assert_eq!(rt; taken::<Int32>(length, 0, difference), 48);
-        assert_eq!(rt; taken::<Steim1>(length, 0, difference), steim1);
-        assert_eq!(rt; taken::<Steim2>(length, 0, difference), steim2);
-        let most = steim1.max(steim2).max(96);
-        assert_eq!(rt; taken::<AnyKind>(length, 0, difference), most);
+    ]
+}
+
+/// The samples are 0, which 48 places of 32 bits and 96 of 16 bits hold whatever the difference.
+fn step_is_right(record_length: Length, row: Step) -> bool {
+    let (difference, steim1, steim2) = row;
+    taken::<Int32>(record_length, 0, difference) == 48
+        && taken::<Steim1>(record_length, 0, difference) == steim1
+        && taken::<Steim2>(record_length, 0, difference) == steim2
+        && taken::<AnyKind>(record_length, 0, difference) == steim1.max(steim2).max(96)
+}
+
+#[test]
+fn how_many_samples_a_record_holds(rt: HostRuntime) -> Result<(), Fail> {
+    let record_length = shortest()?;
+    for row in heights() {
+        holds(&rt, height_is_right(record_length, row), &row);
+    }
+    for row in steps() {
+        holds(&rt, step_is_right(record_length, row), &row);
     }
     Ok(())
+}
+
+/// Whether the tracker takes all these differences, one after another.
+fn takes_all<T: Tracker + Drop>(tracker: &mut T, differences: &[i64]) -> bool {
+    for difference in differences {
+        if !tracker.push(0, *difference) {
+            return false;
+        }
+    }
+    true
 }
 
 /// Forty differences of 70000 fill forty words. 200, then four zeros, then 70000 fill three more, but four
@@ -91,33 +125,30 @@ fn how_many_samples_a_record_holds(rt: HostRuntime) -> Result<(), Fail> {
 #[test]
 fn steim1_takes_the_least_number_of_words(rt: HostRuntime) -> Result<(), Fail> {
     let mut tracker = Steim1::start(shortest()?);
-    for _ in 0..40 {
-        assert!(rt; tracker.push(0, 70_000));
-    }
-    for difference in [200, 0, 0, 0, 0, 70_000] {
-        assert!(rt; tracker.push(0, difference));
-    }
-    assert!(rt; !tracker.push(0, 70_000));
-    assert!(rt; !tracker.push(0, 0));
+    let all = takes_all(&mut tracker, &[70_000; 40])
+        && takes_all(&mut tracker, &[200, 0, 0, 0, 0, 70_000]);
+    let refused = !tracker.push(0, 70_000) && !tracker.push(0, 0);
+    holds(&rt, all && refused, &(all, refused));
     Ok(())
+}
+
+/// Whether a tracker refuses such a sample, and then another that it would have taken.
+fn refuses<T: Tracker + Drop>(record_length: Length, sample: i32, difference: i64) -> bool {
+    let mut tracker = T::start(record_length);
+    !tracker.push(sample, difference) && !tracker.push(0, 0)
 }
 
 /// A tracker that answered false answers false for ever after, whatever comes.
 #[test]
 fn false_for_ever(rt: HostRuntime) -> Result<(), Fail> {
-    let length = shortest()?;
-    let mut int16 = Int16::start(length);
-    let mut int24 = Int24::start(length);
-    let mut steim1 = Steim1::start(length);
-    let mut steim2 = Steim2::start(length);
-    assert!(rt; !int16.push(40_000, 0));
-    assert!(rt; !int24.push(8_388_608, 0));
-    assert!(rt; !steim1.push(0, 4_294_967_295));
-    assert!(rt; !steim2.push(0, 536_870_912));
-    assert!(rt; !int16.push(0, 0));
-    assert!(rt; !int24.push(0, 0));
-    assert!(rt; !steim1.push(0, 0));
-    assert!(rt; !steim2.push(0, 0));
+    let record_length = shortest()?;
+    let refused = [
+        refuses::<Int16>(record_length, 40_000, 0),
+        refuses::<Int24>(record_length, 8_388_608, 0),
+        refuses::<Steim1>(record_length, 0, 4_294_967_295),
+        refuses::<Steim2>(record_length, 0, 536_870_912),
+    ];
+    holds(&rt, refused == [true; 4], &refused);
     Ok(())
 }
 
@@ -129,33 +160,47 @@ fn codec<C: Codec + Drop>(record_length: Length) -> (u8, usize, usize) {
     )
 }
 
-#[test]
-fn the_kinds(rt: HostRuntime) -> Result<(), Fail> {
-    let length = shortest()?;
-    for (kind, code, back, most, found) in [
-        (Kind::Int16, 1, 0, 96, codec::<Int16>(length)),
-        (Kind::Int24, 2, 0, 64, codec::<Int24>(length)),
-        (Kind::Int32, 3, 0, 48, codec::<Int32>(length)),
-        (Kind::Steim1, 10, 1, 172, codec::<Steim1>(length)),
-        (Kind::Steim2, 11, 0, 301, codec::<Steim2>(length)),
-    ] {
-        assert_eq!(rt; kind.code(), code);
-        assert_eq!(rt; Kind::of_code(code), Some(kind));
-        assert_eq!(rt; kind.look_back(), back);
-        assert_eq!(rt; kind.most(length), most);
-        assert_eq!(rt; found, (code, back, most));
-    }
-    for code in [0, 4, 5, 12, 255] {
-        assert_eq!(rt; Kind::of_code(code), None);
-    }
-    assert_eq!(rt; AnyKind::LOOK_BACK, 1);
-    assert_eq!(rt; AnyKind::most(length), 301);
-    Ok(())
+/// A kind, its code, how many samples it looks back, the most that a record of 256 bytes holds, and what its codec says.
+type KindRow = (Kind, u8, usize, usize, (u8, usize, usize));
+
+fn kinds(record_length: Length) -> [KindRow; 5] {
+    [
+        (Kind::Int16, 1, 0, 96, codec::<Int16>(record_length)),
+        (Kind::Int24, 2, 0, 64, codec::<Int24>(record_length)),
+        (Kind::Int32, 3, 0, 48, codec::<Int32>(record_length)),
+        (Kind::Steim1, 10, 1, 172, codec::<Steim1>(record_length)),
+        (Kind::Steim2, 11, 0, 301, codec::<Steim2>(record_length)),
+    ]
+}
+
+fn kind_is_right(record_length: Length, row: KindRow) -> bool {
+    let (kind, code, back, most, found) = row;
+    kind.code() == code
+        && Kind::of_code(code) == Some(kind)
+        && kind.look_back() == back
+        && kind.most(record_length) == most
+        && found == (code, back, most)
 }
 
 #[test]
-fn the_record_lengths(rt: HostRuntime) -> Result<(), Fail> {
-    for (bytes, exponent, frames, words) in [
+fn the_kinds(rt: HostRuntime) -> Result<(), Fail> {
+    let record_length = shortest()?;
+    for row in kinds(record_length) {
+        holds(&rt, kind_is_right(record_length, row), &row);
+    }
+    for code in [0, 4, 5, 12, 255] {
+        holds(&rt, Kind::of_code(code).is_none(), &code);
+    }
+    let any = (AnyKind::LOOK_BACK, AnyKind::most(record_length));
+    holds(&rt, any == (1, 301), &any);
+    Ok(())
+}
+
+/// A record length: its bytes, their exponent, its frames, and its words for differences.
+type LengthRow = (u32, u8, u32, u32);
+
+fn lengths() -> [LengthRow; 9] {
+    [
         (256, 8, 3, 43),
         (512, 9, 7, 103),
         (1024, 10, 15, 223),
@@ -165,66 +210,94 @@ fn the_record_lengths(rt: HostRuntime) -> Result<(), Fail> {
         (16_384, 14, 255, 3823),
         (32_768, 15, 511, 7663),
         (65_536, 16, 1023, 15_343),
-    ] {
-        let length = Length::new(bytes).ok_or("a length")?;
-        assert_eq!(rt; length.bytes(), bytes);
-        assert_eq!(rt; length.exponent(), exponent);
-        assert_eq!(rt; length.frames(), frames);
-        assert_eq!(rt; length.data_words(), words);
+    ]
+}
+
+fn length_is_right(row: LengthRow) -> bool {
+    let (bytes, exponent, frames, words) = row;
+    let Some(length) = Length::new(bytes) else {
+        return false;
+    };
+    length.bytes() == bytes
+        && length.exponent() == exponent
+        && length.frames() == frames
+        && length.data_words() == words
+}
+
+#[test]
+fn the_record_lengths(rt: HostRuntime) {
+    for row in lengths() {
+        holds(&rt, length_is_right(row), &row);
     }
     for bytes in [0, 64, 128, 255, 257, 768, 32_767, 65_535, 131_072] {
-        assert_eq!(rt; Length::new(bytes), None);
+        holds(&rt, Length::new(bytes).is_none(), &bytes);
     }
-    Ok(())
+}
+
+/// How many samples of 0 the tracker takes of 70,000.
+fn zeros_taken<T: Tracker + Drop>(record_length: Length) -> usize {
+    taken_of::<T>(70_000, record_length, 0, 0)
+}
+
+/// A kind, the most samples of a record of 65536 bytes, and how many its tracker takes.
+type Most = (Kind, usize, usize);
+
+fn most_of_the_longest(record_length: Length) -> [Most; 4] {
+    [
+        (Kind::Int16, 32_736, zeros_taken::<Int16>(record_length)),
+        (Kind::Int32, 16_368, zeros_taken::<Int32>(record_length)),
+        (Kind::Steim1, 61_372, zeros_taken::<Steim1>(record_length)),
+        (Kind::Steim2, 65_535, zeros_taken::<Steim2>(record_length)),
+    ]
+}
+
+/// Whether the tracker takes 65,535 samples of 0 and then none.
+fn takes_as_many_as_are_counted(record_length: Length) -> bool {
+    let mut tracker = Steim2::start(record_length);
+    for _ in 0..65_535 {
+        if !tracker.push(0, 0) {
+            return false;
+        }
+    }
+    !tracker.push(0, 0) && !tracker.push(0, 0)
 }
 
 /// The longest record has room for 107401 differences of Steim-2, and its header counts 65535 samples.
 #[test]
 fn no_more_samples_than_are_counted(rt: HostRuntime) -> Result<(), Fail> {
-    let length = Length::new(65_536).ok_or("a length")?;
-    for (kind, most, taken) in [
-        (Kind::Int16, 32_736, taken_of::<Int16>(70_000, length, 0, 0)),
-        (Kind::Int32, 16_368, taken_of::<Int32>(70_000, length, 0, 0)),
-        (
-            Kind::Steim1,
-            61_372,
-            taken_of::<Steim1>(70_000, length, 0, 0),
-        ),
-        (
-            Kind::Steim2,
-            65_535,
-            taken_of::<Steim2>(70_000, length, 0, 0),
-        ),
-    ] {
-        assert_eq!(rt; kind.most(length), most);
-        assert_eq!(rt; taken, most);
+    let record_length = Length::new(65_536).ok_or("a length")?;
+    for row in most_of_the_longest(record_length) {
+        let (kind, most, taken) = row;
+        holds(&rt, kind.most(record_length) == most && taken == most, &row);
     }
-    assert_eq!(rt; taken_of::<AnyKind>(70_000, length, 0, 0), 65_535);
-    assert_eq!(rt; AnyKind::most(length), 65_535);
-    let mut tracker = Steim2::start(length);
-    for _ in 0..65_535 {
-        assert!(rt; tracker.push(0, 0));
-    }
-    assert!(rt; !tracker.push(0, 0));
-    assert!(rt; !tracker.push(0, 0));
-    let mut zeros = Vec::new(rt.alloc());
-    zeros.resize(65_535, 0)?;
-    assert!(rt; Kind::Steim2.fits(None, &zeros, length));
+    let any = (
+        zeros_taken::<AnyKind>(record_length),
+        AnyKind::most(record_length),
+    );
+    holds(&rt, any == (65_535, 65_535), &any);
+    holds(&rt, takes_as_many_as_are_counted(record_length), &"Steim-2");
+    let mut zeros = vec![in rt.alloc(); 0; 65_535]?;
+    let whole = Kind::Steim2.fits(None, &zeros, record_length);
     zeros.push(0)?;
-    assert!(rt; !Kind::Steim2.fits(None, &zeros, length));
+    let more = Kind::Steim2.fits(None, &zeros, record_length);
+    holds(&rt, whole && !more, &(whole, more));
     Ok(())
+}
+
+/// How many groups these zeros have as Steim-2, none if there is no room.
+fn group_count(alloc: Global, zeros: &[i64], record_length: Length) -> Result<Option<usize>, Fail> {
+    let found = groups(alloc, Version::Two, zeros, record_length).map_err(|_| "memory")?;
+    Ok(found.map(|groups| groups.len()))
 }
 
 #[test]
 fn no_division_of_more_than_are_counted(rt: HostRuntime) -> Result<(), Fail> {
-    let length = Length::new(65_536).ok_or("a length")?;
-    let mut zeros = Vec::new(rt.alloc());
-    zeros.resize(65_535, 0i64)?;
-    let found = groups(rt.alloc(), Version::Two, &zeros, length).map_err(|_| "memory")?;
-    assert_eq!(rt; found.ok_or("no division")?.len(), 9363);
+    let record_length = Length::new(65_536).ok_or("a length")?;
+    let mut zeros = vec![in rt.alloc(); 0i64; 65_535]?;
+    let whole = group_count(rt.alloc(), &zeros, record_length)?;
     zeros.push(0)?;
-    let found = groups(rt.alloc(), Version::Two, &zeros, length).map_err(|_| "memory")?;
-    assert!(rt; found.is_none());
+    let more = group_count(rt.alloc(), &zeros, record_length)?;
+    holds(&rt, (whole, more) == (Some(9363), None), &(whole, more));
     Ok(())
 }
 
@@ -243,15 +316,17 @@ fn fits_runs(kind: Kind, length: Length) -> [bool; 5] {
 
 #[test]
 fn which_kinds_a_run_fits(rt: HostRuntime) -> Result<(), Fail> {
-    let length = shortest()?;
-    for (kind, expected) in [
+    let record_length = shortest()?;
+    let rows = [
         (Kind::Int16, [false, false, false, true, true]),
         (Kind::Int24, [false, false, false, true, true]),
         (Kind::Int32, [true, true, true, true, true]),
         (Kind::Steim1, [false, true, false, true, true]),
         (Kind::Steim2, [false, false, false, true, true]),
-    ] {
-        assert_eq!(rt; fits_runs(kind, length), expected, "{kind:?}");
+    ];
+    for row in rows {
+        let (kind, expected) = row;
+        holds(&rt, fits_runs(kind, record_length) == expected, &row);
     }
     Ok(())
 }
@@ -270,31 +345,27 @@ fn zigzag(alloc: Global) -> Result<Vec<i32>, AllocError> {
 /// The kind of a run, its start, its end, and whether it fits.
 type Fitting = (Kind, usize, usize, bool);
 
-/// What is said of a run of these samples.
-fn run_is_told(rt: &impl Abort, samples: &[i32], row: Fitting) -> Result<(), Fail> {
+/// What is said of a run of these samples is true.
+fn run_is_right(samples: &[i32], record_length: Length, row: Fitting) -> bool {
     let (kind, start, end, expected) = row;
-    let length = shortest()?;
-    assert!(rt; start <= end);
-    assert!(rt; end <= samples.len());
-    let fits = run_fits(kind, samples, start, end, length);
-    assert_eq!(rt; fits, expected, "{kind:?} {start} {end}");
-    Ok(())
+    start <= end
+        && end <= samples.len()
+        && run_fits(kind, samples, start, end, record_length) == expected
 }
 
 #[test]
 fn differences_of_a_segment(rt: HostRuntime) -> Result<(), Fail> {
     let samples = zigzag(rt.alloc())?;
-    assert_eq!(rt; samples.len(), 88);
-    for (at, expected) in [(0, 0), (1, 20_000), (2, -20_000), (84, 0), (87, 20_000)] {
-        assert_eq!(rt; difference(&samples, at), expected);
+    for row in [(0, 0), (1, 20_000), (2, -20_000), (84, 0), (87, 20_000)] {
+        let (at, expected) = row;
+        let is = at < samples.len() && difference(&samples, at) == expected;
+        holds(&rt, is, &row);
     }
     Ok(())
 }
 
-#[test]
-fn runs_of_a_segment(rt: HostRuntime) -> Result<(), Fail> {
-    let samples = zigzag(rt.alloc())?;
-    for row in [
+fn zigzag_runs() -> [Fitting; 13] {
+    [
         (Kind::Steim1, 0, 87, true),
         (Kind::Steim1, 0, 88, false),
         (Kind::Steim1, 1, 88, false),
@@ -308,41 +379,51 @@ fn runs_of_a_segment(rt: HostRuntime) -> Result<(), Fail> {
         (Kind::Int32, 0, 49, false),
         (Kind::Int16, 0, 1, false),
         (Kind::Int16, 3, 3, true),
-    ] {
-        run_is_told(&rt, &samples, row)?;
+    ]
+}
+
+#[test]
+fn runs_of_a_segment(rt: HostRuntime) -> Result<(), Fail> {
+    let record_length = shortest()?;
+    let samples = zigzag(rt.alloc())?;
+    holds(&rt, samples.len() == 88, &samples.len());
+    for row in zigzag_runs() {
+        holds(&rt, run_is_right(&samples, record_length, row), &row);
     }
     Ok(())
 }
 
 #[test]
 fn the_first_kind_of_a_run(rt: HostRuntime) -> Result<(), Fail> {
-    let length = shortest()?;
-    assert_eq!(rt; first_kind(&[0, 1, 2], 0, 3, length), Kind::Steim2);
+    let kind = first_kind(&[0, 1, 2], 0, 3, shortest()?);
     let run = Run {
         start: 0,
         end: 3,
-        kind: Kind::Steim2,
+        kind,
     };
-    assert_eq!(rt; run.end - run.start, 3);
+    let is = kind == Kind::Steim2 && run.end - run.start == 3;
+    holds(&rt, is, &run);
     Ok(())
 }
 
 /// Differences of 25 bits take a word each.
 #[test]
 fn a_swing_of_24_bits(rt: HostRuntime) -> Result<(), Fail> {
+    let record_length = shortest()?;
     let mut swing = Vec::new(rt.alloc());
     for i in 0..65 {
         swing.push(if i % 2 == 0 { 8_388_607 } else { -8_388_608 })?;
     }
-    for row in [
+    let rows: [Fitting; 6] = [
         (Kind::Steim2, 0, 43, true),
         (Kind::Steim2, 0, 44, false),
         (Kind::Steim1, 0, 44, false),
         (Kind::Int16, 0, 44, false),
         (Kind::Int24, 0, 64, true),
         (Kind::Int24, 0, 65, false),
-    ] {
-        run_is_told(&rt, &swing, row)?;
+    ];
+    for row in rows {
+        holds(&rt, run_is_right(&swing, record_length, row), &row);
     }
     Ok(())
 }
@@ -352,9 +433,21 @@ fn divided(
     alloc: Global,
     version: Version,
     differences: &[i64],
-) -> Result<Option<Vec<msr_steim::Group>>, Fail> {
-    let length = shortest()?;
-    Ok(groups(alloc, version, differences, length).map_err(|_| "memory")?)
+) -> Result<Option<Vec<Group>>, Fail> {
+    Ok(groups(alloc, version, differences, shortest()?).map_err(|_| "memory")?)
+}
+
+/// Whether the groups have these differences.
+fn are_groups(found: &[Group], expected: &[&[i32]]) -> bool {
+    if found.len() != expected.len() {
+        return false;
+    }
+    for (group, differences) in found.iter().zip(expected) {
+        if group.as_slice() != *differences {
+            return false;
+        }
+    }
+    true
 }
 
 #[test]
@@ -362,14 +455,21 @@ fn the_canonical_groups(rt: HostRuntime) -> Result<(), Fail> {
     one_division();
     let differences = [200, 0, 0, 0, 0, 70_000];
     let found = divided(rt.alloc(), Version::One, &differences)?.ok_or("no division")?;
-    assert_eq!(rt; found.len(), 3);
-    assert!(rt; found[0].as_slice() == [200].as_slice());
-    assert!(rt; found[1].as_slice() == [0, 0, 0, 0].as_slice());
-    assert!(rt; found[2].as_slice() == [70_000].as_slice());
+    let expected: [&[i32]; 3] = [&[200], &[0, 0, 0, 0], &[70_000]];
+    holds(&rt, are_groups(&found, &expected), &found);
     let none = divided(rt.alloc(), Version::Two, &[])?.ok_or("no division")?;
-    assert!(rt; none.is_empty());
-    assert!(rt; divided(rt.alloc(), Version::Two, &[536_870_912])?.is_none());
+    holds(&rt, none.is_empty(), &none);
+    let wide = divided(rt.alloc(), Version::Two, &[536_870_912])?;
+    holds(&rt, wide.is_none(), &wide);
     Ok(())
+}
+
+/// Whether there are 43 groups, the last of three zeros.
+fn ends_in_three_zeros(found: &[Group]) -> bool {
+    match found.last() {
+        Some(last) => found.len() == 43 && last.as_slice() == [0, 0, 0].as_slice(),
+        None => false,
+    }
 }
 
 /// The differences of 87 samples fill 43 words: 42 of two 16-bit ones, and a last one of three.
@@ -380,24 +480,28 @@ fn a_last_group_of_three(rt: HostRuntime) -> Result<(), Fail> {
     for at in 0..samples.len() {
         differences.push(difference(&samples, at))?;
     }
-    assert!(rt; divided(rt.alloc(), Version::One, &differences)?.is_none());
-    assert_eq!(rt; differences.pop(), Some(20_000));
+    let longer = divided(rt.alloc(), Version::One, &differences)?;
+    holds(&rt, longer.is_none(), &longer);
+    let last = differences.pop();
+    holds(&rt, last == Some(20_000), &last);
     let found = divided(rt.alloc(), Version::One, &differences)?.ok_or("no division")?;
-    assert_eq!(rt; found.len(), 43);
-    let last = found.last().ok_or("no group")?;
-    assert!(rt; last.as_slice() == [0, 0, 0].as_slice());
+    holds(&rt, ends_in_three_zeros(&found), &found);
     Ok(())
 }
 
 #[test]
 fn sevens_fill_a_record(rt: HostRuntime) -> Result<(), Fail> {
-    let zeros = [0; 302];
-    let length = shortest()?;
-    assert!(rt; Kind::Steim2.fits(None, &[0; 301], length));
-    assert!(rt; !Kind::Steim2.fits(None, &[0; 302], length));
-    let found = divided(rt.alloc(), Version::Two, &zeros[..301])?.ok_or("no division")?;
-    assert_eq!(rt; found.len(), 43);
-    assert!(rt; divided(rt.alloc(), Version::Two, &zeros)?.is_none());
+    let record_length = shortest()?;
+    let fits = (
+        Kind::Steim2.fits(None, &[0; 301], record_length),
+        Kind::Steim2.fits(None, &[0; 302], record_length),
+    );
+    holds(&rt, fits == (true, false), &fits);
+    let counts = (
+        group_count(rt.alloc(), &[0; 301], record_length)?,
+        group_count(rt.alloc(), &[0; 302], record_length)?,
+    );
+    holds(&rt, counts == (Some(43), None), &counts);
     Ok(())
 }
 
@@ -427,10 +531,9 @@ fn longest_at(samples: &[i32], at: usize) -> usize
     window.longest_steim2_group(samples, at)
 }
 
-#[test]
-fn the_longest_groups(rt: HostRuntime) -> Result<(), Fail> {
-    let samples = stairs(rt.alloc())?;
-    for (at, size) in [
+/// Places among the stairs, and the size of the longest group from there.
+fn longest() -> [(usize, usize); 18] {
+    [
         (0, 7),
         (1, 7),
         (8, 6),
@@ -449,9 +552,16 @@ fn the_longest_groups(rt: HostRuntime) -> Result<(), Fail> {
         (103, 7),
         (108, 4),
         (112, 0),
-    ] {
-        assert!(rt; at <= samples.len());
-        assert_eq!(rt; longest_at(&samples, at), size, "{at}");
+    ]
+}
+
+#[test]
+fn the_longest_groups(rt: HostRuntime) -> Result<(), Fail> {
+    let samples = stairs(rt.alloc())?;
+    for row in longest() {
+        let (at, size) = row;
+        let is = at <= samples.len() && longest_at(&samples, at) == size;
+        holds(&rt, is, &row);
     }
     Ok(())
 }
@@ -473,9 +583,10 @@ fn an_area_of_steim2(rt: HostRuntime) -> Result<(), Fail> {
     for sample in 0..100 {
         samples.push(sample)?;
     }
-    assert_eq!(rt; samples.len(), 100);
+    assert!(rt; samples.len() == 100);
     let mut area = [255; 192];
-    assert_eq!(rt; fill_steim2(None, &samples, &mut area), 15);
+    let used = fill_steim2(None, &samples, &mut area);
+    holds(&rt, used == 15, &used);
     let words = [
         0x03FF_FFFF,
         0,
@@ -498,7 +609,11 @@ fn an_area_of_steim2(rt: HostRuntime) -> Result<(), Fail> {
         0x8000_8001,
     ];
     let expected = area_of(rt.alloc(), &words)?;
-    assert!(rt; area.as_slice() == expected.as_slice());
+    holds(
+        &rt,
+        area.as_slice() == expected.as_slice(),
+        &area.as_slice(),
+    );
     Ok(())
 }
 
@@ -531,11 +646,19 @@ fn areas_of_steim1(rt: HostRuntime) -> Result<(), Fail> {
     ];
     let expected = area_of(rt.alloc(), &words)?;
     let area = steim1_area(rt.alloc(), Some(0), &told)?;
-    assert!(rt; area.as_slice() == expected.as_slice());
+    holds(
+        &rt,
+        area.as_slice() == expected.as_slice(),
+        &area.as_slice(),
+    );
     let untold = [200, 200, 200, 200, 200, 70_200];
     let words = [0x0370_0000, 200, 70_200, 200, 0, 70_000];
     let expected = area_of(rt.alloc(), &words)?;
     let area = steim1_area(rt.alloc(), Some(0), &untold)?;
-    assert!(rt; area.as_slice() == expected.as_slice());
+    holds(
+        &rt,
+        area.as_slice() == expected.as_slice(),
+        &area.as_slice(),
+    );
     Ok(())
 }

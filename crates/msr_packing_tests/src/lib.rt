@@ -7,3 +7,5 @@ mod certificates;
 mod fitting;
 #[cfg(test)]
 mod packings;
+#[cfg(test)]
+mod rows;

@@ -4,13 +4,13 @@
 ghost use Rattle.std.specs.Prelude.{◌≡◌};
 ghost use Rattle.msr_packer.specs.Blocks.{pushed};
 
+use crate::rows::holds;
 use Made::{Bounds, Extremes, Noise, Signs, Swings, Turns, Zeros};
 use msr_fixtures::next_of;
 use msr_packer::{BlockPacker, Last, Packing, Piece, Run, StreamPacker, pack};
 use msr_words::Kind::{self, Int16, Int24, Int32, Steim1, Steim2};
 use msr_words::Length;
 use std::alloc::{AllocError, Global};
-use std::process::Abort;
 use std::test::Fail;
 
 /// The samples of a row are made in one of these ways; the first number says how many there are.
@@ -234,22 +234,20 @@ fn runs_of(alloc: Global, ends: &[(u64, Kind)]) -> Result<Vec<Run>, AllocError> 
     Ok(runs)
 }
 
-/// The packing of a row.
-fn packs(rt: &impl Abort, alloc: Global, row: Row) -> Result<(), Fail> {
+/// Whether these are the packing of a row.
+fn packs(alloc: Global, row: Row) -> Result<bool, Fail> {
     let (bytes, made, ends, separators) = row;
     let record_length = Length::new(bytes).ok_or("a length")?;
     let samples = made.samples(alloc)?;
     let runs = runs_of(alloc, ends)?;
     let packing = pack(alloc, samples.as_slice(), record_length)?;
-    assert_eq!(rt; packing.runs, runs, "{made:?}");
-    assert_eq!(rt; packing.separators.as_slice(), separators, "{made:?}");
-    Ok(())
+    Ok(packing.runs == runs && packing.separators.as_slice() == separators)
 }
 
 #[test]
 fn the_rows(rt: HostRuntime) -> Result<(), Fail> {
     for row in rows() {
-        packs(&rt, rt.alloc(), row)?;
+        holds(&rt, packs(rt.alloc(), row)?, &row);
     }
     Ok(())
 }
@@ -258,13 +256,13 @@ fn the_rows(rt: HostRuntime) -> Result<(), Fail> {
 fn no_samples(rt: HostRuntime) -> Result<(), Fail> {
     let record_length = Length::new(512).ok_or("a length")?;
     let packing = pack(rt.alloc(), &[], record_length)?;
-    assert_eq!(rt; packing.runs.len(), 0);
-    assert_eq!(rt; packing.separators.len(), 0);
+    let is = packing.runs.is_empty() && packing.separators.is_empty();
+    holds(&rt, is, &packing);
     Ok(())
 }
 
-/// Runs of 721 samples of a day, each with a separator where it starts.
-fn even_runs(rt: &impl Abort, packing: &Packing) {
+/// The first run that is not one of 721 samples of a day, or does not have its separator where it starts.
+fn first_odd(packing: &Packing) -> Option<(Run, u64)> {
     let mut start = 0u64;
     for (run, separator) in packing.runs.iter().zip(packing.separators.as_slice()) {
         let end = start.saturating_add(721).min(8_640_000);
@@ -273,9 +271,12 @@ fn even_runs(rt: &impl Abort, packing: &Packing) {
             end,
             kind: Steim2,
         };
-        assert_eq!(rt; (*run, *separator), (expected, start));
+        if *run != expected || *separator != start {
+            return Some((*run, *separator));
+        }
         start = end;
     }
+    None
 }
 
 /// A day at 100 samples a second that rises by one: 103 words of seven differences, and 257 samples left.
@@ -287,18 +288,17 @@ fn the_ramp_of_a_day(rt: HostRuntime) -> Result<(), Fail> {
         samples.push(sample)?;
     }
     let packing = pack(rt.alloc(), samples.as_slice(), record_length)?;
-    assert_eq!(rt; packing.runs.len(), 11984);
-    assert_eq!(rt; packing.separators.len(), 11984);
-    even_runs(&rt, &packing);
-    let last = packing.runs.as_slice().last().ok_or("a run")?;
-    assert_eq!(rt;
-        *last,
-        Run {
-            start: 8_639_743,
-            end: 8_640_000,
-            kind: Kind::Steim2
-        }
-    );
+    let counts = (packing.runs.len(), packing.separators.len());
+    holds(&rt, counts == (11_984, 11_984), &counts);
+    let odd = first_odd(&packing);
+    holds(&rt, odd.is_none(), &odd);
+    let last = packing.runs.as_slice().last().copied();
+    let expected = Run {
+        start: 8_639_743,
+        end: 8_640_000,
+        kind: Steim2,
+    };
+    holds(&rt, last == Some(expected), &last);
     Ok(())
 }
 
@@ -401,24 +401,27 @@ fn in_some(
     given.with_last(packer.end())
 }
 
-/// A row pushed one sample after another, and some at a time.
-fn streams(rt: &impl Abort, alloc: Global, row: Row) -> Result<(), Fail> {
+/// The size of the pushes that do not give the packing of a row, 0 for samples pushed one after another.
+fn wrong_stream(alloc: Global, row: Row) -> Result<Option<usize>, Fail> {
     let (bytes, made, _, _) = row;
     let record_length = Length::new(bytes).ok_or("a length")?;
     let whole = Streamed::whole(alloc, made, record_length)?;
-    let given = stream_of(alloc, whole.samples.as_slice(), record_length)?;
-    assert_eq!(rt; given, whole, "{made:?}");
-    for size in [1, 7, 100, 1_000_000] {
-        let given = in_some(alloc, whole.samples.as_slice(), record_length, size)?;
-        assert_eq!(rt; given, whole, "{made:?} by {size}");
+    if stream_of(alloc, whole.samples.as_slice(), record_length)? != whole {
+        return Ok(Some(0));
     }
-    Ok(())
+    for size in [1, 7, 100, 1_000_000] {
+        if in_some(alloc, whole.samples.as_slice(), record_length, size)? != whole {
+            return Ok(Some(size));
+        }
+    }
+    Ok(None)
 }
 
 #[test]
 fn the_rows_as_a_stream(rt: HostRuntime) -> Result<(), Fail> {
     for row in rows() {
-        streams(&rt, rt.alloc(), row)?;
+        let wrong = wrong_stream(rt.alloc(), row)?;
+        holds(&rt, wrong.is_none(), &(row, wrong));
     }
     Ok(())
 }
@@ -461,43 +464,89 @@ fn in_blocks(
     Ok(given)
 }
 
-/// Blocks of one sample, of a few, of about a record, and all at once.
-fn blocks(rt: &impl Abort, alloc: Global, row: Row) -> Result<(), Fail> {
+/// The size of the blocks that do not give the packing of a row: one sample, a few, about a record, or all at once.
+fn wrong_blocks(alloc: Global, row: Row) -> Result<Option<usize>, Fail> {
     let (bytes, made, _, _) = row;
     let record_length = Length::new(bytes).ok_or("a length")?;
     let whole = Streamed::whole(alloc, made, record_length)?;
     for size in [1, 7, 100, 1_000_000] {
-        let given = in_blocks(alloc, whole.samples.as_slice(), record_length, size)?;
-        assert_eq!(rt; given, whole, "{made:?} by {size}");
+        if in_blocks(alloc, whole.samples.as_slice(), record_length, size)? != whole {
+            return Ok(Some(size));
+        }
     }
-    Ok(())
+    Ok(None)
 }
 
 #[test]
 fn the_rows_in_blocks(rt: HostRuntime) -> Result<(), Fail> {
     for row in rows() {
-        blocks(&rt, rt.alloc(), row)?;
+        let wrong = wrong_blocks(rt.alloc(), row)?;
+        holds(&rt, wrong.is_none(), &(row, wrong));
     }
     Ok(())
 }
 
+/// 603 samples of 0, of which records of 256 bytes hold 301.
 #[test]
 fn zeros_one_after_another(rt: HostRuntime) -> Result<(), Fail> {
+    let alloc = rt.alloc();
+    let record_length = Length::new(256).ok_or("a length")?;
+    let zeros = vec![in alloc; 0; 603]?;
+    let given = stream_of(alloc, &zeros, record_length)?;
+    let expected = Streamed {
+        packing: Packing {
+            runs: runs_of(alloc, &[(301, Steim2), (602, Steim2), (603, Steim2)])?,
+            separators: vec![in alloc; 0, 301, 602]?,
+        },
+        samples: zeros,
+        joined: true,
+    };
+    holds(&rt, given == expected, &given);
+    let none = stream_of(alloc, &[], record_length)?;
+    let is = none.packing.runs.is_empty() && none.samples.is_empty();
+    holds(&rt, is, &none);
+    Ok(())
+}
+
+/// What a stream packer kept back while it was pushed samples.
+#[derive(Clone, Copy, Debug)]
+struct KeptBack {
+    /// How many pushes there were when the first piece was given.
+    first_given: Option<usize>,
+    /// The most samples that were pushed and not given after a push.
+    most: usize,
+}
+
+/// What is kept back of samples that are pushed one after another.
+fn kept_back(
+    alloc: Global,
+    samples: &[i32],
+    record_length: Length,
+) -> Result<KeptBack, AllocError> {
+    let mut packer = StreamPacker::new(alloc, record_length);
+    let mut given = 0;
+    let mut kept = KeptBack {
+        first_given: None,
+        most: 0,
+    };
+    for at in 0..samples.len() {
+        let pushes = at + 1;
+        if let Some(piece) = packer.push(samples[at])? {
+            given = piece.run.end as usize;
+            kept.first_given = kept.first_given.or(Some(pushes));
+        }
+        kept.most = kept.most.max(pushes.saturating_sub(given));
+    }
+    Ok(kept)
+}
+
+/// At most two longest runs are kept back, twice 301 samples.
+#[test]
+fn no_more_than_two_runs_are_kept_back(rt: HostRuntime) -> Result<(), Fail> {
     let record_length = Length::new(256).ok_or("a length")?;
     let zeros = vec![in rt.alloc(); 0; 603]?;
-    let given = stream_of(rt.alloc(), zeros.as_slice(), record_length)?;
-    let runs = [(0, 301), (301, 602), (602, 603)].map(|(start, end)| Run {
-        start,
-        end,
-        kind: Steim2,
-    });
-    assert_eq!(rt; given.packing.runs.as_slice(), runs.as_slice());
-    assert_eq!(rt;
-        given.packing.separators.as_slice(),
-        [0, 301, 602].as_slice()
-    );
-    assert_eq!(rt; given.samples, zeros);
-    let none = stream_of(rt.alloc(), &[], record_length)?;
-    assert!(rt; none.packing.runs.is_empty() && none.samples.is_empty());
+    let kept = kept_back(rt.alloc(), &zeros, record_length)?;
+    let soon = matches!(kept.first_given, Some(pushes) if pushes <= 603);
+    holds(&rt, soon && kept.most <= 602, &kept);
     Ok(())
 }
