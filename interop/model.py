@@ -27,7 +27,7 @@ WORDS = {
 THREE = (3, 8, 1, None)
 
 Key = namedtuple("Key", "network station location channel quality factor multiplier activity clock data correction timing")
-Row = namedtuple("Row", "key start samples")
+Row = namedtuple("Row", "key start samples kind")
 Segment = namedtuple("Segment", "key start samples")
 Read = namedtuple("Read", "segments counts fault")
 Repacked = namedtuple("Repacked", "records report fault")
@@ -212,7 +212,7 @@ def read_record(rest, strict):
         activity |= 2
     names = (bytes(rest[18:20]), bytes(rest[8:13]), bytes(rest[13:15]), bytes(rest[15:18]), chr(rest[6]))
     key = Key(*names, factor, multiplier, activity, clock, data, correction, timing)
-    row = Row(key, start, samples)
+    row = Row(key, start, samples, encoding)
     if not ends_in_time(row, start):
         raise Refused("17 TimeRange")
     return length, row, agrees
@@ -242,7 +242,7 @@ def read_all(content, tolerance, strict=False):
                     raise Refused("17 TimeRange")
                 segments[-1] = longer
             elif row:
-                segments.append(Segment(*row))
+                segments.append(Segment(row.key, row.start, row.samples))
             counts = [counts[0] + 1, counts[1] + (row is None), counts[2] + (not agrees)]
             offset += length
     except Refused as why:
