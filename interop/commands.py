@@ -42,7 +42,7 @@ class Ends(Exception):
 
 
 class Asked(Exception):
-    """A run that prints a text of the product's own words: the version, or help on a command or on all of them."""
+    """A run that prints a text of the product's own words: the version, or help."""
 
 
 class Unsaid(Exception):
@@ -67,20 +67,24 @@ def value_of(option, text):
 
 
 def told_apart(words, options):
-    """The names and the options of a command; `--below` may come again, the others may not."""
+    """The names and the options of a command; `--below` may come again, the others may not; after `--` all are names."""
     names, chosen, words = [], {"--below": []}, list(words)
     while words:
         word = words.pop(0)
         option, equals, text = word.partition("=")
+        if word == "--":
+            return names + words, chosen
         if not word.startswith("-") or word == "-":
             names.append(word)
+        elif word in ("-h", "--help"):
+            raise Asked
         elif option not in options or (equals and option not in VALUED) or (option in chosen and option != "--below"):
             raise Ends(2, None)
         elif option not in VALUED:
             chosen[option] = True
+        elif not equals and (not words or words[0].startswith("-") and words[0] != "-"):
+            raise Ends(2, None)
         else:
-            if not equals and (not words or words[0].startswith("-") and words[0] != "-"):
-                raise Ends(2, None)
             value = value_of(option, text if equals else words.pop(0))
             chosen[option] = chosen["--below"] + [value] if option == "--below" else value
     return names, chosen
@@ -101,12 +105,10 @@ def is_place(word):
 def read_words(words):
     """The task; without words it is to repack standard input."""
     command, *rest = words or ["repack", "-"]
-    if command in ("--help", "--version"):
-        raise Asked(command)
+    if command in ("--help", "-h", "--version", "-V", "help") and (not rest or rest[0] in COMMANDS):
+        raise Asked
     if command not in COMMANDS:
         raise Ends(2, None)
-    if "--help" in rest:
-        raise Asked(command)
     options, (fewest, most) = COMMANDS[command]
     names, chosen = told_apart(rest, options)
     if not fewest <= len(names) <= most:

@@ -115,16 +115,6 @@ def parsed(text):
     return Report(length, tolerance, counts, segments)
 
 
-def rows_of(packed):
-    """Length and row of each record."""
-    rows, offset = [], 0
-    while offset < len(packed):
-        length, row, _ = model.read_record(memoryview(packed)[offset:], False)
-        rows.append((length, row))
-        offset += length
-    return rows
-
-
 def stands_in(segment, rows, line, size):
     """Whether these rows are runs of the segment that fit a record of theirs, and the line's separators as many."""
     samples, end = segment.samples, 0
@@ -142,16 +132,14 @@ def verdict(packed, report):
     read = model.read_all(packed, report.tolerance)
     if read.fault:
         raise model.Refused(read.fault)
-    rows = rows_of(packed)
-    if any(length != report.length or row is None for length, row in rows) or len(read.segments) != len(report.lines):
+    if any(length != report.length or row is None for length, row in read.rows):
         return False
-    rows = [row for _, row in rows]
-    for segment, line in zip(read.segments, report.lines):
-        count = 0
-        own = []
+    rows, segments = iter(read.rows), []
+    for segment in read.segments:
+        own, count = [], 0
         while count < len(segment.samples):
-            own.append(rows.pop(0))
+            own.append(next(rows)[1])
             count += len(own[-1].samples)
-        if not stands_in(segment, own, line, report.length):
-            return False
-    return True
+        segments.append((segment, own))
+    is_shown = (stands_in(*one, line, report.length) for one, line in zip(segments, report.lines))
+    return len(segments) == len(report.lines) and all(is_shown)

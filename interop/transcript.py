@@ -281,6 +281,8 @@ class Script:
             line = line.replace(f"{{{name}}}", text)
         if not line or line.startswith("#"):
             return [Print(b"")]
+        if "{" in line:
+            return [Print(NO_STEP)]
         try:
             if "$" in line:
                 before, after = line.split("$", 1)
@@ -307,24 +309,32 @@ def shown(answer):
     return model.text(str(line).lower() if isinstance(line, bool) else line for line in lines).encode()
 
 
-# What a text of help has to name, for all commands (none), and for each.
-HELPED = {
-    "--help": [*commands.COMMANDS, "--help", "--version"],
-    "repack": ["IN", "OUT"],
-    "feed": ["REPORT"],
-    "list": ["IN"],
-    "check": ["PACKED", "REPORT", "least", "not shown"],
-    "archive": ["ROOT", "OUT", "REPORTS"],
+# What a text of help has to say, by docs/MANUAL.md: on all commands, and on each.
+STATUSES = ["0", "1", "2"]
+LENGTH = ["--length", "256, 512, 1024", "65536", "[default: 512]"]
+TOLERANCE = ["--tolerance", "1 to 1000000", "[default: 1000]"]
+REFUSES = ["--strict", "18 ReverseMismatch"]
+LINES = ["done PATH", "same PATH", "skipped PATH: not an SDS path", "not waveform data", "bad day", "refused PATH: TEXT"]
+LINES += ["cannot open", "another walk is at work", "refused PATH: listing", "notshown PATH"]
+LINES += ["channel NET.STA.LOC.CHAN files N read N written N", "files N skipped N refused N"]
+HELP = {
+    None: [*commands.COMMANDS, *STATUSES, "3", "--help", "--version", "does what `msrepack repack -` does"],
+    "repack": [*STATUSES, *LENGTH, *TOLERANCE, *REFUSES, "IN", "OUT"],
+    "feed": [*STATUSES, *LENGTH, *TOLERANCE, *REFUSES, "REPORT"],
+    "list": [*STATUSES, *TOLERANCE, *REFUSES, "IN"],
+    "check": [*STATUSES, "3", "PACKED", "REPORT", "least", "not shown"],
+    "archive": [*STATUSES, *LENGTH, *TOLERANCE, *REFUSES, *LINES, "--below", "--resume", "--check", "ROOT", "OUT", "REPORTS"],
 }
 
 
 def is_told(words, text):
-    """Whether a text of the product's own words names what the manual does."""
-    asked = next((word for word in words if word in HELPED), words[0])
-    if asked == "--version":
+    """Whether a text of the product's own words says what it has to; help in short (`-h`) at least the names."""
+    if words[0] in ("--version", "-V"):
         return re.fullmatch(rb"msrepack \d+\.\d+\.\d+\n", text) is not None
-    options = commands.COMMANDS[asked][0] if asked in commands.COMMANDS else ()
-    return all(name.encode() in text for name in (*HELPED[asked], *options))
+    asked = HELP[next((word for word in words if word in HELP), None)]
+    needed = [one for one in asked if one.isupper() or one.startswith("--")] if "-h" in words else asked
+    said = " ".join(text.decode().split())
+    return all(one in said for one in needed)
 
 
 def printed(outcome, words, into):
