@@ -124,7 +124,8 @@ def steim_samples(kind, little, area, count):
     first, last = struct.unpack_from(f"{order}ii", area, 4)
     samples = [first]
     for difference in differences[1:count]:
-        samples.append(signed((samples[-1] + difference) & 0xFFFF_FFFF, 32))
+        sample = samples[-1] + difference
+        samples.append(sample if is_in(sample, 32) else signed(sample & 0xFFFF_FFFF, 32))
     return samples, samples[-1] == last
 
 
@@ -132,9 +133,12 @@ def plain_samples(kind, little, area, count):
     width = WIDTHS[kind]
     if len(area) < count * width:
         raise Refused("12 DataShort")
-    order = "little" if little else "big"
-    places = range(0, count * width, width)
-    return [int.from_bytes(area[place : place + width], order, signed=True) for place in places]
+    if kind == INT24:
+        order = "little" if little else "big"
+        places = range(0, count * width, width)
+        return [int.from_bytes(area[place : place + width], order, signed=True) for place in places]
+    letter = "h" if kind == INT16 else "i"
+    return list(struct.unpack_from(f"{'<' if little else '>'}{count}{letter}", area))
 
 
 def byte_order(rest):
@@ -292,10 +296,10 @@ def end_of(kind, samples, differences, start, size):
     if kind not in WIDTHS:
         return steim_end(kind, differences, start, size)
     width = WIDTHS[kind]
-    end = start
-    while end < len(samples) and width * (end + 1 - start) <= size - 64 and is_in(samples[end], 8 * width):
-        end += 1
-    return end
+    run = samples[start : start + (size - 64) // width]
+    if not run or all_in((min(run), max(run)), 8 * width):
+        return start + len(run)
+    return start + next(place for place, sample in enumerate(run) if not is_in(sample, 8 * width))
 
 
 def packing(samples, size):

@@ -430,6 +430,22 @@ def kind_of(prints, one):
     return "prefix only" if one.loose and one.whole else "exact"
 
 
+def work_out(lines):
+    """Prints the transcript as it is worked out; what the documents leave open is marked."""
+    script = Script()
+    for line in lines:
+        sys.stdout.buffer.write(line.encode() + b"\n")
+        try:
+            one, *others = script.line(line)
+        except Unsaid as why:
+            one, others = Print(f"(not determined: {why})\n".encode()), []
+        mark = b"(or otherwise)\n" if others else b"(or a first part of it)\n" if one.loose and one.whole else b""
+        own = b"(the product's own words)\n" if one.own else one.whole
+        sys.stdout.buffer.write(own + mark + one.rest)
+        for path, content in one.files.items():
+            script.write(path, content)
+
+
 def compare(lines, transcript):
     """How many steps there are of each kind, by line; differences are printed."""
     script, kinds, differ = Script(), collections.defaultdict(list), 0
@@ -461,6 +477,7 @@ def main():
     options = argparse.ArgumentParser(description=__doc__)
     options.add_argument("--script", default=os.path.join(CRATE, "stdin"))
     options.add_argument("--transcript", default=os.path.join(CRATE, "stdout"))
+    options.add_argument("--print", action="store_true", help="prints what is worked out, and compares nothing")
     asked = options.parse_args()
     with open(asked.script, encoding="utf-8") as file:
         lines = file.read().splitlines()
@@ -468,6 +485,9 @@ def main():
         transcript = Transcript(file.read())
     steps = sum(bool(line) and not line.startswith("#") for line in lines)
     with tempfile.TemporaryDirectory() as folder, contextlib.chdir(folder):
+        if asked.print:
+            work_out(lines)
+            return 0
         kinds, differ = compare(lines, transcript)
     for kind, numbers_of in kinds.items():
         print(f"{kind}: {len(numbers_of)} steps" + ("" if kind == "exact" else f", lines {numbers_of}"))
