@@ -453,7 +453,7 @@ def compare(lines, transcript):
         head = transcript.take_line()
         if head != line.encode():
             differ += 1
-            tell(number, "another line", line.encode(), head)
+            tell(number, "the line is another one", line.encode(), head)
         following = lines_after(lines, number)
         try:
             prints = script.line(line)
@@ -465,7 +465,7 @@ def compare(lines, transcript):
         if one is None:
             differ += 1
             one = prints[0]
-            tell(number, line, (one.whole or b"(the product's own words)\n") + one.rest, text)
+            tell(number, line, (b"(the product's own words)\n" if one.own else one.whole) + one.rest, text)
         elif line and not line.startswith("#"):
             kinds[kind_of(prints, one)].append(number)
         for path, content in one.files.items():
