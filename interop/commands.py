@@ -158,7 +158,7 @@ def stream(given):
 def opened(name, given):
     """The bytes of a file, and whether reading fails: that of a folder does."""
     if os.path.realpath(name) in given.unsaid:
-        raise Unsaid(f"{name} has any first part of its records or text")
+        raise Unsaid("any first part may be there")
     try:
         file = os.open(name, os.O_RDONLY)
     except OSError:

@@ -151,13 +151,15 @@ class Script:
     # Files.
 
     def read(self, path):
-        if self.loose.get(os.path.realpath(path)) is not None:
-            raise Unsaid(f"{path} has any first part of its records or text")
+        held = self.loose.get(os.path.realpath(path))
+        if held is not None:
+            raise Unsaid("a text of the product's own words" if held.whole is None else "any first part may be there")
         with open(path, "rb") as file:
             return file.read()
 
     def write(self, path, content):
-        """Writes a file with its folder; no two times of change are the same."""
+        """Writes a file with its folder; no two times of change are the same. A first part of nothing is nothing."""
+        content = b"" if content == Loose(b"") else content
         os.makedirs(os.path.dirname(path) or ".", exist_ok=True)
         with open(path, "wb") as file:
             file.write((content.whole or b"") if isinstance(content, Loose) else content)
@@ -197,11 +199,7 @@ class Script:
 
     def show(self, path):
         held = self.loose.get(os.path.realpath(path))
-        if held is not None:
-            if held.whole is None:
-                raise Unsaid("a text of the product's own words")
-            return Print(held.whole, loose=True)
-        return self.read(path)
+        return Print(held.whole, loose=True) if held and held.whole else self.read(path)
 
     def shapes(self, path, length):
         """The number of samples and the encoding of each record, like neighbours in one line."""
@@ -214,7 +212,7 @@ class Script:
 
     def ends(self, path, counts):
         content, (first, last) = self.read(path), map(int, counts.split("/"))
-        return content[:first] + content[max(0, len(content) - last) :]
+        return ended(content[:first]) + ended(content[max(0, len(content) - last) :])
 
     def hex(self, path, places):
         start, end = map(int, places.split(".."))
@@ -301,8 +299,13 @@ def device(text):
     return Device(int(most) if most else None, int(fails) if fails else None)
 
 
+def ended(text):
+    """A text as it is printed: one without a line's end at its end gets a mark and one."""
+    return text if not text or text.endswith(b"\n") else text + b"\\\n"
+
+
 def shown(answer):
-    """A step's answer as it is printed: bytes as they are, words in a line each."""
+    """A step's answer: bytes as they are, words in a line each."""
     if answer is None or isinstance(answer, bytes):
         return answer or b""
     lines = answer if isinstance(answer, list) else [answer]
@@ -361,7 +364,10 @@ def matches(one, text):
     body = text[: len(text) - len(one.rest)]
     if one.own:
         return one.own(body)
-    return one.whole.startswith(body) if one.loose else body == one.whole
+    if not one.loose:
+        return body == ended(one.whole)
+    part = body.removesuffix(b"\\\n")
+    return one.whole.startswith(part) and body == ended(part)
 
 
 # The transcript beside it.
@@ -389,8 +395,9 @@ class Transcript:
         """What stands before the following lines; which of the texts that may be printed it is, or None."""
         start, after = self.place, following[0] if following else None
         for one in prints:
-            end = start + len(one.whole or b"") + len(one.rest)
-            is_exact = not one.own and self.content.startswith(one.whole + one.rest, start)
+            whole = ended(one.whole or b"") + one.rest
+            end = start + len(whole)
+            is_exact = not one.own and self.content.startswith(whole, start)
             if is_exact and (end == len(self.content) if after is None else self.is_at(end, after)):
                 self.place = end
                 return one, self.content[start:end]
@@ -440,7 +447,7 @@ def work_out(lines):
         except Unsaid as why:
             one, others = Print(f"(not determined: {why})\n".encode()), []
         mark = b"(or otherwise)\n" if others else b"(or a first part of it)\n" if one.loose and one.whole else b""
-        own = b"(the product's own words)\n" if one.own else one.whole
+        own = b"(the product's own words)\n" if one.own else ended(one.whole)
         sys.stdout.buffer.write(own + mark + one.rest)
         for path, content in one.files.items():
             script.write(path, content)
@@ -465,7 +472,7 @@ def compare(lines, transcript):
         if one is None:
             differ += 1
             one = prints[0]
-            tell(number, line, (b"(the product's own words)\n" if one.own else one.whole) + one.rest, text)
+            tell(number, line, (b"(the product's own words)\n" if one.own else ended(one.whole)) + one.rest, text)
         elif line and not line.startswith("#"):
             kinds[kind_of(prints, one)].append(number)
         for path, content in one.files.items():
