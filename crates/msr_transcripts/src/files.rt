@@ -22,8 +22,17 @@ pub fn write(rt: &HostRuntime, path: &str, bytes: &[u8]) -> io::Result<()> {
 }
 
 /// Prints bytes.
-pub fn put(rt: &HostRuntime, bytes: &[u8]) -> io::Result<()> {
+fn put(rt: &HostRuntime, bytes: &[u8]) -> io::Result<()> {
     rt.stdout().write_all(bytes)
+}
+
+/// Prints a text. If it does not end in a line's end, a `\` and one come after it.
+pub fn tell(rt: &HostRuntime, text: &[u8]) -> io::Result<()> {
+    put(rt, text)?;
+    if text.is_empty() || text.ends_with(b"\n") {
+        return Ok(());
+    }
+    put(rt, b"\\\n")
 }
 
 /// Writes the input with that name.

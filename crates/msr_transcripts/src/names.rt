@@ -18,7 +18,7 @@ impl Names {
         }
     }
 
-    /// Gives a text a name.
+    /// Gives a text a name, also one that another text had.
     pub fn add(&mut self, name: &str, text: &str) -> Result<(), AllocError> {
         let mark = format!(in self.alloc; "{{{name}}}")?;
         let text = text.to_string(self.alloc)?;
@@ -29,7 +29,7 @@ impl Names {
     /// The line with each name in braces replaced by its text.
     pub fn expanded(&self, line: &str) -> Result<String, AllocError> {
         let mut expanded = line.to_string(self.alloc)?;
-        for (mark, text) in &self.rows {
+        for (mark, text) in self.rows.iter().rev() {
             expanded = expanded.replace(self.alloc, mark.as_str(), text.as_str())?;
         }
         Ok(expanded)

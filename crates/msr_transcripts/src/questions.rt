@@ -1,6 +1,6 @@
 //! Steps that print what is in files.
 
-use crate::files::put;
+use crate::files::tell;
 use crate::numbers::{count, no_step};
 use std::{fs, io};
 
@@ -29,9 +29,9 @@ fn prefix(rt: &HostRuntime, part: &str, whole: &str) -> io::Result<()> {
     println!(rt; "{begins}")
 }
 
-/// The bytes of a file, as they are.
+/// The text of a file.
 fn show(rt: &HostRuntime, path: &str) -> io::Result<()> {
-    put(rt, fs::read(rt, path)?.as_slice())
+    tell(rt, fs::read(rt, path)?.as_slice())
 }
 
 /// The first bytes of a file and its last, `FIRST/LAST`.
@@ -42,8 +42,8 @@ fn ends(rt: &HostRuntime, path: &str, counts: &str) -> io::Result<()> {
     let bytes = fs::read(rt, path)?;
     let head = count(first)?.min(bytes.len());
     let tail = bytes.len() - count(last)?.min(bytes.len());
-    put(rt, &bytes[..head])?;
-    put(rt, &bytes[tail..])
+    tell(rt, &bytes[..head])?;
+    tell(rt, &bytes[tail..])
 }
 
 /// The bytes of a file from a place to another, `FROM..TO`, in hexadecimal.
@@ -61,17 +61,17 @@ fn hex(rt: &HostRuntime, path: &str, range: &str) -> io::Result<()> {
 
 /// The number of samples and the encoding of a record.
 fn shape_of(record: &[u8]) -> (u16, u8) {
-    match record {
-        [..] if record.len() > 52 => (
-            u16::from_be_bytes([record[30], record[31]]),
-            record[52],
-        ),
-        _ => (0, 0),
+    if record.len() < 64 {
+        return (0, 0);
     }
+    (
+        u16::from_be_bytes([record[30], record[31]]),
+        record[52],
+    )
 }
 
 /// A line for records that are alike.
-fn tell_shape(rt: &HostRuntime, shape: (u16, u8), times: usize) -> io::Result<()> {
+fn tell_shapes(rt: &HostRuntime, shape: (u16, u8), times: usize) -> io::Result<()> {
     let (samples, encoding) = shape;
     match times {
         0 => Ok(()),
@@ -88,13 +88,13 @@ fn shapes(rt: &HostRuntime, path: &str, length: &str) -> io::Result<()> {
     for record in bytes.chunks(count(length)?.max(1)) {
         let next = shape_of(record);
         if next != shape {
-            tell_shape(rt, shape, times)?;
+            tell_shapes(rt, shape, times)?;
             times = 0;
         }
         shape = next;
         times = times.saturating_add(1);
     }
-    tell_shape(rt, shape, times)
+    tell_shapes(rt, shape, times)
 }
 
 /// The question with these words.

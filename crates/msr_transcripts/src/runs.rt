@@ -17,7 +17,7 @@ fn given(rt: &HostRuntime, from: &str) -> io::Result<Vec<u8>> {
 /// Prints or keeps what a run printed.
 fn keep(rt: &HostRuntime, printed: &[u8], into: &str) -> io::Result<()> {
     if into.is_empty() {
-        files::put(rt, printed)
+        files::tell(rt, printed)
     } else {
         files::write(rt, into, printed)
     }
@@ -28,8 +28,8 @@ fn complain(rt: &HostRuntime, complaint: &[u8]) -> io::Result<()> {
     if complaint.is_empty() {
         return Ok(());
     }
-    files::put(rt, b"! ")?;
-    files::put(rt, complaint)
+    print!(rt; "! ")?;
+    files::tell(rt, complaint)
 }
 
 /// Runs msrepack with these words, of which the first is its name, and prints what came of it.
