@@ -27,11 +27,12 @@ Task = namedtuple("Task", "command names length tolerance strict below resume ch
 Device = namedtuple("Device", "most fails")
 # What a run is given beside its words.
 Given = namedtuple("Given", "content reading writing redirected redirecting odd unsaid")
-# The status, what is printed (or any first part of it), the complaint; what stands in files then, and if printing
-# fails; whether each line is printed by itself.
-Outcome = namedtuple("Outcome", "status printed complaint loose files failed lines", defaults=(False, {}, {}, False))
-# A file's content of which only a first part may be there.
-Loose = namedtuple("Loose", "whole")
+# The status, what is printed (or any first part of it, of at least so many bytes), the complaint; what stands in files
+# then, and if printing fails; whether each line is printed by itself.
+FIELDS = "status printed complaint loose files failed lines least"
+Outcome = namedtuple("Outcome", FIELDS, defaults=(False, {}, {}, False, 0))
+# A file's content of which only a first part may be there, of at least so many bytes.
+Loose = namedtuple("Loose", "whole least", defaults=(0,))
 
 
 class Ends(Exception):
@@ -67,7 +68,7 @@ def value_of(option, text):
 
 
 def told_apart(words, options):
-    """The names and the options of a command; `--below` may come again, the others may not; after `--` all are names."""
+    """The names and the options of a command; only `--below` may come again; after `--` all are names."""
     names, chosen, words = [], {"--below": []}, list(words)
     while words:
         word = words.pop(0)
@@ -201,14 +202,25 @@ def repack(task, given):
             yield Outcome(0, report.encode(), b"", files={name: records for name in outputs}, failed=left)
 
 
+def decided(content, task):
+    """How many bytes of records no later sample can change. The sample that is easiest to add is the last one once
+    more; a frontier that holds even so is settled, and a record when two frontiers after its own are."""
+    segments = model.read_all(content, task.tolerance, task.strict).segments
+    whole = sum(len(model.packing(segment.samples, task.length)[0]) for segment in segments[:-1])
+    last = [model.packing(one.samples + one.samples[-1:], task.length)[1] for one in segments[-1:]]
+    return task.length * (whole + sum(max(0, len(frontiers) - 2) for frontiers in last))
+
+
 def feed(task, given):
     [report_name] = task.names
     made(report_name, given.redirected, given)
     empty = {report_name: b""}
     for content, fails in stream(given):
         records, report, fault = model.repacked(content, task.length, task.tolerance, task.strict)
-        if fails or fault:
-            yield Outcome(1, records, told("read fault" if fails else fault), True, empty, empty)
+        if fails:
+            yield Outcome(1, records, told("read fault"), True, empty, empty, least=decided(content, task))
+        elif fault:
+            yield Outcome(1, records, told(fault), True, empty, empty)
         else:
             yield Outcome(0, records, b"", files={report_name: report.encode()}, failed=empty)
 

@@ -28,9 +28,9 @@ CRATE = os.path.join(ROOT, "crates/msr_transcripts")
 NO_STEP = b"no such step, or a file that cannot be used\n"
 START = model.instant(2020, 1, 0, 0, 0, 0)
 
-# What a step prints: the text, or any first part of it (`loose`), or one of the product's own words, of which a function
-# tells whether they are right (`own`); then the rest. And what stands in files then.
-Print = collections.namedtuple("Print", "whole rest loose files own", defaults=(b"", False, {}, None))
+# What a step prints: the text, or any first part of it (`loose`) of at least so many bytes, or one of the product's own
+# words, of which a function tells whether they are right (`own`); then the rest. And what stands in files then.
+Print = collections.namedtuple("Print", "whole rest loose files own least", defaults=(b"", False, {}, None, 0))
 
 
 class NoStep(Exception):
@@ -60,7 +60,7 @@ def sevens():
 
 
 def two():
-    """Five records of 512 bytes with a wave that dies down as numbers of 16 bits; a gap of ten seconds after the third."""
+    """Five records of 512 bytes with a wave that dies down, in 16 bits; a gap of ten seconds after the third."""
     wave = [round(3000 * math.exp(-place / 40) * math.sin(place / 3)) for place in range(100)]
     area = struct.pack(">100h", *wave)
     seconds = enumerate((0, 5, 10, 25, 30), start=1)
@@ -199,7 +199,7 @@ class Script:
 
     def show(self, path):
         held = self.loose.get(os.path.realpath(path))
-        return Print(held.whole, loose=True) if held and held.whole else self.read(path)
+        return Print(held.whole, loose=True, least=held.least) if held and held.whole else self.read(path)
 
     def shapes(self, path, length):
         """The number of samples and the encoding of each record, like neighbours in one line."""
@@ -317,8 +317,8 @@ STATUSES = ["0", "1", "2"]
 LENGTH = ["--length", "256, 512, 1024", "65536", "[default: 512]"]
 TOLERANCE = ["--tolerance", "1 to 1000000", "[default: 1000]"]
 REFUSES = ["--strict", "18 ReverseMismatch"]
-LINES = ["done PATH", "same PATH", "skipped PATH: not an SDS path", "not waveform data", "bad day", "refused PATH: TEXT"]
-LINES += ["cannot open", "another walk is at work", "refused PATH: listing", "notshown PATH"]
+LINES = ["done PATH", "same PATH", "skipped PATH: not an SDS path", "not waveform data", "bad day", "notshown PATH"]
+LINES += ["refused PATH: TEXT", "cannot open", "another walk is at work", "refused PATH: listing"]
 LINES += ["channel NET.STA.LOC.CHAN files N read N written N", "files N skipped N refused N"]
 HELP = {
     None: [*commands.COMMANDS, *STATUSES, "3", "--help", "--version", "does what `msrepack repack -` does"],
@@ -326,8 +326,9 @@ HELP = {
     "feed": [*STATUSES, *LENGTH, *TOLERANCE, *REFUSES, "REPORT"],
     "list": [*STATUSES, *TOLERANCE, *REFUSES, "IN"],
     "check": [*STATUSES, "3", "PACKED", "REPORT", "least", "not shown"],
-    "archive": [*STATUSES, *LENGTH, *TOLERANCE, *REFUSES, *LINES, "--below", "--resume", "--check", "ROOT", "OUT", "REPORTS"],
+    "archive": [*STATUSES, *LENGTH, *TOLERANCE, *REFUSES, *LINES, "--below", "--resume", "--check"],
 }
+HELP["archive"] += ["ROOT", "OUT", "REPORTS"]
 
 
 def is_told(words, text):
@@ -347,14 +348,14 @@ def printed(outcome, words, into):
     if outcome.complaint:
         rest = b"! " + outcome.complaint + rest
     if into:
-        files[into] = Loose(whole) if outcome.loose or whole is None else whole
+        files[into] = Loose(whole, outcome.least) if outcome.loose or whole is None else whole
         whole = b""
     own = None
     if outcome.complaint is None:
-        own = lambda text: text.startswith(b"! ")
+        own = lambda text: text.startswith(b"! ") and not text.startswith(b"! msrepack: ")
     elif whole is None:
         own = lambda text: outcome.loose or is_told(words, text)
-    return Print(whole, rest, outcome.loose and not into, files, own)
+    return Print(whole, rest, outcome.loose and not into, files, own, outcome.least)
 
 
 def matches(one, text):
@@ -367,7 +368,7 @@ def matches(one, text):
     if not one.loose:
         return body == ended(one.whole)
     part = body.removesuffix(b"\\\n")
-    return one.whole.startswith(part) and body == ended(part)
+    return one.whole.startswith(part) and body == ended(part) and len(part) >= one.least
 
 
 # The transcript beside it.
