@@ -4,6 +4,7 @@ It is written to be read, not to be fast: the packing tries all kinds from all s
 from the end. It shares no line with the product; compare.py holds the two against each other.
 """
 import datetime
+import functools
 import struct
 from collections import namedtuple
 from fractions import Fraction
@@ -27,9 +28,9 @@ WORDS = {
 THREE = (3, 8, 1, None)
 
 Key = namedtuple("Key", "network station location channel quality factor multiplier activity clock data correction timing")
-Row = namedtuple("Row", "key start samples")
+Row = namedtuple("Row", "key start samples kind")
 Segment = namedtuple("Segment", "key start samples")
-Read = namedtuple("Read", "segments counts fault")
+Read = namedtuple("Read", "segments counts fault rows")
 Repacked = namedtuple("Repacked", "records report fault")
 
 
@@ -123,7 +124,8 @@ def steim_samples(kind, little, area, count):
     first, last = struct.unpack_from(f"{order}ii", area, 4)
     samples = [first]
     for difference in differences[1:count]:
-        samples.append(signed((samples[-1] + difference) & 0xFFFF_FFFF, 32))
+        sample = samples[-1] + difference
+        samples.append(sample if is_in(sample, 32) else signed(sample & 0xFFFF_FFFF, 32))
     return samples, samples[-1] == last
 
 
@@ -131,9 +133,12 @@ def plain_samples(kind, little, area, count):
     width = WIDTHS[kind]
     if len(area) < count * width:
         raise Refused("12 DataShort")
-    order = "little" if little else "big"
-    places = range(0, count * width, width)
-    return [int.from_bytes(area[place : place + width], order, signed=True) for place in places]
+    if kind == INT24:
+        order = "little" if little else "big"
+        places = range(0, count * width, width)
+        return [int.from_bytes(area[place : place + width], order, signed=True) for place in places]
+    letter = "h" if kind == INT16 else "i"
+    return list(struct.unpack_from(f"{'<' if little else '>'}{count}{letter}", area))
 
 
 def byte_order(rest):
@@ -212,16 +217,15 @@ def read_record(rest, strict):
         activity |= 2
     names = (bytes(rest[18:20]), bytes(rest[8:13]), bytes(rest[13:15]), bytes(rest[15:18]), chr(rest[6]))
     key = Key(*names, factor, multiplier, activity, clock, data, correction, timing)
-    row = Row(key, start, samples)
-    if not ends_in_time(row, start):
+    row = Row(key, start, samples, encoding)
+    if not is_in_time(key, start, count):
         raise Refused("17 TimeRange")
     return length, row, agrees
 
 
-def ends_in_time(segment, start):
-    """Whether it begins at `start` and ends within the instants."""
-    last = rounded(nominal(segment.key, segment.start, len(segment.samples) - 1))
-    return is_instant(start) and is_instant(last)
+def is_in_time(key, start, count):
+    """Whether so many samples begin and end within the instants."""
+    return is_instant(start) and is_instant(rounded(nominal(key, start, count - 1)))
 
 
 def joins(segment, row, tolerance):
@@ -230,24 +234,26 @@ def joins(segment, row, tolerance):
 
 
 def read_all(content, tolerance, strict=False):
-    """The segments before the first fault, the counts of records, and the fault in the program's words."""
-    segments, offset, counts = [], 0, [0, 0, 0]
+    """The segments before the first fault, the counts of records, and the fault in the program's words; and of each
+    record its length and its row."""
+    segments, offset, counts, rows = [], 0, [0, 0, 0], []
     content = memoryview(content)
     try:
         while offset < len(content):
             length, row, agrees = read_record(content[offset:], strict)
             if row and segments and joins(segments[-1], row, tolerance):
-                longer = segments[-1]._replace(samples=segments[-1].samples + row.samples)
-                if not ends_in_time(longer, longer.start):
+                key, start, samples = segments[-1]
+                if not is_in_time(key, start, len(samples) + len(row.samples)):
                     raise Refused("17 TimeRange")
-                segments[-1] = longer
+                samples += row.samples
             elif row:
-                segments.append(Segment(*row))
+                segments.append(Segment(row.key, row.start, list(row.samples)))
+            rows.append((length, row))
             counts = [counts[0] + 1, counts[1] + (row is None), counts[2] + (not agrees)]
             offset += length
     except Refused as why:
-        return Read(segments, counts, f"offset {offset}: {why}")
-    return Read(segments, counts, None)
+        return Read(segments, counts, f"offset {offset}: {why}", rows)
+    return Read(segments, counts, None, rows)
 
 
 # Packing.
@@ -257,25 +263,32 @@ def all_in(values, bits):
     return all(is_in(value, bits) for value in values)
 
 
-def steim_end(kind, differences, start, size):
-    """The farthest end of a run from `start` whose differences fill no more words than a record has."""
-    words = 15 * (size // 64 - 1) - 2
-    fewest, end = [0], start
-    while start + len(fewest) <= len(differences) and len(fewest) <= MOST_SAMPLES:
+@functools.lru_cache(1000)
+def most_of(kind, differences, words):
+    """How many of the first differences can be divided into no more words than there are."""
+    fewest, most = [0], 0
+    while len(fewest) <= len(differences):
         count = len(fewest)
 
         def with_last(held, bits):
-            if held > count or not all_in(differences[start + count - held : start + count], bits):
+            if held > count or not all_in(differences[count - held : count], bits):
                 return words + 1
             return fewest[count - held] + 1
 
         fewest.append(min(with_last(held, bits) for held, bits, _, _ in WORDS[kind]))
         last = with_last(*THREE[:2]) if kind == STEIM1 else words + 1
         if min(fewest[-1], last) <= words:
-            end = start + count
+            most = count
         if min(fewest[-7:]) > words:
             break
-    return end
+    return most
+
+
+def steim_end(kind, differences, start, size):
+    """The farthest end of a run from `start` whose differences fill no more words than a record has."""
+    words = 15 * (size // 64 - 1) - 2
+    most = min(MOST_SAMPLES, words * WORDS[kind][0][0])
+    return start + most_of(kind, tuple(differences[start : start + most]), words)
 
 
 def end_of(kind, samples, differences, start, size):
@@ -283,10 +296,10 @@ def end_of(kind, samples, differences, start, size):
     if kind not in WIDTHS:
         return steim_end(kind, differences, start, size)
     width = WIDTHS[kind]
-    end = start
-    while end < len(samples) and width * (end + 1 - start) <= size - 64 and is_in(samples[end], 8 * width):
-        end += 1
-    return end
+    run = samples[start : start + (size - 64) // width]
+    if not run or all_in((min(run), max(run)), 8 * width):
+        return start + len(run)
+    return start + next(place for place, sample in enumerate(run) if not is_in(sample, 8 * width))
 
 
 def packing(samples, size):
@@ -322,6 +335,7 @@ def is_separating(samples, size, separators):
     return all(end_of(kind, samples, differences, before, size) <= after for before, after in pairs for kind in KINDS)
 
 
+@functools.lru_cache(1000)
 def division(kind, differences):
     """The groups of a run: the largest first one of the fewest that there can be, and so on."""
     count = len(differences)
@@ -350,7 +364,7 @@ def word_of(layout, held):
     """The code and the word of a group."""
     _, bits, code, top = layout
     word = 0
-    for difference in held + ([0] if layout is THREE else []):
+    for difference in [*held, *[0] * (layout is THREE)]:
         word = word << bits | difference & (1 << bits) - 1
     return code, word | (top or 0) << 30
 
@@ -359,7 +373,7 @@ def steim_area(kind, samples, differences, size):
     """The frames, and how many hold a word."""
     words = [0] * ((size - 64) // 4)
     number = 2
-    for layout, held in division(kind, differences):
+    for layout, held in division(kind, tuple(differences)):
         number += 2 if number % 16 == 15 else 1
         code, words[number] = word_of(layout, held)
         words[number - number % 16] |= code << (30 - 2 * (number % 16))

@@ -1,0 +1,290 @@
+"""What a run of msrepack does with files and streams, said a second time from docs/MANUAL.md.
+
+Records, reports, lists and faults are those of model.py; here is everything around them: which files are opened when,
+what is printed, the complaint on standard error, the status, and what stands in files afterwards. It shares no line
+with the product. What the documents leave open is left open here: an outcome can have a text of which any first part
+may be there (`loose`), words that are the product's own (None), and a run can have more than one outcome.
+"""
+import os
+import re
+from collections import namedtuple
+
+import model
+import walks
+from reports import NotAReport, parsed, verdict
+
+COMMANDS = {
+    "repack": (("--length", "--tolerance", "--strict"), (1, 2)),
+    "feed": (("--length", "--tolerance", "--strict"), (1, 1)),
+    "list": (("--tolerance", "--strict"), (1, 1)),
+    "check": ((), (2, 2)),
+    "archive": (("--length", "--tolerance", "--strict", "--below", "--resume", "--check"), (3, 3)),
+}
+VALUED = ("--length", "--tolerance", "--below")
+LENGTHS = [2**exponent for exponent in range(8, 17)]
+
+Task = namedtuple("Task", "command names length tolerance strict below resume check")
+Device = namedtuple("Device", "most fails")
+# What a run is given beside its words.
+Given = namedtuple("Given", "content reading writing redirected redirecting odd unsaid")
+# The status, what is printed (or any first part of it, of at least so many bytes), the complaint; what stands in files
+# then, and if printing fails; whether each line is printed by itself.
+FIELDS = "status printed complaint loose files failed lines least"
+Outcome = namedtuple("Outcome", FIELDS, defaults=(False, {}, {}, False, 0))
+# A file's content of which only a first part may be there, of at least so many bytes.
+Loose = namedtuple("Loose", "whole least", defaults=(0,))
+
+
+class Ends(Exception):
+    """A run that ends before its task begins: with that status and these words, or the parser's (None)."""
+
+    def __init__(self, status, complaint):
+        self.outcome = Outcome(status, b"", complaint)
+
+
+class Asked(Exception):
+    """A run that prints a text of the product's own words: the version, or help."""
+
+
+class Unsaid(Exception):
+    """A step whose answer the documents do not say, for this reason."""
+
+
+def told(text):
+    return f"msrepack: {text}\n".encode()
+
+
+# The words of a command line.
+
+
+def value_of(option, text):
+    """The value of an option; what is out of range is the parser's matter, but not which lengths there are."""
+    if option == "--below":
+        return text
+    most = 1_000_000 if option == "--tolerance" else 2**32 - 1
+    if not re.fullmatch("[0-9]+", text) or not int(option == "--tolerance") <= int(text) <= most:
+        raise Ends(2, None)
+    return int(text)
+
+
+def told_apart(words, options):
+    """The names and the options of a command; only `--below` may come again; after `--` all are names."""
+    names, chosen, words = [], {"--below": []}, list(words)
+    while words:
+        word = words.pop(0)
+        option, equals, text = word.partition("=")
+        if word == "--":
+            return names + words, chosen
+        if not word.startswith("-") or word == "-":
+            names.append(word)
+        elif word in ("-h", "--help"):
+            raise Asked
+        elif option not in options or (equals and option not in VALUED) or (option in chosen and option != "--below"):
+            raise Ends(2, None)
+        elif option not in VALUED:
+            chosen[option] = True
+        elif not equals and (not words or words[0].startswith("-") and words[0] != "-"):
+            raise Ends(2, None)
+        else:
+            value = value_of(option, text if equals else words.pop(0))
+            chosen[option] = chosen["--below"] + [value] if option == "--below" else value
+    return names, chosen
+
+
+def overlap(words):
+    """Whether two are the same word, or one with `/` after it begins another."""
+    pairs = [(one, other) for place, one in enumerate(words) for number, other in enumerate(words) if place != number]
+    return any(one == other or other.startswith(f"{one}/") for one, other in pairs)
+
+
+def is_place(word):
+    """Whether it is a path of one to four names."""
+    names = word.split("/")
+    return len(names) <= 4 and all(name not in ("", ".", "..") for name in names)
+
+
+def read_words(words):
+    """The task; without words it is to repack standard input."""
+    command, *rest = words or ["repack", "-"]
+    if command in ("--help", "-h", "--version", "-V", "help") and (not rest or rest[0] in COMMANDS):
+        raise Asked
+    if command not in COMMANDS:
+        raise Ends(2, None)
+    options, (fewest, most) = COMMANDS[command]
+    names, chosen = told_apart(rest, options)
+    if not fewest <= len(names) <= most:
+        raise Ends(2, None)
+    length, below = chosen.get("--length", 512), chosen["--below"]
+    if length not in LENGTHS:
+        raise Ends(2, told("not a record length"))
+    if command == "repack" and len(names) == 2 and names[0] == names[1]:
+        raise Ends(2, told("the output is the input"))
+    if command == "archive" and (overlap(names) or overlap(below)):
+        raise Ends(2, told("the folders overlap"))
+    if not all(map(is_place, below)):
+        raise Ends(2, told("not a folder of an archive"))
+    flags = [option in chosen for option in ("--resume", "--check")]
+    return Task(command, names, length, chosen.get("--tolerance", 1000), "--strict" in chosen, below, *flags)
+
+
+# Files and streams.
+
+
+def is_one(name, other):
+    """Whether both are one regular file."""
+    return bool(other) and os.path.isfile(name) and os.path.isfile(other) and os.path.samefile(name, other)
+
+
+def calls_for(text, device, is_by_lines=False):
+    """What the fewest calls move, each; a text that is printed by lines takes a call for each at least."""
+    pieces = text.splitlines(True) if is_by_lines else [text] * bool(text)
+    most = device.most or len(text)
+    return [piece[start : start + most] for piece in pieces for start in range(0, len(piece), most)]
+
+
+def stream(given):
+    """What comes of standard input, and whether it fails then: both ways if it is not said how many calls are made, or
+    whether a record is refused before more is read."""
+    content, reading = given.content, given.reading
+    if reading.fails is None:
+        return [(content, False)]
+    calls = calls_for(content, reading)
+    failing, whole = (b"".join(calls[: reading.fails]), True), (content, False)
+    if reading.fails > len(calls):
+        return [whole, failing]
+    is_refused = model.read_all(content, 1000, True).fault is not None
+    return [failing, whole] if is_refused and reading.fails > 0 else [failing]
+
+
+def opened(name, given):
+    """The bytes of a file, and whether reading fails: that of a folder does."""
+    if os.path.realpath(name) in given.unsaid:
+        raise Unsaid("any first part may be there")
+    try:
+        file = os.open(name, os.O_RDONLY)
+    except OSError:
+        raise Ends(1, told(f"cannot open {name}")) from None
+    content = walks.read_to_end(file)
+    return content or b"", content is None
+
+
+def inputs(name, given):
+    """What may come of an input; only here `-` is no file."""
+    return stream(given) if name == "-" else [opened(name, given)]
+
+
+def made(name, source, given):
+    """Makes an output, or cuts it to nothing; it is neither the input nor the file that is printed to."""
+    if is_one(name, source):
+        raise Ends(2, told("the output is the input"))
+    if is_one(name, given.redirecting):
+        raise Ends(2, told("two outputs are one file"))
+    try:
+        os.close(os.open(name, os.O_WRONLY | os.O_CREAT | os.O_TRUNC, 0o666))
+    except OSError:
+        raise Ends(1, told(f"cannot open {name}")) from None
+
+
+# The commands: each gives the outcomes that there may be.
+
+
+def repack(task, given):
+    source, *outputs = task.names
+    read = inputs(source, given)
+    for name in outputs:
+        made(name, given.redirected if source == "-" else source, given)
+    for content, fails in read:
+        records, report, fault = model.repacked(content, task.length, task.tolerance, task.strict)
+        left = {name: Loose(records) for name in outputs}
+        if fails or fault:
+            yield Outcome(1, b"", told("read fault" if fails else fault), files=left)
+        else:
+            yield Outcome(0, report.encode(), b"", files={name: records for name in outputs}, failed=left)
+
+
+def decided(content, task):
+    """How many bytes of records no later sample can change. The sample that is easiest to add is the last one once
+    more; a frontier that holds even so is settled, and a record when two frontiers after its own are."""
+    segments = model.read_all(content, task.tolerance, task.strict).segments
+    whole = sum(len(model.packing(segment.samples, task.length)[0]) for segment in segments[:-1])
+    last = [model.packing(one.samples + one.samples[-1:], task.length)[1] for one in segments[-1:]]
+    return task.length * (whole + sum(max(0, len(frontiers) - 2) for frontiers in last))
+
+
+def feed(task, given):
+    [report_name] = task.names
+    made(report_name, given.redirected, given)
+    empty = {report_name: b""}
+    for content, fails in stream(given):
+        records, report, fault = model.repacked(content, task.length, task.tolerance, task.strict)
+        if fails:
+            yield Outcome(1, records, told("read fault"), True, empty, empty, least=decided(content, task))
+        elif fault:
+            yield Outcome(1, records, told(fault), True, empty, empty)
+        else:
+            yield Outcome(0, records, b"", files={report_name: report.encode()}, failed=empty)
+
+
+def list_segments(task, given):
+    [source] = task.names
+    for content, fails in inputs(source, given):
+        text, fault = model.listed(content, task.tolerance, task.strict)
+        segments = text[: text.rindex("read ")].encode()
+        if fails or fault:
+            yield Outcome(1, segments, told("read fault" if fails else fault), True)
+        else:
+            yield Outcome(0, text.encode(), b"")
+
+
+def check(task, given):
+    """Both are opened first; then the report is judged, then the records."""
+    (packed, packed_fails), (text, text_fails) = [opened(name, given) for name in task.names]
+    if text_fails:
+        yield Outcome(1, b"", told("read fault"))
+        return
+    try:
+        report = parsed(text)
+        if packed_fails:
+            yield Outcome(1, b"", told("read fault"))
+            return
+        is_shown = verdict(packed, report)
+    except (NotAReport, model.Refused) as why:
+        yield Outcome(1, b"", told(why))
+        return
+    yield Outcome(0, b"least\n", b"") if is_shown else Outcome(3, b"not shown\n", b"")
+
+
+def archive(task, given):
+    walk = walks.Walk(task, given.odd)
+    text = model.text(walk.lines()).encode()
+    yield Outcome(int(walk.refused > 0), text, b"", lines=True)
+
+
+DOES = {"repack": repack, "feed": feed, "list": list_segments, "check": check, "archive": archive}
+
+
+def printing(outcome, device):
+    """The same if the device that is printed to behaves so; its first call tries whether it is open."""
+    printed = outcome.printed
+    if device.fails is None or printed == b"":
+        return [outcome]
+    if printed is None:
+        return [Outcome(1, None, told("write fault"), True)] + [outcome] * (device.fails > 1)
+    calls = calls_for(printed, device, outcome.lines)
+    fault = Outcome(1, b"".join(calls[: max(0, device.fails - 1)]), told("write fault"), True, outcome.failed)
+    is_surely_short = device.fails <= len(calls) and not outcome.loose
+    return [fault] if is_surely_short else [outcome, fault]
+
+
+def run(words, given):
+    """The outcomes that a run may have; an output that is closed is found before anything is opened."""
+    try:
+        task = read_words(words)
+        if given.writing.fails == 0:
+            return [Outcome(1, b"", told("write fault"))]
+        outcomes = list(DOES[task.command](task, given))
+    except Ends as end:
+        return [end.outcome]
+    except Asked:
+        outcomes = [Outcome(0, None, b"")]
+    return [one for outcome in outcomes for one in printing(outcome, given.writing)]
