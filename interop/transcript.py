@@ -386,11 +386,12 @@ class Transcript:
         there = self.content[place:end] if end >= 0 else None
         return there == line or there and difflib.SequenceMatcher(None, there, line).ratio() > 0.8
 
-    def take_line(self):
-        end = self.content.find(b"\n", self.place)
-        end = len(self.content) if end < 0 else end
-        line, self.place = self.content[self.place : end], end + 1
-        return line
+    def take_line(self, line):
+        """The line that stands there in the place of that one; none if it is not much like it."""
+        if not self.is_at(self.place, line):
+            return b""
+        start, self.place = self.place, self.content.index(b"\n", self.place) + 1
+        return self.content[start : self.place - 1]
 
     def take(self, prints, following):
         """What stands before the following lines; which of the texts that may be printed it is, or None."""
@@ -458,7 +459,7 @@ def compare(lines, transcript):
     """How many steps there are of each kind, by line; differences are printed."""
     script, kinds, differ = Script(), collections.defaultdict(list), 0
     for number, line in enumerate(lines, start=1):
-        head = transcript.take_line()
+        head = transcript.take_line(line.encode())
         if head != line.encode():
             differ += 1
             tell(number, "the line is another one", line.encode(), head)
