@@ -5,17 +5,17 @@
 #![tactic(auto)]
 
 mod edit;
-mod expect;
 mod keys;
 mod numbers;
 mod records;
 mod refusals;
+mod rows;
 
 pub use edit::Edit;
-pub use expect::expect;
 pub use keys::key_at;
 pub use numbers::next_of;
 pub use records::{
     START, header_bytes, int32_record, little_record, record, record_of_words, steim_record,
 };
 pub use refusals::REFUSALS;
+pub use rows::expect;
