@@ -1,21 +1,21 @@
 //! Records for the tests of all crates: one header, edits of it by the names of its fields, records made of it, and the
-//! key of their rows; numbers that look like chance; and the failure of a test that names its row. Only tests and programs that measure call it. Its functions
-//! promise no more than that they end, and that the key can be written: whether the rest is right, the values say that
-//! the tests expect.
+//! key of their rows; numbers that look like chance; and the failure of a test that names its row. Only tests and
+//! programs that measure call it. Its functions promise no more than that they end, and that the key can be written:
+//! whether the rest is right, the values say that the tests expect.
 #![tactic(auto)]
 
 mod edit;
-mod expect;
 mod keys;
 mod numbers;
 mod records;
 mod refusals;
+mod rows;
 
 pub use edit::Edit;
-pub use expect::expect;
 pub use keys::key_at;
 pub use numbers::next_of;
 pub use records::{
     START, header_bytes, int32_record, little_record, record, record_of_words, steim_record,
 };
 pub use refusals::REFUSALS;
+pub use rows::expect;
