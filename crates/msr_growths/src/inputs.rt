@@ -1,8 +1,8 @@
 //! What the calls are made with: samples whose packings were worked out by hand, and records of them.
-ghost use Rattle.std.specs.Prelude.{◌≡◌, IfSome, IsSome, OnErr};
+ghost use Rattle.std.specs.Prelude.{◌≡◌, IfSome, OnErr};
 ghost use Rattle.msr_tool.specs.Choice.{size_of};
 
-use msr_devices::{Behavior, TestSink};
+use msr_devices::Behavior;
 use msr_fixtures::{START, key_at};
 use msr_record::encode_record;
 use msr_time::{Rate, is_instant};
@@ -20,9 +20,9 @@ pub const PLAIN: Behavior = Behavior {
 /// How much room a sink has beforehand, so that it takes no memory while growths are counted.
 const ROOM: usize = 65_536;
 
-/// A sink with room for all that is written.
-pub fn sink(alloc: Global) -> Result<TestSink, AllocError> {
-    Ok(TestSink::new(Vec::with_capacity(alloc, ROOM)?, PLAIN))
+/// Room for all that a sink takes.
+pub fn room(alloc: Global) -> Result<Vec<u8>, AllocError> {
+    Vec::with_capacity(alloc, ROOM)
 }
 
 /// Records of so many bytes, if there are such records, and a tolerance of 1000 microseconds.
@@ -96,29 +96,21 @@ pub fn append(
     let (Some(rate), Some(record_length)) = (Rate::new(20, 1), Length::new(bytes)) else {
         return Ok(());
     };
-    let Part {
-        after,
-        sequence,
-        before,
-        run,
-        kind,
-    } = part;
-    let start = START.saturating_add(after);
-    let is_counted = 1 <= sequence && sequence <= 999_999;
-    if !is_instant(start) || !is_counted || run.is_empty() {
+    let start = START.saturating_add(part.after);
+    if !is_instant(start) || part.sequence < 1 || part.sequence > 999_999 {
         return Ok(());
     }
-    if !kind.fits(before, run, record_length) {
+    if part.run.is_empty() || !part.kind.fits(part.before, part.run, record_length) {
         return Ok(());
     }
     encode_record(
         alloc,
         &key_at(rate),
         start,
-        sequence,
-        before,
-        run,
-        kind,
+        part.sequence,
+        part.before,
+        part.run,
+        part.kind,
         record_length,
         out,
     )

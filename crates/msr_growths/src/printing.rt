@@ -21,7 +21,7 @@ pub fn written_text(rt: &HostRuntime, sink: &TestSink) -> io::Result<()> {
 }
 
 /// Prints a report on one line.
-pub fn report(rt: &HostRuntime, report: &Report) -> io::Result<()> {
+pub fn put_report(rt: &HostRuntime, report: &Report) -> io::Result<()> {
     let counts = report.counts;
     print!(rt;
         "read {} empty {} mismatched {}",

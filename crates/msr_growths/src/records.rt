@@ -5,6 +5,7 @@ use crate::printing::hexadecimal;
 use msr_fixtures::steim_record;
 use msr_record::{Row, decode_record};
 use msr_segments::{Joiner, Segment};
+use msr_time::is_instant;
 use msr_words::Kind;
 use std::alloc::{AllocError, Global};
 use std::io;
@@ -108,6 +109,10 @@ pub fn join(rt: &HostRuntime, name: &str) -> io::Result<()> {
     println!(rt; "{name}")?;
     print!(rt; "left")?;
     for row in rows {
+        let count = row.samples.as_slice().len();
+        if count < 1 || count > 65_535 || !is_instant(row.start) {
+            continue;
+        }
         match joiner.push(row) {
             Ok(ended) => put_segment(rt, ended)?,
             Err(fault) => {

@@ -1,8 +1,8 @@
 //! Calls of the tool, and of its reports.
 
-use crate::inputs::{PLAIN, input, options, sink};
-use crate::printing::{hexadecimal, report, written_text};
-use msr_tool::{TestSource, check_packed, list_segments, read_report, repack};
+use crate::inputs::{PLAIN, input, options, room};
+use crate::printing::{hexadecimal, put_report, written_text};
+use msr_tool::{TestSink, TestSource, check_packed, list_segments, read_report, repack};
 use std::io;
 
 /// `repack` of the input with that name.
@@ -12,10 +12,10 @@ pub fn repack_input(rt: &HostRuntime, name: &str, row: &str) -> io::Result<()> {
     };
     let bytes = input(rt.alloc(), row)?;
     let mut source = TestSource::new(bytes.as_slice(), PLAIN);
-    let mut sink = sink(rt.alloc())?;
+    let mut sink = TestSink::new(room(rt.alloc())?, PLAIN);
     println!(rt; "{name} {row}")?;
     match repack(rt.alloc(), &mut source, &mut sink, options) {
-        Ok(found) => report(rt, &found)?,
+        Ok(found) => put_report(rt, &found)?,
         Err(fault) => println!(rt; "{fault:?}")?,
     }
     print!(rt; "written ")?;
@@ -30,7 +30,7 @@ pub fn list(rt: &HostRuntime, name: &str) -> io::Result<()> {
     };
     let bytes = input(rt.alloc(), "three")?;
     let mut source = TestSource::new(bytes.as_slice(), PLAIN);
-    let mut sink = sink(rt.alloc())?;
+    let mut sink = TestSink::new(room(rt.alloc())?, PLAIN);
     println!(rt; "{name}")?;
     match list_segments(rt.alloc(), &mut source, &mut sink, options) {
         Ok(counts) => println!(rt;
@@ -49,10 +49,11 @@ pub fn write(rt: &HostRuntime, name: &str, row: &str, bytes: u32) -> io::Result<
     };
     let records = input(rt.alloc(), row)?;
     let mut source = TestSource::new(records.as_slice(), PLAIN);
-    let Ok(found) = repack(rt.alloc(), &mut source, &mut sink(rt.alloc())?, options) else {
+    let mut packed = TestSink::new(room(rt.alloc())?, PLAIN);
+    let Ok(found) = repack(rt.alloc(), &mut source, &mut packed, options) else {
         return Ok(());
     };
-    let mut sink = sink(rt.alloc())?;
+    let mut sink = TestSink::new(room(rt.alloc())?, PLAIN);
     println!(rt; "{name} {row}")?;
     match found.write_text(rt.alloc(), &mut sink) {
         Ok(()) => println!(rt; "well")?,
@@ -68,17 +69,18 @@ pub fn read(rt: &HostRuntime, name: &str) -> io::Result<()> {
     };
     let bytes = input(rt.alloc(), "pause")?;
     let mut source = TestSource::new(bytes.as_slice(), PLAIN);
-    let Ok(found) = repack(rt.alloc(), &mut source, &mut sink(rt.alloc())?, options) else {
+    let mut packed = TestSink::new(room(rt.alloc())?, PLAIN);
+    let Ok(found) = repack(rt.alloc(), &mut source, &mut packed, options) else {
         return Ok(());
     };
-    let mut text = sink(rt.alloc())?;
+    let mut text = TestSink::new(room(rt.alloc())?, PLAIN);
     if found.write_text(rt.alloc(), &mut text).is_err() {
         return Ok(());
     }
     let mut source = TestSource::new(text.bytes(), PLAIN);
     println!(rt; "{name}")?;
     match read_report(rt.alloc(), &mut source) {
-        Ok(found) => report(rt, &found),
+        Ok(found) => put_report(rt, &found),
         Err(fault) => println!(rt; "{fault:?}"),
     }
 }
@@ -90,11 +92,11 @@ pub fn check(rt: &HostRuntime, name: &str) -> io::Result<()> {
     };
     let bytes = input(rt.alloc(), "pause")?;
     let mut source = TestSource::new(bytes.as_slice(), PLAIN);
-    let mut packed = sink(rt.alloc())?;
+    let mut packed = TestSink::new(room(rt.alloc())?, PLAIN);
     let Ok(found) = repack(rt.alloc(), &mut source, &mut packed, options) else {
         return Ok(());
     };
-    let mut text = sink(rt.alloc())?;
+    let mut text = TestSink::new(room(rt.alloc())?, PLAIN);
     if found.write_text(rt.alloc(), &mut text).is_err() {
         return Ok(());
     }
