@@ -65,33 +65,20 @@ fn reads_reports(rt: HostRuntime) -> Result<(), Fail> {
     Ok(())
 }
 
-/// When a line at fault has come, nothing after it is read: the source would fail there.
-const FAULTS: [(&str, Option<u64>, ReportFault); 4] = [
-    ("", None, ReportFault::Line(1)),
-    (
-        "msrepack 2\nlength 256\ntolerance 1000\n",
-        Some(5),
-        ReportFault::Line(1),
-    ),
-    (
-        "msrepack 1\nlength 0256\ntolerance 1000\n",
-        Some(5),
-        ReportFault::Line(2),
-    ),
-    (
-        "msrepack 1\nlength 256\ntolerance 1000\n",
-        Some(5),
-        ReportFault::Read,
-    ),
-];
+/// Whether that line is told of the text with a part of it replaced. The source would fail at a call for the rest.
+fn stops_at(alloc: Global, line: u64, part: &str, by: &str) -> Result<bool, AllocError> {
+    let text = REPORT.replace(alloc, part, by)?;
+    let fault = read_from(alloc, text.as_str(), Some(20)).err();
+    Ok(fault == Some(ReportFault::Line(line)))
+}
 
 #[test]
 fn stops_at_the_line_at_fault(rt: HostRuntime) -> Result<(), Fail> {
-    for (text, fails_at, fault) in FAULTS {
-        if read_from(rt.alloc(), text, fails_at).err() != Some(fault) {
-            return Err(Fail::new(text));
-        }
-    }
+    let alloc = rt.alloc();
+    assert!(rt; stops_at(alloc, 1, "msrepack 1", "msrepack 2")?);
+    assert!(rt; stops_at(alloc, 2, "length 256", "length 0256")?);
+    assert!(rt; read_from(alloc, REPORT, Some(20)).err() == Some(ReportFault::Read));
+    assert!(rt; read_from(alloc, "", None).err() == Some(ReportFault::Line(1)));
     Ok(())
 }
 
