@@ -130,7 +130,8 @@ fn text_and_prefixes_of_it(rt: HostRuntime) -> Result<(), Fail> {
     let report = report(rt.alloc())?;
     assert!(rt; is_written(rt.alloc(), &report, None, TEXT.len()));
     for call in 0usize..11 {
-        assert!(rt; is_written(rt.alloc(), &report, Some(call as u64), 50 * call));
+        let is_part = is_written(rt.alloc(), &report, Some(call as u64), 50 * call);
+        assert!(rt; is_part, "at {call}");
     }
     Ok(())
 }

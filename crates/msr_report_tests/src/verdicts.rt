@@ -47,7 +47,7 @@ fn failures_of_the_source(rt: HostRuntime) -> Result<(), Fail> {
     assert!(rt; verdict == Ok(Verdict::Least));
     for fails_at in 0u64..6 {
         let verdict = verdict_through(&rt, rt.alloc(), &report, 1, Some(fails_at))?;
-        assert!(rt; verdict == Err(ReadFault::Read));
+        assert!(rt; verdict == Err(ReadFault::Read), "at {fails_at}");
     }
     Ok(())
 }

@@ -167,7 +167,8 @@ fn prefixes(rt: &impl Abort, alloc: Global, row: Row) -> Result<(), AllocError> 
     let (fault, whole) = written(rt, alloc, row.count, behavior(row.most, None))?;
     assert!(rt; fault == None && whole.bytes().len() == row.size);
     for failing in 0..=row.calls {
-        assert!(rt; holds_prefix(rt, alloc, row, whole.bytes(), failing)?);
+        let is_prefix = holds_prefix(rt, alloc, row, whole.bytes(), failing)?;
+        assert!(rt; is_prefix, "at {failing} of {} samples", row.count);
     }
     Ok(())
 }
