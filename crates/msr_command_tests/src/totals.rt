@@ -2,11 +2,16 @@
 use msr_totals::{Total, Totals};
 use std::test::Fail;
 
+/// Whether the total at that place has this name and these numbers.
+fn holds(totals: &Totals, place: usize, name: &str, total: Total) -> bool {
+    totals.get(place) == Some((name, total))
+}
+
 /// A sum stops at the greatest number.
 #[test]
 fn adds_by_name_in_first_order(rt: HostRuntime) -> Result<(), Fail> {
     let mut totals = Totals::new(rt.alloc());
-    assert!(rt; totals.get(0) == None);
+    assert!(rt; totals.get(0).is_none());
     for (name, read, written) in [("b", 1, 2), ("a", 3, 4), ("b", u64::MAX, 5)] {
         totals.add(name, read, written)?;
     }
@@ -20,7 +25,8 @@ fn adds_by_name_in_first_order(rt: HostRuntime) -> Result<(), Fail> {
         read: 3,
         written: 4,
     };
-    let found = [totals.get(0), totals.get(1), totals.get(2)];
-    assert!(rt; found == [Some(("b", b)), Some(("a", a)), None]);
+    assert!(rt; holds(&totals, 0, "b", b));
+    assert!(rt; holds(&totals, 1, "a", a));
+    assert!(rt; totals.get(2).is_none());
     Ok(())
 }
