@@ -1,4 +1,4 @@
-//! Tests of command lines, of the paths of days, and of totals.
+//! Tests of the paths of days, of totals, and of a command line without any word.
 #![tactic(auto)]
 
 #[cfg(test)]

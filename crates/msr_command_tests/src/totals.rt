@@ -2,23 +2,31 @@
 use msr_totals::{Total, Totals};
 use std::test::Fail;
 
-fn total(files: u64, read: u64, written: u64) -> Total {
-    Total {
-        files,
-        read,
-        written,
-    }
+/// Whether the total at that place has this name and these numbers.
+fn holds(totals: &Totals, place: usize, name: &str, total: Total) -> bool {
+    totals.get(place) == Some((name, total))
 }
 
+/// A sum stops at the greatest number.
 #[test]
 fn adds_by_name_in_first_order(rt: HostRuntime) -> Result<(), Fail> {
     let mut totals = Totals::new(rt.alloc());
-    assert_eq!(rt; totals.get(0), None);
+    assert!(rt; totals.get(0).is_none());
     for (name, read, written) in [("b", 1, 2), ("a", 3, 4), ("b", u64::MAX, 5)] {
         totals.add(name, read, written)?;
     }
-    assert_eq!(rt; totals.get(0), Some(("b", total(2, u64::MAX, 7))));
-    assert_eq!(rt; totals.get(1), Some(("a", total(1, 3, 4))));
-    assert_eq!(rt; totals.get(2), None);
+    let b = Total {
+        files: 2,
+        read: u64::MAX,
+        written: 7,
+    };
+    let a = Total {
+        files: 1,
+        read: 3,
+        written: 4,
+    };
+    assert!(rt; holds(&totals, 0, "b", b));
+    assert!(rt; holds(&totals, 1, "a", a));
+    assert!(rt; totals.get(2).is_none());
     Ok(())
 }

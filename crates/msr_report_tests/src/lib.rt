@@ -1,4 +1,5 @@
-//! Tests of reports, of the segments written with them, of their reading, and of the verdict on an input with a report.
+//! Tests of reports and of the segments written with them, through devices that are slow or fail. Runs of the program
+//! show the texts of reports, the lines at which they are refused, and the verdicts.
 #![tactic(auto)]
 
 #[cfg(test)]

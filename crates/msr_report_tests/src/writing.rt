@@ -1,5 +1,4 @@
-//! msr_output: the bytes of records worked out by hand, sinks that fail, and each call with ample
-//! memory.
+//! msr_output: sinks that fail, and what waits until a flush. Runs of the program show the bytes of the records.
 ghost use Rattle.std.specs.Prelude.{◌≡◌, ◌+◌, ◌-◌, ◌<◌, ◌≤◌, ◌^◌, IsTrue, false};
 ghost use Rattle.msr_header.specs.Reading.{is_quality};
 ghost use Rattle.msr_record.specs.Correction.{is_pending};
@@ -7,7 +6,7 @@ ghost use Rattle.msr_segments.specs.Segments.{SegmentIsInTime};
 
 use msr_base::Samples;
 use msr_devices::{Behavior, Sink, TestSink, WriteFault};
-use msr_fixtures::{Edit, START, key_at, record, steim_record};
+use msr_fixtures::{Edit, START, key_at};
 use msr_output::{SegmentWriter, one_output, output_has_size, output_keeps_segments};
 use msr_report::SegmentLine;
 use msr_segments::Segment;
@@ -19,7 +18,7 @@ use std::test::Fail;
 
 /// Where the second record differs from the first: its number, its time, one sample in one frame, and the only data
 /// word.
-const SECOND: &[Edit<'static>] = &[
+pub const SECOND: &[Edit<'static>] = &[
     Edit::Sequence(*b"000002"),
     Edit::Clock(0, 0, 15, 500),
     Edit::Samples(1),
@@ -98,36 +97,6 @@ fn write<W: Sink>(
     writer.end(sink, opened)
 }
 
-#[test]
-fn two_records(rt: HostRuntime) -> Result<(), Fail> {
-    let segment = zeros(&rt, rt.alloc(), 302)?;
-    assert!(rt; is_writable(&segment));
-    let mut sink = TestSink::new(Vec::new(rt.alloc()), behavior(64, None));
-    let mut writer = SegmentWriter::new(rt.alloc(), short_length(&rt));
-    let Ok(line) = write(&mut writer, &mut sink, &segment) else {
-        panic!(rt; "not written")
-    };
-    assert_eq!(rt; line.key, segment.key);
-    assert_eq!(rt; line.start, START);
-    assert_eq!(rt; line.samples, 302);
-    assert_eq!(rt; line.records, 2);
-    assert!(rt; line.separators.as_slice() == [0u64, 301].as_slice());
-    assert_eq!(rt; writer.finish(&mut sink), Ok(()));
-    assert_eq!(rt; sink.bytes().len(), 512);
-    let (first, second) = sink.bytes().split_at(256);
-    assert!(rt; first == steim_record(&[]).as_slice());
-    assert!(rt; second == record(SECOND).as_slice());
-    Ok(())
-}
-
-/// The sequence number of a record.
-fn digits(rt: &impl Abort, record: &[u8]) -> [u8; 6] {
-    let Some(number) = record.first_chunk::<6>() else {
-        panic!(rt; "no record")
-    };
-    *number
-}
-
 /// What a sink of that behavior holds after two segments of `count` samples, and why it does not
 /// hold all.
 fn written(
@@ -150,43 +119,64 @@ fn written(
     Ok((fault, sink))
 }
 
-/// The records of the second segment are numbered on from those of the first.
-#[test]
-fn numbers_go_on(rt: HostRuntime) -> Result<(), Fail> {
-    let (fault, sink) = written(&rt, rt.alloc(), 302, behavior(100, None))?;
-    assert_eq!(rt; fault, None);
-    for (record, number) in sink
-        .bytes()
-        .chunks(256)
-        .zip([*b"000001", *b"000002", *b"000003", *b"000004"])
-    {
-        assert_eq!(rt; digits(&rt, record), number);
+/// How many samples each of two segments has, the most bytes that a call moves, and how many bytes and calls there are.
+#[derive(Clone, Copy)]
+struct Row {
+    count: usize,
+    most: usize,
+    size: usize,
+    calls: u64,
+}
+
+/// All waits until the end, or much is written with its segment.
+const ROWS: [Row; 2] = [
+    Row {
+        count: 302,
+        most: 100,
+        size: 1024,
+        calls: 11,
+    },
+    Row {
+        count: 80_000,
+        most: 30_000,
+        size: 136_192,
+        calls: 7,
+    },
+];
+
+/// Whether a sink that fails at that call has a part of the whole, and the whole only if there is no such call.
+fn holds_prefix(
+    rt: &impl Abort,
+    alloc: Global,
+    row: Row,
+    whole: &[u8],
+    failing: u64,
+) -> Result<bool, AllocError> {
+    let (fault, sink) = written(rt, alloc, row.count, behavior(row.most, Some(failing)))?;
+    let want = if failing < row.calls {
+        Some(WriteFault::Write)
+    } else {
+        None
+    };
+    let is_whole = sink.bytes().len() == row.size;
+    Ok(fault == want && is_whole == fault.is_none() && whole.starts_with(sink.bytes()))
+}
+
+/// Each call that writes is refused in turn.
+fn prefixes(rt: &impl Abort, alloc: Global, row: Row) -> Result<(), AllocError> {
+    let (fault, whole) = written(rt, alloc, row.count, behavior(row.most, None))?;
+    assert!(rt; fault == None && whole.bytes().len() == row.size);
+    for failing in 0..=row.calls {
+        let is_prefix = holds_prefix(rt, alloc, row, whole.bytes(), failing)?;
+        assert!(rt; is_prefix, "at {failing} of {} samples", row.count);
     }
-    assert_eq!(rt; sink.bytes().len(), 1024);
     Ok(())
 }
 
-/// Each call that writes is refused in turn. All waits until the end, or much is written with its segment.
 #[test]
 fn failing_sinks_hold_a_prefix(rt: HostRuntime) -> Result<(), Fail> {
-    for (count, most, size, calls) in [
-        (302usize, 100usize, 1024usize, 11u64),
-        (80_000, 30_000, 136_192, 7),
-    ] {
-        let (fault, whole) = written(&rt, rt.alloc(), count, behavior(most, None))?;
-        assert_eq!(rt; fault, None);
-        assert_eq!(rt; whole.bytes().len(), size);
-        for failing in 0..=calls {
-            let (fault, sink) = written(&rt, rt.alloc(), count, behavior(most, Some(failing)))?;
-            let want = if failing < calls {
-                Some(WriteFault::Write)
-            } else {
-                None
-            };
-            assert_eq!(rt; fault, want, "at {failing}");
-            assert_eq!(rt; sink.bytes().len() == size, fault.is_none(), "at {failing}");
-            assert!(rt; whole.bytes().starts_with(sink.bytes()));
-        }
+    for row in ROWS {
+        prefixes(&rt, rt.alloc(), row)?;
     }
     Ok(())
 }
@@ -199,25 +189,25 @@ fn what_waits_is_flushed(rt: HostRuntime) -> Result<(), Fail> {
     let mut sink = TestSink::new(Vec::new(rt.alloc()), behavior(100, None));
     let mut writer = SegmentWriter::new(rt.alloc(), short_length(&rt));
     assert!(rt; write(&mut writer, &mut sink, &segment).is_ok());
-    assert_eq!(rt; sink.bytes().len(), 0);
-    assert_eq!(rt; writer.flush(&mut sink), Ok(()));
-    assert_eq!(rt; sink.bytes().len(), 512);
+    assert!(rt; sink.bytes().is_empty());
+    assert!(rt; writer.flush(&mut sink) == Ok(()));
+    assert!(rt; sink.bytes().len() == 512);
+    Ok(())
+}
+
+fn is_told(alloc: Global, fault: WriteFault, text: &str) -> Result<bool, AllocError> {
+    Ok(format!(in alloc; "{fault}")?.as_str() == text)
+}
+
+#[test]
+fn shows_faults(rt: HostRuntime) -> Result<(), Fail> {
+    assert!(rt; is_told(rt.alloc(), WriteFault::Write, "write fault")?);
+    assert!(rt; is_told(rt.alloc(), WriteFault::Memory, "out of memory")?);
     Ok(())
 }
 
 #[test]
-fn texts_of_faults(rt: HostRuntime) -> Result<(), Fail> {
-    for (fault, text) in [
-        (WriteFault::Write, "write fault"),
-        (WriteFault::Memory, "out of memory"),
-    ] {
-        assert_eq!(rt; format!(in rt.alloc(); "{fault}")?.as_str(), text);
-    }
-    Ok(())
-}
-
-#[test]
-fn laws() {
+fn laws_are_callable() {
     one_output();
     output_has_size();
     output_keeps_segments();
