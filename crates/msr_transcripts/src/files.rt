@@ -1,7 +1,8 @@
 //! Steps with files, by their words.
 
-use crate::records;
-use msr_program_fixtures::{mismatched, two_segments, zeros};
+use crate::inputs::{mismatched, two_segments, zeros};
+use crate::numbers::{count, no_step};
+use crate::{questions, records, samples};
 use std::io::Write;
 use std::os::unix::fs::symlink;
 use std::{fs, io};
@@ -21,25 +22,46 @@ pub fn write(rt: &HostRuntime, path: &str, bytes: &[u8]) -> io::Result<()> {
 }
 
 /// Prints bytes.
-pub fn put(rt: &HostRuntime, bytes: &[u8]) -> io::Result<()> {
+fn put(rt: &HostRuntime, bytes: &[u8]) -> io::Result<()> {
     rt.stdout().write_all(bytes)
 }
 
-/// The bytes of an input by its name.
-fn input(rt: &HostRuntime, name: &str) -> io::Result<Vec<u8>> {
+/// Prints a text. If it does not end in a line's end, a `\` and one come after it.
+pub fn tell(rt: &HostRuntime, text: &[u8]) -> io::Result<()> {
+    put(rt, text)?;
+    if text.is_empty() || text.ends_with(b"\n") {
+        return Ok(());
+    }
+    put(rt, b"\\\n")
+}
+
+/// Writes the input with that name.
+fn make(rt: &HostRuntime, name: &str, path: &str) -> io::Result<()> {
     let alloc = rt.alloc();
-    Ok(match name {
+    let bytes = match name {
         "zeros" => zeros(alloc)?,
         "mismatched" => mismatched(alloc)?,
         "two" => two_segments(alloc)?,
-        _ => Vec::new(alloc),
-    })
+        "nothing" => Vec::new(alloc),
+        _ => return Err(no_step()),
+    };
+    write(rt, path, bytes.as_slice())
+}
+
+/// The text, in which `\n` stands for a line's end.
+fn lined(rt: &HostRuntime, text: &str) -> io::Result<String> {
+    Ok(text.replace(rt.alloc(), "\\n", "\n")?)
+}
+
+/// Writes a text.
+fn text(rt: &HostRuntime, path: &str, text: &str) -> io::Result<()> {
+    write(rt, path, lined(rt, text)?.as_str().as_bytes())
 }
 
 /// The first `count` bytes of a file stay.
-fn cut(rt: &HostRuntime, path: &str, count: &str) -> io::Result<()> {
+fn cut(rt: &HostRuntime, path: &str, size: &str) -> io::Result<()> {
     let mut bytes = fs::read(rt, path)?;
-    bytes.truncate(count.parse().unwrap_or(0));
+    bytes.truncate(count(size)?);
     fs::write(rt, path, bytes.as_slice())
 }
 
@@ -49,49 +71,31 @@ fn behead(rt: &HostRuntime, path: &str) -> io::Result<()> {
     fs::write(rt, path, bytes.as_slice().get(1..).unwrap_or(&[]))
 }
 
-/// A text of a file is replaced, `OLD/NEW`.
+/// A text of a file is replaced at each of its places, of which there is one, `OLD/NEW`.
 fn edit(rt: &HostRuntime, path: &str, change: &str) -> io::Result<()> {
-    let (old, new) = change.split_once('/').unwrap_or((change, ""));
+    let change = lined(rt, change)?;
+    let Some((old, new)) = change.split_once('/') else {
+        return Err(no_step());
+    };
     let text = fs::read_to_string(rt, path)?;
+    if !text.contains(old) {
+        return Err(no_step());
+    }
     let edited = text.replace(rt.alloc(), old, new)?;
     fs::write(rt, path, edited.as_str())
 }
 
-fn size(rt: &HostRuntime, path: &str) -> io::Result<()> {
-    match fs::read(rt, path) {
-        Ok(bytes) => println!(rt; "{} bytes", bytes.len()),
-        Err(_) => println!(rt; "no file"),
-    }
-}
-
-/// Whether there is something, also a link that leads nowhere.
-fn has(rt: &HostRuntime, path: &str) -> io::Result<()> {
-    let is_there = fs::symlink_metadata(rt, path).is_ok();
-    println!(rt; "{is_there}")
-}
-
-fn same(rt: &HostRuntime, one: &str, other: &str) -> io::Result<()> {
-    let is_same = fs::read(rt, one)?.as_slice() == fs::read(rt, other)?.as_slice();
-    println!(rt; "{is_same}")
-}
-
-fn show(rt: &HostRuntime, path: &str) -> io::Result<()> {
-    put(rt, fs::read(rt, path)?.as_slice())
-}
-
-/// The first bytes of a file and its last, `FIRST/LAST`.
-fn ends(rt: &HostRuntime, path: &str, counts: &str) -> io::Result<()> {
-    let (first, last) = counts.split_once('/').unwrap_or((counts, ""));
-    let bytes = fs::read(rt, path)?;
-    let head = first.parse().unwrap_or(0).min(bytes.len());
-    let tail = bytes.len() - last.parse().unwrap_or(0).min(bytes.len());
-    put(rt, &bytes[..head])?;
-    put(rt, &bytes[tail..])
+/// The bytes of another file come after those of a file.
+fn append(rt: &HostRuntime, path: &str, other: &str) -> io::Result<()> {
+    let mut bytes = fs::read(rt, path)?;
+    let more = fs::read(rt, other)?;
+    bytes.extend_from_slice(more.as_slice())?;
+    fs::write(rt, path, bytes.as_slice())
 }
 
 /// So many empty files with numbers for names.
-fn many(rt: &HostRuntime, folder: &str, count: &str) -> io::Result<()> {
-    for number in 0..count.parse().unwrap_or(0u32) {
+fn many(rt: &HostRuntime, folder: &str, size: &str) -> io::Result<()> {
+    for number in 0..count(size)? {
         let path = format!(in rt.alloc(); "{folder}/{number}")?;
         write(rt, path.as_str(), &[])?;
     }
@@ -104,51 +108,41 @@ fn link(rt: &HostRuntime, to: &str, path: &str) -> io::Result<()> {
     symlink(rt, to, path)
 }
 
-/// Removes a folder with all that is in it, if there is one.
-fn clear(rt: &HostRuntime, path: &str) -> io::Result<()> {
-    fs::remove_dir_all(rt, path).ok();
+/// Removes folders with all that is in them; those that are missing are no matter.
+fn clear(rt: &HostRuntime, one: &str, others: &str) -> io::Result<()> {
+    fs::remove_dir_all(rt, one).ok();
+    for path in others.split_whitespace() {
+        fs::remove_dir_all(rt, path).ok();
+    }
     Ok(())
 }
 
-/// A step that makes files or folders.
+/// A step that makes files or folders, or else a question.
 fn making(rt: &HostRuntime, verb: &str, one: &str, other: &str) -> io::Result<()> {
     match verb {
-        "make" => write(rt, other, input(rt, one)?.as_slice()),
-        "text" => write(rt, one, other.as_bytes()),
+        "make" => make(rt, one, other),
+        "record" => records::write(rt, one, other),
+        "samples" => samples::write(rt, one, other),
+        "text" => text(rt, one, other),
         "many" => many(rt, one, other),
         "folder" => fs::create_dir_all(rt, one),
         "copy" => write(rt, other, fs::read(rt, one)?.as_slice()),
         "hard" => fs::hard_link(rt, one, other),
         "soft" => link(rt, one, other),
-        _ => Err(io::ErrorKind::InvalidInput.into()),
+        _ => questions::ask(rt, verb, one, other),
     }
 }
 
-/// A step that says what is in files.
-fn telling(rt: &HostRuntime, verb: &str, one: &str, other: &str) -> io::Result<()> {
-    match verb {
-        "size" => size(rt, one),
-        "has" => has(rt, one),
-        "same" => same(rt, one, other),
-        "show" => show(rt, one),
-        "ends" => ends(rt, one, other),
-        _ => making(rt, verb, one, other),
-    }
-}
-
-/// The step with these words.
+/// The step with these words: one that changes or removes files, or else another.
 pub fn step(rt: &HostRuntime, verb: &str, one: &str, other: &str) -> io::Result<()> {
     match verb {
         "cut" => cut(rt, one, other),
         "behead" => behead(rt, one),
         "edit" => edit(rt, one, other),
-        "remove" => fs::remove_file(rt, one),
-        "clear" => clear(rt, one),
-        "record" => write(rt, other, &records::named(one)),
         "set" => records::set(rt, one, other),
-        "hex" => records::hex(rt, one, other),
-        "shapes" => records::shapes(rt, one, other),
-        "samples" => records::samples(rt, one, other),
-        _ => telling(rt, verb, one, other),
+        "append" => append(rt, one, other),
+        "remove" => fs::remove_file(rt, one),
+        "clear" => clear(rt, one, other),
+        _ => making(rt, verb, one, other),
     }
 }

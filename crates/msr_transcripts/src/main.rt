@@ -1,21 +1,30 @@
 //! Runs of the program that a script asks for, over streams of memory and over the files of the folder that it is run
 //! in. The script comes by standard input, a line for each step; what is printed is each line and what came of it.
-//! Expected values are those of the file `stdout`, and were worked out apart from the program.
+//! Expected values are those of the file `stdout`, and were worked out apart from the program. README.md has the
+//! steps.
 #![tactic(auto)]
 
 mod files;
-mod odd_folder;
+mod inputs;
+mod names;
+mod numbers;
+mod odd_files;
+mod questions;
 mod records;
+mod runs;
+mod samples;
 mod settings;
 mod steps;
 
+use names::Names;
 use std::io;
 
 fn main(rt: HostRuntime) -> io::Result<()> {
+    let mut names = Names::new(rt.alloc());
     for line in rt.lines(rt.alloc()) {
         let line = line?;
         println!(&rt; "{line}")?;
-        if steps::step(&rt, line.as_str()).is_err() {
+        if steps::step(&rt, &mut names, line.as_str()).is_err() {
             println!(&rt; "no such step, or a file that cannot be used")?;
         }
     }

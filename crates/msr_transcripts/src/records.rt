@@ -1,161 +1,127 @@
-//! Steps with the bytes of records: made of samples, changed by the names of their fields, shown.
+//! Records, and changes of their fields by name.
 
 use crate::files;
-use msr_fixtures::{START, int32_record, key_at, record, steim_record};
-use msr_record::encode_record;
-use msr_time::{Rate, is_instant};
-use msr_words::{Kind, Length};
-use std::alloc::{AllocError, Global};
-use std::io::ErrorKind;
+use crate::numbers::{count, no_step, number};
+use msr_fixtures::{int32_record, record, steim_record};
 use std::{fs, io};
 
-/// The record of that name.
-pub fn named(name: &str) -> [u8; 256] {
-    match name {
+/// Writes the record of that name.
+pub fn write(rt: &HostRuntime, name: &str, path: &str) -> io::Result<()> {
+    let bytes = match name {
+        "plain" => record(&[]),
         "steim" => steim_record(&[]),
         "int32" => int32_record(&[]),
-        _ => record(&[]),
-    }
+        _ => return Err(no_step()),
+    };
+    files::write(rt, path, &bytes)
 }
 
-/// Where a field begins; a number is a place.
-fn place_of(name: &str) -> usize {
+/// The places of a field's numbers, each with its number of bytes; none if that is no name of numbers.
+fn places_of(name: &str) -> &'static [(usize, usize)] {
     match name {
-        "sequence" => 0,
-        "quality" => 6,
-        "station" => 8,
-        "day" => 20,
-        "clock" => 24,
-        "samples" => 30,
-        "rate" => 32,
-        "activity" => 36,
-        "correction" => 40,
-        "encoding" => 52,
-        "exponent" => 54,
-        "micros" => 61,
-        "frames" => 63,
-        _ => name.parse().unwrap_or(usize::MAX),
+        "day" => &[(20, 2), (22, 2)],
+        "clock" => &[(24, 1), (25, 1), (26, 1), (28, 2)],
+        "samples" => &[(30, 2)],
+        "rate" => &[(32, 2), (34, 2)],
+        "activity" => &[(36, 1)],
+        "clocking" => &[(37, 1)],
+        "flags" => &[(38, 1)],
+        "correction" => &[(40, 4)],
+        "data" => &[(44, 2)],
+        "first" => &[(46, 2)],
+        "after1000" => &[(50, 2)],
+        "encoding" => &[(52, 1)],
+        "order" => &[(53, 1)],
+        "exponent" => &[(54, 1)],
+        "second" => &[(56, 2)],
+        "after1001" => &[(58, 2)],
+        "timing" => &[(60, 1)],
+        "micros" => &[(61, 1)],
+        "frames" => &[(63, 1)],
+        _ => &[],
     }
 }
 
-/// Writes bytes, two hexadecimal digits for each, as far as there is room.
-fn put_hex(bytes: &mut [u8], place: usize, digits: &str) {
-    for (number, pair) in digits.as_bytes().chunks(2).enumerate() {
-        let value = pair.iter().fold(0u8, |sum, digit| {
-            let low = if *digit > b'9' {
-                digit.wrapping_sub(b'a').wrapping_add(10)
-            } else {
-                digit.wrapping_sub(b'0')
-            };
-            sum.wrapping_mul(16).wrapping_add(low)
-        });
-        if let Some(byte) = bytes.get_mut(place.saturating_add(number)) {
-            *byte = value;
+/// The place of a field of text.
+fn place_of_text(name: &str) -> Option<usize> {
+    match name {
+        "sequence" => Some(0),
+        "quality" => Some(6),
+        "station" => Some(8),
+        "location" => Some(13),
+        "channel" => Some(15),
+        "network" => Some(18),
+        _ => None,
+    }
+}
+
+/// Writes bytes from a place on.
+fn put(bytes: &mut [u8], place: usize, part: &[u8]) -> io::Result<()> {
+    for (number, value) in part.iter().enumerate() {
+        match bytes.get_mut(place.saturating_add(number)) {
+            Some(byte) => *byte = *value,
+            None => return Err(no_step()),
         }
     }
+    Ok(())
 }
 
-/// Fields of a file are changed, `NAME=DIGITS ..`.
+/// Writes the numbers of a field, which stand between signs of any kind, as `2020,001` or `23:59:29.9500`.
+fn put_numbers(bytes: &mut [u8], places: &[(usize, usize)], value: &str) -> io::Result<()> {
+    let mut texts = value.split([',', ':', '.', '/']);
+    for (place, width) in places {
+        let number = number(texts.next().unwrap_or(""))?;
+        let digits = number.to_be_bytes();
+        put(bytes, *place, &digits[8 - (*width).min(8)..])?;
+    }
+    if places.is_empty() || texts.next().is_some() {
+        return Err(no_step());
+    }
+    Ok(())
+}
+
+/// A byte of two hexadecimal digits.
+fn byte_of(pair: &[u8]) -> io::Result<u8> {
+    let mut value = 0u8;
+    for digit in pair {
+        let low = match *digit {
+            b'0'..=b'9' => *digit - b'0',
+            b'a'..=b'f' => *digit - b'a' + 10,
+            _ => return Err(no_step()),
+        };
+        value = value.wrapping_mul(16).wrapping_add(low);
+    }
+    Ok(value)
+}
+
+/// Writes bytes from a place on, two hexadecimal digits for each.
+fn put_hex(bytes: &mut [u8], place: usize, digits: &str) -> io::Result<()> {
+    for (number, pair) in digits.as_bytes().chunks(2).enumerate() {
+        put(bytes, place.saturating_add(number), &[byte_of(pair)?])?;
+    }
+    Ok(())
+}
+
+/// One change, by the name of a field or by a place.
+fn change(bytes: &mut [u8], name: &str, value: &str) -> io::Result<()> {
+    if let Ok(place) = count(name) {
+        return put_hex(bytes, place, value);
+    }
+    match place_of_text(name) {
+        Some(place) => put(bytes, place, value.as_bytes()),
+        None => put_numbers(bytes, places_of(name), value),
+    }
+}
+
+/// Changes fields of the record at a file's begin, `NAME=VALUE ..`. A `_` stands for a space.
 pub fn set(rt: &HostRuntime, path: &str, changes: &str) -> io::Result<()> {
     let mut bytes = fs::read(rt, path)?;
-    for change in changes.split_whitespace() {
-        let (name, digits) = change.split_once('=').unwrap_or((change, ""));
-        put_hex(bytes.as_mut_slice(), place_of(name), digits);
+    for word in changes.split_whitespace() {
+        let Some((name, value)) = word.split_once('=') else {
+            return Err(no_step());
+        };
+        let value = value.replace(rt.alloc(), "_", " ")?;
+        change(bytes.as_mut_slice(), name, value.as_str())?;
     }
     files::write(rt, path, bytes.as_slice())
-}
-
-/// The bytes of a file from a place to another, `FROM..TO`.
-pub fn hex(rt: &HostRuntime, path: &str, range: &str) -> io::Result<()> {
-    let bytes = fs::read(rt, path)?;
-    let (from, to) = range.split_once("..").unwrap_or((range, ""));
-    let (from, to) = (
-        from.parse().unwrap_or(0usize),
-        to.parse().unwrap_or(usize::MAX),
-    );
-    for byte in bytes.iter().take(to).skip(from) {
-        print!(rt; "{byte:02x}")?;
-    }
-    println!(rt; "")
-}
-
-/// How many samples each record of that size has, and its encoding.
-pub fn shapes(rt: &HostRuntime, path: &str, size: &str) -> io::Result<()> {
-    let bytes = fs::read(rt, path)?;
-    for record in bytes.chunks(size.parse().unwrap_or(512usize).max(1)) {
-        if let (Some(high), Some(low), Some(encoding)) = (
-            record.get(30),
-            record.get(31),
-            record.get(52),
-        ) {
-            println!(rt; "{} {}", u16::from_be_bytes([*high, *low]), *encoding)?;
-        }
-    }
-    Ok(())
-}
-
-/// Adds numbers so many times, `NUMBER,NUMBER*COUNT`.
-fn add(samples: &mut Vec<i32>, word: &str) -> Result<(), AllocError> {
-    let (numbers, count) = word.split_once('*').unwrap_or((word, "1"));
-    for _ in 0..count.parse().unwrap_or(0u32) {
-        for number in numbers.split(',') {
-            samples.push(number.parse().unwrap_or(0))?;
-        }
-    }
-    Ok(())
-}
-
-/// The record of some samples, numbers of 32 bits in 4096 bytes.
-fn part(
-    alloc: Global,
-    rate: Rate,
-    number: usize,
-    run: &[i32],
-    input: &mut Vec<u8>,
-) -> io::Result<()> {
-    let (Some(length), Some(start)) = (
-        Length::new(4096),
-        rate.nominal(START, (number as u64).saturating_mul(1008)),
-    ) else {
-        return Err(ErrorKind::InvalidInput.into());
-    };
-    if number >= 999_999
-        || run.is_empty()
-        || !is_instant(start)
-        || !Kind::Int32.fits(None, run, length)
-    {
-        return Err(ErrorKind::InvalidInput.into());
-    }
-    let key = key_at(rate);
-    encode_record(
-        alloc,
-        &key,
-        start,
-        1 + number as u32,
-        None,
-        run,
-        Kind::Int32,
-        length,
-        input,
-    )?;
-    Ok(())
-}
-
-/// The samples from 2020-01-01 00:00:00 on, in records of 4096 bytes, `FACTOR/MULTIPLIER NUMBERS ..`.
-pub fn samples(rt: &HostRuntime, path: &str, text: &str) -> io::Result<()> {
-    let alloc = rt.alloc();
-    let (rate, numbers) = text.split_once(' ').unwrap_or((text, ""));
-    let (factor, multiplier) = rate.split_once('/').unwrap_or((rate, "1"));
-    let Some(rate) = Rate::new(factor.parse().unwrap_or(0), multiplier.parse().unwrap_or(0)) else {
-        return Err(ErrorKind::InvalidInput.into());
-    };
-    let mut samples = Vec::new(alloc);
-    for word in numbers.split_whitespace() {
-        add(&mut samples, word)?;
-    }
-    let mut input = Vec::new(alloc);
-    for (number, run) in samples.as_slice().chunks(1008).enumerate() {
-        part(alloc, rate, number, run, &mut input)?;
-    }
-    files::write(rt, path, input.as_slice())
 }

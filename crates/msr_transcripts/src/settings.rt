@@ -1,28 +1,45 @@
 //! What a run is given beside its words.
 
-use crate::odd_folder::OddFolder;
-use msr_program_fixtures::PLAIN;
+use crate::numbers::count;
+use crate::odd_files::OddFiles;
 use msr_tool::Behavior;
+use std::io;
+
+/// A device that moves all that it is given, and never fails.
+const PLAIN: Behavior = Behavior {
+    most: usize::MAX,
+    interruptions: 0,
+    fails_at: None,
+};
 
 /// What a run is given beside its words: the name of the file that is its standard input and of the one that keeps what
-/// it prints, how its streams behave, and what is odd in the folders that it sees.
+/// it prints, how its streams behave, and what is odd in the files that it sees.
 #[derive(Clone, Copy)]
 pub struct Settings<'a> {
     pub from: &'a str,
     pub into: &'a str,
     pub reading: Behavior,
     pub writing: Behavior,
-    pub odd: OddFolder<'a>,
+    pub odd: OddFiles<'a>,
 }
 
-/// The device moves at most so many bytes in a call, and fails at that call: `3` or `100@3`.
-fn behavior(text: &str) -> Behavior {
-    let (most, at) = text.split_once('@').unwrap_or(("", text));
-    Behavior {
-        most: most.parse().unwrap_or(usize::MAX),
-        fails_at: at.parse().ok(),
+/// The device moves at most so many bytes in a call, and fails at that call: `100@3`. Without the first part, `3`, it
+/// moves all.
+fn behavior(text: &str) -> io::Result<Behavior> {
+    let (most, at) = match text.split_once('@') {
+        Some((most, at)) => (count(most)?, at),
+        None => (usize::MAX, text),
+    };
+    let fails_at = if at.is_empty() {
+        None
+    } else {
+        Some(count(at)? as u64)
+    };
+    Ok(Behavior {
+        most,
+        fails_at,
         ..PLAIN
-    }
+    })
 }
 
 impl<'a> Settings<'a> {
@@ -33,34 +50,20 @@ impl<'a> Settings<'a> {
             into: "",
             reading: PLAIN,
             writing: PLAIN,
-            odd: OddFolder::new(rt),
+            odd: OddFiles::new(rt),
         }
     }
 
     /// With one more, written `NAME=VALUE`.
-    pub fn with(self, setting: &'a str) -> Settings<'a> {
+    pub fn with(mut self, setting: &'a str) -> io::Result<Settings<'a>> {
         let (name, value) = setting.split_once('=').unwrap_or((setting, ""));
         match name {
-            "from" => Settings {
-                from: value,
-                ..self
-            },
-            "into" => Settings {
-                into: value,
-                ..self
-            },
-            "reading" => Settings {
-                reading: behavior(value),
-                ..self
-            },
-            "writing" => Settings {
-                writing: behavior(value),
-                ..self
-            },
-            _ => Settings {
-                odd: self.odd.with(name, value),
-                ..self
-            },
+            "from" => self.from = value,
+            "into" => self.into = value,
+            "reading" => self.reading = behavior(value)?,
+            "writing" => self.writing = behavior(value)?,
+            _ => self.odd = self.odd.with(name, value)?,
         }
+        Ok(self)
     }
 }

@@ -1,4 +1,6 @@
-//! The system's files, but for one folder, and two names.
+//! The system's files, but for one folder, some names, and what standard input and output are redirected to.
+
+use crate::numbers::no_step;
 use std::alloc::{Allocator, Global};
 use std::fs::{Metadata, OpenOptions};
 use std::io::{ErrorKind, Read};
@@ -6,29 +8,32 @@ use std::rt::Files;
 use std::{fs, io};
 
 /// What another program writes to a file that it took.
-pub const TAKEN: &[u8] = b"another's";
+const TAKEN: &[u8] = b"another's";
 
 /// The folder with the path, which ends in a slash, has these names, each ended by a NUL, or cannot be opened. If the
 /// last name is cut short, reading fails there. A file gets the later name only if the earlier one is there and the one
 /// that is to be gone is not. Once the file with the name `made` is there, the other one is opened in its place. A new
-/// file with the name `taken` is replaced at once, as another program would.
+/// file with the name `taken` is replaced at once, as another program would. Standard input is redirected from the file
+/// `redirected`, and standard output to the file `redirecting`, if these are names.
 #[derive(Clone, Copy)]
-pub struct OddFolder<'a> {
-    pub rt: &'a HostRuntime,
-    pub path: &'a str,
-    pub names: Option<&'static [u8]>,
-    pub earlier: &'a str,
-    pub later: &'a str,
-    pub made: &'a str,
-    pub other: &'a str,
-    pub gone: &'a str,
-    pub taken: &'a str,
+pub struct OddFiles<'a> {
+    rt: &'a HostRuntime,
+    path: &'a str,
+    names: Option<&'static [u8]>,
+    earlier: &'a str,
+    later: &'a str,
+    made: &'a str,
+    other: &'a str,
+    gone: &'a str,
+    taken: &'a str,
+    redirected: &'a str,
+    redirecting: &'a str,
 }
 
-impl<'a> OddFolder<'a> {
+impl<'a> OddFiles<'a> {
     /// Nothing odd.
-    pub fn new(rt: &'a HostRuntime) -> OddFolder<'a> {
-        OddFolder {
+    pub fn new(rt: &'a HostRuntime) -> OddFiles<'a> {
+        OddFiles {
             rt,
             path: "",
             names: None,
@@ -38,54 +43,46 @@ impl<'a> OddFolder<'a> {
             other: "",
             gone: "",
             taken: "",
+            redirected: "",
+            redirecting: "",
         }
     }
 
     /// With this one odd.
-    pub fn with(self, name: &str, value: &'a str) -> OddFolder<'a> {
+    pub fn with(mut self, name: &str, value: &'a str) -> io::Result<OddFiles<'a>> {
         match name {
-            "folder" => OddFolder {
-                path: value,
-                ..self
-            },
-            "names" => OddFolder {
-                names: listed(value),
-                ..self
-            },
-            "earlier" => OddFolder {
-                earlier: value,
-                ..self
-            },
-            "later" => OddFolder {
-                later: value,
-                ..self
-            },
-            "made" => OddFolder {
-                made: value,
-                ..self
-            },
-            "other" => OddFolder {
-                other: value,
-                ..self
-            },
-            "gone" => OddFolder {
-                gone: value,
-                ..self
-            },
-            _ => OddFolder {
-                taken: value,
-                ..self
-            },
+            "folder" => self.path = value,
+            "names" => self.names = listed(value)?,
+            "earlier" => self.earlier = value,
+            "later" => self.later = value,
+            "made" => self.made = value,
+            "other" => self.other = value,
+            "gone" => self.gone = value,
+            "taken" => self.taken = value,
+            "redirected" => self.redirected = value,
+            "redirecting" => self.redirecting = value,
+            _ => return Err(no_step()),
+        }
+        Ok(self)
+    }
+
+    /// The path of a file, also if it is that of standard input or output.
+    fn followed<'p>(&'p self, path: &'p str) -> &'p str {
+        match path {
+            "/dev/stdin" if !self.redirected.is_empty() => self.redirected,
+            "/dev/stdout" if !self.redirecting.is_empty() => self.redirecting,
+            _ => path,
         }
     }
 }
 
 /// The names of a folder that cannot be opened, that cannot be read to its end, or that has a name that is not UTF-8.
-fn listed(text: &str) -> Option<&'static [u8]> {
+fn listed(text: &str) -> io::Result<Option<&'static [u8]>> {
     match text {
-        "cut" => Some(b"XX.TEST.00.BHN"),
-        "latin" => Some(b"a\0\xff\0"),
-        _ => None,
+        "closed" => Ok(None),
+        "cut" => Ok(Some(b"XX.TEST.00.BHN")),
+        "latin" => Ok(Some(b"a\0\xff\0")),
+        _ => Err(no_step()),
     }
 }
 
@@ -110,7 +107,7 @@ impl Read for Names {
     }
 }
 
-impl<'a> Alloc for OddFolder<'a> {
+impl<'a> Alloc for OddFiles<'a> {
     type A = Global;
 
     fn alloc(&self) -> Global {
@@ -118,7 +115,7 @@ impl<'a> Alloc for OddFolder<'a> {
     }
 }
 
-impl<'a> Files for OddFolder<'a> {
+impl<'a> Files for OddFiles<'a> {
     type File = <HostRuntime as Files>::File;
 
     type Dir = Names;
@@ -127,7 +124,7 @@ impl<'a> Files for OddFolder<'a> {
         if path == self.made && self.rt.metadata(path).is_ok() {
             return self.rt.open_file(how, self.other);
         }
-        let file = self.rt.open_file(how, path)?;
+        let file = self.rt.open_file(how, self.followed(path))?;
         if path == self.taken && how.asks_create_new() {
             self.rt.remove_file(path)?;
             fs::write(self.rt, path, TAKEN)?;
@@ -146,7 +143,7 @@ impl<'a> Files for OddFolder<'a> {
     }
 
     fn metadata(&self, path: &str) -> io::Result<Metadata> {
-        self.rt.metadata(path)
+        self.rt.metadata(self.followed(path))
     }
 
     fn symlink_metadata(&self, path: &str) -> io::Result<Metadata> {
