@@ -64,10 +64,7 @@ fn shape_of(record: &[u8]) -> (u16, u8) {
     if record.len() < 64 {
         return (0, 0);
     }
-    (
-        u16::from_be_bytes([record[30], record[31]]),
-        record[52],
-    )
+    (u16::from_be_bytes([record[30], record[31]]), record[52])
 }
 
 /// A line for records that are alike.
