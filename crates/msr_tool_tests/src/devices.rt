@@ -3,15 +3,13 @@
 ghost use Rattle.std.specs.Prelude.{◌≡◌, [], Some};
 ghost use Rattle.msr_devices.specs.Device.{unused};
 
-use crate::checking::two_records;
-use crate::fixtures::{Edits, PLAIN, choice, edited, input_of, repacked, repacked_through};
+use crate::fixtures::{Edits, PLAIN, edited, options, packed_zeros, zeros};
 use crate::texts::{LIST, LISTED, NO_SEGMENTS, ONE_SEGMENT};
 use msr_devices::Behavior;
 use msr_fixtures::steim_record;
-use msr_time::Rate;
 use msr_tool::{
-    FromRead, FromWrite, Sink, TestSink, TestSource, ToolFault, check_and_tell, check_packed,
-    feed_and_report, list_segments, repack, repack_and_report,
+    FromRead, FromWrite, Options, Sink, TestSink, TestSource, ToolFault, check_and_tell,
+    check_packed, feed_and_report, list_segments, repack, repack_and_report,
 };
 use std::alloc::Global;
 use std::process::Abort;
@@ -31,6 +29,7 @@ enum Call {
 #[derive(Clone, Copy)]
 struct Worked<'a> {
     call: Call,
+    options: Options,
     records: &'a [u8],
     report: &'a str,
     written: &'a [u8],
@@ -111,8 +110,8 @@ struct Left {
     told: TestSink,
 }
 
-fn ended(rt: &impl Abort, alloc: Global, worked: Worked<'_>, odd: Odd) -> Left {
-    let options = choice(rt, 256, 1000);
+fn ended(alloc: Global, worked: Worked<'_>, odd: Odd) -> Left {
+    let options = worked.options;
     let mut records = TestSource::new(worked.records, odd.behavior_at(Place::Records));
     let mut report = TestSource::new(worked.report.as_bytes(), odd.behavior_at(Place::Report));
     let mut written = odd.sink_at(alloc, Place::Written);
@@ -136,29 +135,30 @@ fn ended(rt: &impl Abort, alloc: Global, worked: Worked<'_>, odd: Odd) -> Left {
     }
 }
 
-/// The call ends well, and wrote all; or it answers the fault of the device, each sink holds a prefix of what it is to
-/// hold, and the text is not begun unless the fault is its own.
-fn ends(rt: &impl Abort, alloc: Global, worked: Worked<'_>, odd: Odd, well: bool) -> Left {
-    let call = worked.call;
-    let found = ended(rt, alloc, worked, odd);
+/// Whether the call ended well, and wrote all.
+fn is_done(found: &Left, worked: Worked<'_>) -> bool {
+    found.fault.is_none()
+        && found.written.bytes() == worked.written
+        && found.told.bytes() == worked.told.as_bytes()
+}
+
+/// Whether the call answered the fault of the device, each sink holds a prefix of what it is to hold, and the text is
+/// not begun unless the fault is its own.
+fn is_failed(found: &Left, worked: Worked<'_>, place: Place) -> bool {
     let (written, told) = (found.written.bytes(), found.told.bytes());
-    if well {
-        assert_eq!(rt; found.fault, None, "{call:?}, {odd:?}");
-        assert_eq!(rt; written, worked.written, "{call:?}, {odd:?}");
-        assert_eq!(rt; told, worked.told.as_bytes(), "{call:?}, {odd:?}");
-    } else {
-        assert_eq!(rt; found.fault, Some(odd.place.fault()), "{call:?}, {odd:?}");
-        assert!(rt; worked.written.starts_with(written), "{call:?}, {odd:?}");
-        assert!(rt;
-            worked.told.as_bytes().starts_with(told),
-            "{call:?}, {odd:?}"
-        );
-        assert!(rt;
-            told.is_empty() || odd.place == Place::Told,
-            "{call:?}, {odd:?}"
-        );
+    found.fault == Some(place.fault())
+        && worked.written.starts_with(written)
+        && worked.told.as_bytes().starts_with(told)
+        && (told.is_empty() || place == Place::Told)
+}
+
+/// How many bytes the sink at that place holds, if it is one.
+fn held_at(found: &Left, place: Place) -> Option<u64> {
+    match place {
+        Place::Written => Some(found.written.bytes().len() as u64),
+        Place::Told => Some(found.told.bytes().len() as u64),
+        _ => None,
     }
-    found
 }
 
 const PLACES: [Place; 4] = [Place::Records, Place::Report, Place::Written, Place::Told];
@@ -166,6 +166,7 @@ const PLACES: [Place; 4] = [Place::Records, Place::Report, Place::Written, Place
 /// Fails at each of its calls in turn, in each of which it moves an eighth of its bytes; a source finds its end in one
 /// call more.
 fn fails_in_turn(rt: &impl Abort, alloc: Global, worked: Worked<'_>, place: Place) {
+    let call = worked.call;
     let most = worked.size_at(place).div_ceil(8).max(1);
     let calls = worked.size_at(place).div_ceil(most);
     let (calls, ways): (u64, &[bool]) = if place.is_source() {
@@ -185,20 +186,18 @@ fn fails_in_turn(rt: &impl Abort, alloc: Global, worked: Worked<'_>, place: Plac
                 behavior,
                 accepts_nothing: *accepts_nothing,
             };
-            let found = ends(rt, alloc, worked, odd, false);
+            let found = ended(alloc, worked, odd);
             let before = most.saturating_mul(fails_at);
-            let held = match place {
-                Place::Written => found.written.bytes().len() as u64,
-                Place::Told => found.told.bytes().len() as u64,
-                _ => before,
-            };
-            assert_eq!(rt; held, before, "{odd:?}");
+            let fails = is_failed(&found, worked, place)
+                && held_at(&found, place).unwrap_or(before) == before;
+            assert!(rt; fails, "{call:?}, {odd:?}");
         }
     }
 }
 
 /// Moves a byte in a call, after no, 63 and 64 interruptions: the last are a failure, before anything is moved.
 fn moves_single_bytes(rt: &impl Abort, alloc: Global, worked: Worked<'_>, place: Place) {
+    let call = worked.call;
     for (interruptions, well) in [(0u32, true), (63, true), (64, false)] {
         let behavior = Behavior {
             most: 1,
@@ -210,22 +209,24 @@ fn moves_single_bytes(rt: &impl Abort, alloc: Global, worked: Worked<'_>, place:
             behavior,
             accepts_nothing: false,
         };
-        let found = ends(rt, alloc, worked, odd, well);
-        if !well {
-            assert!(rt;
-                found.written.bytes().is_empty() || place == Place::Told,
-                "{odd:?}"
-            );
-            assert!(rt; found.told.bytes().is_empty(), "{odd:?}");
-        }
+        let found = ended(alloc, worked, odd);
+        let ends = if well {
+            is_done(&found, worked)
+        } else {
+            is_failed(&found, worked, place)
+                && found.told.bytes().is_empty()
+                && (found.written.bytes().is_empty() || place == Place::Told)
+        };
+        assert!(rt; ends, "{call:?}, {odd:?}");
     }
 }
 
 #[test]
 fn each_call_in_turn(rt: HostRuntime) -> Result<(), Fail> {
     let alloc = rt.alloc();
-    let input = input_of(&rt, alloc, Rate::new(20, 1).ok_or("no rate")?, &[0; 302])?;
-    let packed = two_records(&rt, alloc)?;
+    let options = options()?;
+    let input = zeros(alloc)?;
+    let packed = packed_zeros(alloc)?;
     let listed = edited(alloc, &LISTED)?;
     let (input, packed, listed) = (input.as_slice(), packed.as_slice(), listed.as_slice());
     let none: &[u8] = &[];
@@ -242,6 +243,7 @@ fn each_call_in_turn(rt: HostRuntime) -> Result<(), Fail> {
     for (call, records, report, written, told) in rows {
         let worked = Worked {
             call,
+            options,
             records,
             report,
             written,
@@ -257,37 +259,38 @@ fn each_call_in_turn(rt: HostRuntime) -> Result<(), Fail> {
     Ok(())
 }
 
-/// There are enough segments for their records to be written in two pieces.
+/// What a repack of those records leaves in a sink that fails at that call, if it answers that.
+fn left_at(alloc: Global, input: &[u8], fails_at: u64, options: Options) -> Option<TestSink> {
+    let writing = Behavior {
+        fails_at: Some(fails_at),
+        ..PLAIN
+    };
+    let mut source = TestSource::new(input, PLAIN);
+    let mut sink = TestSink::new(Vec::new(alloc), writing);
+    match repack(alloc, &mut source, &mut sink, options) {
+        Err(ToolFault::Write) => Some(sink),
+        _ => None,
+    }
+}
+
+/// There are enough segments for their records to be written in two pieces. Each is written as it was read, but for its
+/// number.
 #[test]
 fn a_long_output_fails_in_its_midst(rt: HostRuntime) -> Result<(), Fail> {
     let alloc = rt.alloc();
-    let options = choice(&rt, 256, 1000);
     let unchanged: Edits = &[];
     let input = edited(alloc, &[unchanged; 300])?;
-    let usual = repacked(alloc, &input, options);
-    let bytes = usual.sink.bytes();
-    assert!(rt; usual.answer.is_ok());
-    assert_eq!(rt; bytes.len(), 300 * 256);
-    assert_eq!(rt; &bytes[299 * 256..299 * 256 + 6], b"000300".as_slice());
+    let mut source = TestSource::new(&input, PLAIN);
+    let mut usual = TestSink::new(Vec::new(alloc), PLAIN);
+    assert!(rt; repack(alloc, &mut source, &mut usual, options()?).is_ok());
     for fails_at in 0u64..2 {
-        let writing = Behavior {
-            fails_at: Some(fails_at),
-            ..PLAIN
+        let Some(sink) = left_at(alloc, &input, fails_at, options()?) else {
+            return Err("no fault of the sink".into());
         };
-        let found = repacked_through(alloc, &input, options, PLAIN, writing);
-        assert_eq!(rt; found.answer.err(), Some(ToolFault::Write), "at {fails_at}");
-        assert!(rt; bytes.starts_with(found.sink.bytes()), "at {fails_at}");
-        assert!(rt; found.sink.bytes().len() < bytes.len(), "at {fails_at}");
+        let is_part = usual.bytes().starts_with(sink.bytes())
+            && sink.bytes().len() < usual.bytes().len();
+        assert!(rt; is_part, "at {fails_at}");
     }
-    let mut cut = input;
-    cut.extend_from_slice(&[0; 47])?;
-    let found = repacked(alloc, &cut, options);
-    let text = match found.answer {
-        Ok(_) => format!(in alloc; "read")?,
-        Err(fault) => format!(in alloc; "{fault}")?,
-    };
-    assert_eq!(rt; text.as_str(), "offset 76800: 1 Truncated");
-    assert!(rt; bytes.starts_with(found.sink.bytes()));
     Ok(())
 }
 
@@ -298,8 +301,8 @@ fn readers_and_writers_of_std(rt: HostRuntime) -> Result<(), Fail> {
     let mut source = FromRead::new(input.as_slice());
     let mut held = Vec::new(alloc);
     let mut sink = FromWrite::new(&mut held);
-    let answer = repack(alloc, &mut source, &mut sink, choice(&rt, 256, 1000));
+    let answer = repack(alloc, &mut source, &mut sink, options()?);
     assert!(rt; answer.is_ok());
-    assert_eq!(rt; held.as_slice(), input.as_slice());
+    assert!(rt; held.as_slice() == input.as_slice());
     Ok(())
 }

@@ -1,8 +1,9 @@
 //! A source whose bytes come little by little: what stands in the sink wherever a read fails.
-use crate::fixtures::{Edits, choice, edited};
+use crate::fixtures::{Edits, PLAIN, edited, options};
 use msr_devices::Behavior;
 use msr_fixtures::Edit;
-use msr_tool::{TestSink, TestSource, ToolFault, feed, repack};
+use msr_tool::{Options, TestSink, TestSource, ToolFault, feed, repack};
+use std::alloc::Global;
 use std::test::Fail;
 
 /// Full records of 301 samples of 0, each after the one before it, and one without samples before the last.
@@ -14,34 +15,55 @@ const RECORDS: [Edits<'static>; 5] = [
     &[Edit::Sequence(*b"000005"), Edit::Clock(0, 0, 45, 1500)],
 ];
 
+/// What a feed of those records leaves in its sink if the source gives one record in a read and fails at that read.
+fn fed_until(alloc: Global, input: &[u8], reads: u64, options: Options) -> Option<TestSink> {
+    let reading = Behavior {
+        most: 256,
+        fails_at: Some(reads),
+        ..PLAIN
+    };
+    let writing = Behavior { most: 100, ..PLAIN };
+    let mut source = TestSource::new(input, reading);
+    let mut sink = TestSink::new(Vec::new(alloc), writing);
+    match feed(alloc, &mut source, &mut sink, options) {
+        Err(ToolFault::Read) => Some(sink),
+        _ => None,
+    }
+}
+
 /// A read gives one record. The first record that is written ends where the second can begin at the latest, and where
 /// that one ends is known once a sample after it is there: with the third record, and so on.
 #[test]
 fn decided_records_are_written_before_each_read(rt: HostRuntime) -> Result<(), Fail> {
     let alloc = rt.alloc();
     let input = edited(alloc, &RECORDS)?;
-    let options = choice(&rt, 256, 1000);
-    for (reads, records) in [(0, 0), (1, 0), (2, 0), (3, 1), (4, 1), (5, 2)] {
-        let behavior = Behavior {
-            most: 256,
-            interruptions: 0,
-            fails_at: Some(reads),
+    for (reads, bytes) in [(0, 0), (1, 0), (2, 0), (3, 256), (4, 256), (5, 512)] {
+        let Some(sink) = fed_until(alloc, &input, reads, options()?) else {
+            return Err("no fault of the source".into());
         };
-        let mut source = TestSource::new(&input, behavior);
-        let mut sink = TestSink::new(
-            Vec::new(alloc),
-            Behavior {
-                most: 100,
-                fails_at: None,
-                ..behavior
-            },
-        );
-        let fault = feed(alloc, &mut source, &mut sink, options).err();
-        assert_eq!(&rt; fault, Some(ToolFault::Read));
-        assert_eq!(&rt; sink.bytes().len(), 256 * records, "after {reads} reads");
-        assert!(&rt; input.starts_with(sink.bytes()), "after {reads} reads");
+        let is_part = sink.bytes().len() == bytes && input.starts_with(sink.bytes());
+        assert!(rt; is_part, "after {reads} reads");
     }
     Ok(())
+}
+
+/// Whether a feed and a repack of those records, both with devices that behave so, answer and write the same.
+fn is_fed_as_repacked(alloc: Global, input: &[u8], behavior: Behavior, options: Options) -> bool {
+    let mut fed = TestSink::new(Vec::new(alloc), behavior);
+    let mut packed = TestSink::new(Vec::new(alloc), behavior);
+    let mut source = TestSource::new(input, behavior);
+    let mut again = TestSource::new(input, behavior);
+    match (
+        feed(alloc, &mut source, &mut fed, options),
+        repack(alloc, &mut again, &mut packed, options),
+    ) {
+        (Ok(one), Ok(other)) => {
+            one.counts == other.counts
+                && one.segments.len() == other.segments.len()
+                && fed.bytes() == packed.bytes()
+        }
+        _ => false,
+    }
 }
 
 /// In the end the output is that of a repack, also if nothing is decided before.
@@ -49,33 +71,13 @@ fn decided_records_are_written_before_each_read(rt: HostRuntime) -> Result<(), F
 fn the_output_is_that_of_a_repack(rt: HostRuntime) -> Result<(), Fail> {
     let alloc = rt.alloc();
     let input = edited(alloc, &RECORDS)?;
-    let options = choice(&rt, 256, 1000);
+    let options = options()?;
     for most in [1, 100, 256, 2000] {
-        let behavior = Behavior {
-            most,
-            interruptions: 0,
-            fails_at: None,
-        };
-        let mut fed = TestSink::new(Vec::new(alloc), behavior);
-        let mut packed = TestSink::new(Vec::new(alloc), behavior);
-        let one = feed(
-            alloc,
-            &mut TestSource::new(&input, behavior),
-            &mut fed,
-            options,
+        let behavior = Behavior { most, ..PLAIN };
+        assert!(rt;
+            is_fed_as_repacked(alloc, &input, behavior, options),
+            "at {most}"
         );
-        let other = repack(
-            alloc,
-            &mut TestSource::new(&input, behavior),
-            &mut packed,
-            options,
-        );
-        let (Ok(one), Ok(other)) = (one, other) else {
-            panic!(&rt; "refused at {most}")
-        };
-        assert_eq!(&rt; one.counts, other.counts);
-        assert_eq!(&rt; one.segments.len(), other.segments.len());
-        assert!(&rt; fed.bytes() == packed.bytes(), "at {most}");
     }
     Ok(())
 }

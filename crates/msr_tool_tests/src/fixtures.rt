@@ -1,15 +1,11 @@
-//! Records worked out by hand, inputs made of samples, and one call of msr_tool.
-ghost use Rattle.std.specs.Prelude.{◌<◌, IfOk};
-ghost use Rattle.msr_report.specs.Proper.{IsProper};
+//! Records of the one header, one after another, and what each call is asked for.
 
 use msr_devices::Behavior;
-use msr_fixtures::{Edit, START, key_at, steim_record};
-use msr_record::encode_record;
-use msr_time::{Rate, is_instant};
-use msr_tool::{Counts, Options, Report, TestSink, TestSource, ToolFault, repack};
-use msr_words::{Kind, Length};
+use msr_fixtures::{Edit, header_bytes, record, steim_record};
+use msr_tool::Options;
+use msr_words::Length;
 use std::alloc::{AllocError, Global};
-use std::process::Abort;
+use std::test::Fail;
 
 /// Edits of a record.
 pub type Edits<'a> = &'a [Edit<'a>];
@@ -21,15 +17,6 @@ pub const PLAIN: Behavior = Behavior {
     fails_at: None,
 };
 
-/// The records, one after another.
-pub fn joined(alloc: Global, records: &[[u8; 256]]) -> Result<Vec<u8>, AllocError> {
-    let mut bytes = Vec::new(alloc);
-    for record in records {
-        bytes.extend_from_slice(record)?;
-    }
-    Ok(bytes)
-}
-
 /// The records of 301 samples of 0, each after its edits.
 pub fn edited(alloc: Global, records: &[Edits]) -> Result<Vec<u8>, AllocError> {
     let mut bytes = Vec::new(alloc);
@@ -39,112 +26,37 @@ pub fn edited(alloc: Global, records: &[Edits]) -> Result<Vec<u8>, AllocError> {
     Ok(bytes)
 }
 
-/// The samples from 2020-01-01 00:00:00 on, in records of 4096 bytes with 1008 numbers of 32 bits in each.
-pub fn input_of(
-    rt: &impl Abort,
-    alloc: Global,
-    rate: Rate,
-    samples: &[i32],
-) -> Result<Vec<u8>, AllocError> {
-    let key = key_at(rate);
-    let Some(record_length) = Length::new(4096) else {
-        panic!(rt; "no length")
-    };
-    let mut input = Vec::new(alloc);
-    for (number, run) in samples.chunks(1008).enumerate() {
-        assert!(rt; number < 999_999);
-        let Some(start) = rate.nominal(START, 1008 * number as u64) else {
-            panic!(rt; "no instant")
-        };
-        assert!(rt; is_instant(start));
-        assert!(rt; !run.is_empty());
-        assert!(rt; Kind::Int32.fits(None, run, record_length));
-        encode_record(
-            alloc,
-            &key,
-            start,
-            1 + number as u32,
-            None,
-            run,
-            Kind::Int32,
-            record_length,
-            &mut input,
-        )?;
-    }
-    Ok(input)
+/// 302 samples of 0 as numbers of 32 bits in a record of 4096 bytes.
+pub fn zeros(alloc: Global) -> Result<Vec<u8>, AllocError> {
+    let header = header_bytes(&[
+        Edit::Samples(302),
+        Edit::Encoding(3),
+        Edit::Exponent(12),
+        Edit::Frames(0),
+    ]);
+    let mut record = vec![in alloc; 0; 4096]?;
+    record.as_mut_slice()[..64].copy_from_slice(&header);
+    Ok(record)
 }
 
-/// Chooses records of `bytes` bytes, joined by that tolerance.
-pub fn choice(rt: &impl Abort, bytes: u32, tolerance: u32) -> Options {
-    let Some(record_length) = Length::new(bytes) else {
-        panic!(rt; "no length")
-    };
-    let Some(options) = Options::new(record_length, tolerance) else {
-        panic!(rt; "no tolerance")
-    };
-    options
+/// The same samples in two records of 256 bytes.
+pub fn packed_zeros(alloc: Global) -> Result<Vec<u8>, AllocError> {
+    let second = record(&[
+        Edit::Sequence(*b"000002"),
+        Edit::Clock(0, 0, 15, 500),
+        Edit::Samples(1),
+        Edit::Frames(1),
+        Edit::Bytes(64, &[0x02, 0x00, 0x00, 0x00]),
+        Edit::Bytes(76, &[0x40, 0x00, 0x00, 0x00]),
+    ]);
+    let mut bytes = edited(alloc, &[&[]])?;
+    bytes.extend_from_slice(&second)?;
+    Ok(bytes)
 }
 
-/// The number is that one. An assertion in a function of its own is proved once, and its callers carry none of it.
-pub fn same_number(rt: &impl Abort, found: u64, want: u64, name: &str) {
-    assert_eq!(rt; found, want, "{name}");
-}
-
-/// The bytes are those.
-pub fn same_bytes(rt: &impl Abort, found: &[u8], want: &[u8], name: &str) {
-    assert!(rt; found == want, "{name}");
-}
-
-/// The counts are those.
-pub fn same_counts(rt: &impl Abort, found: Counts, want: Counts, name: &str) {
-    assert_eq!(rt; found, want, "{name}");
-}
-
-/// How a call ended.
-#[derive(Drop)]
-pub struct Outcome {
-    /// What the call answered.
-    pub answer: Result<Report, ToolFault>,
-    /// The sink that it wrote to.
-    pub sink: TestSink,
-}
-
-/// The input repacked by a source and a sink that behave so.
-pub fn repacked_through(
-    alloc: Global,
-    input: &[u8],
-    options: Options,
-    reading: Behavior,
-    writing: Behavior,
-) -> Outcome
-    ensures proper { IfOk result.answer IsProper }
-{
-    let mut source = TestSource::new(input, reading);
-    let mut sink = TestSink::new(Vec::new(alloc), writing);
-    let answer = repack(alloc, &mut source, &mut sink, options);
-    Outcome { answer, sink }
-}
-
-/// The input repacked.
-pub fn repacked(alloc: Global, input: &[u8], options: Options) -> Outcome
-    ensures proper { IfOk result.answer IsProper }
-{
-    repacked_through(alloc, input, options, PLAIN, PLAIN)
-}
-
-/// How many samples each record of `size` bytes has, and its encoding.
-pub fn shapes(alloc: Global, bytes: &[u8], size: usize) -> Result<Vec<(u16, u8)>, AllocError>
-    requires { 0 < size }
-{
-    let mut shapes = Vec::new(alloc);
-    for record in bytes.chunks(size) {
-        if let (Some(high), Some(low), Some(encoding)) = (
-            record.get(30),
-            record.get(31),
-            record.get(52),
-        ) {
-            shapes.push((u16::from_be_bytes([*high, *low]), *encoding))?;
-        }
-    }
-    Ok(shapes)
+/// Records of 256 bytes, joined by a tolerance of 1000 microseconds.
+pub fn options() -> Result<Options, Fail> {
+    let length = Length::new(256).ok_or("no length")?;
+    let options = Options::new(length, 1000).ok_or("no tolerance")?;
+    Ok(options)
 }

@@ -1,22 +1,13 @@
-//! Whole inputs with the records and reports that were worked out for them, refusals, checks
-//! with reports, devices that fail, and bytes that come little by little.
+//! What only calls of msr_tool can show: devices that fail at each of their calls, bytes that come little by little,
+//! which choices there are, and the texts of faults. What they make of files and texts the script of msr_transcripts
+//! shows.
 #![tactic(auto)]
 
-#[cfg(test)]
-mod checking;
 #[cfg(test)]
 mod devices;
 #[cfg(test)]
 mod feeding;
 #[cfg(test)]
 mod fixtures;
-#[cfg(test)]
-mod joining;
-#[cfg(test)]
-mod packing;
-#[cfg(test)]
-mod refusals;
-#[cfg(test)]
-mod strict;
 #[cfg(test)]
 mod texts;

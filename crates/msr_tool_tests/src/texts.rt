@@ -1,15 +1,14 @@
-//! Texts of reports, lists and faults, and which choices there are.
-use crate::fixtures::{Edits, Outcome, PLAIN, choice, edited, input_of, repacked};
+//! Texts of reports and lists that calls write, texts of faults, and which choices there are.
+use crate::fixtures::{Edits, options};
 use msr_fixtures::Edit;
 use msr_header::HeaderFault;
 use msr_record::FaultKind;
-use msr_time::Rate;
 use msr_tool::{
-    Counts, Fault, Options, TestSink, TestSource, ToolFault, list_segments, one_refusal,
-    one_repacking, read_report, readable_is_listed, readable_is_repacked, repacked_is_least,
-    repacked_is_shown, strict_writes_the_same,
+    Fault, Options, ToolFault, one_refusal, one_repacking, readable_is_listed,
+    readable_is_repacked, repacked_is_least, repacked_is_shown, strict_writes_the_same,
 };
 use msr_words::Length;
+use std::alloc::{AllocError, Global};
 use std::test::Fail;
 
 /// The report of an input without records.
@@ -33,32 +32,6 @@ separators 0 301
 end 1 segments 2 records
 ";
 
-#[test]
-fn reports(rt: HostRuntime) -> Result<(), Fail> {
-    let alloc = rt.alloc();
-    let rate = Rate::new(20, 1).ok_or("no rate")?;
-    let rows: [(&[i32], u32, usize, &str); 2] = [
-        (&[], 512, 0, NO_SEGMENTS),
-        (&[0; 302], 256, 512, ONE_SEGMENT),
-    ];
-    for (samples, bytes, written, text) in rows {
-        let input = input_of(&rt, alloc, rate, samples)?;
-        let Outcome { answer, sink } = repacked(alloc, &input, choice(&rt, bytes, 1000));
-        assert_eq!(rt; sink.bytes().len(), written);
-        let Ok(report) = answer else {
-            panic!(rt; "refused")
-        };
-        let mut sink = TestSink::new(Vec::new(alloc), PLAIN);
-        assert!(rt; report.write_text(alloc, &mut sink).is_ok());
-        assert_eq!(rt; sink.bytes(), text.as_bytes());
-        let Ok(again) = read_report(alloc, &mut TestSource::new(text.as_bytes(), PLAIN)) else {
-            panic!(rt; "not read")
-        };
-        assert_eq!(rt; again.segments.len(), report.segments.len());
-    }
-    Ok(())
-}
-
 /// The list of three records, of which the first two join.
 pub const LIST: &str = "\
 segment XX.TEST_.00.BHZ D rate 20 1 flags 00 00 00 correction 0 timing 0 start 2020,001,00:00:00.000000 samples 200
@@ -74,42 +47,6 @@ pub const LISTED: [Edits<'static>; 3] = [
 ];
 
 #[test]
-fn lists(rt: HostRuntime) -> Result<(), Fail> {
-    let alloc = rt.alloc();
-    let mut input = edited(alloc, &LISTED)?;
-    let options = choice(&rt, 256, 1000);
-    let mut sink = TestSink::new(Vec::new(alloc), PLAIN);
-    let answer = list_segments(
-        alloc,
-        &mut TestSource::new(&input, PLAIN),
-        &mut sink,
-        options,
-    );
-    let counts = Counts {
-        read: 3,
-        empty: 0,
-        mismatched: 0,
-    };
-    assert_eq!(rt; answer, Ok(counts));
-    assert_eq!(rt; sink.bytes(), LIST.as_bytes());
-    input.extend_from_slice(&[0; 47])?;
-    let mut sink = TestSink::new(Vec::new(alloc), PLAIN);
-    let answer = list_segments(
-        alloc,
-        &mut TestSource::new(&input, PLAIN),
-        &mut sink,
-        options,
-    );
-    let fault = Fault {
-        offset: 768,
-        kind: FaultKind::Header(HeaderFault::Truncated),
-    };
-    assert_eq!(rt; answer, Err(ToolFault::Input(fault)));
-    assert!(rt; LIST.as_bytes().starts_with(sink.bytes()));
-    Ok(())
-}
-
-#[test]
 fn laws_are_callable() {
     one_refusal();
     one_repacking();
@@ -118,6 +55,14 @@ fn laws_are_callable() {
     repacked_is_shown();
     repacked_is_least();
     strict_writes_the_same();
+}
+
+/// Whether options are made of them exactly if they are to be, and have what they were made of.
+fn are_options(length: Length, tolerance: u32, taken: bool) -> bool {
+    match Options::new(length, tolerance) {
+        Some(options) => taken && options.length() == length && options.tolerance() == tolerance,
+        None => !taken,
+    }
 }
 
 #[test]
@@ -132,36 +77,47 @@ fn choices(rt: HostRuntime) -> Result<(), Fail> {
             (1_000_001, false),
             (u32::MAX, false),
         ] {
-            let options = Options::new(length, tolerance);
-            assert_eq!(rt; options.is_some(), taken, "at {tolerance}");
-            if let Some(options) = options {
-                assert_eq!(rt;
-                    (options.length(), options.tolerance()),
-                    (length, tolerance)
-                );
-            }
+            assert!(rt;
+                are_options(length, tolerance, taken),
+                "{bytes} {tolerance}"
+            );
         }
     }
     Ok(())
 }
 
+/// A flag that is set alone.
+#[test]
+fn strict_options(rt: HostRuntime) -> Result<(), Fail> {
+    let options = options()?;
+    let strict = options.strict(true);
+    assert!(rt; !options.is_strict() && strict.is_strict());
+    assert!(rt; strict.length() == options.length() && strict.tolerance() == 1000);
+    assert!(rt; strict.strict(false) == options);
+    Ok(())
+}
+
+/// Whether the fault has this text, and the status of a refusal.
+fn says(alloc: Global, fault: &ToolFault, text: &str) -> Result<bool, AllocError> {
+    let found = format!(in alloc; "{fault}")?;
+    Ok(found.as_str() == text && fault.status() == 1)
+}
+
 #[test]
 fn faults(rt: HostRuntime) -> Result<(), Fail> {
-    let alloc = rt.alloc();
     let other = FaultKind::Header(HeaderFault::OtherBlockette(500));
+    let first = Fault {
+        offset: 0,
+        kind: other,
+    };
+    let last = Fault {
+        offset: u64::MAX,
+        kind: FaultKind::BadCode(3),
+    };
     for (fault, text) in [
+        (ToolFault::Input(first), "offset 0: 5 OtherBlockette 500"),
         (
-            ToolFault::Input(Fault {
-                offset: 0,
-                kind: other,
-            }),
-            "offset 0: 5 OtherBlockette 500",
-        ),
-        (
-            ToolFault::Input(Fault {
-                offset: u64::MAX,
-                kind: FaultKind::BadCode(3),
-            }),
+            ToolFault::Input(last),
             "offset 18446744073709551615: 13 BadCode 3",
         ),
         (ToolFault::Report(2), "report line 2"),
@@ -173,8 +129,7 @@ fn faults(rt: HostRuntime) -> Result<(), Fail> {
         (ToolFault::Write, "write fault"),
         (ToolFault::Memory, "out of memory"),
     ] {
-        assert_eq!(rt; format!(in alloc; "{fault}")?.as_str(), text);
-        assert_eq!(rt; fault.status(), 1, "{text}");
+        assert!(rt; says(rt.alloc(), &fault, text)?, "{text}");
     }
     Ok(())
 }
