@@ -74,10 +74,12 @@ fn put_numbers(bytes: &mut [u8], places: &[(usize, usize)], value: &str) -> io::
         let digits = number.to_be_bytes();
         put(bytes, *place, &digits[8 - (*width).min(8)..])?;
     }
-    if places.is_empty() || texts.next().is_some() {
-        return Err(no_step());
+    let is_whole = texts.next().is_none();
+    if is_whole && !places.is_empty() {
+        Ok(())
+    } else {
+        Err(no_step())
     }
-    Ok(())
 }
 
 /// A byte of two hexadecimal digits.
