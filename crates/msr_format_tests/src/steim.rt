@@ -280,14 +280,9 @@ fn records_byte_for_byte(rt: HostRuntime) -> Result<(), Fail> {
     );
     let zeros: Filling<'_> = (Version::Two, &[(&[0; 7], 43)], &[0; 301], steim_record(&[]));
     let one: Filling<'_> = (Version::Two, &[(&[0], 1)], &[0], record(&[ONE_ZERO]));
-    for (name, filling) in [
-        ("301 zeros", &zeros),
-        ("one zero", &one),
-        ("up and down by 20000", &alternating),
-    ] {
-        expect(is_filled(rt.alloc(), filling)?, name)?;
-    }
-    Ok(())
+    expect(is_filled(rt.alloc(), &zeros)?, "301 zeros")?;
+    expect(is_filled(rt.alloc(), &one)?, "one zero")?;
+    expect(is_filled(rt.alloc(), &alternating)?, "up and down by 20000")
 }
 
 #[test]

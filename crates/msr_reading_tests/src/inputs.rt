@@ -186,7 +186,13 @@ fn fault_of(alloc: Global, bytes: &[u8], settings: Settings) -> Option<(u32, Rea
     let first = reader.next_segment(&mut source);
     let second = reader.next_segment(&mut source);
     match (first, second) {
-        (Err(fault), Err(again)) if fault == again => Some((0, fault)),
+        (Err(fault), Err(again)) => {
+            if fault == again {
+                Some((0, fault))
+            } else {
+                None
+            }
+        }
         (Ok(Some(_)), Err(fault)) => Some((1, fault)),
         _ => None,
     }
