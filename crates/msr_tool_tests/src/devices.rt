@@ -29,7 +29,6 @@ enum Call {
 #[derive(Clone, Copy)]
 struct Worked<'a> {
     call: Call,
-    options: Options,
     records: &'a [u8],
     report: &'a str,
     written: &'a [u8],
@@ -110,8 +109,7 @@ struct Left {
     told: TestSink,
 }
 
-fn ended(alloc: Global, worked: Worked<'_>, odd: Odd) -> Left {
-    let options = worked.options;
+fn ended(alloc: Global, options: Options, worked: Worked<'_>, odd: Odd) -> Left {
     let mut records = TestSource::new(worked.records, odd.behavior_at(Place::Records));
     let mut report = TestSource::new(worked.report.as_bytes(), odd.behavior_at(Place::Report));
     let mut written = odd.sink_at(alloc, Place::Written);
@@ -137,9 +135,8 @@ fn ended(alloc: Global, worked: Worked<'_>, odd: Odd) -> Left {
 
 /// Whether the call ended well, and wrote all.
 fn is_done(found: &Left, worked: Worked<'_>) -> bool {
-    found.fault.is_none()
-        && found.written.bytes() == worked.written
-        && found.told.bytes() == worked.told.as_bytes()
+    let (written, told) = (found.written.bytes(), found.told.bytes());
+    found.fault.is_none() && written == worked.written && told == worked.told.as_bytes()
 }
 
 /// Whether the call answered the fault of the device, each sink holds a prefix of what it is to hold, and the text is
@@ -165,7 +162,13 @@ const PLACES: [Place; 4] = [Place::Records, Place::Report, Place::Written, Place
 
 /// Fails at each of its calls in turn, in each of which it moves an eighth of its bytes; a source finds its end in one
 /// call more.
-fn fails_in_turn(rt: &impl Abort, alloc: Global, worked: Worked<'_>, place: Place) {
+fn fails_in_turn(
+    rt: &impl Abort,
+    alloc: Global,
+    options: Options,
+    worked: Worked<'_>,
+    place: Place,
+) {
     let call = worked.call;
     let most = worked.size_at(place).div_ceil(8).max(1);
     let calls = worked.size_at(place).div_ceil(most);
@@ -186,7 +189,7 @@ fn fails_in_turn(rt: &impl Abort, alloc: Global, worked: Worked<'_>, place: Plac
                 behavior,
                 accepts_nothing: *accepts_nothing,
             };
-            let found = ended(alloc, worked, odd);
+            let found = ended(alloc, options, worked, odd);
             let before = most.saturating_mul(fails_at);
             let fails = is_failed(&found, worked, place)
                 && held_at(&found, place).unwrap_or(before) == before;
@@ -196,7 +199,13 @@ fn fails_in_turn(rt: &impl Abort, alloc: Global, worked: Worked<'_>, place: Plac
 }
 
 /// Moves a byte in a call, after no, 63 and 64 interruptions: the last are a failure, before anything is moved.
-fn moves_single_bytes(rt: &impl Abort, alloc: Global, worked: Worked<'_>, place: Place) {
+fn moves_single_bytes(
+    rt: &impl Abort,
+    alloc: Global,
+    options: Options,
+    worked: Worked<'_>,
+    place: Place,
+) {
     let call = worked.call;
     for (interruptions, well) in [(0u32, true), (63, true), (64, false)] {
         let behavior = Behavior {
@@ -209,7 +218,7 @@ fn moves_single_bytes(rt: &impl Abort, alloc: Global, worked: Worked<'_>, place:
             behavior,
             accepts_nothing: false,
         };
-        let found = ended(alloc, worked, odd);
+        let found = ended(alloc, options, worked, odd);
         let ends = if well {
             is_done(&found, worked)
         } else {
@@ -243,7 +252,6 @@ fn each_call_in_turn(rt: HostRuntime) -> Result<(), Fail> {
     for (call, records, report, written, told) in rows {
         let worked = Worked {
             call,
-            options,
             records,
             report,
             written,
@@ -251,8 +259,8 @@ fn each_call_in_turn(rt: HostRuntime) -> Result<(), Fail> {
         };
         for place in PLACES {
             if 0 < worked.size_at(place) {
-                fails_in_turn(&rt, alloc, worked, place);
-                moves_single_bytes(&rt, alloc, worked, place);
+                fails_in_turn(&rt, alloc, options, worked, place);
+                moves_single_bytes(&rt, alloc, options, worked, place);
             }
         }
     }

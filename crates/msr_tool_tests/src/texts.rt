@@ -1,5 +1,5 @@
 //! Texts of reports and lists that calls write, texts of faults, and which choices there are.
-use crate::fixtures::{Edits, options};
+use crate::fixtures::Edits;
 use msr_fixtures::Edit;
 use msr_header::HeaderFault;
 use msr_record::FaultKind;
@@ -89,10 +89,11 @@ fn choices(rt: HostRuntime) -> Result<(), Fail> {
 /// A flag that is set alone.
 #[test]
 fn strict_options(rt: HostRuntime) -> Result<(), Fail> {
-    let options = options()?;
+    let length = Length::new(4096).ok_or("no length")?;
+    let options = Options::new(length, 77).ok_or("no tolerance")?;
     let strict = options.strict(true);
     assert!(rt; !options.is_strict() && strict.is_strict());
-    assert!(rt; strict.length() == options.length() && strict.tolerance() == 1000);
+    assert!(rt; strict.length() == length && strict.tolerance() == 77);
     assert!(rt; strict.strict(false) == options);
     Ok(())
 }
