@@ -180,8 +180,9 @@ fn is_text(alloc: Global, fault: ReadFault, text: &str) -> Result<bool, AllocErr
 }
 
 /// How many segments are given before the bytes are refused, and why they are; the second call tells it again.
-fn fault_of(alloc: Global, bytes: &[u8], settings: Settings) -> Option<(u32, ReadFault)> {
+fn fault_of(alloc: Global, bytes: &[u8], strict: bool) -> Option<(u32, ReadFault)> {
     let mut source = TestSource::new(bytes, WHOLE);
+    let settings = Settings { strict, ..LENIENT };
     let mut reader = SegmentReader::new(alloc, settings);
     let first = reader.next_segment(&mut source);
     let second = reader.next_segment(&mut source);
@@ -202,11 +203,11 @@ fn fault_of(alloc: Global, bytes: &[u8], settings: Settings) -> Option<(u32, Rea
 fn is_refused(
     alloc: Global,
     bytes: &[u8],
-    settings: Settings,
+    strict: bool,
     segments: u32,
     text: &str,
 ) -> Result<bool, AllocError> {
-    match fault_of(alloc, bytes, settings) {
+    match fault_of(alloc, bytes, strict) {
         Some((given, fault)) => Ok(given == segments && is_text(alloc, fault, text)?),
         None => Ok(false),
     }
@@ -223,25 +224,21 @@ fn reverse_constants_that_do_not_agree(rt: HostRuntime) -> Result<(), Fail> {
         Edit::Encoding(11),
         Edit::Bytes(75, &[0x01]),
     ]);
-    let rows: [(&str, &[u8], Settings, &str); 5] = [
-        (
-            "differs",
-            &differs,
-            STRICT,
-            "offset 256: 18 ReverseMismatch",
-        ),
+    // whether reading is strict
+    let rows: [(&str, &[u8], bool, &str); 5] = [
+        ("differs", &differs, true, "offset 256: 18 ReverseMismatch"),
         (
             "differs, and late",
             &late,
-            STRICT,
+            true,
             "offset 256: 18 ReverseMismatch",
         ),
-        ("late", &late, LENIENT, "offset 256: 17 TimeRange"),
-        ("differs, and cut", &cut, STRICT, "offset 0: 12 DataShort"),
-        ("cut", &cut, LENIENT, "offset 0: 12 DataShort"),
+        ("late", &late, false, "offset 256: 17 TimeRange"),
+        ("differs, and cut", &cut, true, "offset 0: 12 DataShort"),
+        ("cut", &cut, false, "offset 0: 12 DataShort"),
     ];
-    for (name, bytes, settings, text) in rows {
-        expect(is_refused(rt.alloc(), bytes, settings, 0, text)?, name)?;
+    for (name, bytes, strict, text) in rows {
+        expect(is_refused(rt.alloc(), bytes, strict, 0, text)?, name)?;
     }
     Ok(())
 }
@@ -287,10 +284,7 @@ fn faults_stand_at_their_records(rt: HostRuntime) -> Result<(), Fail> {
         ("joined into 2101", &end, 0, "offset 256: 17 TimeRange"),
     ];
     for (name, bytes, segments, text) in rows {
-        expect(
-            is_refused(rt.alloc(), bytes, LENIENT, segments, text)?,
-            name,
-        )?;
+        expect(is_refused(rt.alloc(), bytes, false, segments, text)?, name)?;
     }
     Ok(())
 }
