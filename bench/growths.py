@@ -12,6 +12,7 @@ The last line is `N growths refused, M answered that memory ran out, K wrong`, a
 """
 import argparse
 import os
+import re
 import subprocess
 import sys
 import tempfile
@@ -40,12 +41,21 @@ CALLS = (
 ).split()
 
 
+def is_part(usual, word):
+    """The same, or of a segment, START+SAMPLES, fewer samples from the same start."""
+    start, plus, count = word.partition("+")
+    of_usual, _, in_all = usual.partition("+")
+    return word == usual or (bool(plus) and start == of_usual and int(count) < int(in_all))
+
+
 def begins(usual, line, apart):
     """What is left or was written is a first part of the usual, in whole words if they are apart."""
     if not apart:
         return usual.startswith(line.rstrip('"'))
-    words, wanted = line.rstrip("]").split(), usual.rstrip("]").split()
-    return [it.rstrip(",") for it in words] == [it.rstrip(",") for it in wanted[: len(words)]]
+    wanted, words = (re.findall(r"[^\s,\[\]]+", it) for it in (usual, line))
+    if len(words) > len(wanted):
+        return False
+    return words[:-1] == wanted[: len(words) - 1] and is_part(wanted[len(words) - 1], words[-1])
 
 
 def is_line_right(usual, line, told_before, told, all_from_there):
