@@ -11,7 +11,7 @@ use Rattle.msr_walk.specs.Entries.{IsDayOf, IsOutcomeOf}
 use Rattle.msr_walk.specs.declared.outcome.Outcome.{Outcome}
 use Rattle.msr_walk.specs.declared.outcome.Outcome.TheVariants.{Done, Same, Skipped, Refused, NotShown as Unshown}
 use Rattle.msr_walk.specs.declared.outcome.DayFault.{DayFault}
-use Rattle.msr_walk.specs.declared.outcome.DayFault.TheVariants.{CannotOpen, Listing, NotShown, Taken, Tool}
+use Rattle.msr_walk.specs.declared.outcome.DayFault.TheVariants.{CannotOpen, Gone, Listing, NotShown, Taken, Tool}
 use Rattle.msr_walk.specs.declared.outcome.Repacked.{Repacked}
 
 pub day_stops : (choice : Choice) (source records0 records text0 text : Device) (why : ToolFault) →
@@ -51,6 +51,7 @@ pub day_unkept : (asked : Asked) (source records0 records text0 text : Device) (
     RepacksDay asked.choice source records0 records text0 text (Ok repacked) → IsShownIfAsked asked.check (Err why)
     → IsRepackedDay asked (Err why)
 day_unkept asked source records0 records text0 text repacked CannotOpen does is = tt
+day_unkept asked source records0 records text0 text repacked Gone does is = absurd is.1
 day_unkept asked source records0 records text0 text repacked Listing does is = absurd is.1
 day_unkept asked source records0 records text0 text repacked NotShown does is = record { check = is.0; unshown = is.1 }
 day_unkept asked source records0 records text0 text repacked Taken does is = absurd is.1
@@ -69,6 +70,7 @@ outcome_of asked path channel (Done repacked) day is = (day, is)
 outcome_of asked path channel (Same repacked) day is = (day, is)
 outcome_of asked path channel (Skipped fault) day is = absurd is
 outcome_of asked path channel (Refused CannotOpen) day is = day
+outcome_of asked path channel (Refused Gone) day is = absurd is
 outcome_of asked path channel (Refused Listing) day is = absurd is
 outcome_of asked path channel (Refused NotShown) day is = absurd is
 outcome_of asked path channel (Refused Taken) day is = day

@@ -16,7 +16,7 @@ use Rattle.msr_walk.specs.declared.folders.Archive.{Archive}
 use Rattle.msr_walk.specs.declared.outcome.Outcome.{Outcome}
 use Rattle.msr_walk.specs.declared.outcome.Outcome.TheVariants.{Done, Same, Skipped, Refused, NotShown as Unshown}
 use Rattle.msr_walk.specs.declared.outcome.DayFault.{DayFault}
-use Rattle.msr_walk.specs.declared.outcome.DayFault.TheVariants.{CannotOpen, Listing, NotShown, Taken, Tool}
+use Rattle.msr_walk.specs.declared.outcome.DayFault.TheVariants.{CannotOpen, Gone, Listing, NotShown, Taken, Tool}
 use Rattle.msr_walk.specs.declared.outcome.Repacked.{Repacked}
 
 -- What is asked of each day of an archive: the length and the tolerance; whether what an earlier walk did is left
@@ -77,6 +77,7 @@ pub record IsUnshown : Type 0 where
 -- why records that were written are not kept
 abbrev pub IsUnkept : DayFault → Type 0
 IsUnkept CannotOpen = ⊤
+IsUnkept Gone = ⊥
 IsUnkept Listing = ⊥
 IsUnkept NotShown = IsUnshown
 IsUnkept Taken = ⊥
@@ -106,10 +107,20 @@ pub record IsNotShown (asked : Asked) : Type 0 where
 abbrev pub IsRepackedDay : Asked → Result Repacked DayFault → Type 0
 IsRepackedDay asked (Ok repacked) = IsDone asked repacked
 IsRepackedDay asked (Err CannotOpen) = ⊤
+IsRepackedDay asked (Err Gone) = ⊥
 IsRepackedDay asked (Err Listing) = ⊥
 IsRepackedDay asked (Err NotShown) = IsNotShown asked
 IsRepackedDay asked (Err Taken) = ⊤
 IsRepackedDay asked (Err (Tool fault)) = HasAnswer asked.choice (Err fault)
+
+-- why a day is not claimed
+abbrev pub IsUnclaimed : DayFault → Type 0
+IsUnclaimed CannotOpen = ⊤
+IsUnclaimed Gone = ⊥
+IsUnclaimed Listing = ⊥
+IsUnclaimed NotShown = ⊥
+IsUnclaimed Taken = ⊤
+IsUnclaimed (Tool fault) = fault ≡ Memory
 
 -- Some text is that of a report of these options, and the counts are those of this report. A report says no strictness:
 -- if reading is strict it counts no record whose reverse constant does not agree, as that of a strict repack does.
@@ -134,6 +145,7 @@ IsDayOutcome asked (Done repacked) = IsDone asked repacked
 IsDayOutcome asked (Same repacked) = IsSame asked repacked
 IsDayOutcome asked (Skipped fault) = ⊥
 IsDayOutcome asked (Refused CannotOpen) = ⊤
+IsDayOutcome asked (Refused Gone) = ⊥
 IsDayOutcome asked (Refused Listing) = ⊥
 IsDayOutcome asked (Refused NotShown) = ⊥
 IsDayOutcome asked (Refused Taken) = ⊤

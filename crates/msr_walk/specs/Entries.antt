@@ -8,10 +8,10 @@ use Rattle.msr_sds.specs.declared.SdsFault.TheVariants.{NotSds, NotWaveform, Bad
 use Rattle.msr_totals.specs.Totals.{Add, saturated, totals_of}
 use Rattle.msr_totals.specs.declared.Total.{Total}
 use Rattle.msr_walk.specs.Day.{Asked, HasAnswer, IsDone, IsNotShown, IsSame}
-use Rattle.msr_walk.specs.Paths.{channel_of}
+use Rattle.msr_walk.specs.Paths.{channel_of, shown_path}
 use Rattle.msr_walk.specs.declared.outcome.Outcome.{Outcome}
 use Rattle.msr_walk.specs.declared.outcome.Outcome.TheVariants.{Done, Same, Skipped, Refused, NotShown as Unshown}
-use Rattle.msr_walk.specs.declared.outcome.DayFault.TheVariants.{CannotOpen, Listing, NotShown, Taken, Tool}
+use Rattle.msr_walk.specs.declared.outcome.DayFault.TheVariants.{CannotOpen, Gone, Listing, NotShown, Taken, Tool}
 use Rattle.msr_walk.specs.declared.tally.Tally.{Tally}
 
 -- an entry: its path from the archive's folder, and what became of it; of a day its channel too
@@ -38,6 +38,7 @@ IsOutcomeOf asked path channel (Done repacked) = IsDayOf path channel × IsDone 
 IsOutcomeOf asked path channel (Same repacked) = IsDayOf path channel × IsSame asked repacked
 IsOutcomeOf asked path channel (Skipped fault) = IsNoDay path fault
 IsOutcomeOf asked path channel (Refused CannotOpen) = IsDayOf path channel
+IsOutcomeOf asked path channel (Refused Gone) = ⊤
 IsOutcomeOf asked path channel (Refused Listing) = ⊤
 IsOutcomeOf asked path channel (Refused NotShown) = ⊥
 IsOutcomeOf asked path channel (Refused Taken) = IsDayOf path channel
@@ -50,16 +51,16 @@ IsEntry asked entry = IsOutcomeOf asked entry.path entry.channel entry.outcome
 -- The line of an entry. The texts of faults are shown by tests.
 abbrev pub IsLineOf : List ℕ → Outcome → List ℕ → Type 0
 IsLineOf path (Done repacked) line =
-    line ≡ codes "done " ++ (path ++ (codes " read "
+    line ≡ codes "done " ++ (shown_path path ++ (codes " read "
     ++ (decimal repacked.read ++ (codes " written " ++ (decimal repacked.written ++ codes "\n")))))
 IsLineOf path (Same repacked) line =
-    line ≡ codes "same " ++ (path ++ (codes " read "
+    line ≡ codes "same " ++ (shown_path path ++ (codes " read "
     ++ (decimal repacked.read ++ (codes " written " ++ (decimal repacked.written ++ codes "\n")))))
 IsLineOf path (Skipped fault) line = (why : List ℕ)
-    × (line ≡ codes "skipped " ++ (path ++ (codes ": " ++ (why ++ codes "\n"))))
+    × (line ≡ codes "skipped " ++ (shown_path path ++ (codes ": " ++ (why ++ codes "\n"))))
 IsLineOf path (Refused refusal) line = (why : List ℕ)
-    × (line ≡ codes "refused " ++ (path ++ (codes ": " ++ (why ++ codes "\n"))))
-IsLineOf path Unshown line = line ≡ codes "notshown " ++ (path ++ codes "\n")
+    × (line ≡ codes "refused " ++ (shown_path path ++ (codes ": " ++ (why ++ codes "\n"))))
+IsLineOf path Unshown line = line ≡ codes "notshown " ++ (shown_path path ++ codes "\n")
 
 -- a line for each entry, in order
 abbrev pub AreLines : List Entry → List ℕ → Type 0

@@ -1,5 +1,6 @@
 -- The names of files and folders, and how deep a walk goes.
 use Rattle.std.specs.Prelude.{◌≡◌, ◌≢◌, ℕ, ◌+◌, ◌≤◌, ◌==◌, Bool, List, [], ◌∷◌, ◌++◌, length, codes, All, Option, None, Some}
+use Rattle.std.specs.Fmt.{decimal}
 use Rattle.std.specs.List.{before_last, slice_split}
 use Rattle.msr_walk.specs.Paths.{joined}
 
@@ -27,35 +28,51 @@ abbrev pub IsDepthBelow : List ℕ → Option ℕ → Type 0
 IsDepthBelow path None = ¬ (IsFolder path)
 IsDepthBelow path (Some levels) = IsFolder path × (length (names_of path) + levels ≡ 4)
 
--- the names of a new file: the one that it gets, and the one beside it under which it is written
-pub record FileNames : Type 0 where
-  pub path : List ℕ
-  pub part : List ℕ
-
 -- a name with an ending; the path that no file has gets none
 abbrev pub ended : (path ending : List ℕ) → List ℕ
 ended [] ending = []
 ended (p ∷ path) ending = (p ∷ path) ++ ending
 
--- the names of a new file below a folder
-abbrev pub new_file : (folder path ending : List ℕ) → FileNames
-new_file folder path ending = record {
-  path = ended (joined folder path) ending;
-  part = ended (joined folder path) (ending ++ codes ".part");
+-- the names of a new file: the one that it gets, and the one beside it under which it is written
+pub record FileNames : Type 0 where
+  pub path : List ℕ
+  pub part : List ℕ
+
+-- the names of a new file that the walk makes whose claim has that number
+abbrev pub new_file : (path : List ℕ) (number : ℕ) → FileNames
+new_file path number = record {
+  path = path;
+  part = ended path (codes "." ++ (decimal number ++ codes ".part"));
 }
 
 -- the names of the files of a day
 pub record DayNames : Type 0 where
   pub input : List ℕ
+  pub records : List ℕ
+  pub report : List ℕ
+  pub stamp : List ℕ
+  pub claim : List ℕ
+
+-- the day with that path: its input in the archive, its records, its report and its stamp, and its claim
+abbrev pub day_names : (root out reports path : List ℕ) → DayNames
+day_names root out reports path = record {
+  input = joined root path;
+  records = joined out path;
+  report = ended (joined reports path) (codes ".txt");
+  stamp = ended (joined reports path) (codes ".from");
+  claim = ended (joined out path) (codes ".claim");
+}
+
+-- the files that a walk makes of a day
+pub record FilesOfDay : Type 0 where
   pub records : FileNames
   pub report : FileNames
   pub stamp : FileNames
 
--- the day with that path: its input in the archive, its records, and its report and its stamp
-abbrev pub day_names : (root out reports path : List ℕ) → DayNames
-day_names root out reports path = record {
-  input = joined root path;
-  records = new_file out path [];
-  report = new_file reports path (codes ".txt");
-  stamp = new_file reports path (codes ".from");
+-- those that the walk makes whose claim has that number
+abbrev pub day_files : DayNames → (number : ℕ) → FilesOfDay
+day_files names number = record {
+  records = new_file names.records number;
+  report = new_file names.report number;
+  stamp = new_file names.stamp number;
 }

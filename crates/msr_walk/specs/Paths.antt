@@ -1,5 +1,9 @@
 -- The paths of a walk.
-use Rattle.std.specs.Prelude.{ℕ, List, [], ◌∷◌, ◌++◌, codes}
+use Rattle.std.specs.Prelude.{ℕ, List, [], ◌∷◌, ◌++◌, cond, codes}
+use Rattle.std.specs.Char.{encode_utf8, is_ascii_control}
+use Rattle.std.specs.List.{flat_map}
+use Rattle.std.specs.Str.{chars}
+use Rattle.msr_report.specs.Text.{hex_text}
 use Rattle.msr_sds.specs.SdsPath.{SdsPath}
 
 -- what stands below a folder; below a folder without a name the path that no file has
@@ -16,3 +20,11 @@ below (f ∷ folder) name = (f ∷ folder) ++ (codes "/" ++ name)
 -- NET.STA.LOC.CHAN
 abbrev pub channel_of : SdsPath → List ℕ
 channel_of p = p.network ++ (codes "." ++ (p.station ++ (codes "." ++ (p.location ++ (codes "." ++ p.channel)))))
+
+-- a character as it is printed: a control character as `%` and the two hexadecimal digits of its byte
+abbrev pub shown_letter : ℕ → List ℕ
+shown_letter letter = cond (is_ascii_control letter) (37 ∷ hex_text letter) (encode_utf8 letter)
+
+-- a path as it is printed
+abbrev pub shown_path : List ℕ → List ℕ
+shown_path path = flat_map shown_letter (chars path)

@@ -1,28 +1,29 @@
 //! One day file: from its file to the files of its records and its report.
 ghost use Rattle.std.specs.Prelude.{◌≡◌, IfErr, IfOk, IfSome};
 ghost use Rattle.msr_walk.specs.Day.{Asked, IsDayOutcome, IsKept, IsRepackedDay, IsShownIfAsked, asked_of};
-ghost use Rattle.msr_walk.specs.Files.{day_names};
+ghost use Rattle.msr_walk.specs.Files.{day_files, day_names};
 
-use crate::files::{NewFile, settle};
+use crate::claim::{Claim, LockFile, claim};
+use crate::files::{NewFile, may_be_one, open_regular, settle};
 use crate::folders::Archive;
 use crate::outcome::{DayFault, Outcome, Repacked};
-use crate::paths::join;
+use crate::paths::{ended, join};
 use crate::repacking::{counts_kept, repack_day_of, require_shown};
 use crate::stamp::Stamp;
 use msr_tool::{FromRead, FromWrite, Options};
 use std::alloc::{AllocError, Global};
 use std::fs;
-use std::fs::File;
 use std::marker::Model;
 use std::rt::Files;
 
-/// The files of a day.
+/// The names of the files of a day.
 #[derive(Drop)]
 pub(crate) struct Day {
     input: String,
-    records: NewFile,
-    report: NewFile,
-    stamp: NewFile,
+    records: String,
+    report: String,
+    stamp: String,
+    claim: String,
 }
 
 impl Model for Day {
@@ -33,55 +34,39 @@ impl Model for Day {
 
     ghost view = { λ day. record {
       input = string_bytes day.input;
-      records = day.records;
-      report = day.report;
-      stamp = day.stamp;
+      records = string_bytes day.records;
+      report = string_bytes day.report;
+      stamp = string_bytes day.stamp;
+      claim = string_bytes day.claim;
     } };
 }
 
-impl Day {
-    /// The files of the day with this path in the archive.
-    pub(crate) fn new(alloc: Global, archive: &Archive<'_>, path: &str) -> Result<Day, AllocError>
-        ensures { IfOk result (λ day.
-            day ≡ day_names archive.now.root.now archive.now.out.now archive.now.reports.now path.now) }
-    {
-        Ok(Day {
-            input: join(alloc, archive.root, path)?,
-            records: NewFile::new(alloc, archive.out, path, "")?,
-            report: NewFile::new(alloc, archive.reports, path, ".txt")?,
-            stamp: NewFile::new(alloc, archive.reports, path, ".from")?,
-        })
-    }
+/// The files that a walk makes of a day.
+#[derive(Drop)]
+pub(crate) struct DayFiles {
+    records: NewFile,
+    report: NewFile,
+    stamp: NewFile,
+}
 
-    /// Opens the input before anything is made. What is to be shown is shown before anything gets its name.
-    fn write<R: Files>(
-        &self,
-        rt: &R,
-        alloc: Global,
-        archive: &Archive<'_>,
-    ) -> Result<Repacked, DayFault>
-        ensures { IsRepackedDay (asked_of archive.now) result }
-    {
-        let Ok(input) = File::open(rt, self.input.as_str()) else {
-            return Err(DayFault::CannotOpen);
-        };
-        let mut records = self.records.create(rt)?;
-        let mut report = self.report.create(rt)?;
-        let repacked = repack_day_of(
-            alloc,
-            &mut FromRead::new(input),
-            &mut FromWrite::new(&mut records),
-            &mut FromWrite::new(&mut report),
-            archive.options,
-        )?;
-        settle(&records)?;
-        settle(&report)?;
-        let shown = self.hold(rt, alloc, archive.check);
-        self.records.require_ours(rt, &records)?;
-        self.report.require_ours(rt, &report)?;
-        shown?;
-        self.keep(rt)?;
-        Ok(repacked)
+impl Model for DayFiles {
+    ghost use Rattle.msr_walk.specs.Files.{FilesOfDay};
+
+    ghost Value = { FilesOfDay };
+
+    ghost view = { λ files. record {
+      records = files.records;
+      report = files.report;
+      stamp = files.stamp;
+    } };
+}
+
+impl DayFiles {
+    /// Removes what stands beside their names, as far as the system lets.
+    pub(crate) fn sweep<R: Files>(&self, rt: &R) {
+        self.records.sweep(rt);
+        self.report.sweep(rt);
+        self.stamp.sweep(rt);
     }
 
     /// The stamp and the records of an earlier walk go before anything gets its name, so that what has a stamp was made
@@ -90,7 +75,6 @@ impl Day {
     fn keep<R: Files>(&self, rt: &R) -> Result<(), DayFault>
         ensures { IfErr result (λ why. why ≡ DayFault.CannotOpen) }
     {
-        self.stamp.sweep(rt);
         self.stamp.clear(rt)?;
         self.records.clear(rt)?;
         self.report.keep(rt)?;
@@ -105,10 +89,10 @@ impl Day {
         if !check {
             return Ok(());
         }
-        let Ok(records) = File::open(rt, self.records.part()) else {
+        let Ok(records) = open_regular(rt, self.records.part()) else {
             return Err(DayFault::CannotOpen);
         };
-        let Ok(report) = File::open(rt, self.report.part()) else {
+        let Ok(report) = open_regular(rt, self.report.part()) else {
             return Err(DayFault::CannotOpen);
         };
         require_shown(
@@ -118,39 +102,109 @@ impl Day {
         )
     }
 
-    /// Repacks the day, and stamps it if that is asked for and the input did not change meanwhile; without a stamp the
-    /// next walk repacks it again. If it is refused, nothing of it is left, but for another walk that took it over.
+    /// Stamps the day, if its input is as it was; without a stamp the next walk repacks it again.
+    fn put_stamp<R: Files>(&self, rt: &R, alloc: Global, before: Option<Stamp>, input: &str) {
+        let Some(stamp) = Stamp::of(rt, input) else {
+            return;
+        };
+        if before == Some(stamp) && stamp.put(rt, alloc, &self.stamp).is_err() {
+            self.stamp.sweep(rt);
+        }
+    }
+}
+
+impl Day {
+    /// The names of the day with this path in the archive.
+    pub(crate) fn new(alloc: Global, archive: &Archive<'_>, path: &str) -> Result<Day, AllocError>
+        ensures { IfOk result (λ day.
+            day ≡ day_names archive.now.root.now archive.now.out.now archive.now.reports.now path.now) }
+    {
+        let records = join(alloc, archive.out, path)?;
+        let report = join(alloc, archive.reports, path)?;
+        Ok(Day {
+            input: join(alloc, archive.root, path)?,
+            report: ended(alloc, report.as_str(), ".txt")?,
+            stamp: ended(alloc, report.as_str(), ".from")?,
+            claim: ended(alloc, records.as_str(), ".claim")?,
+            records,
+        })
+    }
+
+    /// The name of the file that says whose the day is.
+    pub(crate) fn claim(&self) -> &str
+        ensures { result.now ≡ self.now.claim }
+    {
+        self.claim.as_str()
+    }
+
+    /// The files that the walk makes whose claim has that number.
+    pub(crate) fn files(&self, alloc: Global, number: u64) -> Result<DayFiles, AllocError>
+        ensures { IfOk result (λ files. files ≡ day_files self.now number) }
+    {
+        Ok(DayFiles {
+            records: NewFile::new(alloc, self.records.as_str(), number)?,
+            report: NewFile::new(alloc, self.report.as_str(), number)?,
+            stamp: NewFile::new(alloc, self.stamp.as_str(), number)?,
+        })
+    }
+
+    /// Opens the input before any file is made. What is to be shown is shown before anything gets its name.
+    fn write<R: Files>(
+        &self,
+        rt: &R,
+        alloc: Global,
+        archive: &Archive<'_>,
+        files: &DayFiles,
+        claim: &Claim<R::File>,
+    ) -> Result<Repacked, DayFault>
+        ensures { IsRepackedDay (asked_of archive.now) result }
+    {
+        let input = open_regular(rt, self.input.as_str())?;
+        let mut records = files.records.create(rt)?;
+        let mut report = files.report.create(rt)?;
+        let repacked = repack_day_of(
+            alloc,
+            &mut FromRead::new(input),
+            &mut FromWrite::new(&mut records),
+            &mut FromWrite::new(&mut report),
+            archive.options,
+        )?;
+        settle(&records)?;
+        settle(&report)?;
+        files.hold(rt, alloc, archive.check)?;
+        if !claim.is_ours(rt, self.claim()) {
+            return Err(DayFault::Taken);
+        }
+        files.keep(rt)?;
+        Ok(repacked)
+    }
+
+    /// Repacks the day, and stamps it if that is asked for and the input did not change meanwhile.
     fn repack<R: Files>(
         &self,
         rt: &R,
         alloc: Global,
         archive: &Archive<'_>,
+        claim: &Claim<R::File>,
     ) -> Result<Repacked, DayFault>
         ensures { IsRepackedDay (asked_of archive.now) result }
     {
+        let files = self.files(alloc, claim.number())?;
         let before = Stamp::of(rt, self.input.as_str());
-        let result = self.write(rt, alloc, archive);
-        match result {
-            Ok(_) if archive.resume => self.put_stamp(rt, alloc, before),
-            Ok(_) | Err(DayFault::Taken) => {}
-            Err(_) => self.remove(rt),
+        let result = self.write(rt, alloc, archive, &files, claim);
+        if result.is_err() {
+            files.sweep(rt);
+        } else if archive.resume {
+            files.put_stamp(rt, alloc, before, self.input.as_str());
         }
         result
     }
 
+    /// Removes the stamp, the records and then the report of the day, as far as the system lets.
     fn remove<R: Files>(&self, rt: &R) {
-        self.records.remove(rt);
-        self.report.remove(rt);
-        self.stamp.remove(rt);
-    }
-
-    fn put_stamp<R: Files>(&self, rt: &R, alloc: Global, before: Option<Stamp>) {
-        let Some(stamp) = Stamp::of(rt, self.input.as_str()) else {
-            return;
-        };
-        if before == Some(stamp) && stamp.put(rt, alloc, &self.stamp).is_err() {
-            self.stamp.remove(rt);
-        }
+        fs::remove_file(rt, self.stamp.as_str()).ok();
+        fs::remove_file(rt, self.records.as_str()).ok();
+        fs::remove_file(rt, self.report.as_str()).ok();
     }
 
     /// What an earlier walk left of the day, if it is whole, was made with these options, and from the input as it is.
@@ -158,10 +212,10 @@ impl Day {
         ensures { IfSome result (IsKept options) }
     {
         let stamp = Stamp::of(rt, self.input.as_str())?;
-        let Ok(true) = stamp.stands_in(rt, alloc, self.stamp.path()) else {
+        let Ok(true) = stamp.stands_in(rt, alloc, self.stamp.as_str()) else {
             return None;
         };
-        let Ok(report) = File::open(rt, self.report.path()) else {
+        let Ok(report) = open_regular(rt, self.report.as_str()) else {
             return None;
         };
         let repacked = counts_kept(alloc, &mut FromRead::new(report), options)?;
@@ -177,38 +231,83 @@ impl Day {
         let Some(bytes) = records.checked_mul(u64::from(options.length().bytes())) else {
             return false;
         };
-        match fs::metadata(rt, self.records.path()) {
+        match fs::metadata(rt, self.records.as_str()) {
             Ok(metadata) => metadata.is_file() && metadata.len() == bytes,
             Err(_) => false,
         }
     }
 
-    /// Whether the day's own file, or a file beside it in the archive, may be touched by what is made of it.
-    fn may_touch_archive<R: Files>(&self, rt: &R) -> bool {
+    /// Whether the day's own file may be one of those that are made of it.
+    fn may_be_output<R: Files>(&self, rt: &R) -> bool {
         let input = self.input.as_str();
-        self.records.may_touch(rt, input)
-            || self.report.may_touch(rt, input)
-            || self.stamp.may_touch(rt, input)
+        may_be_one(rt, input, self.records.as_str())
+            || may_be_one(rt, input, self.report.as_str())
+            || may_be_one(rt, input, self.stamp.as_str())
     }
 
-    /// Repacks the day, or leaves it alone if an earlier walk did it and that is asked for. If it is refused, no
-    /// records and no report of it are left, unless the archive may be touched by that, or another walk took the day
-    /// over: then nothing is.
-    pub(crate) fn handle<R: Files>(&self, rt: &R, alloc: Global, archive: &Archive<'_>) -> Outcome
+    /// Whether there is a claim: a walk is at work, or was killed and left something.
+    fn is_claimed<R: Files>(&self, rt: &R) -> bool {
+        fs::symlink_metadata(rt, self.claim.as_str()).is_ok()
+    }
+
+    /// Does a day that this walk has. If it is refused, nothing of it is left, unless another walk took it over.
+    fn do_claimed<R: Files>(
+        &self,
+        rt: &R,
+        alloc: Global,
+        archive: &Archive<'_>,
+        claim: &Claim<R::File>,
+    ) -> Outcome
         ensures { IsDayOutcome (asked_of archive.now) result }
     {
-        if self.may_touch_archive(rt) {
-            return Outcome::Refused(DayFault::CannotOpen);
-        }
         if archive.resume {
             if let Some(repacked) = self.kept(rt, alloc, archive.options) {
                 return Outcome::Same(repacked);
             }
         }
-        match self.repack(rt, alloc, archive) {
+        match self.repack(rt, alloc, archive, claim) {
             Ok(repacked) => Outcome::Done(repacked),
-            Err(refusal) => refused(refusal),
+            Err(refusal) => {
+                if claim.is_ours(rt, self.claim()) {
+                    self.remove(rt);
+                }
+                refused(refusal)
+            }
         }
+    }
+
+    /// Claims the day, does it, and lets it go.
+    fn claim_and_do<R: Files>(&self, rt: &R, alloc: Global, archive: &Archive<'_>) -> Outcome
+    where
+        R::File: LockFile,
+        ensures { IsDayOutcome (asked_of archive.now) result }
+    {
+        let claim = match claim(rt, alloc, self) {
+            Ok(claim) => claim,
+            Err(refusal) => return refused(refusal),
+        };
+        let outcome = self.do_claimed(rt, alloc, archive, &claim);
+        claim.release(rt, self.claim());
+        outcome
+    }
+
+    /// Repacks the day, or leaves it alone if an earlier walk did it and that is asked for. If it is refused, no
+    /// records and no report of it are left, unless the day cannot be claimed, or its own file may be one of those:
+    /// then nothing is touched.
+    pub(crate) fn handle<R: Files>(&self, rt: &R, alloc: Global, archive: &Archive<'_>) -> Outcome
+    where
+        R::File: LockFile,
+        ensures { IsDayOutcome (asked_of archive.now) result }
+    {
+        if self.may_be_output(rt) {
+            return Outcome::Refused(DayFault::CannotOpen);
+        }
+        if archive.resume && !self.is_claimed(rt) {
+            if let Some(repacked) = self.kept(rt, alloc, archive.options) {
+                return Outcome::Same(repacked);
+            }
+        }
+        self.claim_and_do(rt, alloc, archive)
     }
 }
 
@@ -218,8 +317,10 @@ fn refused(refusal: DayFault) -> Outcome
 {
     match refusal {
         DayFault::NotShown => Outcome::NotShown,
-        DayFault::CannotOpen | DayFault::Listing | DayFault::Taken | DayFault::Tool(_) => {
-            Outcome::Refused(refusal)
-        }
+        DayFault::CannotOpen
+        | DayFault::Gone
+        | DayFault::Listing
+        | DayFault::Taken
+        | DayFault::Tool(_) => Outcome::Refused(refusal),
     }
 }

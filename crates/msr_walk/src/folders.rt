@@ -1,21 +1,23 @@
 //! The walk through the folders of an archive.
-ghost use Rattle.std.specs.Prelude.{◌↔◌, IfErr, IsErrOf, OnOk};
+ghost use Rattle.std.specs.Prelude.{◌↔◌, IfErr, IfOk, IsErrOf, OnOk};
 ghost use Rattle.msr_devices.specs.Device.{CanCountCall, HasFailed};
 ghost use Rattle.msr_sds.specs.SdsPath.{ReadsAsDay};
-ghost use Rattle.msr_walk.specs.Day.{Asked, asked_of};
+ghost use Rattle.msr_walk.specs.Day.{Asked, IsDayOutcome, asked_of};
 ghost use Rattle.msr_walk.specs.Entries.{IsOutcomeOf};
 ghost use Rattle.msr_walk.specs.Walk.{StopsTelling, Tells, Walks};
 
+use crate::claim::LockFile;
 use crate::day::Day;
 use crate::listing::{ListFault, names_in};
 use crate::outcome::{DayFault, Outcome};
 use crate::paths::{FOLDERS, channel_text, entry_path, join, levels_below};
+use crate::places::stands_apart;
 use crate::summary::write_summary;
 use crate::tally::Tally;
 use msr_devices::write_all;
 use msr_sds::SdsName;
 use msr_tool::{Options, Sink, ToolFault};
-use std::alloc::Global;
+use std::alloc::{AllocError, Global};
 use std::fs;
 use std::io::ErrorKind;
 use std::rt::Files;
@@ -68,14 +70,34 @@ fn tell<O: Sink>(
     Ok(())
 }
 
+/// Handles a day, if what is made of it stands outside the archive.
+fn handle_day<R: Files>(
+    walker: &Walker<'_, R>,
+    path: &str,
+    apart: bool,
+) -> Result<Outcome, AllocError>
+where
+    R::File: LockFile,
+    ensures { IfOk result (IsDayOutcome (asked_of walker.now.archive.now)) }
+{
+    if !apart {
+        return Ok(Outcome::Refused(DayFault::CannotOpen));
+    }
+    let day = Day::new(walker.alloc, walker.archive, path)?;
+    Ok(day.handle(walker.rt, walker.alloc, walker.archive))
+}
+
 /// Repacks a day, prints its line and counts it.
 fn tell_day<R: Files, O: Sink>(
     walker: &Walker<'_, R>,
     path: &str,
     name: &SdsName<'_>,
+    apart: bool,
     out: &mut O,
     tally: &mut Tally,
 ) -> Result<(), ToolFault>
+where
+    R::File: LockFile,
     requires day { ReadsAsDay path.now name.now }
     requires count { CanCountCall (O.device out.old) }
     ensures told { OnOk result (Tells (asked_of walker.now.archive.now) (O.device out.old)
@@ -84,8 +106,7 @@ fn tell_day<R: Files, O: Sink>(
         (O.device out.new)) }
 {
     let channel = channel_text(walker.alloc, name)?;
-    let day = Day::new(walker.alloc, walker.archive, path)?;
-    let outcome = day.handle(walker.rt, walker.alloc, walker.archive);
+    let outcome = handle_day(walker, path, apart)?;
     tell(walker.alloc, path, channel.as_str(), outcome, out, tally)
 }
 
@@ -93,6 +114,84 @@ fn tell_day<R: Files, O: Sink>(
 fn tell_file<R: Files, O: Sink>(
     walker: &Walker<'_, R>,
     path: &str,
+    apart: bool,
+    out: &mut O,
+    tally: &mut Tally,
+) -> Result<(), ToolFault>
+where
+    R::File: LockFile,
+    requires { CanCountCall (O.device out.old) }
+    ensures told { OnOk result (Tells (asked_of walker.now.archive.now) (O.device out.old)
+        (O.device out.new) tally.old tally.new) }
+    ensures stops { IfErr result (StopsTelling (asked_of walker.now.archive.now) (O.device out.old)
+        (O.device out.new)) }
+{
+    match SdsName::parse(path) {
+        Ok(name) => tell_day(walker, path, &name, apart, out, tally),
+        Err(fault) => tell(walker.alloc, path, "", Outcome::Skipped(fault), out, tally),
+    }
+}
+
+/// What stands under the name of an entry.
+#[derive(Clone, Copy, PartialEq, Eq)]
+enum Kind {
+    Folder,
+    Other,
+    /// Nothing, though the folder had it when it was listed.
+    Gone,
+}
+
+/// Links are followed, and one that leads nowhere is an entry. What the system does not tell of may be a folder: then
+/// it is refused if it has no list, and no part of the archive is taken for something else.
+fn kind_of<R: Files>(rt: &R, path: &str) -> Kind {
+    match fs::metadata(rt, path) {
+        Ok(metadata) => {
+            if metadata.is_dir() {
+                Kind::Folder
+            } else {
+                Kind::Other
+            }
+        }
+        Err(error) => {
+            if error.kind() != ErrorKind::NotFound {
+                Kind::Folder
+            } else if fs::symlink_metadata(rt, path).is_ok() {
+                Kind::Other
+            } else {
+                Kind::Gone
+            }
+        }
+    }
+}
+
+/// An entry that is not walked.
+fn tell_entry<R: Files, O: Sink>(
+    walker: &Walker<'_, R>,
+    path: &str,
+    kind: Kind,
+    apart: bool,
+    out: &mut O,
+    tally: &mut Tally,
+) -> Result<(), ToolFault>
+where
+    R::File: LockFile,
+    requires { CanCountCall (O.device out.old) }
+    ensures told { OnOk result (Tells (asked_of walker.now.archive.now) (O.device out.old)
+        (O.device out.new) tally.old tally.new) }
+    ensures stops { IfErr result (StopsTelling (asked_of walker.now.archive.now) (O.device out.old)
+        (O.device out.new)) }
+{
+    if kind == Kind::Gone {
+        let refused = Outcome::Refused(DayFault::Gone);
+        return tell(walker.alloc, path, "", refused, out, tally);
+    }
+    tell_file(walker, path, apart, out, tally)
+}
+
+/// A folder that has no list.
+fn tell_unlisted<R: Files, O: Sink>(
+    walker: &Walker<'_, R>,
+    folder: &str,
     out: &mut O,
     tally: &mut Tally,
 ) -> Result<(), ToolFault>
@@ -102,19 +201,9 @@ fn tell_file<R: Files, O: Sink>(
     ensures stops { IfErr result (StopsTelling (asked_of walker.now.archive.now) (O.device out.old)
         (O.device out.new)) }
 {
-    match SdsName::parse(path) {
-        Ok(name) => tell_day(walker, path, &name, out, tally),
-        Err(fault) => tell(walker.alloc, path, "", Outcome::Skipped(fault), out, tally),
-    }
-}
-
-/// Links are followed. What the system does not tell of may be a folder: then it is refused if it has no list, and
-/// no part of the archive is taken for something else.
-fn may_be_folder<R: Files>(rt: &R, path: &str) -> bool {
-    match fs::metadata(rt, path) {
-        Ok(metadata) => metadata.is_dir(),
-        Err(error) => error.kind() != ErrorKind::NotFound,
-    }
+    let path = if folder.is_empty() { "." } else { folder };
+    let refused = Outcome::Refused(DayFault::Listing);
+    tell(walker.alloc, path, "", refused, out, tally)
 }
 
 /// The entries of a folder with that path from the archive's own, below which folders stand that many levels deep.
@@ -125,6 +214,8 @@ fn walk_folder<R: Files, O: Sink>(
     out: &mut O,
     tally: &mut Tally,
 ) -> Result<(), ToolFault>
+where
+    R::File: LockFile,
     requires { CanCountCall (O.device out.old) }
     ensures told { OnOk result (Tells (asked_of walker.now.archive.now) (O.device out.old)
         (O.device out.new) tally.old tally.new) }
@@ -136,19 +227,22 @@ fn walk_folder<R: Files, O: Sink>(
     let names = match names_in(walker.rt, alloc, place.as_str()) {
         Ok(names) => names,
         Err(ListFault::Memory) => return Err(ToolFault::Memory),
-        Err(ListFault::Listing) => {
-            let path = if folder.is_empty() { "." } else { folder };
-            let refused = Outcome::Refused(DayFault::Listing);
-            return tell(alloc, path, "", refused, out, tally);
-        }
+        Err(ListFault::Listing) => return tell_unlisted(walker, folder, out, tally),
     };
+    // No folder above has days.
+    let apart = 0 < levels || stands_apart(walker.rt, alloc, walker.archive, folder)?;
     for name in &names {
         let path = entry_path(alloc, folder, name.as_str())?;
         let place = join(alloc, walker.archive.root, path.as_str())?;
-        if 0 < levels && may_be_folder(walker.rt, place.as_str()) {
+        let kind = if levels == 0 {
+            Kind::Other
+        } else {
+            kind_of(walker.rt, place.as_str())
+        };
+        if 0 < levels && kind == Kind::Folder {
             walk_folder(walker, path.as_str(), levels - 1, out, tally)?;
         } else {
-            tell_file(walker, path.as_str(), out, tally)?;
+            tell_entry(walker, path.as_str(), kind, apart, out, tally)?;
         }
     }
     Ok(())
@@ -160,6 +254,8 @@ fn walk_folders<R: Files, O: Sink>(
     out: &mut O,
     tally: &mut Tally,
 ) -> Result<(), ToolFault>
+where
+    R::File: LockFile,
     requires { CanCountCall (O.device out.old) }
     ensures told { OnOk result (Tells (asked_of walker.now.archive.now) (O.device out.old)
         (O.device out.new) tally.old tally.new) }
@@ -183,6 +279,8 @@ pub fn walk<R: Files, O: Sink>(
     archive: &Archive<'_>,
     out: &mut O,
 ) -> Result<bool, ToolFault>
+where
+    R::File: LockFile,
     requires { CanCountCall (O.device out.old) }
     ensures answer { Walks (asked_of archive.now) (O.device out.old) (O.device out.new) result }
 

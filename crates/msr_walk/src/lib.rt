@@ -2,17 +2,21 @@
 //! same path in another folder, and tells a line for each entry and the totals of the channels.
 #![tactic(auto)]
 
+mod claim;
 mod day;
 mod files;
 mod folders;
 mod listing;
 mod outcome;
 mod paths;
+mod places;
 mod repacking;
 mod stamp;
 mod summary;
 mod tally;
 
+pub use claim::{Lock, LockFile};
 pub use files::settle;
 pub use folders::{Archive, walk};
 pub use paths::levels_below;
+pub use places::folders_overlap;

@@ -47,7 +47,8 @@ impl From<io::Error> for ListFault {
     }
 }
 
-/// The names in the folder, in the order of their bytes.
+/// The names in the folder, in the order of their bytes. A folder that goes away while it is listed has no list: the
+/// system gives its end in place of what is left.
 pub(crate) fn names_in<R: Files>(
     rt: &R,
     alloc: Global,
@@ -59,6 +60,7 @@ pub(crate) fn names_in<R: Files>(
     for entry in fs::read_dir(&(rt, alloc), folder)? {
         names.push(String::from_str(alloc, entry?.file_name())?)?;
     }
+    fs::metadata(rt, folder)?;
     names.sort_unstable();
     Ok(names)
 }

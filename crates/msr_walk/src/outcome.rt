@@ -2,6 +2,7 @@
 ghost use Rattle.std.specs.Prelude.{◌≡◌, IfOk};
 ghost use Rattle.std.specs.String.{string_bytes};
 ghost use Rattle.msr_walk.specs.Entries.{IsLineOf};
+ghost use Rattle.msr_walk.specs.Paths.{shown_path, shown_letter};
 
 use msr_sds::SdsFault;
 use msr_tool::ToolFault;
@@ -20,7 +21,10 @@ pub(crate) enum DayFault {
     /// The report did not show that the records are the fewest, though it is their own.
     #[error("not shown")]
     NotShown,
-    /// Another walk made its own files in the place of those of this one.
+    /// It stood in the list of its folder, and was gone when it was looked at.
+    #[error("cannot open")]
+    Gone,
+    /// Another walk has the day.
     #[error("another walk is at work")]
     Taken,
     /// The file was not repacked.
@@ -36,6 +40,18 @@ impl From<ToolFault> for DayFault {
 
     fn from(fault: ToolFault) -> DayFault {
         DayFault::Tool(fault)
+    }
+}
+
+impl From<AllocError> for DayFault {
+    ghost use Rattle.std.specs.Prelude.{◌≡◌};
+    ghost use Rattle.msr_tool.specs.declared.fault.ToolFault.TheVariants.{Memory};
+    ghost use Rattle.msr_walk.specs.declared.outcome.DayFault.TheVariants.{Tool};
+
+    ghost from_gives = { λ _ why. why ≡ Tool Memory };
+
+    fn from(_: AllocError) -> DayFault {
+        DayFault::Tool(ToolFault::Memory)
     }
 }
 
@@ -58,11 +74,35 @@ pub(crate) enum Outcome {
     NotShown,
 }
 
+/// A character of a path as it is printed: a line feed in a name would begin another line.
+fn shown_letter(alloc: Global, letter: char) -> Result<String, AllocError>
+    ensures { IfOk result (λ text. string_bytes text ≡ shown_letter letter) }
+{
+    if letter.is_ascii_control() {
+        let code = letter as u8;
+        format!(in alloc; "%{code:02x}")
+    } else {
+        letter.to_string(alloc)
+    }
+}
+
+/// The path as it is printed.
+fn shown_path(alloc: Global, path: &str) -> Result<String, AllocError>
+    ensures { IfOk result (λ text. string_bytes text ≡ shown_path path.now) }
+{
+    let mut text = String::new(alloc);
+    for letter in path.chars() {
+        text.push_str(shown_letter(alloc, letter)?.as_str())?;
+    }
+    Ok(text)
+}
+
 impl Outcome {
     /// The line that tells it of the entry with this path.
     pub(crate) fn line(self, alloc: Global, path: &str) -> Result<String, AllocError>
         ensures { IfOk result (λ line. IsLineOf path.now self (string_bytes line)) }
     {
+        let path = shown_path(alloc, path)?;
         match self {
             Outcome::Done(Repacked { read, written }) => {
                 format!(in alloc; "done {path} read {read} written {written}\n")

@@ -1,7 +1,7 @@
 //! The paths of folders and files.
 ghost use Rattle.std.specs.Prelude.{◌≡◌, ◌↔◌, IfOk, IsTrue, All, count_by};
 ghost use Rattle.std.specs.String.{string_bytes};
-ghost use Rattle.msr_walk.specs.Files.{IsDepthBelow, IsName, is_slash, names_of};
+ghost use Rattle.msr_walk.specs.Files.{IsDepthBelow, IsName, ended, is_slash, names_of};
 ghost use Rattle.msr_walk.specs.Paths.{joined, below, channel_of};
 
 use msr_sds::SdsName;
@@ -19,6 +19,16 @@ pub(crate) fn join(alloc: Global, folder: &str, path: &str) -> Result<String, Al
         return String::from_str(alloc, folder);
     }
     format!(in alloc; "{folder}/{path}")
+}
+
+/// The path with that ending; the path that no file has gets none.
+pub(crate) fn ended(alloc: Global, path: &str, ending: &str) -> Result<String, AllocError>
+    ensures { IfOk result (λ text. string_bytes text ≡ ended path.now ending.now) }
+{
+    if path.is_empty() {
+        return Ok(String::new(alloc));
+    }
+    format!(in alloc; "{path}{ending}")
 }
 
 /// The path, from the archive's folder, of an entry of the folder with this path, which is empty for the archive's

@@ -1,0 +1,176 @@
+//! Days that are claimed: at any time one walk alone makes, renames or removes the files of a day.
+ghost use Rattle.std.specs.Prelude.{IfErr};
+ghost use Rattle.msr_walk.specs.Day.{IsUnclaimed};
+
+use crate::day::Day;
+use crate::files::{FileId, create_new, make_folder};
+use crate::outcome::DayFault;
+use std::alloc::Global;
+use std::fs;
+use std::fs::{File, OpenFile, OpenOptions, TryLockError};
+use std::io::ErrorKind;
+use std::rt::Files;
+
+/// Who has the lock of a file.
+#[derive(Clone, Copy, PartialEq, Eq)]
+pub enum Lock {
+    /// Whoever opened it so, until it is closed, also by the end of the process.
+    Ours,
+    /// Somebody else.
+    Others,
+    /// The system has no locks for it.
+    Unknown,
+}
+
+/// An open file that can be locked.
+pub trait LockFile {
+    /// Locks the file, if nobody else has, and does not wait.
+    fn lock(&self) -> Lock;
+}
+
+impl LockFile for File {
+    fn lock(&self) -> Lock {
+        match self.try_lock() {
+            Ok(()) => Lock::Ours,
+            Err(TryLockError::WouldBlock) => Lock::Others,
+            Err(TryLockError::Error(_)) => Lock::Unknown,
+        }
+    }
+}
+
+/// A day that this walk has. Its file stands under the name of the day's claim, open and locked; whoever ends, by
+/// whatever, has it no more. While it has that name nobody else has the day, since only who locked it removes it.
+#[derive(Drop)]
+pub(crate) struct Claim<F> {
+    file: F,
+    number: u64,
+}
+
+impl<F: OpenFile> Claim<F> {
+    /// The number of its file, which no other file that is there has.
+    pub(crate) fn number(&self) -> u64 {
+        self.number
+    }
+
+    /// Whether its file has that name still.
+    pub(crate) fn is_ours<R: Files>(&self, rt: &R, path: &str) -> bool {
+        leads_to(rt, path, &self.file).is_some()
+    }
+
+    /// Lets the day go.
+    pub(crate) fn release<R: Files>(&self, rt: &R, path: &str) {
+        if self.is_ours(rt, path) {
+            fs::remove_file(rt, path).ok();
+        }
+    }
+}
+
+/// The file that stands under a name, if it is that open one.
+fn leads_to<R: Files, F: OpenFile>(rt: &R, path: &str, file: &F) -> Option<FileId> {
+    let Ok(found) = fs::symlink_metadata(rt, path) else {
+        return None;
+    };
+    let Ok(opened) = file.metadata() else {
+        return None;
+    };
+    let id = FileId::of(&opened);
+    if FileId::of(&found) == id {
+        Some(id)
+    } else {
+        None
+    }
+}
+
+/// How often a day is asked for in which other walks end or clear meanwhile.
+const TRIES: u8 = 8;
+
+/// Claims the day.
+pub(crate) fn claim<R: Files>(rt: &R, alloc: Global, day: &Day) -> Result<Claim<R::File>, DayFault>
+where
+    R::File: LockFile,
+    ensures { IfErr result IsUnclaimed }
+{
+    make_folder(rt, day.claim())?;
+    for _ in 0..TRIES {
+        if let Some(claim) = claim_anew(rt, day.claim())? {
+            return Ok(claim);
+        }
+        clear(rt, alloc, day)?;
+    }
+    Err(DayFault::Taken)
+}
+
+/// Makes the file of a claim; `None` if there is one, or another walk took it for one that was left before it was
+/// locked.
+fn claim_anew<R: Files>(rt: &R, path: &str) -> Result<Option<Claim<R::File>>, DayFault>
+where
+    R::File: LockFile,
+    ensures { IfErr result IsUnclaimed }
+{
+    let file = match create_new(rt, path) {
+        Ok(file) => file,
+        Err(error) => match error.kind() {
+            ErrorKind::AlreadyExists => return Ok(None),
+            _ => return Err(DayFault::CannotOpen),
+        },
+    };
+    if file.lock() == Lock::Others {
+        return Ok(None);
+    }
+    match leads_to(rt, path, &file) {
+        Some(id) => Ok(Some(Claim {
+            file,
+            number: id.number,
+        })),
+        None => Ok(None),
+    }
+}
+
+/// The file of a claim that was left, or that another walk has; `None` if it is gone. What is no regular file is no
+/// claim, and is not opened.
+fn open_claim<R: Files>(rt: &R, path: &str) -> Result<Option<R::File>, DayFault>
+    ensures { IfErr result IsUnclaimed }
+{
+    match fs::symlink_metadata(rt, path) {
+        Ok(metadata) => {
+            if !metadata.is_file() {
+                return Err(DayFault::CannotOpen);
+            }
+        }
+        Err(error) => match error.kind() {
+            ErrorKind::NotFound => return Ok(None),
+            _ => return Err(DayFault::CannotOpen),
+        },
+    }
+    match OpenOptions::new().write(true).open(rt, path) {
+        Ok(file) => Ok(Some(file)),
+        Err(error) => match error.kind() {
+            ErrorKind::NotFound => Ok(None),
+            _ => Err(DayFault::CannotOpen),
+        },
+    }
+}
+
+/// Removes what a walk that was killed left of the day. One that is at work has its claim locked; if the system has no
+/// locks, nothing tells whether it is.
+fn clear<R: Files>(rt: &R, alloc: Global, day: &Day) -> Result<(), DayFault>
+where
+    R::File: LockFile,
+    ensures { IfErr result IsUnclaimed }
+{
+    let path = day.claim();
+    let Some(file) = open_claim(rt, path)? else {
+        return Ok(());
+    };
+    if file.lock() != Lock::Ours {
+        return Err(DayFault::Taken);
+    }
+    let Some(id) = leads_to(rt, path, &file) else {
+        return Ok(());
+    };
+    day.files(alloc, id.number)?.sweep(rt);
+    match fs::remove_file(rt, path) {
+        Ok(()) => Ok(()),
+        Err(_) => Err(DayFault::CannotOpen),
+    }
+}
