@@ -25,7 +25,7 @@ use Rattle.msr_certificate.proofs.SameFields.{same_number, differ}
 use Rattle.msr_certificate.proofs.Enough.{inside, opening_short, end_short, decimal_short}
 use Rattle.msr_certificate.proofs.ReadTexts.{going_of, only_opening}
 
-at_number : (text : List ℕ) (m n : ℕ) → n ≡ m → IsFaultLine text m → IsFaultLine text n
+pub at_number : (text : List ℕ) (m n : ℕ) → n ≡ m → IsFaultLine text m → IsFaultLine text n
 at_number text m n is fault = rw is fault
 
 -- the first line of a segment, and the text after it

@@ -77,20 +77,20 @@ same_opening : (key other : Key) (start other_start : ℤ) (samples records othe
     → IsOpening other other_start other_samples other_records ys text → (records ≡ other_records) × (xs ≡ ys)
 same_opening key other start other_start samples records other_samples other_records xs ys text is_key is_other
     fits_samples fits_records fits_other_samples fits_other_records opens other_opens =
-        let records_then : List ℕ = codes " records " ++ (decimal records ++ (10 ∷ xs)) in
-        let other_records_then : List ℕ = codes " records " ++ (decimal other_records ++ (10 ∷ ys)) in
-        let samples_then : List ℕ = codes " samples " ++ (decimal samples ++ records_then) in
-        let other_samples_then : List ℕ = codes " samples " ++ (decimal other_samples ++ other_records_then) in
-        let key_same = same_key key other (codes " start " ++ (opens.word ++ samples_then))
-        (codes " start " ++ (other_opens.word ++ other_samples_then)) is_key is_other refl refl
-        (sym opens.is ∙ other_opens.is) in
-        let start_same = same_time start other_start opens.word other_opens.word samples_then other_samples_then
-        opens.time other_opens.time (append_cancel_left (codes " start ") _ _ key_same.1) in
-        let samples_same = same_number samples other_samples records_then other_records_then fits_samples
-        fits_other_samples refl refl (append_cancel_left (codes " samples ") _ _ start_same.1) in
-        let records_same = same_number records other_records (10 ∷ xs) (10 ∷ ys) fits_records fits_other_records
-        refl refl (append_cancel_left (codes " records ") _ _ samples_same.1) in
-        (records_same.0, (same_cons 10 10 xs ys records_same.1).1)
+    let records_then : List ℕ = codes " records " ++ (decimal records ++ (10 ∷ xs)) in
+    let other_records_then : List ℕ = codes " records " ++ (decimal other_records ++ (10 ∷ ys)) in
+    let samples_then : List ℕ = codes " samples " ++ (decimal samples ++ records_then) in
+    let other_samples_then : List ℕ = codes " samples " ++ (decimal other_samples ++ other_records_then) in
+    let key_same = same_key key other (codes " start " ++ (opens.word ++ samples_then))
+    (codes " start " ++ (other_opens.word ++ other_samples_then)) is_key is_other refl refl
+    (sym opens.is ∙ other_opens.is) in
+    let start_same = same_time start other_start opens.word other_opens.word samples_then other_samples_then
+    opens.time other_opens.time (append_cancel_left (codes " start ") _ _ key_same.1) in
+    let samples_same = same_number samples other_samples records_then other_records_then fits_samples
+    fits_other_samples refl refl (append_cancel_left (codes " samples ") _ _ start_same.1) in
+    let records_same = same_number records other_records (10 ∷ xs) (10 ∷ ys) fits_records fits_other_records
+    refl refl (append_cancel_left (codes " records ") _ _ samples_same.1) in
+    (records_same.0, (same_cons 10 10 xs ys records_same.1).1)
 
 pub only_opening : (line : FormLine) (more text : List ℕ) → IsFormLine line
     → IsOpening line.key line.start line.samples line.records more text → ReadsOnly text more line.records

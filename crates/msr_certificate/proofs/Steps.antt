@@ -1,7 +1,9 @@
 -- What a step of reading does, from what stands at the start of the text.
-use Rattle.std.proofs.Common.{◌≡◌, ◌∙◌, ap, sym, refl, inl, inr, subst, arith, ℕ, suc, ◌+◌, ◌*◌, ◌-◌, ◌<◌, ◌≤◌, ◌^◌, Bool, true, false, List, [], ◌∷◌, ◌++◌, append_assoc, drop, length, length-append, decimal, codes, All, map, flat_map, Result, Ok, Err}
+use Rattle.std.proofs.Common.{◌≡◌, ◌∙◌, ap, sym, refl, inl, inr, subst, arith, ℕ, ◌+◌, ◌*◌, ◌-◌, ◌<◌, ◌≤◌, ◌^◌, ◌==◌, Bool, true, false, List, [], ◌∷◌, ◌++◌, append_assoc, drop, length, length-append, decimal, codes, All, map, flat_map, Result, Ok, Err}
 use Rattle.std.proofs.Math.Seq.{drop-append_seam}
 use Rattle.std.proofs.lemmas.List.{append-nil}
+use Rattle.std.proofs.lemmas.List.Elements.{All-push}
+use Rattle.std.specs.List.{list_any}
 use Rattle.msr_time.specs.Instant.{IsInstant}
 use Rattle.msr_words.specs.Lengths.{bytes_of}
 use Rattle.msr_report.specs.Proper.{records_of}
@@ -9,9 +11,10 @@ use Rattle.msr_report.specs.Text.{separators_line, end_line}
 use Rattle.msr_report.specs.declared.report.SegmentLine.{SegmentLine}
 use Rattle.msr_report.specs.declared.report.Report.{Report}
 use Rattle.msr_certificate.specs.Form.{FormLine, IsKey, IsFirst, IsFormLine, IsOpening, first_then, form_line}
-use Rattle.msr_certificate.specs.Fault.{IsFaultLine}
+use Rattle.msr_certificate.specs.Fault.{IsOneLine, IsFaultLine}
 use Rattle.msr_certificate.specs.Ending.{IsLast}
 use Rattle.msr_certificate.specs.Reading.{IsReadFrom}
+use Rattle.msr_certificate.specs.TextFault.{IsTextFault}
 use Rattle.msr_certificate.specs.Draft.{IsEnough, IsRefused, IsStep, IsTaken, Follows, ReadTo, ReadSegments, ReadOpening, ReadNumbers, ReadEnd, numbers_then, stop_byte}
 use Rattle.msr_certificate.specs.declared.fault.ReportFault.{ReportFault}
 use Rattle.msr_certificate.specs.declared.fault.ReportFault.TheVariants.{Line, Read, Memory}
@@ -46,6 +49,11 @@ refused old new whole text line (Err (Line n)) same fault is = λ past more foll
 refused old new whole text line (Err Read) same fault is = absurd is
 refused old new whole text line (Err Memory) same fault is = absurd is
 
+-- a line without a line feed has no byte of one
+pub one_is_none : (text : List ℕ) → IsOneLine text → list_any (λ (byte : ℕ). byte == 10) text ≡ false
+one_is_none [] one = refl
+one_is_none (byte ∷ text) one = let rest = one_is_none text one.1 in rw (one.0, rest) refl
+
 -- what a draft follows at its place
 pub follows_at : (draft : Draft) (place : Place) (past : List ℕ) → draft.place ≡ place
     → ReadTo place draft.segments.items draft.numbers.items past → Follows draft past
@@ -57,6 +65,12 @@ pub read_to : (draft : Draft) (place : Place) (past : List ℕ) → draft.place 
     → ReadTo place draft.segments.items draft.numbers.items past
 read_to draft place past is follows =
     subst (λ (p : Place). ReadTo p draft.segments.items draft.numbers.items past) is follows.to
+
+pub first_fault : (draft : Draft) (past text : List ℕ) (line : ℕ) → draft.place ≡ Start → Follows draft past
+    → IsFaultLine text line → IsFaultLine (past ++ text) line
+first_fault draft past text line place follows fault =
+    let to : ReadTo Start draft.segments.items draft.numbers.items past = read_to draft Start past place follows in
+    subst (λ (p : List ℕ). IsFaultLine (p ++ text) line) (sym to.0) fault
 
 -- the lists of a draft that did not change
 same_lists : (old new : Draft) (place : Place) (past : List ℕ) → new.segments.items ≡ old.segments.items
@@ -105,40 +119,40 @@ pub opening_step : (old new : Draft) (first : FirstLines) (line : FirstLine) (te
     → n ≡ length text - length rest → IsTaken old new text n
 opening_step old new first line text rest n place new_place segments numbers is_key start samples records opens
     count =
-        let body : List ℕ = opening_body line.key opens.word line.samples line.records in
-        let taken : List ℕ = body ++ (10 ∷ []) in
-        let split : text ≡ taken ++ rest = opens.is
-        ∙ sym (opening_then line.key opens.word line.samples line.records rest)
-        ∙ sym (append_assoc body (10 ∷ []) rest) in
-        let size : n ≡ length taken =
-        omega (arith, count, ap (λ (l : List ℕ). length l) split, length-append taken rest) in
-        record {
-          taken = taken;
-          rest = rest;
-          is = split;
-          count = size;
-          some = omega (arith, size, length-append body (10 ∷ []));
-          follows = λ past follows.
-              let to : ReadTo (Segment first) old.segments.items old.numbers.items past =
-              read_to old (Segment first) past place follows in
-              let read : ReadOpening first old.segments.items line (past ++ taken) = record {
-                before = past;
-                read = to.0;
-                opening = taken;
-                is_key = is_key;
-                start = start;
-                samples = samples;
-                records = records;
-                opens = record {
-                  word = opens.word;
-                  time = opens.time;
-                  is = opening_then line.key opens.word line.samples line.records [];
-                };
-                is = refl;
-              } in
-              follows_at new (Separators first line) (past ++ taken) new_place
-              (same_lists old new (Separators first line) (past ++ taken) segments numbers (read, to.1));
-        }
+    let body : List ℕ = opening_body line.key opens.word line.samples line.records in
+    let taken : List ℕ = body ++ (10 ∷ []) in
+    let split : text ≡ taken ++ rest = opens.is
+    ∙ sym (opening_then line.key opens.word line.samples line.records rest)
+    ∙ sym (append_assoc body (10 ∷ []) rest) in
+    let size : n ≡ length taken =
+    omega (arith, count, ap (λ (l : List ℕ). length l) split, length-append taken rest) in
+    record {
+      taken = taken;
+      rest = rest;
+      is = split;
+      count = size;
+      some = omega (arith, size, length-append body (10 ∷ []));
+      follows = λ past follows.
+          let to : ReadTo (Segment first) old.segments.items old.numbers.items past =
+          read_to old (Segment first) past place follows in
+          let read : ReadOpening first old.segments.items line (past ++ taken) = record {
+            before = past;
+            read = to.0;
+            opening = taken;
+            is_key = is_key;
+            start = start;
+            samples = samples;
+            records = records;
+            opens = record {
+              word = opens.word;
+              time = opens.time;
+              is = opening_then line.key opens.word line.samples line.records [];
+            };
+            is = refl;
+          } in
+          follows_at new (Separators first line) (past ++ taken) new_place
+          (same_lists old new (Separators first line) (past ++ taken) segments numbers (read, to.1));
+    }
 
 pub end_step : (old new : Draft) (first : FirstLines) (text rest : List ℕ) (n : ℕ) → old.place ≡ Segment first
     → new.place ≡ End first → new.segments.items ≡ old.segments.items → new.numbers.items ≡ old.numbers.items
@@ -169,7 +183,7 @@ end_step old new first text rest n place new_place segments numbers last count =
 
 pub word_step : (old new : Draft) (first : FirstLines) (line : FirstLine) (last : Bool) (text rest : List ℕ) (n : ℕ)
     → old.place ≡ Separators first line
-    → ((past : List ℕ) → ReadOpening first old.segments.items line past
+    → ((past : List ℕ) → ReadOpening first old.segments.items line past → All (λ n. n < 2 ^ 64) old.numbers.items
     → Follows new (past ++ numbers_then old.numbers.items last))
     → text ≡ codes "separators" ++ (stop_byte last ∷ rest) → n ≡ length text - length rest
     → IsTaken old new text n
@@ -187,16 +201,18 @@ word_step old new first line last text rest n place goes is count =
       follows = λ past follows.
           let to : ReadTo (Separators first line) old.segments.items old.numbers.items past =
           read_to old (Separators first line) past place follows in
-          subst (λ (ns : List ℕ). Follows new (past ++ numbers_then ns last)) to.1 (goes past to.0);
+          let none : All (λ n. n < 2 ^ 64) [] = λ k d within. absurd (omega arith) in
+          subst (λ (ns : List ℕ). Follows new (past ++ numbers_then ns last)) to.1
+          (goes past to.0 (subst (λ (ns : List ℕ). All (λ n. n < 2 ^ 64) ns) (sym to.1) none));
     }
 
 pub number_step : (old mid new : Draft) (first : FirstLines) (line : FirstLine) (number : ℕ) (last : Bool)
     (text rest : List ℕ) (n : ℕ) → old.place ≡ Number first line → mid.segments.items ≡ old.segments.items
-    → mid.numbers.items ≡ old.numbers.items ++ number ∷ []
-    → ((past : List ℕ) → ReadOpening first mid.segments.items line past
+    → mid.numbers.items ≡ old.numbers.items ++ number ∷ [] → number < 2 ^ 64
+    → ((past : List ℕ) → ReadOpening first mid.segments.items line past → All (λ n. n < 2 ^ 64) mid.numbers.items
     → Follows new (past ++ numbers_then mid.numbers.items last))
     → text ≡ decimal number ++ (stop_byte last ∷ rest) → n ≡ length text - length rest → IsTaken old new text n
-number_step old mid new first line number last text rest n place segments pushed goes is count =
+number_step old mid new first line number last text rest n place segments pushed small goes is count =
     let taken : List ℕ = decimal number ++ (stop_byte last ∷ []) in
     let split : text ≡ taken ++ rest = is ∙ sym (append_assoc (decimal number) (stop_byte last ∷ []) rest) in
     let size : n ≡ length taken =
@@ -212,8 +228,11 @@ number_step old mid new first line number last text rest n place segments pushed
           read_to old (Number first line) past place follows in
           let read : ReadOpening first mid.segments.items line to.before =
           subst (λ (ss : List SegmentLine). ReadOpening first ss line to.before) (sym segments) to.read in
+          let fits : All (λ n. n < 2 ^ 64) mid.numbers.items =
+          subst (λ (ns : List ℕ). All (λ n. n < 2 ^ 64) ns) (sym pushed)
+          (All-push (λ m. m < 2 ^ 64) old.numbers.items number to.each small) in
           let more : Follows new (to.before ++ numbers_then (old.numbers.items ++ number ∷ []) last) =
-          subst (λ (ns : List ℕ). Follows new (to.before ++ numbers_then ns last)) pushed (goes to.before read) in
+          subst (λ (ns : List ℕ). Follows new (to.before ++ numbers_then ns last)) pushed (goes to.before read fits) in
           let shown : past ++ taken ≡ to.before ++ numbers_then (old.numbers.items ++ number ∷ []) last =
           ap (λ (p : List ℕ). p ++ taken) to.is ∙ numbers_more to.before old.numbers.items 32 taken
           ∙ ap (λ (l : List ℕ). to.before ++ (codes "separators" ++ l))
@@ -286,6 +305,17 @@ left_taken old new whole text rest n left taken is = record {
   is = left.is ∙ ap (λ (l : List ℕ). left.read ++ l) taken.is ∙ sym (append_assoc left.read taken.taken taken.rest)
       ∙ ap (λ (l : List ℕ). (left.read ++ taken.taken) ++ l) (sym (is ∙ drop_taken old new text n taken));
 }
+
+pub left_fault : (draft : Draft) (whole rest : List ℕ) (why : ReportFault) → Left draft whole rest
+    → ((past more : List ℕ) → Follows draft past → IsTextFault (past ++ (rest ++ more)) why) → IsTextFault whole why
+left_fault draft whole rest why left fault =
+    subst (λ (t : List ℕ). IsTextFault t why)
+    (ap (λ (l : List ℕ). left.read ++ l) (append-nil rest) ∙ sym left.is) (fault left.read [] left.follows)
+
+pub left_whole : (draft : Draft) (whole rest : List ℕ) → (left : Left draft whole rest) → rest ≡ []
+    → left.read ≡ whole
+left_whole draft whole rest left none =
+    sym (left.is ∙ ap (λ (l : List ℕ). left.read ++ l) none ∙ append-nil left.read)
 
 -- a whole report was read
 pub whole_report : (report : Report) (first : FirstLines) (past : List ℕ) → report.length ≡ first.length

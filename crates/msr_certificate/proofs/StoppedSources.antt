@@ -1,16 +1,19 @@
 -- What was read of a source, and what is answered when it was not read to its end.
-use Rattle.std.proofs.Common.{◌≡◌, ◌∙◌, ap, sym, refl, arith, List, ℕ, ◌+◌, ◌≤◌, Bool, true, false, [], ◌++◌, ◌↔◌, append_assoc, drop, length, length-append, Result, Ok, Err, IfOk, IfErr, IsErrOf}
+use Rattle.std.proofs.Common.{◌≡◌, ◌∙◌, ◌⊎◌, inl, inr, ap, sym, refl, subst, arith, List, ℕ, ◌+◌, ◌≤◌, Bool, true, false, [], ◌++◌, ◌↔◌, append_assoc, drop, length, length-append, Result, Ok, Err, IfOk, IfErr, IsErrOf}
 use Rattle.std.proofs.lemmas.List.{append-nil}
 use Rattle.msr_devices.specs.Device.{Device, Gives, HasFailed, HasLeft, IsCalm, IsSteady}
-use Rattle.msr_devices.specs.ReadBuffer.{Window, IsFilled}
+use Rattle.msr_devices.specs.ReadBuffer.{Window, IsFilled, StopsFilling}
 use Rattle.msr_devices.specs.declared.read_buffer.FillFault.{FillFault}
 use Rattle.msr_devices.specs.declared.read_buffer.FillFault.TheVariants as fill
-use Rattle.msr_devices.proofs.Chaining.{calm_calm, calm_same, gives_append, left_of, steady_sound, steady_steady}
+use Rattle.msr_devices.proofs.Chaining.{calm_calm, calm_failed, calm_same, gives_append, left_of, steady_sound, steady_steady}
 use Rattle.msr_report.specs.declared.report.Report.{Report}
-use Rattle.msr_certificate.specs.Draft.{Follows, IsTaken}
+use Rattle.msr_certificate.specs.Draft.{Follows, IsStep, IsTaken}
 use Rattle.msr_certificate.specs.Reading.{IsReadFrom, ReadsReport, fault_of_fill}
 use Rattle.msr_certificate.specs.TextFault.{IsTextFault}
 use Rattle.msr_certificate.specs.declared.draft.Draft.{Draft}
+use Rattle.msr_certificate.specs.declared.draft.Progress.{Progress}
+use Rattle.msr_certificate.specs.declared.draft.Progress.TheVariants.{Cut, Whole}
+use Rattle.msr_certificate.specs.declared.first.FirstLines.{FirstLines}
 use Rattle.msr_certificate.specs.declared.fault.ReportFault.{ReportFault}
 use Rattle.msr_certificate.specs.declared.fault.ReportFault.TheVariants.{Line, Read, Memory}
 use Rattle.msr_certificate.proofs.Steps.{drop_taken}
@@ -38,6 +41,17 @@ judged_tells start now bytes (Line n) steady fault =
 judged_tells start now bytes Read steady fault = absurd (fault [])
 judged_tells start now bytes Memory steady fault =
     ((λ e. absurd cc), (λ has_failed. absurd (steady_sound start now steady has_failed)))
+
+-- a source that was not read to its end failed, or memory was refused
+pub stopped_tells : {T : Type 0} (start old new : Device) (want : ℕ) (before after : Window) (why : FillFault)
+    → IsCalm start old → StopsFilling want old new before after why
+    → IsErrOf {T = T} (Err (fault_of_fill why)) Read ↔ HasFailed start new
+stopped_tells start old new want before after fill.Read calm stops =
+    ((λ e. calm_failed start old new calm stops.0), (λ has_failed. refl))
+stopped_tells start old new want before after fill.Memory calm stops = (
+  (λ e. absurd cc),
+  (λ has_failed. absurd (steady_sound start old calm.steady (rw stops.0 at has_failed))),
+)
 
 -- the same of a source that was read to its end
 answers : (text : List ℕ) (result : Result Report ReportFault) → IfOk result (λ report. IsReadFrom report text)
@@ -101,6 +115,17 @@ reading_taken start now old new before after n reading taken bytes ended =
       steady = reading.steady;
     }
 
+-- a step that takes nothing changes nothing
+pub rests : (old new : Draft) (text : List ℕ) (progress : Progress)
+    → ((x : ℕ) × (progress ≡ Cut x)) ⊎ ((x : FirstLines) × (progress ≡ Whole x))
+    → IsStep old new text (Ok progress) → new ≡ old
+rests old new text progress (inl cut) step =
+    let is : IsStep old new text (Ok (Cut cut.0)) =
+    subst (λ (p : Progress). IsStep old new text (Ok p)) cut.1 step in is.same
+rests old new text progress (inr whole) step =
+    let is : IsStep old new text (Ok (Whole whole.0)) =
+    subst (λ (p : Progress). IsStep old new text (Ok p)) whole.1 step in is.same
+
 pub reading_filled : (start old new : Device) (draft other : Draft) (before after : Window) (want : ℕ)
     → IsReading start old draft before → before.ended ≡ false → other ≡ draft
     → IsFilled want old new before after → IsReading start new other after
@@ -118,3 +143,13 @@ reading_filled start old new draft other before after want reading open_before s
       calm = λ e. calm_calm start old new calm (filled.calm e);
       steady = steady_steady start old new calm.steady filled.steady;
     }
+
+pub reading_fault : (start now : Device) (draft : Draft) (buffer : Window) (bytes : List ℕ) (why : ReportFault)
+    → IsReading start now draft buffer → bytes ≡ buffer.bytes
+    → ((past more : List ℕ) → Follows draft past → IsTextFault (past ++ (bytes ++ more)) why)
+    → (text : List ℕ) × HasLeft start text × ReadsReport text (Err why)
+reading_fault start now draft buffer bytes why reading is fault =
+    judged start now (reading.read ++ buffer.bytes) why reading.came
+    (λ more. subst (λ (t : List ℕ). IsTextFault t why)
+    (ap (λ (l : List ℕ). reading.read ++ (l ++ more)) is ∙ sym (append_assoc reading.read buffer.bytes more))
+    (fault reading.read more reading.follows))

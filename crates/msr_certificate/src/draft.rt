@@ -1,5 +1,5 @@
 //! A report of which some was read.
-ghost use Rattle.std.specs.Prelude.{◌≡◌, ◌<◌, ◌≤◌, ◌+◌, ◌*◌, ◌^◌, ◌++◌, ◌∷◌, [], ℕ, List, Bool, IfOk, IfErr, IfSome, IsSomeAnd, SomeIff, OnOk, length, codes};
+ghost use Rattle.std.specs.Prelude.{◌≡◌, ◌<◌, ◌≤◌, ◌+◌, ◌*◌, ◌^◌, ◌++◌, ◌∷◌, [], ℕ, List, Bool, All, IfOk, IfErr, IfSome, IsSomeAnd, SomeIff, OnOk, length, codes};
 ghost use Rattle.std.specs.Fmt.{decimal};
 ghost use Rattle.msr_report.specs.Proper.{records_of};
 ghost use Rattle.msr_certificate.specs.Draft.{Follows, IsRefused, IsStep, ReadOpening, numbers_then, stop_byte};
@@ -185,7 +185,12 @@ impl Draft {
         refuse(text, line_after(self.segments.as_slice()))
     }
 
-    fn read_word(&mut self, first: FirstLines, line: FirstLine, text: &[u8]) -> Result<Progress, ReportFault>
+    fn read_word(
+        &mut self,
+        first: FirstLines,
+        line: FirstLine,
+        text: &[u8],
+    ) -> Result<Progress, ReportFault>
         ensures { self.old.place ≡ Separators first line → IsStep self.old self.new text.now result }
     {
         let Some((last, rest)) = separators_word(text) else {
@@ -195,7 +200,12 @@ impl Draft {
         Ok(Progress::Taken(text.len() - rest.len()))
     }
 
-    fn read_number(&mut self, first: FirstLines, line: FirstLine, text: &[u8]) -> Result<Progress, ReportFault>
+    fn read_number(
+        &mut self,
+        first: FirstLines,
+        line: FirstLine,
+        text: &[u8],
+    ) -> Result<Progress, ReportFault>
         ensures { self.old.place ≡ Number first line → IsStep self.old self.new text.now result }
     {
         let Some((n, last, rest)) = separator(text) else {
@@ -209,6 +219,7 @@ impl Draft {
     /// Goes on after a word of the separators' line, which may be its last.
     fn go_on(&mut self, first: FirstLines, line: FirstLine, last: bool) -> Result<(), AllocError>
         ensures { OnOk result ((past : List ℕ) → ReadOpening first self.old.segments.items line past
+            → All (λ n. n < 2 ^ 64) self.old.numbers.items
             → Follows self.new (past ++ numbers_then self.old.numbers.items last)) }
     {
         if !last {

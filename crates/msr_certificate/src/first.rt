@@ -34,13 +34,22 @@ pub(crate) fn first_lines(text: &[u8]) -> Result<(FirstLines, &[u8]), FaultAt>
         return Err(FaultAt { line: 1, text });
     };
     let Some((length, third)) = record_length(second) else {
-        return Err(FaultAt { line: 2, text: second });
+        return Err(FaultAt {
+            line: 2,
+            text: second,
+        });
     };
     let Some((tolerance, fourth)) = tolerance(third) else {
-        return Err(FaultAt { line: 3, text: third });
+        return Err(FaultAt {
+            line: 3,
+            text: third,
+        });
     };
     let Some((counts, rest)) = counts(fourth) else {
-        return Err(FaultAt { line: 4, text: fourth });
+        return Err(FaultAt {
+            line: 4,
+            text: fourth,
+        });
     };
     let first = FirstLines {
         length,
