@@ -55,7 +55,7 @@ texts_more (l ∷ lines) text line more are is =
       ),
     )
 
-map_more : (segments : List SegmentLine) (segment : SegmentLine)
+pub map_more : (segments : List SegmentLine) (segment : SegmentLine)
     → map form_line (segments ++ segment ∷ []) ≡ map form_line segments ++ form_line segment ∷ []
 map_more [] segment = refl
 map_more (s ∷ segments) segment = ap (λ (l : List FormLine). form_line s ∷ l) (map_more segments segment)
@@ -167,7 +167,7 @@ pub opening_not_end : (line : FormLine) (more rest x : List ℕ) (count total : 
     → IsOpening line.key line.start line.samples line.records more rest → rest ≡ end_line count total ++ x → ⊥
 opening_not_end line more rest x count total opening is = two_heads 115 101 _ _ refl refl (sym opening.is ∙ is)
 
-first_long : (bytes tolerance : ℕ) (counts : Counts) (more : List ℕ)
+pub first_long : (bytes tolerance : ℕ) (counts : Counts) (more : List ℕ)
     → 18 + length more ≤ length (first_then bytes tolerance counts more)
 first_long bytes tolerance counts more = simp length-append (omega arith)
 

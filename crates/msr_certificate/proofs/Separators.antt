@@ -23,7 +23,7 @@ pub line_then : (separators more : List ℕ) → separators_line separators ++ m
     ++ (flat_map spaced separators ++ (10 ∷ more))
 line_then separators more = simp append_assoc
 
-one_more : (ns : List ℕ) (n : ℕ) (more : List ℕ)
+pub one_more : (ns : List ℕ) (n : ℕ) (more : List ℕ)
     → flat_map spaced ns ++ (spaced n ++ more) ≡ flat_map spaced (ns ++ n ∷ []) ++ more
 one_more [] n more = ap (λ (l : List ℕ). l ++ more) (sym (append-nil (spaced n)))
 one_more (m ∷ ns) n more =

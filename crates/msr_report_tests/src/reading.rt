@@ -84,6 +84,25 @@ fn stops_at_the_line_at_fault(rt: HostRuntime) -> Result<(), Fail> {
     Ok(())
 }
 
+/// Whether line 1 is told of a text that begins so and then has the byte without an end: 7,000 of it, which come in
+/// 1,000 calls, of which the 700th would fail.
+fn stops_in(alloc: Global, line: u64, begin: &str, byte: &str) -> Result<bool, AllocError> {
+    let text = format!(in alloc; "{begin}{}", byte.repeat(alloc, 7_000)?)?;
+    let fault = read_from(alloc, text.as_str(), Some(700)).err();
+    Ok(fault == Some(ReportFault::Line(line)))
+}
+
+#[test]
+fn gives_up_a_line_without_an_end(rt: HostRuntime) -> Result<(), Fail> {
+    let alloc = rt.alloc();
+    let lines = "msrepack 1\nlength 256\ntolerance 1000\nread 1 empty 0 mismatched 0\n";
+    assert!(rt; stops_in(alloc, 1, "", "\0")?);
+    assert!(rt; stops_in(alloc, 1, "msrepack 1", " ")?);
+    assert!(rt; stops_in(alloc, 4, "msrepack 1\nlength 256\ntolerance 1000\nread ", "1")?);
+    assert!(rt; stops_in(alloc, 5, lines, "segment ")?);
+    Ok(())
+}
+
 fn is_told(alloc: Global, fault: ReportFault, text: &str) -> Result<bool, AllocError> {
     Ok(format!(in alloc; "{fault}")?.as_str() == text)
 }

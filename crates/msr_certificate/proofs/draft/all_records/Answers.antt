@@ -1,7 +1,7 @@
 use Rattle.std.proofs.Common.{◌∙◌, ap, sym, arith, ◌+◌, ◌<◌, ◌^◌, take_all}
 use Rattle.msr_report.specs.Proper.{records_of}
 use Rattle.msr_report.proofs.Written.{records_next, records_take}
-use Rattle.msr_certificate.proofs.reports.all_records.Goals as goal
+use Rattle.msr_certificate.proofs.draft.all_records.Goals as goal
 
 pub returns-in_err-records : goal.returns-in_err-records
 returns-in_err-records c =
