@@ -4,6 +4,7 @@
 //! steps.
 #![tactic(auto)]
 
+mod each;
 mod files;
 mod inputs;
 mod names;

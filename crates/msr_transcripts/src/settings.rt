@@ -12,11 +12,13 @@ const PLAIN: Behavior = Behavior {
     fails_at: None,
 };
 
-/// What a run is given beside its words: the name of the file that is its standard input and of the one that keeps what
-/// it prints, how its streams behave, and what is odd in the files that it sees.
+/// What a run is given beside its words: the name of the file that is its standard input and how many of its bytes come
+/// at most, the name of the one that keeps what it prints, how its streams behave, and what is odd in the files that it
+/// sees.
 #[derive(Clone, Copy)]
 pub struct Settings<'a> {
     pub from: &'a str,
+    pub cut: usize,
     pub into: &'a str,
     pub reading: Behavior,
     pub writing: Behavior,
@@ -47,6 +49,7 @@ impl<'a> Settings<'a> {
     pub fn new(rt: &'a HostRuntime) -> Settings<'a> {
         Settings {
             from: "",
+            cut: usize::MAX,
             into: "",
             reading: PLAIN,
             writing: PLAIN,
@@ -59,6 +62,7 @@ impl<'a> Settings<'a> {
         let (name, value) = setting.split_once('=').unwrap_or((setting, ""));
         match name {
             "from" => self.from = value,
+            "cut" => self.cut = count(value)?,
             "into" => self.into = value,
             "reading" => self.reading = behavior(value)?,
             "writing" => self.writing = behavior(value)?,
