@@ -4,6 +4,7 @@
 //! steps.
 #![tactic(auto)]
 
+mod claims;
 mod files;
 mod inputs;
 mod names;

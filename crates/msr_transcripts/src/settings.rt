@@ -12,12 +12,14 @@ const PLAIN: Behavior = Behavior {
     fails_at: None,
 };
 
-/// What a run is given beside its words: the name of the file that is its standard input and of the one that keeps what
-/// it prints, how its streams behave, and what is odd in the files that it sees.
+/// What a run is given beside its words: the name of the file that is its standard input, of the one that keeps what it
+/// prints, and of one that another program has locked, if there are such; how its streams behave, and what is odd in the
+/// files that it sees.
 #[derive(Clone, Copy)]
 pub struct Settings<'a> {
     pub from: &'a str,
     pub into: &'a str,
+    pub held: &'a str,
     pub reading: Behavior,
     pub writing: Behavior,
     pub odd: OddFiles<'a>,
@@ -48,6 +50,7 @@ impl<'a> Settings<'a> {
         Settings {
             from: "",
             into: "",
+            held: "",
             reading: PLAIN,
             writing: PLAIN,
             odd: OddFiles::new(rt),
@@ -60,6 +63,7 @@ impl<'a> Settings<'a> {
         match name {
             "from" => self.from = value,
             "into" => self.into = value,
+            "held" => self.held = value,
             "reading" => self.reading = behavior(value)?,
             "writing" => self.writing = behavior(value)?,
             _ => self.odd = self.odd.with(name, value)?,
