@@ -2,7 +2,7 @@
 use Rattle.std.specs.Prelude.{⊤}
 use Rattle.std.proofs.Common.{◌≡◌, ℕ, Bool, List, [], codes, refl, subst, sym, inr, append-nil, Result, Ok, Err}
 use Rattle.msr_devices.specs.Device.{Device, Takes}
-use Rattle.msr_devices.proofs.Chaining.{left_of, takes_append, takes_none}
+use Rattle.msr_devices.proofs.Chaining.{calm_same, left_of, takes_append, takes_none}
 use Rattle.msr_base.specs.declared.counts.Counts.{Counts}
 use Rattle.msr_report.specs.declared.report.Report.{Report}
 use Rattle.msr_verdict.specs.declared.verdict.Verdict.{Verdict}
@@ -13,10 +13,11 @@ use Rattle.msr_tool.specs.declared.fault.ToolFault.{ToolFault}
 use Rattle.msr_tool.specs.declared.fault.ToolFault.TheVariants as fault
 use Rattle.msr_walk.specs.Day.{Asked}
 use Rattle.msr_walk.specs.Walk.{IsWalk, Walks}
+use Rattle.msr_walk.proofs.EntriesTold.{part_none, stops_entries, walk_stops}
 use Rattle.msr_command.specs.declared.done.Done.{Done}
 use Rattle.msr_command.specs.declared.done.Done.TheVariants.{Written, Checked, Walked}
 use Rattle.msr_command.specs.declared.task_fault.TaskFault.{TaskFault}
-use Rattle.msr_command.specs.declared.task_fault.TaskFault.TheVariants.{CannotOpen, SameFile, SameOutput, Closed, Tool}
+use Rattle.msr_command.specs.declared.task_fault.TaskFault.TheVariants.{CannotOpen, SameFile, SameOutput, Overlap, Closed, Tool}
 use Rattle.msr_command.specs.declared.words.Task.{Task}
 use Rattle.msr_command.specs.declared.words.Task.TheVariants.{Repack, List as Listing, Check, Archive, Feed}
 use Rattle.msr_command.specs.Ends.{Checks, Does, Ends, Feeds, FeedAnswers, FeedEnds, FeedsTo, IfChecked, IfWritten, IsUncreated, IsUnopened, ListEnds, ListsNamed, Over, RepackEnds, Repacks, RepacksNamed, StopsRecords, StopsReport, WalksArchive, WritesList, WritesRecords, WritesReport, days_asked}
@@ -62,6 +63,7 @@ unopened : (done : Done → Type 0) (stopped : ToolFault → Type 0) (stop : Tas
 unopened done stopped (CannotOpen name) is = (tt, refl)
 unopened done stopped SameFile is = absurd is
 unopened done stopped SameOutput is = absurd is
+unopened done stopped Overlap is = absurd is
 unopened done stopped Closed is = absurd is
 unopened done stopped (Tool why) is = absurd is
 
@@ -70,6 +72,7 @@ uncreated : (done : Done → Type 0) (stopped : ToolFault → Type 0) (stop : Ta
 uncreated done stopped (CannotOpen name) is = (tt, refl)
 uncreated done stopped SameFile is = (tt, refl)
 uncreated done stopped SameOutput is = (tt, refl)
+uncreated done stopped Overlap is = absurd is
 uncreated done stopped Closed is = absurd is
 uncreated done stopped (Tool why) is = absurd is
 
@@ -77,6 +80,7 @@ unopened_uncreated : (stop : TaskFault) → IsUnopened stop → IsUncreated stop
 unopened_uncreated (CannotOpen name) is = tt
 unopened_uncreated SameFile is = absurd is
 unopened_uncreated SameOutput is = absurd is
+unopened_uncreated Overlap is = absurd is
 unopened_uncreated Closed is = absurd is
 unopened_uncreated (Tool why) is = absurd is
 
@@ -211,6 +215,16 @@ archive_done asked out0 out refused does = record { printed = does.printed; prin
 pub archive_stops : (asked : Asked) (out0 out : Device) (why : ToolFault) → Walks asked out0 out (Err why) →
     WalksArchive asked out0 out (Err (Tool why))
 archive_stops asked out0 out why does = record { printed = does.printed; prints = does.prints; ends = does.ends }
+
+-- folders overlap
+pub archive_overlaps : (asked : Asked) (out : Device) → WalksArchive asked out out (Err Overlap)
+archive_overlaps asked out = record { printed = []; prints = takes_none out; ends = (tt, refl) }
+
+-- memory was refused before the walk began
+pub archive_unbegun : (asked : Asked) (out : Device) → WalksArchive asked out out (Err (Tool fault.Memory))
+archive_unbegun asked out = archive_stops asked out out fault.Memory
+    (walk_stops asked out out fault.Memory
+    (stops_entries asked out out fault.Memory (part_none asked out, (calm_same out).steady)))
 
 -- what was printed is not stored
 

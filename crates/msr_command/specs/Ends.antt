@@ -15,7 +15,7 @@ use Rattle.msr_walk.specs.Walk.{WalkEnds}
 use Rattle.msr_command.specs.declared.done.Done.{Done}
 use Rattle.msr_command.specs.declared.done.Done.TheVariants.{Written, Checked, Walked}
 use Rattle.msr_command.specs.declared.task_fault.TaskFault.{TaskFault}
-use Rattle.msr_command.specs.declared.task_fault.TaskFault.TheVariants.{CannotOpen, SameFile, SameOutput, Closed, Tool}
+use Rattle.msr_command.specs.declared.task_fault.TaskFault.TheVariants.{CannotOpen, SameFile, SameOutput, Overlap, Closed, Tool}
 use Rattle.msr_command.specs.declared.words.Archiving.{Archiving}
 use Rattle.msr_command.specs.declared.words.NoTask.{NoTask}
 use Rattle.msr_command.specs.declared.words.NoTask.TheVariants.{Ending, Memory}
@@ -30,11 +30,12 @@ status_of_done (Checked Least) = 0
 status_of_done (Checked NotShown) = 3
 status_of_done (Walked refused) = if refused then 1 else 0
 
--- 2 if the output is the input, or two outputs are one file, which is a wrong command line, and else 1
+-- 2 if the output is the input, two outputs are one file, or folders overlap, which is a wrong command line, and else 1
 abbrev pub status_of_task_fault : TaskFault → ℕ
 status_of_task_fault (CannotOpen name) = 1
 status_of_task_fault SameFile = 2
 status_of_task_fault SameOutput = 2
+status_of_task_fault Overlap = 2
 status_of_task_fault Closed = 1
 status_of_task_fault (Tool fault) = 1
 
@@ -47,6 +48,7 @@ abbrev pub IsUnopened : TaskFault → Type 0
 IsUnopened (CannotOpen name) = ⊤
 IsUnopened SameFile = ⊥
 IsUnopened SameOutput = ⊥
+IsUnopened Overlap = ⊥
 IsUnopened Closed = ⊥
 IsUnopened (Tool fault) = ⊥
 
@@ -55,12 +57,18 @@ abbrev pub IsUncreated : TaskFault → Type 0
 IsUncreated (CannotOpen name) = ⊤
 IsUncreated SameFile = ⊤
 IsUncreated SameOutput = ⊤
+IsUncreated Overlap = ⊥
 IsUncreated Closed = ⊥
 IsUncreated (Tool fault) = ⊥
 
--- no file stops the task
-abbrev pub IsNeither : TaskFault → Type 0
-IsNeither stop = ⊥
+-- folders overlap
+abbrev pub IsOverlap : TaskFault → Type 0
+IsOverlap (CannotOpen name) = ⊥
+IsOverlap SameFile = ⊥
+IsOverlap SameOutput = ⊥
+IsOverlap Overlap = ⊤
+IsOverlap Closed = ⊥
+IsOverlap (Tool fault) = ⊥
 
 -- what it says that a task was done by writing, by a verdict, or by a walk
 abbrev pub IfWritten : Type 0 → Done → Type 0
@@ -86,6 +94,7 @@ Ends done file stopped printed (Ok what) = done what
 Ends done file stopped printed (Err (CannotOpen name)) = file (CannotOpen name) × (printed ≡ [])
 Ends done file stopped printed (Err SameFile) = file SameFile × (printed ≡ [])
 Ends done file stopped printed (Err SameOutput) = file SameOutput × (printed ≡ [])
+Ends done file stopped printed (Err Overlap) = file Overlap × (printed ≡ [])
 Ends done file stopped printed (Err Closed) = printed ≡ []
 Ends done file stopped printed (Err (Tool fault)) = stopped fault
 
@@ -181,7 +190,7 @@ days_asked asked = record { choice = asked.options; resume = asked.walking.resum
 
 abbrev pub ArchiveEnds : Asked → (printed : List ℕ) → Result Done TaskFault → Type 0
 ArchiveEnds asked printed result =
-    Ends (IfWalked (λ refused. WalkEnds asked printed (Ok refused))) IsNeither
+    Ends (IfWalked (λ refused. WalkEnds asked printed (Ok refused))) IsOverlap
     (λ fault. WalkEnds asked printed (Err fault)) printed result
 
 -- Walking an archive, and what was printed.

@@ -9,6 +9,7 @@ use crate::task_fault::TaskFault;
 use crate::tasks::do_task;
 use crate::words::{Ending, NoTask, read_words};
 use msr_devices::{Sink, Source, write_all};
+use msr_walk::LockFile;
 use std::alloc::Global;
 use std::io;
 use std::io::Write;
@@ -61,6 +62,8 @@ pub fn run<R: Files, I: Source, O: Sink, E: Write>(
     output: &mut O,
     errors: &mut E,
 ) -> u8
+where
+    R::File: LockFile,
     requires input { CanCountCall (I.device input.old) }
     requires output { CanCountCall (O.device output.old) }
     ensures { EndsTask (length words.now) (I.device input.old) (O.device output.old) (O.device output.new) result

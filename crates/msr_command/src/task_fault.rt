@@ -14,6 +14,9 @@ pub(crate) enum TaskFault<'a> {
     /// A file to be written is what standard output is redirected to.
     #[error("two outputs are one file")]
     SameOutput,
+    /// One of an archive's folders is another, or stands below it, by whatever links.
+    #[error("the folders overlap")]
+    Overlap,
     /// Standard output is closed.
     #[error("write fault")]
     Closed,
@@ -32,7 +35,7 @@ impl<'a> TaskFault<'a> {
     {
         match self {
             TaskFault::CannotOpen(_) | TaskFault::Closed => 1,
-            TaskFault::SameFile | TaskFault::SameOutput => 2,
+            TaskFault::SameFile | TaskFault::SameOutput | TaskFault::Overlap => 2,
             TaskFault::Tool(fault) => fault.status(),
         }
     }

@@ -13,7 +13,7 @@ use msr_tool::{
     FromRead, FromWrite, Options, Sink, Source, ToolFault, check_and_tell, feed_and_report,
     list_segments, repack_and_report,
 };
-use msr_walk::{Archive, settle, walk};
+use msr_walk::{Archive, LockFile, folders_overlap, settle, walk};
 use std::alloc::Global;
 use std::fs::OpenFile;
 use std::io;
@@ -28,6 +28,8 @@ pub(crate) fn do_task<'a, R: Files, I: Source, O: Sink>(
     input: &mut I,
     output: &mut O,
 ) -> Result<Done, TaskFault<'a>>
+where
+    R::File: LockFile,
     requires input { CanCountCall (I.device input.old) }
     requires output { CanCountCall (O.device output.old) }
     ensures { Does task.entry (I.device input.old) (O.device output.old) (O.device output.new) result }
@@ -49,6 +51,8 @@ fn do_open<'a, R: Files, I: Source, O: Sink>(
     input: &mut I,
     output: &mut O,
 ) -> Result<Done, TaskFault<'a>>
+where
+    R::File: LockFile,
     requires input { CanCountCall (I.device input.old) }
     requires output { CanCountCall (O.device output.old) }
     ensures { Does task.entry (I.device input.old) (O.device output.old) (O.device output.new) result }
@@ -244,6 +248,8 @@ fn repack_archive<'a, R: Files, O: Sink>(
     asked: Archiving<'a>,
     output: &mut O,
 ) -> Result<Done, TaskFault<'a>>
+where
+    R::File: LockFile,
     requires output { CanCountCall (O.device output.old) }
     ensures { WalksArchive (days_asked asked.entry) (O.device output.old) (O.device output.new) result }
 {
@@ -256,6 +262,11 @@ fn repack_archive<'a, R: Files, O: Sink>(
         resume: asked.walking.resume,
         check: asked.walking.check,
     };
+    match folders_overlap(rt, alloc, &archive) {
+        Ok(true) => return Err(TaskFault::Overlap),
+        Ok(false) => {}
+        Err(_) => return Err(TaskFault::Tool(ToolFault::Memory)),
+    }
     let refused = walk(rt, alloc, &archive, output)?;
     Ok(Done::Walked { refused })
 }

@@ -113,15 +113,6 @@ IsRepackedDay asked (Err NotShown) = IsNotShown asked
 IsRepackedDay asked (Err Taken) = ⊤
 IsRepackedDay asked (Err (Tool fault)) = HasAnswer asked.choice (Err fault)
 
--- why a day is not claimed
-abbrev pub IsUnclaimed : DayFault → Type 0
-IsUnclaimed CannotOpen = ⊤
-IsUnclaimed Gone = ⊥
-IsUnclaimed Listing = ⊥
-IsUnclaimed NotShown = ⊥
-IsUnclaimed Taken = ⊤
-IsUnclaimed (Tool fault) = fault ≡ Memory
-
 -- Some text is that of a report of these options, and the counts are those of this report. A report says no strictness:
 -- if reading is strict it counts no record whose reverse constant does not agree, as that of a strict repack does.
 pub record IsKept (choice : Choice) (repacked : Repacked) : Type 0 where

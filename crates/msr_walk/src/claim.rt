@@ -1,11 +1,7 @@
 //! Days that are claimed: at any time one walk alone makes, renames or removes the files of a day.
-ghost use Rattle.std.specs.Prelude.{IfErr};
-ghost use Rattle.msr_walk.specs.Day.{IsUnclaimed};
-
 use crate::day::Day;
 use crate::files::{FileId, create_new, make_folder};
-use crate::outcome::DayFault;
-use std::alloc::Global;
+use std::alloc::{AllocError, Global};
 use std::fs;
 use std::fs::{File, OpenFile, OpenOptions, TryLockError};
 use std::io::ErrorKind;
@@ -35,6 +31,22 @@ impl LockFile for File {
             Err(TryLockError::WouldBlock) => Lock::Others,
             Err(TryLockError::Error(_)) => Lock::Unknown,
         }
+    }
+}
+
+/// Why a day is not claimed.
+#[derive(Clone, Copy)]
+pub(crate) enum ClaimFault {
+    /// Its file, or the folder of it, could not be made or looked at.
+    CannotOpen,
+    /// Another walk has the day.
+    Taken,
+    Memory,
+}
+
+impl From<AllocError> for ClaimFault {
+    fn from(_: AllocError) -> ClaimFault {
+        ClaimFault::Memory
     }
 }
 
@@ -85,33 +97,37 @@ fn leads_to<R: Files, F: OpenFile>(rt: &R, path: &str, file: &F) -> Option<FileI
 const TRIES: u8 = 8;
 
 /// Claims the day.
-pub(crate) fn claim<R: Files>(rt: &R, alloc: Global, day: &Day) -> Result<Claim<R::File>, DayFault>
+pub(crate) fn claim_day<R: Files>(
+    rt: &R,
+    alloc: Global,
+    day: &Day,
+) -> Result<Claim<R::File>, ClaimFault>
 where
     R::File: LockFile,
-    ensures { IfErr result IsUnclaimed }
 {
-    make_folder(rt, day.claim())?;
+    if make_folder(rt, day.claim()).is_err() {
+        return Err(ClaimFault::CannotOpen);
+    }
     for _ in 0..TRIES {
         if let Some(claim) = claim_anew(rt, day.claim())? {
             return Ok(claim);
         }
         clear(rt, alloc, day)?;
     }
-    Err(DayFault::Taken)
+    Err(ClaimFault::Taken)
 }
 
 /// Makes the file of a claim; `None` if there is one, or another walk took it for one that was left before it was
 /// locked.
-fn claim_anew<R: Files>(rt: &R, path: &str) -> Result<Option<Claim<R::File>>, DayFault>
+fn claim_anew<R: Files>(rt: &R, path: &str) -> Result<Option<Claim<R::File>>, ClaimFault>
 where
     R::File: LockFile,
-    ensures { IfErr result IsUnclaimed }
 {
     let file = match create_new(rt, path) {
         Ok(file) => file,
         Err(error) => match error.kind() {
             ErrorKind::AlreadyExists => return Ok(None),
-            _ => return Err(DayFault::CannotOpen),
+            _ => return Err(ClaimFault::CannotOpen),
         },
     };
     if file.lock() == Lock::Others {
@@ -128,42 +144,39 @@ where
 
 /// The file of a claim that was left, or that another walk has; `None` if it is gone. What is no regular file is no
 /// claim, and is not opened.
-fn open_claim<R: Files>(rt: &R, path: &str) -> Result<Option<R::File>, DayFault>
-    ensures { IfErr result IsUnclaimed }
-{
+fn open_claim<R: Files>(rt: &R, path: &str) -> Result<Option<R::File>, ClaimFault> {
     match fs::symlink_metadata(rt, path) {
         Ok(metadata) => {
             if !metadata.is_file() {
-                return Err(DayFault::CannotOpen);
+                return Err(ClaimFault::CannotOpen);
             }
         }
         Err(error) => match error.kind() {
             ErrorKind::NotFound => return Ok(None),
-            _ => return Err(DayFault::CannotOpen),
+            _ => return Err(ClaimFault::CannotOpen),
         },
     }
     match OpenOptions::new().write(true).open(rt, path) {
         Ok(file) => Ok(Some(file)),
         Err(error) => match error.kind() {
             ErrorKind::NotFound => Ok(None),
-            _ => Err(DayFault::CannotOpen),
+            _ => Err(ClaimFault::CannotOpen),
         },
     }
 }
 
 /// Removes what a walk that was killed left of the day. One that is at work has its claim locked; if the system has no
 /// locks, nothing tells whether it is.
-fn clear<R: Files>(rt: &R, alloc: Global, day: &Day) -> Result<(), DayFault>
+fn clear<R: Files>(rt: &R, alloc: Global, day: &Day) -> Result<(), ClaimFault>
 where
     R::File: LockFile,
-    ensures { IfErr result IsUnclaimed }
 {
     let path = day.claim();
     let Some(file) = open_claim(rt, path)? else {
         return Ok(());
     };
     if file.lock() != Lock::Ours {
-        return Err(DayFault::Taken);
+        return Err(ClaimFault::Taken);
     }
     let Some(id) = leads_to(rt, path, &file) else {
         return Ok(());
@@ -171,6 +184,6 @@ where
     day.files(alloc, id.number)?.sweep(rt);
     match fs::remove_file(rt, path) {
         Ok(()) => Ok(()),
-        Err(_) => Err(DayFault::CannotOpen),
+        Err(_) => Err(ClaimFault::CannotOpen),
     }
 }

@@ -3,7 +3,7 @@ ghost use Rattle.std.specs.Prelude.{◌≡◌, IfErr, IfOk, IfSome};
 ghost use Rattle.msr_walk.specs.Day.{Asked, IsDayOutcome, IsKept, IsRepackedDay, IsShownIfAsked, asked_of};
 ghost use Rattle.msr_walk.specs.Files.{day_files, day_names};
 
-use crate::claim::{Claim, LockFile, claim};
+use crate::claim::{Claim, ClaimFault, LockFile, claim_day};
 use crate::files::{NewFile, may_be_one, open_regular, settle};
 use crate::folders::Archive;
 use crate::outcome::{DayFault, Outcome, Repacked};
@@ -185,13 +185,13 @@ impl Day {
         rt: &R,
         alloc: Global,
         archive: &Archive<'_>,
+        files: &DayFiles,
         claim: &Claim<R::File>,
     ) -> Result<Repacked, DayFault>
         ensures { IsRepackedDay (asked_of archive.now) result }
     {
-        let files = self.files(alloc, claim.number())?;
         let before = Stamp::of(rt, self.input.as_str());
-        let result = self.write(rt, alloc, archive, &files, claim);
+        let result = self.write(rt, alloc, archive, files, claim);
         if result.is_err() {
             files.sweep(rt);
         } else if archive.resume {
@@ -257,34 +257,42 @@ impl Day {
         alloc: Global,
         archive: &Archive<'_>,
         claim: &Claim<R::File>,
-    ) -> Outcome
-        ensures { IsDayOutcome (asked_of archive.now) result }
+    ) -> Result<Outcome, AllocError>
+        ensures { IfOk result (IsDayOutcome (asked_of archive.now)) }
     {
         if archive.resume {
             if let Some(repacked) = self.kept(rt, alloc, archive.options) {
-                return Outcome::Same(repacked);
+                return Ok(Outcome::Same(repacked));
             }
         }
-        match self.repack(rt, alloc, archive, claim) {
-            Ok(repacked) => Outcome::Done(repacked),
+        let files = self.files(alloc, claim.number())?;
+        match self.repack(rt, alloc, archive, &files, claim) {
+            Ok(repacked) => Ok(Outcome::Done(repacked)),
             Err(refusal) => {
                 if claim.is_ours(rt, self.claim()) {
                     self.remove(rt);
                 }
-                refused(refusal)
+                Ok(refused(refusal))
             }
         }
     }
 
     /// Claims the day, does it, and lets it go.
-    fn claim_and_do<R: Files>(&self, rt: &R, alloc: Global, archive: &Archive<'_>) -> Outcome
+    fn claim_and_do<R: Files>(
+        &self,
+        rt: &R,
+        alloc: Global,
+        archive: &Archive<'_>,
+    ) -> Result<Outcome, AllocError>
     where
         R::File: LockFile,
-        ensures { IsDayOutcome (asked_of archive.now) result }
+        ensures { IfOk result (IsDayOutcome (asked_of archive.now)) }
     {
-        let claim = match claim(rt, alloc, self) {
+        let claim = match claim_day(rt, alloc, self) {
             Ok(claim) => claim,
-            Err(refusal) => return refused(refusal),
+            Err(ClaimFault::CannotOpen) => return Ok(Outcome::Refused(DayFault::CannotOpen)),
+            Err(ClaimFault::Taken) => return Ok(Outcome::Refused(DayFault::Taken)),
+            Err(ClaimFault::Memory) => return Err(AllocError),
         };
         let outcome = self.do_claimed(rt, alloc, archive, &claim);
         claim.release(rt, self.claim());
@@ -294,17 +302,22 @@ impl Day {
     /// Repacks the day, or leaves it alone if an earlier walk did it and that is asked for. If it is refused, no
     /// records and no report of it are left, unless the day cannot be claimed, or its own file may be one of those:
     /// then nothing is touched.
-    pub(crate) fn handle<R: Files>(&self, rt: &R, alloc: Global, archive: &Archive<'_>) -> Outcome
+    pub(crate) fn handle<R: Files>(
+        &self,
+        rt: &R,
+        alloc: Global,
+        archive: &Archive<'_>,
+    ) -> Result<Outcome, AllocError>
     where
         R::File: LockFile,
-        ensures { IsDayOutcome (asked_of archive.now) result }
+        ensures { IfOk result (IsDayOutcome (asked_of archive.now)) }
     {
         if self.may_be_output(rt) {
-            return Outcome::Refused(DayFault::CannotOpen);
+            return Ok(Outcome::Refused(DayFault::CannotOpen));
         }
         if archive.resume && !self.is_claimed(rt) {
             if let Some(repacked) = self.kept(rt, alloc, archive.options) {
-                return Outcome::Same(repacked);
+                return Ok(Outcome::Same(repacked));
             }
         }
         self.claim_and_do(rt, alloc, archive)

@@ -89,13 +89,8 @@ pub(crate) fn open_regular<R: Files>(rt: &R, path: &str) -> Result<R::File, DayF
 }
 
 /// Makes the folder of a file that is to be made.
-pub(crate) fn make_folder<R: Files>(rt: &R, path: &str) -> Result<(), DayFault>
-    ensures { IfErr result (λ why. why ≡ DayFault.CannotOpen) }
-{
-    match fs::create_dir_all(rt, folder_of(path)) {
-        Ok(()) => Ok(()),
-        Err(_) => Err(DayFault::CannotOpen),
-    }
+pub(crate) fn make_folder<R: Files>(rt: &R, path: &str) -> io::Result<()> {
+    fs::create_dir_all(rt, folder_of(path))
 }
 
 /// Makes a file, if nothing has its name, not even a link.
@@ -148,7 +143,9 @@ impl NewFile {
     pub(crate) fn create<R: Files>(&self, rt: &R) -> Result<R::File, DayFault>
         ensures { IfErr result (λ why. why ≡ DayFault.CannotOpen) }
     {
-        make_folder(rt, self.part())?;
+        if make_folder(rt, self.part()).is_err() {
+            return Err(DayFault::CannotOpen);
+        }
         if let Ok(file) = create_new(rt, self.part()) {
             return Ok(file);
         }

@@ -84,7 +84,7 @@ where
         return Ok(Outcome::Refused(DayFault::CannotOpen));
     }
     let day = Day::new(walker.alloc, walker.archive, path)?;
-    Ok(day.handle(walker.rt, walker.alloc, walker.archive))
+    day.handle(walker.rt, walker.alloc, walker.archive)
 }
 
 /// Repacks a day, prints its line and counts it.

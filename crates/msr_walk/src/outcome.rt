@@ -43,18 +43,6 @@ impl From<ToolFault> for DayFault {
     }
 }
 
-impl From<AllocError> for DayFault {
-    ghost use Rattle.std.specs.Prelude.{◌≡◌};
-    ghost use Rattle.msr_tool.specs.declared.fault.ToolFault.TheVariants.{Memory};
-    ghost use Rattle.msr_walk.specs.declared.outcome.DayFault.TheVariants.{Tool};
-
-    ghost from_gives = { λ _ why. why ≡ Tool Memory };
-
-    fn from(_: AllocError) -> DayFault {
-        DayFault::Tool(ToolFault::Memory)
-    }
-}
-
 /// How many records a day file had, and how many were written for it.
 #[derive(Clone, Copy)]
 pub(crate) struct Repacked {
@@ -75,6 +63,7 @@ pub(crate) enum Outcome {
 }
 
 /// A character of a path as it is printed: a line feed in a name would begin another line.
+#[tactic(auto, using(std::proofs::lemmas::Fmt::hex_byte))]
 fn shown_letter(alloc: Global, letter: char) -> Result<String, AllocError>
     ensures { IfOk result (λ text. string_bytes text ≡ shown_letter letter) }
 {

@@ -3,7 +3,7 @@ use Rattle.msr_devices.proofs.Chaining.{calm_same}
 use Rattle.msr_walk.specs.Day.{asked_of}
 use Rattle.msr_walk.proofs.EntriesTold.{part_none, part_all, stops_more, tells_none, tells_more}
 use Rattle.msr_walk.proofs.folders.+walk_folder.Goals as goal
-use Rattle.msr_walk.proofs.folders.+walk_folder.Goals.{then-levels-gt0+then-may_be_folder+in_ok-walk_folder, else-levels-gt0+in_ok-tell_file}
+use Rattle.msr_walk.proofs.folders.+walk_folder.Goals.{then-levels-gt0-2+then-eq+in_ok-walk_folder, else-levels-gt0-2+in_ok-tell_entry}
 
 pub returns-in_err-place-clause-stops : goal.returns-in_err-place-clause-stops
 returns-in_err-place-clause-stops g t c =
@@ -17,7 +17,13 @@ returns-in-Err-Memory-clause-stops g t c =
     (part_none (asked_of c.args.walker.now.archive.now) out, (calm_same out).steady)
 
 pub returns-in-Err-Listing-clause-stops : goal.returns-in-Err-Listing-clause-stops
-returns-in-Err-Listing-clause-stops g t c = c.tell.ensures.stops (asked_of c.args.walker.now.archive.now) tt
+returns-in-Err-Listing-clause-stops g t c = c.tell_unlisted.ensures.stops
+
+pub returns-in_err-apart-clause-stops : goal.returns-in_err-apart-clause-stops
+returns-in_err-apart-clause-stops g t c =
+    let p = err_from_is_err_and c.from_residual-in_err-apart.result c.from_residual-in_err-apart.ensures.1 in
+    let out = g.O.Sink.device c.args.out.now in
+    rw (p.1, p.2) (part_none (asked_of c.args.walker.now.archive.now) out, (calm_same out).steady)
 
 pub loop-name-init : goal.loop-name-init
 loop-name-init g t c = tells_none (asked_of c.args.walker.now.archive.now)
@@ -41,24 +47,24 @@ returns-in_err-walk_folder-clause-stops g t c =
     (g.O.Sink.device c.walk_folder.new.out) c.args.tally.now c.loop-name.tally c.in_err-walk_folder.field-0.0
     c.loop-name.invariant c.in_err-walk_folder.ensures.stops)
 
-pub returns-in_err-tell_file-clause-stops : goal.returns-in_err-tell_file-clause-stops
-returns-in_err-tell_file-clause-stops g t c =
-    let p = err_from_is_err_and c.from_residual-in_err-tell_file.result c.from_residual-in_err-tell_file.ensures.1 in
+pub returns-in_err-tell_entry-clause-stops : goal.returns-in_err-tell_entry-clause-stops
+returns-in_err-tell_entry-clause-stops g t c =
+    let p = err_from_is_err_and c.from_residual-in_err-tell_entry.result c.from_residual-in_err-tell_entry.ensures.1 in
     rw (p.1, p.2) (stops_more (asked_of c.args.walker.now.archive.now) (g.O.Sink.device c.args.out.now)
     (g.O.Sink.device c.loop-name.out)
-    (g.O.Sink.device c.tell_file.new.out) c.args.tally.now c.loop-name.tally c.in_err-tell_file.field-0.0
-    c.loop-name.invariant c.in_err-tell_file.ensures.stops)
+    (g.O.Sink.device c.tell_entry.new.out) c.args.tally.now c.loop-name.tally c.in_err-tell_entry.field-0.0
+    c.loop-name.invariant c.in_err-tell_entry.ensures.stops)
 
 pub loop-name-preserved : goal.loop-name-preserved
-loop-name-preserved g t c = elim c.if-levels-gt0.branch [
-  | then-levels-gt0+then-may_be_folder+in_ok-walk_folder w ↦
+loop-name-preserved g t c = elim c.if-levels-gt0-2.branch [
+  | then-levels-gt0-2+then-eq+in_ok-walk_folder w ↦
       rw (w.out-is, w.tally-is) (tells_more (asked_of c.args.walker.now.archive.now)
       (g.O.Sink.device c.args.out.now) (g.O.Sink.device c.loop-name.out)
       (g.O.Sink.device w.walk_folder.new.out) c.args.tally.now c.loop-name.tally w.walk_folder.new.tally
       c.loop-name.invariant w.in_ok-walk_folder.ensures.told)
-  | else-levels-gt0+in_ok-tell_file w ↦
+  | else-levels-gt0-2+in_ok-tell_entry w ↦
       rw (w.out-is, w.tally-is) (tells_more (asked_of c.args.walker.now.archive.now)
       (g.O.Sink.device c.args.out.now) (g.O.Sink.device c.loop-name.out)
-      (g.O.Sink.device w.tell_file.new.out) c.args.tally.now c.loop-name.tally w.tell_file.new.tally
-      c.loop-name.invariant w.in_ok-tell_file.ensures.told)
+      (g.O.Sink.device w.tell_entry.new.out) c.args.tally.now c.loop-name.tally w.tell_entry.new.tally
+      c.loop-name.invariant w.in_ok-tell_entry.ensures.told)
 ]

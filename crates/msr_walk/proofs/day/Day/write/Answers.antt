@@ -3,9 +3,14 @@ use Rattle.msr_walk.specs.Day.{asked_of}
 use Rattle.msr_walk.proofs.Days.{day_answer, day_unkept, day_unsettled}
 use Rattle.msr_walk.proofs.day.Day.write.Goals as goal
 
+pub returns-in_err-input : goal.returns-in_err-input
+returns-in_err-input g c =
+    let p = err_from_is_err_and c.from_residual.result c.from_residual.ensures.1 in
+    rw (p.1, p.2, c.in_err-input.ensures) tt
+
 pub returns-in_err-records : goal.returns-in_err-records
 returns-in_err-records g c =
-    let p = err_from_is_err_and c.from_residual.result c.from_residual.ensures.1 in
+    let p = err_from_is_err_and c.from_residual-in_err-records.result c.from_residual-in_err-records.ensures.1 in
     rw (p.1, p.2, c.in_err-records.ensures) tt
 
 pub returns-in_err-report : goal.returns-in_err-report
@@ -28,12 +33,12 @@ returns-in_err-settle-2 g c =
     let p = err_from_is_err_and c.from_residual-in_err-settle-2.result c.from_residual-in_err-settle-2.ensures.1 in
     rw (p.1, p.2, c.in_err-settle-2.ensures) (day_unsettled _ _ _ _ _ _ _ c.in_ok-repacked.ensures)
 
-pub returns-in_err-shown : goal.returns-in_err-shown
-returns-in_err-shown g c =
-    let p = err_from_is_err_and c.from_residual-in_err-shown.result c.from_residual-in_err-shown.ensures.1 in
+pub returns-in_err-hold : goal.returns-in_err-hold
+returns-in_err-hold g c =
+    let p = err_from_is_err_and c.from_residual-in_err-hold.result c.from_residual-in_err-hold.ensures.1 in
     rw (p.1, p.2) (day_unkept
-    (asked_of c.args.archive.now) _ _ _ _ _ _ c.in_err-shown.field-0.0 c.in_ok-repacked.ensures
-    c.in_err-shown.ensures)
+    (asked_of c.args.archive.now) _ _ _ _ _ _ c.in_err-hold.field-0.0 c.in_ok-repacked.ensures
+    c.in_err-hold.ensures)
 
 pub returns-in_err-keep : goal.returns-in_err-keep
 returns-in_err-keep g c =
@@ -41,4 +46,4 @@ returns-in_err-keep g c =
     rw (p.1, p.2, c.in_err-keep.ensures) tt
 
 pub returns : goal.returns
-returns g c = record { answer = day_answer _ _ _ _ _ _ _ c.in_ok-repacked.ensures; shown = c.in_ok-shown.ensures }
+returns g c = record { answer = day_answer _ _ _ _ _ _ _ c.in_ok-repacked.ensures; shown = c.in_ok-hold.ensures }
