@@ -269,6 +269,8 @@ def check(task, given):
 
 
 def archive(task, given):
+    if walks.overlap(task.names):
+        raise Ends(2, told("the folders overlap"))
     walk = walks.Walk(task, given.odd)
     text = model.text(walk.lines()).encode()
     yield Outcome(int(walk.refused > 0), text, b"", lines=True)

@@ -8,6 +8,7 @@ import argparse
 import collections
 import contextlib
 import difflib
+import fcntl
 import itertools
 import math
 import os
@@ -191,11 +192,22 @@ class Script:
         for number in range(int(count)):
             self.write(f"{folder}/{number}", b"")
 
+    def claim(self, records, report):
+        """What a walk that was killed left of a day."""
+        self.write(f"{records}.claim", b"")
+        number = os.stat(f"{records}.claim").st_ino
+        for path in (records, f"{report}.txt", f"{report}.from"):
+            self.write(f"{path}.{number}.part", b"killed")
+
     def clear(self, *folders):
         for folder in " ".join(folders).split():
             shutil.rmtree(folder, ignore_errors=True)
 
     # Questions.
+
+    def named(self, folder):
+        """The names in a folder, with the number of a claim as `N`."""
+        return sorted(re.sub(r"\.\d+\.part$", ".N.part", name) for name in os.listdir(folder))
 
     def show(self, path):
         held = self.loose.get(os.path.realpath(path))
@@ -253,11 +265,13 @@ class Script:
             "folder": lambda: os.makedirs(one, exist_ok=True),
             "hard": lambda: os.link(one, other),
             "soft": lambda: self.soft(one, other),
+            "claim": lambda: self.claim(one, other),
             "remove": lambda: os.remove(one),
             "clear": lambda: self.clear(one, other),
             "show": lambda: self.show(one),
             "size": lambda: f"{len(self.read(one))} bytes",
             "has": lambda: os.path.lexists(one),
+            "names": lambda: self.named(one),
             "same": lambda: self.read(one) == self.read(other),
             "prefix": lambda: self.prefix(one, other),
             "ends": lambda: self.ends(one, other),
@@ -281,9 +295,14 @@ class Script:
         return Given(content, *devices, *redirects, walks.Odd(**told), unsaid), into
 
     def run(self, before, words):
-        """What a run may print."""
-        given, into = self.settings(before)
-        return [printed(outcome, words, into) for outcome in commands.run(words, given)]
+        """What a run may print; another program may have a file locked meanwhile."""
+        settings = [word for word in before.split() if not word.startswith("held=")]
+        held = [word.removeprefix("held=") for word in before.split() if word not in settings]
+        given, into = self.settings(" ".join(settings))
+        with contextlib.ExitStack() as files:
+            for path in held:
+                fcntl.flock(files.enter_context(open(path, "ab")), fcntl.LOCK_EX | fcntl.LOCK_NB)
+            return [printed(outcome, words, into) for outcome in commands.run(words, given)]
 
     def each(self, first, last, text):
         """What a run prints with each number, like neighbours once; what stands in files after the last one."""

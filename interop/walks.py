@@ -1,9 +1,12 @@
 """The walk over an archive, said again from docs/MANUAL.md (`archive`, "Shares of an archive") and docs/PROFILE.md
 ("Paths of an archive"), over the files that there are.
 """
+import contextlib
 import errno
+import fcntl
 import os
 import re
+import stat
 from collections import namedtuple
 
 import model
@@ -15,19 +18,31 @@ DAY_PATH = re.compile(
     re.ASCII,
 )
 # What is odd in the folders that a run sees, by the words of its setting: see SETTINGS in transcript.py.
-ODD = "folder names earlier later made other gone taken"
+ODD = "folder names earlier later made other gone taken when linked"
 Odd = namedtuple("Odd", ODD, defaults=(None,) * len(ODD.split()))
-# Where the records, the report and the line of size and time of a day stand.
-Places = namedtuple("Places", "records report stamp")
+# The names that a folder has by the word of the setting `names`, where it has any.
+NAMES = {
+    "marked": [b"\t", b"a\nrefused b", b"\x7f\x1f", "\u00e9 ~".encode()],
+    "day": [b"XX.TEST.00.BHZ.D.2020.001"],
+}
+# Where the records, the report and the line of size and time of a day stand, and the claim of who has the day.
+Places = namedtuple("Places", "records report stamp claim")
+# Who has a day: the open file that is locked.
+Claim = namedtuple("Claim", "path file number")
 MISSING = (errno.ENOENT, errno.ENOTDIR)
+TAKEN = "another walk is at work"
 
 
 class NotDone(Exception):
     """Why a day is not done, as its line tells it."""
 
 
-def part(path):
-    return f"{path}.part"
+def is_like(pattern, path):
+    """Whether the path is that one, or begins and ends as the pattern does around its `*`."""
+    if pattern is None or "*" not in pattern:
+        return path == pattern
+    head, tail = pattern.split("*")
+    return path.startswith(head) and path[len(head) :].endswith(tail)
 
 
 def remove(*paths):
@@ -51,6 +66,14 @@ def read_to_end(file):
     return b"".join(pieces)
 
 
+def read_regular(path):
+    """The bytes of a file; nothing else is opened."""
+    if not stat.S_ISREG(os.stat(path).st_mode):
+        raise OSError
+    with open(path, "rb") as file:
+        return file.read()
+
+
 def found(path):
     """What the system tells of a path; None if nothing stands there."""
     try:
@@ -59,6 +82,35 @@ def found(path):
         if why.errno in MISSING:
             return None
         raise
+
+
+def in_one_line(path):
+    """A path as a line tells it: a control character by its number."""
+    return re.sub(r"[\x00-\x1f\x7f]", lambda found: f"%{ord(found[0]):02x}", path)
+
+
+def id_of(path):
+    told = os.stat(path)
+    return told.st_dev, told.st_ino
+
+
+def ids_above(path):
+    """The folder in which the path stands, or will stand once its folders are made, and all that one comes to by `..`."""
+    while not os.path.isdir(path):
+        path = os.path.dirname(path) or ("/" if path.startswith("/") else ".")
+    ids = []
+    while id_of(path) not in ids:
+        ids.append(id_of(path))
+        path += "/.."
+    return ids
+
+
+def overlap(folders):
+    """Whether one of the folders that there are is another, or one that will be made in it is below it."""
+    for one in folders:
+        if os.path.exists(one) and any(id_of(one) in ids_above(other) for other in folders if other != one):
+            return True
+    return False
 
 
 def skipped(path):
@@ -92,12 +144,16 @@ class Walk:
         yield f"files {self.done} skipped {self.skips} refused {self.refused}"
 
     def names(self, path):
-        """The names in a folder, in the order of their bytes; an odd one cannot be listed."""
+        """The names in a folder, in the order of their bytes; an odd one cannot be listed, or has odd names."""
         top = f"{self.root}/{path}" if path else self.root
-        if self.odd.folder == f"{top}/":
+        if self.odd.folder != f"{top}/":
+            names = os.listdir(os.fsencode(top))
+        elif self.odd.names in NAMES:
+            names = NAMES[self.odd.names]
+            os.stat(top)
+        else:
             raise OSError
-        names = sorted(os.listdir(os.fsencode(top)))
-        return [name.decode() for name in names]
+        return [name.decode() for name in sorted(names)]
 
     def folder(self, path):
         """The lines of a folder; the one of a day has four above it below ROOT."""
@@ -108,25 +164,32 @@ class Walk:
             return
         for name in names:
             below = f"{path}/{name}" if path else name
+            if below.count("/") == 4:
+                yield self.entry(below)
+                continue
+            place = f"{self.root}/{below}"
             try:
-                found(f"{self.root}/{below}")
+                told = found(place)
             except OSError:
                 yield self.refuse(below, "listing")
                 continue
-            if below.count("/") < 4 and os.path.isdir(f"{self.root}/{below}"):
+            if told and stat.S_ISDIR(told.st_mode):
                 yield from self.folder(below)
-            else:
+            elif told or os.path.lexists(place):
                 yield self.entry(below)
+            else:
+                yield self.refuse(below, "cannot open")
 
     def refuse(self, path, text):
         self.refused += 1
+        path = in_one_line(path)
         return f"refused {path}: {text}" if text else f"notshown {path}"
 
     def entry(self, path):
         why = skipped(path)
         if why:
             self.skips += 1
-            return f"skipped {path}: {why}"
+            return f"skipped {in_one_line(path)}: {why}"
         try:
             word, read, written = self.day(path)
         except NotDone as why:
@@ -138,41 +201,107 @@ class Walk:
         return f"{word} {path} read {read} written {written}"
 
     def day(self, path):
-        """What was done with a day, and its counts; what is not done leaves neither records nor report."""
-        source, report = f"{self.root}/{path}", f"{self.reports}/{path}"
-        places = Places(f"{self.out}/{path}", f"{report}.txt", f"{report}.from")
-        if self.is_own(source, places):
+        """What was done with a day, and its counts."""
+        source, records, report = (f"{top}/{path}" for top in (self.root, self.out, self.reports))
+        places = Places(records, f"{report}.txt", f"{report}.from", f"{records}.claim")
+        if self.is_in_archive(places) or self.is_own(source, places):
             raise NotDone("cannot open")
+        claim = self.claimed(places)
+        try:
+            return self.do(source, places, claim)
+        finally:
+            remove(*self.parts(places, claim.number))
+            if self.has(claim):
+                remove(claim.path)
+            os.close(claim.file)
+
+    def do(self, source, places, claim):
+        """What is done with a day that this walk has; what is not done leaves neither records nor report."""
         if self.task.resume:
             counts = self.counts_before(source, places)
             if counts:
                 return ("same", *counts)
         try:
-            return ("done", *self.repack(source, places))
-        except NotDone as why:
-            if str(why) != "another walk is at work":
-                remove(*places, part(places.records), part(places.report))
+            return ("done", *self.repack(source, places, claim))
+        except NotDone:
+            if self.has(claim):
+                remove(*places[:3])
             raise
 
-    def is_own(self, source, places):
-        """Whether records or report would stand in the day's own folder, or be itself; nothing is touched then."""
+    def is_in_archive(self, places):
+        """Whether what is made of a day would stand in the archive, or the system does not tell."""
         try:
-            day, own = found(source), found(os.path.dirname(source))
-            for path in (*places, part(places.records), part(places.report)):
-                folder, file = found(os.path.dirname(path)), found(path)
-                if folder and os.path.samestat(folder, own) or file and day and os.path.samestat(file, day):
-                    return True
+            root = id_of(self.root)
+            return any(root in ids_above(os.path.dirname(path)) for path in places)
         except OSError:
             return True
+
+    def is_own(self, source, places):
+        """Whether records, report or stamp would be the day's own file; nothing is touched then."""
+        try:
+            day = found(source)
+            return any(day and (file := found(path)) and os.path.samestat(file, day) for path in places[:3])
+        except OSError:
+            return True
+
+    # Claims.
+
+    def parts(self, places, number):
+        """The names under which a walk writes whose claim has that number."""
+        return [f"{path}.{number}.part" for path in places[:3]]
+
+    def has(self, claim):
+        """Whether what stands under the name of the claim is its file."""
+        with contextlib.suppress(OSError):
+            return os.path.samestat(os.lstat(claim.path), os.fstat(claim.file))
         return False
+
+    def make(self, path):
+        """Makes a file, where nothing has its name, not even a link; other programs do then what is odd."""
+        file = os.open(path, os.O_WRONLY | os.O_CREAT | os.O_EXCL, 0o666)
+        odd = self.odd
+        if is_like(odd.when, path):
+            os.remove(odd.taken)
+            with open(odd.taken, "xb") as taken:
+                taken.write(b"another's")
+        if odd.linked and path.endswith(".claim"):
+            os.link(odd.linked, f"{path.removesuffix('.claim')}.{os.fstat(file).st_ino}.part")
+        return file
+
+    def claimed(self, places):
+        """The claim of the day, which another walk may have; what is left by one that ended is removed."""
+        path = places.claim
+        try:
+            os.makedirs(os.path.dirname(path), exist_ok=True)
+            if os.path.lexists(path):
+                self.clear(places)
+            file = self.make(path)
+        except OSError:
+            raise NotDone("cannot open") from None
+        fcntl.flock(file, fcntl.LOCK_EX | fcntl.LOCK_NB)
+        return Claim(path, file, os.fstat(file).st_ino)
+
+    def clear(self, places):
+        """Removes the claim of a walk that ended, and what has its number; what is no regular file is no claim."""
+        if not stat.S_ISREG(os.lstat(places.claim).st_mode):
+            raise OSError
+        file = os.open(places.claim, os.O_WRONLY)
+        try:
+            fcntl.flock(file, fcntl.LOCK_EX | fcntl.LOCK_NB)
+        except BlockingIOError:
+            raise NotDone(TAKEN) from None
+        finally:
+            number = os.fstat(file).st_ino
+            os.close(file)
+        remove(*self.parts(places, number), places.claim)
+
+    # What is done.
 
     def counts_before(self, source, places):
         """How many records an earlier walk read and wrote, if all is as that one left it."""
         try:
-            with open(places.report, "rb") as file:
-                report = parsed(file.read())
-            with open(places.stamp, encoding="ascii", errors="replace") as file:
-                is_as_it_was = file.read() == stamp_of(source)
+            report = parsed(read_regular(places.report))
+            is_as_it_was = read_regular(places.stamp) == stamp_of(source).encode()
         except (OSError, NotAReport):
             return None
         written = sum(line.records for line in report.lines)
@@ -181,74 +310,69 @@ class Walk:
         is_strict = not self.task.strict or report.counts[2] == 0
         return (report.counts[0], written) if is_asked and is_whole and is_strict and is_as_it_was else None
 
-    def repack(self, source, places):
+    def repack(self, source, places, claim):
         """Repacks a day: all is written beside its names, and then the report gets its name first."""
         try:
+            if not stat.S_ISREG(os.stat(source).st_mode):
+                raise OSError
             file = os.open(source, os.O_RDONLY)
         except OSError:
             raise NotDone("cannot open") from None
-        stamp = stamp_of(source)
-        remove(places.stamp)
+        stamp, parts = stamp_of(source), self.parts(places, claim.number)
         content = read_to_end(file)
-        self.make(places)
         records, report, fault = model.repacked(content or b"", self.task.length, self.task.tolerance, self.task.strict)
         fault = "read fault" if content is None else fault
-        if not fault:
-            self.fill(part(places.records), records)
-            self.fill(part(places.report), report.encode())
-        if self.odd.taken in (part(places.records), part(places.report)):
-            raise NotDone("another walk is at work")
+        for path, text in zip(parts, (records, report.encode() if report else b"")):
+            self.write(path, text)
         if fault:
             raise NotDone(fault)
-        if self.task.check and not self.is_shown(places):
+        if self.task.check and not self.is_shown(parts):
             raise NotDone("")
-        self.name(places)
+        if not self.has(claim):
+            raise NotDone(TAKEN)
+        self.name(places, parts)
         if self.task.resume:
-            with open(places.stamp, "w", encoding="ascii") as file:
-                file.write(stamp)
+            self.write(parts[2], stamp.encode())
+            os.rename(parts[2], places.stamp)
         read = parsed(report.encode())
         return read.counts[0], sum(line.records for line in read.lines)
 
-    def make(self, places):
-        """Makes the folders and the files that are not whole yet, in the place of what a killed walk left."""
-        for path in (places.records, places.report):
-            try:
-                os.makedirs(os.path.dirname(path), exist_ok=True)
-                remove(part(path))
-                with open(part(path), "xb") as file:
-                    file.write(b"another's" if self.odd.taken == part(path) else b"")
-            except OSError:
-                raise NotDone("cannot open") from None
+    def write(self, path, content):
+        """Makes a file with its folder, in the place of one that stands there; nothing is written to that one."""
+        try:
+            os.makedirs(os.path.dirname(path), exist_ok=True)
+            remove(path)
+            file = self.make(path)
+        except OSError:
+            raise NotDone("cannot open") from None
+        with open(file, "wb") as opened:
+            opened.write(content)
 
-    def fill(self, path, content):
-        """Writes what another walk has not taken."""
-        if self.odd.taken != path:
-            with open(path, "wb") as file:
-                file.write(content)
-
-    def is_shown(self, places):
+    def is_shown(self, parts):
         """Whether the report that was written shows the records that were; another file may be read in their place."""
-        read = [self.odd.other if path == self.odd.made else path for path in map(part, places[:2])]
+        read = [self.odd.other if is_like(self.odd.made, path) else path for path in parts[:2]]
         packed, report = [open(path, "rb").read() for path in read]
         try:
             return verdict(packed, parsed(report))
         except model.Refused as why:
             raise NotDone(str(why)) from None
 
-    def name(self, places):
-        """The old records go; the report gets its name, and then the records."""
-        remove(places.records)
+    def name(self, places, parts):
+        """The old stamp and the old records go; the report gets its name, and then the records."""
         try:
-            self.rename(places.report)
-            self.rename(places.records)
+            for path in (places.stamp, places.records):
+                if os.path.lexists(path):
+                    os.remove(path)
+            self.rename(parts[1], places.report)
+            self.rename(parts[0], places.records)
         except OSError:
             raise NotDone("cannot open") from None
 
-    def rename(self, path):
+    def rename(self, part, path):
         odd = self.odd
         if path == odd.later and (not os.path.exists(odd.earlier) or odd.gone and os.path.exists(odd.gone)):
             raise OSError
-        os.rename(part(path), path)
+        os.rename(part, path)
 
 
 def stamp_of(path):

@@ -2,7 +2,7 @@
 
 use crate::inputs::{mismatched, two_segments, zeros};
 use crate::numbers::{count, no_step};
-use crate::{questions, records, samples};
+use crate::{claims, questions, records, samples};
 use std::io::Write;
 use std::os::unix::fs::symlink;
 use std::{fs, io};
@@ -129,6 +129,7 @@ fn making(rt: &HostRuntime, verb: &str, one: &str, other: &str) -> io::Result<()
         "copy" => write(rt, other, fs::read(rt, one)?.as_slice()),
         "hard" => fs::hard_link(rt, one, other),
         "soft" => link(rt, one, other),
+        "claim" => claims::leave(rt, one, other),
         _ => questions::ask(rt, verb, one, other),
     }
 }

@@ -4,6 +4,7 @@
 //! steps.
 #![tactic(auto)]
 
+mod claims;
 mod each;
 mod files;
 mod inputs;

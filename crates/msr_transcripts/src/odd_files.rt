@@ -2,8 +2,9 @@
 
 use crate::numbers::no_step;
 use std::alloc::{Allocator, Global};
-use std::fs::{Metadata, OpenOptions};
+use std::fs::{Metadata, OpenFile, OpenOptions};
 use std::io::{ErrorKind, Read};
+use std::os::unix::fs::MetadataExt;
 use std::rt::Files;
 use std::{fs, io};
 
@@ -12,8 +13,9 @@ const TAKEN: &[u8] = b"another's";
 
 /// The folder with the path, which ends in a slash, has these names, each ended by a NUL, or cannot be opened. If the
 /// last name is cut short, reading fails there. A file gets the later name only if the earlier one is there and the one
-/// that is to be gone is not. Once the file with the name `made` is there, the other one is opened in its place. A new
-/// file with the name `taken` is replaced at once, as another program would. Standard input is redirected from the file
+/// that is to be gone is not. Once a file whose name matches `made` is there, the other one is opened in its place. When
+/// a new file is made whose name matches `when`, the file `taken` is replaced, as another program would. When a claim is
+/// made, the file `linked` gets the name beside that of the records, too. Standard input is redirected from the file
 /// `redirected`, and standard output to the file `redirecting`, if these are names.
 #[derive(Clone, Copy)]
 pub struct OddFiles<'a> {
@@ -26,6 +28,8 @@ pub struct OddFiles<'a> {
     other: &'a str,
     gone: &'a str,
     taken: &'a str,
+    when: &'a str,
+    linked: &'a str,
     redirected: &'a str,
     redirecting: &'a str,
 }
@@ -43,6 +47,8 @@ impl<'a> OddFiles<'a> {
             other: "",
             gone: "",
             taken: "",
+            when: "",
+            linked: "",
             redirected: "",
             redirecting: "",
         }
@@ -59,6 +65,8 @@ impl<'a> OddFiles<'a> {
             "other" => self.other = value,
             "gone" => self.gone = value,
             "taken" => self.taken = value,
+            "when" => self.when = value,
+            "linked" => self.linked = value,
             "redirected" => self.redirected = value,
             "redirecting" => self.redirecting = value,
             _ => return Err(no_step()),
@@ -74,14 +82,46 @@ impl<'a> OddFiles<'a> {
             _ => path,
         }
     }
+
+    /// What other programs do once a file is made.
+    fn others_do(&self, path: &str, file: &<HostRuntime as Files>::File) -> io::Result<()> {
+        if matches(self.when, path) {
+            self.rt.remove_file(self.taken)?;
+            fs::write(self.rt, self.taken, TAKEN)?;
+        }
+        match path.strip_suffix(".claim") {
+            Some(records) if !self.linked.is_empty() => self.link(records, file.metadata()?.ino()),
+            _ => Ok(()),
+        }
+    }
+
+    /// Gives the linked file the name under which the records are written by the walk whose claim has that number.
+    fn link(&self, records: &str, number: u64) -> io::Result<()> {
+        let part = format!(in self.rt.alloc(); "{records}.{number}.part")?;
+        fs::hard_link(self.rt, self.linked, part.as_str())
+    }
 }
 
-/// The names of a folder that cannot be opened, that cannot be read to its end, or that has a name that is not UTF-8.
+/// Whether a path is that one, or begins and ends as the pattern does before and after its `*`.
+fn matches(pattern: &str, path: &str) -> bool {
+    let Some((head, tail)) = pattern.split_once('*') else {
+        return path == pattern;
+    };
+    match path.strip_prefix(head) {
+        Some(rest) => rest.ends_with(tail),
+        None => false,
+    }
+}
+
+/// The names of a folder that cannot be opened, that cannot be read to its end, or that has a name that is not UTF-8;
+/// or names with control characters, and one without; or that of a day.
 fn listed(text: &str) -> io::Result<Option<&'static [u8]>> {
     match text {
         "closed" => Ok(None),
         "cut" => Ok(Some(b"XX.TEST.00.BHN")),
         "latin" => Ok(Some(b"a\0\xff\0")),
+        "marked" => Ok(Some(b"a\nrefused b\0\t\0\x7f\x1f\0\xc3\xa9 ~\0")),
+        "day" => Ok(Some(b"XX.TEST.00.BHZ.D.2020.001\0")),
         _ => Err(no_step()),
     }
 }
@@ -121,13 +161,12 @@ impl<'a> Files for OddFiles<'a> {
     type Dir = Names;
 
     fn open_file(&self, how: &OpenOptions, path: &str) -> io::Result<Self::File> {
-        if path == self.made && self.rt.metadata(path).is_ok() {
+        if matches(self.made, path) && self.rt.metadata(path).is_ok() {
             return self.rt.open_file(how, self.other);
         }
         let file = self.rt.open_file(how, self.followed(path))?;
-        if path == self.taken && how.asks_create_new() {
-            self.rt.remove_file(path)?;
-            fs::write(self.rt, path, TAKEN)?;
+        if how.asks_create_new() {
+            self.others_do(path, &file)?;
         }
         Ok(file)
     }

@@ -16,6 +16,31 @@ fn has(rt: &HostRuntime, path: &str) -> io::Result<()> {
     println!(rt; "{is_there}")
 }
 
+/// A name in a folder. The number of a claim, which differs from run to run, is told as `N`.
+fn name_told(rt: &HostRuntime, name: &str) -> io::Result<String> {
+    if let Some(whole) = name.strip_suffix(".part") {
+        if let Some((path, number)) = whole.rsplit_once('.') {
+            if number.bytes().all(|digit| digit.is_ascii_digit()) {
+                return Ok(format!(in rt.alloc(); "{path}.N.part")?);
+            }
+        }
+    }
+    Ok(name.to_string(rt.alloc())?)
+}
+
+/// The names in a folder, in the order of their bytes.
+fn names(rt: &HostRuntime, folder: &str) -> io::Result<()> {
+    let mut names = Vec::new(rt.alloc());
+    for entry in fs::read_dir(rt, folder)? {
+        names.push(name_told(rt, entry?.file_name())?)?;
+    }
+    names.sort_unstable();
+    for name in &names {
+        println!(rt; "{name}")?;
+    }
+    Ok(())
+}
+
 /// Whether two files have the same bytes.
 fn same(rt: &HostRuntime, one: &str, other: &str) -> io::Result<()> {
     let is_same = fs::read(rt, one)?.as_slice() == fs::read(rt, other)?.as_slice();
@@ -162,6 +187,7 @@ pub fn ask(rt: &HostRuntime, verb: &str, one: &str, other: &str) -> io::Result<(
     match verb {
         "size" => size(rt, one),
         "has" => has(rt, one),
+        "names" => names(rt, one),
         "same" => same(rt, one, other),
         "prefix" => prefix(rt, one, other),
         "show" => show(rt, one),

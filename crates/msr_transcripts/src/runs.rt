@@ -4,6 +4,7 @@ use crate::files;
 use crate::settings::Settings;
 use msr_command::run;
 use msr_tool::{TestSink, TestSource};
+use std::fs::{File, OpenOptions};
 use std::{fs, io};
 
 /// What came of a run: what it printed, unless a file keeps that, its complaint, and its status.
@@ -45,8 +46,19 @@ fn shown(rt: &HostRuntime, printed: &[u8], into: &str) -> io::Result<Vec<u8>> {
     Ok(Vec::new(rt.alloc()))
 }
 
+/// Locks the file, as another program would, until it is closed.
+fn hold(rt: &HostRuntime, path: &str) -> io::Result<Option<File>> {
+    if path.is_empty() {
+        return Ok(None);
+    }
+    let file = OpenOptions::new().write(true).open(rt, path)?;
+    file.try_lock()?;
+    Ok(Some(file))
+}
+
 /// Runs msrepack with these words, of which the first is its name.
 fn run_with(rt: &HostRuntime, settings: &Settings<'_>, words: &[&str]) -> io::Result<Answer> {
+    let _held = hold(rt, settings.held)?;
     let input = given(rt, settings)?;
     let mut source = TestSource::new(input.as_slice(), settings.reading);
     let mut sink = TestSink::new(Vec::new(rt.alloc()), settings.writing);

@@ -13,13 +13,14 @@ const PLAIN: Behavior = Behavior {
 };
 
 /// What a run is given beside its words: the name of the file that is its standard input and how many of its bytes come
-/// at most, the name of the one that keeps what it prints, how its streams behave, and what is odd in the files that it
-/// sees.
+/// at most, of the one that keeps what it prints, and of one that another program has locked, if there are such; how its
+/// streams behave, and what is odd in the files that it sees.
 #[derive(Clone, Copy)]
 pub struct Settings<'a> {
     pub from: &'a str,
     pub cut: usize,
     pub into: &'a str,
+    pub held: &'a str,
     pub reading: Behavior,
     pub writing: Behavior,
     pub odd: OddFiles<'a>,
@@ -51,6 +52,7 @@ impl<'a> Settings<'a> {
             from: "",
             cut: usize::MAX,
             into: "",
+            held: "",
             reading: PLAIN,
             writing: PLAIN,
             odd: OddFiles::new(rt),
@@ -64,6 +66,7 @@ impl<'a> Settings<'a> {
             "from" => self.from = value,
             "cut" => self.cut = count(value)?,
             "into" => self.into = value,
+            "held" => self.held = value,
             "reading" => self.reading = behavior(value)?,
             "writing" => self.writing = behavior(value)?,
             _ => self.odd = self.odd.with(name, value)?,
