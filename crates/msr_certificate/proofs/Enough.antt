@@ -1,11 +1,10 @@
 -- A line that stands in a text and what follows it stands in the text, if that is enough to judge the line.
-use Rattle.std.proofs.Common.{◌≡◌, ◌∙◌, ap, sym, inl, inr, ◌⊎◌, arith, ℕ, zero, suc, ◌+◌, ◌*◌, ◌-◌, ◌<◌, ◌≤◌, ◌/◌, ◌%◌, ◌==◌, Bool, true, false, cond, List, [], ◌∷◌, ◌++◌, length, length-append, decimal, codes, ℤ, pos, negsuc}
+use Rattle.std.proofs.Common.{◌≡◌, ◌∙◌, ap, sym, inl, inr, ◌⊎◌, arith, ℕ, zero, suc, ◌+◌, ◌*◌, ◌<◌, ◌≤◌, ◌/◌, ◌%◌, ◌==◌, Bool, true, false, cond, List, [], ◌∷◌, ◌++◌, length, length-append, decimal, codes, ℤ, pos, negsuc}
 use Rattle.std.specs.Fmt.{digits, digits_onto, digit_glyph, signed_decimal}
 use Rattle.std.specs.Char.{is_ascii_alphanumeric}
 use Rattle.std.proofs.lemmas.List.{append-nil, length-replicate}
 use Rattle.msr_record.specs.declared.row.Key.{Key}
 use Rattle.msr_report.specs.Text.{IsTimeText, byte_text, field_text, hex_text, split_text}
-use Rattle.msr_base.specs.declared.counts.Counts.{Counts}
 use Rattle.msr_certificate.specs.Fields.{AreBytes}
 use Rattle.msr_certificate.specs.Form.{Form, IsKey, key_then}
 use Rattle.msr_certificate.specs.Fault.{IsOneLine}
@@ -38,21 +37,23 @@ settled_inside (c ∷ body) byte x (b ∷ text) more one long is =
       behind = rest.behind;
     }
 
-inside_by : (body : List ℕ) (byte : ℕ) (x text more : List ℕ) → IsOneLine body → length body < line_limit
-    → IsSettled text ⊎ (more ≡ []) → text ++ more ≡ body ++ (byte ∷ x) → Inside body byte x text more
-inside_by body byte x text more one small (inl settled) is =
-    settled_inside body byte x text more one (λ (l : IsOneLine text). let long = settled l in omega (arith, long, small))
+inside_by : (body : List ℕ) (byte : ℕ) (x : List ℕ) (begins : Bool) (text more : List ℕ) → IsOneLine body
+    → length body < line_limit → begins ≡ true → IsSettled begins text ⊎ (more ≡ []) → text ++ more ≡ body ++ (byte ∷ x) → Inside body byte x text more
+inside_by body byte x begins text more one small may (inl settled) is =
+    settled_inside body byte x text more one (λ (l : IsOneLine text). let long = settled may l in omega (arith, long, small))
     is
-inside_by body byte x text more one small (inr none) is =
+inside_by body byte x begins text more one small may (inr none) is =
     record {
       left = x;
       is = sym (append-nil text) ∙ ap (λ (l : List ℕ). text ++ l) (sym none) ∙ is;
       behind = sym (append-nil x) ∙ ap (λ (l : List ℕ). x ++ l) (sym none);
     }
 
-pub inside : (body : List ℕ) (byte : ℕ) (x text more : List ℕ) → IsOneLine body → length body < line_limit
-    → IsEnough text more → text ++ more ≡ body ++ (byte ∷ x) → Inside body byte x text more
-inside body byte x text more one small enough is = inside_by body byte x text more one small enough.enough is
+pub inside : (body : List ℕ) (byte : ℕ) (x : List ℕ) (begins : Bool) (text more : List ℕ) → IsOneLine body
+    → length body < line_limit → begins ≡ true → IsEnough begins text more → text ++ more ≡ body ++ (byte ∷ x)
+    → Inside body byte x text more
+inside body byte x begins text more one small may enough is =
+    inside_by body byte x begins text more one small may enough.enough is
 
 cond_short : (b : Bool) (xs ys : List ℕ) (m : ℕ) → length xs ≤ m → length ys ≤ m → length (cond b xs ys) ≤ m
 cond_short true xs ys m first second = first

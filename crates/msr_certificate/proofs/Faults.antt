@@ -1,5 +1,5 @@
 -- The faults of the lines after those that were read.
-use Rattle.std.proofs.Common.{◌≡◌, ◌∙◌, ap, sym, refl, rules, subst, arith, ℕ, suc, ◌+◌, ◌*◌, ◌<◌, ◌≤◌, ◌^◌, Bool, true, false, List, [], ◌∷◌, ◌++◌, append_assoc, length, length-append, decimal, codes, All, flat_map, ℤ}
+use Rattle.std.proofs.Common.{◌≡◌, ◌∙◌, ap, sym, refl, rules, subst, arith, ℕ, suc, ◌+◌, ◌*◌, ◌<◌, ◌^◌, Bool, true, false, List, [], ◌∷◌, ◌++◌, append_assoc, length, length-append, decimal, codes, All, flat_map, ℤ}
 use Rattle.std.proofs.lemmas.List.{append_cancel_left}
 use Rattle.msr_record.specs.declared.row.Key.{Key}
 use Rattle.msr_words.specs.Lengths.{bytes_of}
@@ -7,7 +7,7 @@ use Rattle.msr_report.specs.Proper.{records_of}
 use Rattle.msr_report.specs.Text.{separators_line, end_line}
 use Rattle.msr_report.specs.declared.report.SegmentLine.{SegmentLine}
 use Rattle.msr_certificate.specs.Fields.{EndsNumber}
-use Rattle.msr_certificate.specs.Form.{FormLine, IsKey, IsFormLine, IsOpening}
+use Rattle.msr_certificate.specs.Form.{FormLine, IsFormLine, IsOpening}
 use Rattle.msr_certificate.specs.Fault.{BeginsReport, IsFaultLine}
 use Rattle.msr_certificate.specs.Ending.{IsLast}
 use Rattle.msr_certificate.specs.Rest.{AtLine}
@@ -40,11 +40,12 @@ opening_more key start samples records text more opens =
           ∙ append_assoc body (10 ∷ []) more ∙ opening_then key opens.word samples records more;
     }
 
-none_more : (text more : List ℕ) → IsEnough text more → ReadsNone text → ReadsNone (text ++ more)
-none_more text more enough none = λ key start samples n x is_key fits_samples fits_n opening.
-    let within = inside (opening_body key opening.word samples n) 10 x text more
+none_more : (begins : Bool) (text more : List ℕ) → ((x : List ℕ) → text ++ more ≡ codes "segment " ++ x → begins ≡ true)
+    → IsEnough begins text more → ReadsNone text → ReadsNone (text ++ more)
+none_more begins text more may enough none = λ key start samples n x is_key fits_samples fits_n opening.
+    let within = inside (opening_body key opening.word samples n) 10 x begins text more
     (opening_is_one key start opening.word samples n is_key opening.time)
-    (opening_short key start opening.word samples n is_key opening.time) enough
+    (opening_short key start opening.word samples n is_key opening.time) (may _ opening.is) enough
     (opening.is ∙ sym (opening_then key opening.word samples n x)) in
     none key start samples n within.left is_key fits_samples fits_n record {
       word = opening.word;
@@ -52,27 +53,29 @@ none_more text more enough none = λ key start samples n x is_key fits_samples f
       is = within.is ∙ opening_then key opening.word samples n within.left;
     }
 
-not_last_more : (segments : List SegmentLine) (text more : List ℕ) → IsEnough text more
+not_last_more : (segments : List SegmentLine) (begins : Bool) (text more : List ℕ)
+    → ((x : List ℕ) → text ++ more ≡ codes "end " ++ x → begins ≡ true) → IsEnough begins text more
     → ((rest : List ℕ) → IsLast segments text rest → ⊥) → (x : List ℕ) → records_of segments < 2 ^ 64
     → text ++ more ≡ end_line (length segments) (records_of segments) ++ x → ⊥
-not_last_more segments text more enough none x fits is =
-    let within = inside (end_body (length segments) (records_of segments)) 10 x text more
-    (end_is_one (length segments) (records_of segments)) (end_short (length segments) (records_of segments)) enough
+not_last_more segments begins text more may enough none x fits is =
+    let within = inside (end_body (length segments) (records_of segments)) 10 x begins text more
+    (end_is_one (length segments) (records_of segments)) (end_short (length segments) (records_of segments)) (may _ is) enough
     (is ∙ end_then (length segments) (records_of segments) x) in
     none within.left record {
       fits = fits;
       is = within.is ∙ sym (end_then (length segments) (records_of segments) within.left);
     }
 
-pub segment_fault : (first : FirstLines) (segments : List SegmentLine) (past text more : List ℕ)
-    → ReadSegments first segments past → IsEnough text more → ReadsNone text
+pub segment_fault : (first : FirstLines) (segments : List SegmentLine) (begins : Bool) (past text more : List ℕ)
+    → ReadSegments first segments past → ((x : List ℕ) → text ++ more ≡ codes "segment " ++ x → begins ≡ true)
+    → ((x : List ℕ) → text ++ more ≡ codes "end " ++ x → begins ≡ true) → IsEnough begins text more → ReadsNone text
     → ((rest : List ℕ) → IsLast segments text rest → ⊥) → IsFaultLine (past ++ (text ++ more)) (5 + 2 * length segments)
-segment_fault first segments past text more read enough none not_last =
+segment_fault first segments begins past text more read may may_end enough none not_last =
     let going = going_of first segments past (text ++ more) read in
     at_number (past ++ (text ++ more)) (suc (4 + 2 * length segments)) (5 + 2 * length segments) (omega arith)
     (fault_segment (past ++ (text ++ more)) (text ++ more) (length segments) (records_of segments)
-    (4 + 2 * length segments) going.at (none_more text more enough none)
-    (not_last_more segments text more enough not_last)
+    (4 + 2 * length segments) going.at (none_more begins text more may enough none)
+    (not_last_more segments begins text more may_end enough not_last)
     (before_segment (past ++ (text ++ more)) (bytes_of first.length) first.tolerance first.counts segments
     (text ++ more) going))
 
@@ -146,16 +149,19 @@ stops (n ∷ ns) x = record {
   is = refl;
 }
 
-pub word_fault : (first : FirstLines) (segments : List SegmentLine) (line : FirstLine) (past text more : List ℕ)
-    → ReadOpening first segments line past → IsEnough text more
+pub word_fault : (first : FirstLines) (segments : List SegmentLine) (line : FirstLine) (begins : Bool)
+    (past text more : List ℕ) → ReadOpening first segments line past
+    → ((x : List ℕ) → text ++ more ≡ codes "separators" ++ x → begins ≡ true) → IsEnough begins text more
     → ((last : Bool) (rest : List ℕ) → text ≡ codes "separators" ++ (stop_byte last ∷ rest) → ⊥)
     → IsFaultLine (past ++ (text ++ more)) (6 + 2 * length segments)
-word_fault first segments line past text more read enough none =
+word_fault first segments line begins past text more read may enough none =
     second_fault first segments line past (text ++ more) read
     (λ ns x each is.
     let s = stops ns x in
-    let within = inside (codes "separators") (stop_byte s.last) s.behind text more (search rules) (omega arith) enough
-    (is ∙ line_then ns x ∙ ap (λ (l : List ℕ). codes "separators" ++ l) s.is) in
+    let shown = is ∙ line_then ns x in
+    let within = inside (codes "separators") (stop_byte s.last) s.behind begins text more (search rules)
+    (omega arith) (may (flat_map spaced ns ++ (10 ∷ x)) shown) enough
+    (shown ∙ ap (λ (l : List ℕ). codes "separators" ++ l) s.is) in
     none s.last within.left within.is)
 
 -- the separator after those that were read
@@ -206,7 +212,7 @@ numbers_more before numbers byte more =
     ∙ ap (λ (l : List ℕ). before ++ (codes "separators" ++ l)) (append_assoc (flat_map spaced numbers) (byte ∷ []) more)
 
 pub number_fault : (first : FirstLines) (segments : List SegmentLine) (line : FirstLine)
-    (numbers past text more : List ℕ) → ReadNumbers first segments line numbers past → IsEnough text more
+    (numbers past text more : List ℕ) → ReadNumbers first segments line numbers past → IsEnough true text more
     → ((n : ℕ) (last : Bool) (rest : List ℕ) → n < 2 ^ 64 → text ≡ decimal n ++ (stop_byte last ∷ rest) → ⊥)
     → IsFaultLine (past ++ (text ++ more)) (6 + 2 * length segments)
 number_fault first segments line numbers past text more read enough none =
@@ -221,8 +227,8 @@ number_fault first segments line numbers past text more read enough none =
     (flat_map spaced ns ++ (10 ∷ x)) (is ∙ line_then ns x)) in
     let s = stops next.numbers x in
     let short = decimal_short next.number in
-    let within = inside (decimal next.number) (stop_byte s.last) s.behind text more
-    (decimal_is_one next.number next.fits) (omega (arith, short)) enough
+    let within = inside (decimal next.number) (stop_byte s.last) s.behind true text more
+    (decimal_is_one next.number next.fits) (omega (arith, short)) refl enough
     (next.is ∙ ap (λ (l : List ℕ). decimal next.number ++ l) s.is) in
     none next.number s.last within.left next.fits within.is))
 

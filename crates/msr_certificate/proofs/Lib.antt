@@ -15,6 +15,7 @@ pub mod StoppedSources
 pub mod SameFields
 pub mod OneForm
 pub mod Forms
+pub mod Begun
 pub mod Enough
 pub mod ReadTexts
 pub mod Faults

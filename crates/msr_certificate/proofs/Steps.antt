@@ -1,5 +1,5 @@
 -- What a step of reading does, from what stands at the start of the text.
-use Rattle.std.proofs.Common.{◌≡◌, ◌∙◌, ap, sym, refl, inl, inr, subst, arith, ℕ, ◌+◌, ◌*◌, ◌-◌, ◌<◌, ◌≤◌, ◌^◌, ◌==◌, Bool, true, false, List, [], ◌∷◌, ◌++◌, append_assoc, drop, length, length-append, decimal, codes, All, map, flat_map, Result, Ok, Err}
+use Rattle.std.proofs.Common.{◌≡◌, ◌∙◌, ap, sym, refl, inl, inr, subst, arith, ℕ, ◌-◌, ◌<◌, ◌≤◌, ◌^◌, ◌==◌, Bool, true, false, List, [], ◌∷◌, ◌++◌, append_assoc, drop, length, length-append, decimal, codes, All, map, Result, Ok, Err}
 use Rattle.std.proofs.Math.Seq.{drop-append_seam}
 use Rattle.std.proofs.lemmas.List.{append-nil}
 use Rattle.std.proofs.lemmas.List.Elements.{All-push}
@@ -10,12 +10,12 @@ use Rattle.msr_report.specs.Proper.{records_of}
 use Rattle.msr_report.specs.Text.{separators_line, end_line}
 use Rattle.msr_report.specs.declared.report.SegmentLine.{SegmentLine}
 use Rattle.msr_report.specs.declared.report.Report.{Report}
-use Rattle.msr_certificate.specs.Form.{FormLine, IsKey, IsFirst, IsFormLine, IsOpening, first_then, form_line}
+use Rattle.msr_certificate.specs.Form.{IsKey, IsFirst, IsFormLine, IsOpening, first_then, form_line}
 use Rattle.msr_certificate.specs.Fault.{IsOneLine, IsFaultLine}
 use Rattle.msr_certificate.specs.Ending.{IsLast}
 use Rattle.msr_certificate.specs.Reading.{IsReadFrom}
 use Rattle.msr_certificate.specs.TextFault.{IsTextFault}
-use Rattle.msr_certificate.specs.Draft.{IsEnough, IsRefused, IsStep, IsTaken, Follows, ReadTo, ReadSegments, ReadOpening, ReadNumbers, ReadEnd, numbers_then, stop_byte}
+use Rattle.msr_certificate.specs.Draft.{IsEnough, IsRefused, IsStep, IsTaken, Follows, ReadTo, ReadSegments, ReadOpening, ReadEnd, numbers_then, stop_byte}
 use Rattle.msr_certificate.specs.declared.fault.ReportFault.{ReportFault}
 use Rattle.msr_certificate.specs.declared.fault.ReportFault.TheVariants.{Line, Read, Memory}
 use Rattle.msr_certificate.specs.declared.first.FirstLines.{FirstLines}
@@ -28,26 +28,26 @@ use Rattle.msr_certificate.specs.declared.draft.Progress.TheVariants.{Taken, Cut
 use Rattle.msr_certificate.proofs.Segments.{opening_body, opening_then, line_text}
 use Rattle.msr_certificate.proofs.SegmentsRead.{Going, map_more, texts_more, all_more, first_long, found_report}
 use Rattle.msr_certificate.proofs.BegunReports.{first_append}
-use Rattle.msr_certificate.proofs.Separators.{spaced, one_more}
+use Rattle.msr_certificate.proofs.Separators.{one_more}
 use Rattle.msr_certificate.proofs.Faults.{opening_more, numbers_more}
 use Rattle.msr_certificate.proofs.ReadTexts.{going_of}
 
 -- a line that no report has there
-pub refused : (old new : Draft) (whole text : List ℕ) (line : ℕ) (result : Result Progress ReportFault) → new ≡ old
-    → ((past more : List ℕ) → Follows old past → IsEnough text more → IsFaultLine (past ++ (whole ++ more)) line)
-    → IsRefused text line result → IsStep old new whole result
-refused old new whole text line (Ok (Taken n)) same fault is = absurd is
-refused old new whole text line (Ok (Cut n)) same fault is = record {
+pub refused : (old new : Draft) (whole : List ℕ) (begins : Bool) (text : List ℕ) (line : ℕ) (result : Result Progress ReportFault) → new ≡ old
+    → ((past more : List ℕ) → Follows old past → IsEnough begins text more → IsFaultLine (past ++ (whole ++ more)) line)
+    → IsRefused begins text line result → IsStep old new whole result
+refused old new whole begins text line (Ok (Taken n)) same fault is = absurd is
+refused old new whole begins text line (Ok (Cut n)) same fault is = record {
   same = same;
   fault = λ past follows. rw is
       (subst (λ (t : List ℕ). IsFaultLine (past ++ t) line) (append-nil whole)
       (fault past [] follows record { enough = inr refl }));
 }
-refused old new whole text line (Ok (Whole first)) same fault is = absurd is
-refused old new whole text line (Err (Line n)) same fault is = λ past more follows.
+refused old new whole begins text line (Ok (Whole first)) same fault is = absurd is
+refused old new whole begins text line (Err (Line n)) same fault is = λ past more follows.
     rw is.0 (fault past more follows record { enough = inl is.1 })
-refused old new whole text line (Err Read) same fault is = absurd is
-refused old new whole text line (Err Memory) same fault is = absurd is
+refused old new whole begins text line (Err Read) same fault is = absurd is
+refused old new whole begins text line (Err Memory) same fault is = absurd is
 
 -- a line without a line feed has no byte of one
 pub one_is_none : (text : List ℕ) → IsOneLine text → list_any (λ (byte : ℕ). byte == 10) text ≡ false

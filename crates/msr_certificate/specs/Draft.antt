@@ -1,5 +1,5 @@
 -- What was read so far of a report's text, and what the next step does.
-use Rattle.std.specs.Prelude.{◌≡◌, ℕ, ◌<◌, ◌≤◌, ◌^◌, ◌⊎◌, Bool, false, cond, List, [], ◌∷◌, ◌++◌, length, map, codes, flat_map, All, Result, Ok, Err}
+use Rattle.std.specs.Prelude.{◌≡◌, ℕ, ◌<◌, ◌≤◌, ◌^◌, ◌⊎◌, Bool, true, false, cond, List, [], ◌∷◌, ◌++◌, length, map, codes, flat_map, All, Result, Ok, Err}
 use Rattle.std.specs.Fmt.{decimal}
 use Rattle.msr_time.specs.Instant.{IsInstant}
 use Rattle.msr_words.specs.Lengths.{bytes_of}
@@ -23,14 +23,14 @@ use Rattle.msr_certificate.specs.declared.draft.Progress.TheVariants.{Taken, Cut
 abbrev pub line_limit : ℕ
 line_limit = 4096
 
--- The text has the first line feed or more bytes than a line can have. So the line that it begins with is at
--- fault or not, however the text goes on.
-abbrev pub IsSettled : List ℕ → Type 0
-IsSettled text = IsOneLine text → line_limit ≤ length text
+-- The text has the line feed of the line that it begins with, or more bytes than a line can have, or cannot begin
+-- with the word of a line. So that line is at fault or not, however the text goes on.
+abbrev pub IsSettled : Bool → List ℕ → Type 0
+IsSettled begins text = begins ≡ true → IsOneLine text → line_limit ≤ length text
 
 -- the same, or the text does not go on
-pub record IsEnough (text more : List ℕ) : Type 0 where
-  pub enough : IsSettled text ⊎ (more ≡ [])
+pub record IsEnough (begins : Bool) (text more : List ℕ) : Type 0 where
+  pub enough : IsSettled begins text ⊎ (more ≡ [])
 
 -- the byte after a word of the separators' line, and after its last
 abbrev pub stop_byte : Bool → ℕ
@@ -114,10 +114,10 @@ IsStep old new text (Ok (Whole first)) = IsWhole old new text first
 IsStep old new text (Err fault) = (past more : List ℕ) → Follows old past → IsTextFault (past ++ (text ++ more)) fault
 
 -- the line is cut, or it is at fault however the text goes on
-abbrev pub IsRefused : List ℕ → ℕ → Result Progress ReportFault → Type 0
-IsRefused text line (Ok (Taken n)) = ⊥
-IsRefused text line (Ok (Cut n)) = n ≡ line
-IsRefused text line (Ok (Whole first)) = ⊥
-IsRefused text line (Err (Line n)) = (n ≡ line) × IsSettled text
-IsRefused text line (Err Read) = ⊥
-IsRefused text line (Err Memory) = ⊥
+abbrev pub IsRefused : Bool → List ℕ → ℕ → Result Progress ReportFault → Type 0
+IsRefused begins text line (Ok (Taken n)) = ⊥
+IsRefused begins text line (Ok (Cut n)) = n ≡ line
+IsRefused begins text line (Ok (Whole first)) = ⊥
+IsRefused begins text line (Err (Line n)) = (n ≡ line) × IsSettled begins text
+IsRefused begins text line (Err Read) = ⊥
+IsRefused begins text line (Err Memory) = ⊥

@@ -9,7 +9,7 @@ ghost use Rattle.msr_certificate.specs.TextFault.{IsTextFault};
 ghost use Rattle.msr_certificate.specs.declared.draft.Place.TheVariants.{Start, Segment, Separators, Number, End};
 
 use crate::fault::ReportFault;
-use crate::fields::{after, number};
+use crate::fields::{after, may_begin, number};
 use crate::first::{FaultAt, FirstLines, first_lines};
 use crate::lines::{FirstLine, end, opening};
 use msr_report::{Report, SegmentLine};
@@ -55,11 +55,12 @@ pub(crate) enum Progress {
     Whole(FirstLines),
 }
 
-/// That the line is at fault, or that it may be whole once more bytes come.
-fn refuse(text: &[u8], line: u64) -> Result<Progress, ReportFault>
-    ensures { IsRefused text.now line result }
+/// That the line is at fault, or that it may be whole once more bytes come: `begins` says whether these may make the
+/// text begin with its word.
+fn refuse(text: &[u8], begins: bool, line: u64) -> Result<Progress, ReportFault>
+    ensures { IsRefused begins text.now line result }
 {
-    if text.len() < LINE_LIMIT && !text.contains(&b'\n') {
+    if begins && text.len() < LINE_LIMIT && !text.contains(&b'\n') {
         Ok(Progress::Cut(line))
     } else {
         Err(ReportFault::Line(line))
@@ -167,7 +168,7 @@ impl Draft {
                 self.place = Place::Segment(first);
                 Ok(Progress::Taken(text.len() - rest.len()))
             }
-            Err(FaultAt { line, text }) => refuse(text, line),
+            Err(FaultAt { line, text, begins }) => refuse(text, begins, line),
         }
     }
 
@@ -182,7 +183,8 @@ impl Draft {
             self.place = Place::End(first);
             return Ok(Progress::Taken(text.len() - rest.len()));
         }
-        refuse(text, line_after(self.segments.as_slice()))
+        let begins = may_begin(text, b"segment ") | may_begin(text, b"end ");
+        refuse(text, begins, line_after(self.segments.as_slice()))
     }
 
     fn read_word(
@@ -194,7 +196,8 @@ impl Draft {
         ensures { self.old.place ≡ Separators first line → IsStep self.old self.new text.now result }
     {
         let Some((last, rest)) = separators_word(text) else {
-            return refuse(text, 1 + line_after(self.segments.as_slice()));
+            let begins = may_begin(text, b"separators");
+            return refuse(text, begins, 1 + line_after(self.segments.as_slice()));
         };
         self.go_on(first, line, last)?;
         Ok(Progress::Taken(text.len() - rest.len()))
@@ -209,7 +212,7 @@ impl Draft {
         ensures { self.old.place ≡ Number first line → IsStep self.old self.new text.now result }
     {
         let Some((n, last, rest)) = separator(text) else {
-            return refuse(text, 1 + line_after(self.segments.as_slice()));
+            return refuse(text, true, 1 + line_after(self.segments.as_slice()));
         };
         self.numbers.push(n)?;
         self.go_on(first, line, last)?;

@@ -1,16 +1,17 @@
 use Rattle.std.proofs.Common.{◌≡◌, ◌∙◌, sym, refl, arith, true, false}
 use Rattle.msr_certificate.proofs.Steps.{one_is_none}
 use Rattle.msr_certificate.proofs.draft.refuse.Goals as goal
-use Rattle.msr_certificate.proofs.draft.refuse.Goals.{else-text-lt-LINE_LIMIT-via-then-text-lt-LINE_LIMIT+else-not-contains, else-text-lt-LINE_LIMIT-via-else-text-lt-LINE_LIMIT}
+use Rattle.msr_certificate.proofs.draft.refuse.Goals.{else-begins-via-then-begins+then-text-lt-LINE_LIMIT+else-not-contains, else-begins-via-then-begins+else-text-lt-LINE_LIMIT, else-begins-via-else-begins}
 
-pub returns-else-text-lt-LINE_LIMIT : goal.returns-else-text-lt-LINE_LIMIT
-returns-else-text-lt-LINE_LIMIT c = (
+pub returns-else-begins : goal.returns-else-begins
+returns-else-begins c = (
   refl,
-  elim c.else-text-lt-LINE_LIMIT.branch [
-    | else-text-lt-LINE_LIMIT-via-then-text-lt-LINE_LIMIT+else-not-contains w ↦ λ one.
+  elim c.else-begins.branch [
+    | else-begins-via-then-begins+then-text-lt-LINE_LIMIT+else-not-contains w ↦ λ may one.
         let no_feed = one_is_none c.args.text.now one in
         let both : true ≡ false = sym w.if-not-contains.false ∙ w.contains.ensures.value ∙ no_feed in
         absurd cc
-    | else-text-lt-LINE_LIMIT-via-else-text-lt-LINE_LIMIT w ↦ λ one. omega (arith, w.if-text-lt-LINE_LIMIT.false)
+    | else-begins-via-then-begins+else-text-lt-LINE_LIMIT w ↦ λ may one. omega (arith, w.if-text-lt-LINE_LIMIT.false)
+    | else-begins-via-else-begins w ↦ λ may one. let both : true ≡ false = sym may ∙ w.if-begins.false in absurd cc
   ],
 )

@@ -6,26 +6,26 @@ use Rattle.msr_certificate.proofs.first.first_lines.Goals as goal
 
 pub returns-in_default-clause-fault : goal.returns-in_default-clause-fault
 returns-in_default-clause-fault c = λ more enough.
-    fault_1 c.args.text.now more enough c.in_default.ensures.only
+    fault_1 c.args.text.now more c.may_begin.result enough (c.may_begin.ensures more) c.in_default.ensures.only
 
 pub returns-in_default-record_length-clause-fault : goal.returns-in_default-record_length-clause-fault
 returns-in_default-record_length-clause-fault c = λ more enough.
-    fault_2 c.args.text.now c.in-Some.second.now more c.in-Some.ensures.found enough
+    fault_2 c.args.text.now c.in-Some.second.now more c.may_begin-in_default-record_length.result c.in-Some.ensures.found enough (c.may_begin-in_default-record_length.ensures more)
     c.in_default-record_length.ensures.only
 
 pub returns-in_default-tolerance-clause-fault : goal.returns-in_default-tolerance-clause-fault
 returns-in_default-tolerance-clause-fault c = λ more enough.
     fault_3 c.args.text.now c.in-Some.second.now c.in-Some-record_length.third.now more
-    (bytes_of c.in-Some-record_length.length) c.in-Some-record_length.ensures.is_length c.in-Some.ensures.found
-    c.in-Some-record_length.ensures.found enough c.in_default-tolerance.ensures.only
+    (bytes_of c.in-Some-record_length.length) c.may_begin-in_default-tolerance.result c.in-Some-record_length.ensures.is_length c.in-Some.ensures.found
+    c.in-Some-record_length.ensures.found enough (c.may_begin-in_default-tolerance.ensures more) c.in_default-tolerance.ensures.only
 
 pub returns-in_default-counts-clause-fault : goal.returns-in_default-counts-clause-fault
 returns-in_default-counts-clause-fault c = λ more enough.
     fault_4 c.args.text.now c.in-Some.second.now c.in-Some-record_length.third.now c.in-Some-tolerance.fourth.now more
-    (bytes_of c.in-Some-record_length.length) c.in-Some-tolerance.tolerance
+    (bytes_of c.in-Some-record_length.length) c.in-Some-tolerance.tolerance c.may_begin-in_default-counts.result
     c.in-Some-record_length.ensures.is_length c.in-Some-tolerance.ensures.range.0
     c.in-Some-tolerance.ensures.range.1 c.in-Some.ensures.found c.in-Some-record_length.ensures.found
-    c.in-Some-tolerance.ensures.found enough c.in_default-counts.ensures.only
+    c.in-Some-tolerance.ensures.found enough (c.may_begin-in_default-counts.ensures more) c.in_default-counts.ensures.only
 
 pub returns-clause-found : goal.returns-clause-found
 returns-clause-found c =

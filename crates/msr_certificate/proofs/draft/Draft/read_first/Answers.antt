@@ -9,7 +9,7 @@ returns-in-Ok c = λ place.
 
 pub returns-in-Err : goal.returns-in-Err
 returns-in-Err c = λ place.
-    refused c.args.self.now c.args.self.now c.args.text.now c.in-Err.field-0.text.now c.in-Err.field-0.line
+    refused c.args.self.now c.args.self.now c.args.text.now c.in-Err.field-0.begins c.in-Err.field-0.text.now c.in-Err.field-0.line
     c.refuse.result refl
     (λ past more follows enough. first_fault c.args.self.now past (c.args.text.now ++ more) c.in-Err.field-0.line
     place follows (c.in-Err.ensures.fault more enough)) c.refuse.ensures

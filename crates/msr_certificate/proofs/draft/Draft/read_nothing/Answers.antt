@@ -1,4 +1,4 @@
-use Rattle.std.proofs.Common.{◌≡◌, ◌∙◌, ap, rules, arith, List, ◌+◌, ◌*◌, ◌<◌, ◌++◌, length}
+use Rattle.std.proofs.Common.{◌∙◌, ap, rules, arith, List, ◌+◌, ◌*◌, ◌<◌, ◌++◌, length}
 use Rattle.msr_report.specs.declared.report.SegmentLine.{SegmentLine}
 use Rattle.msr_certificate.specs.declared.draft.Place.TheVariants.{End}
 use Rattle.msr_certificate.proofs.Faults.{at_number, end_fault}
