@@ -1,6 +1,10 @@
--- Of two prefixes of one text one begins with the other.
-use Rattle.std.proofs.Common.{◌≡◌, ◌∙◌, ap, refl, inl, inr, ◌⊎◌, ℕ, ◌||◌, Bool, true, false, List, [], ◌∷◌, ◌++◌}
+-- What a text can begin with, when another begins with it.
+use Rattle.std.proofs.Common.{◌≡◌, ◌∙◌, ap, refl, inl, inr, ◌⊎◌, arith, ℕ, ◌<◌, ◌^◌, ◌||◌, Bool, true, false, List, [], ◌∷◌, ◌++◌, length, decimal}
+use Rattle.std.specs.Char.{is_ascii_digit}
+use Rattle.std.specs.Str.{all_ascii_digits}
+use Rattle.std.proofs.lemmas.Fmt.{decimal_nonempty}
 use Rattle.msr_certificate.proofs.LineFeeds.{same_cons}
+use Rattle.msr_certificate.proofs.Digits.{both_true, decimal_is_digits}
 
 begins_after : (x y : ℕ) (xs ys : List ℕ) → x ≡ y
     → ((left : List ℕ) × (xs ≡ ys ++ left)) ⊎ ((left : List ℕ) × (ys ≡ xs ++ left))
@@ -34,3 +38,16 @@ one_of a b is = rw is refl
 pub other_of : (a b : Bool) → b ≡ true → (a || b) ≡ true
 other_of true b is = refl
 other_of false b is = is
+
+-- a number begins with a digit
+digit_by : (byte : ℕ) (left digits rest : List ℕ) → 0 < length digits → all_ascii_digits digits ≡ true
+    → byte ∷ left ≡ digits ++ rest → is_ascii_digit byte ≡ true
+digit_by byte left [] rest some all is = absurd (omega arith)
+digit_by byte left (d ∷ digits) rest some all is =
+    let first = both_true (is_ascii_digit d) (all_ascii_digits digits) all in
+    rw (same_cons byte d left (digits ++ rest) is).0 first.0
+
+pub digit_begins : (byte : ℕ) (left : List ℕ) (n : ℕ) (rest : List ℕ) → n < 2 ^ 64 → byte ∷ left ≡ decimal n ++ rest
+    → is_ascii_digit byte ≡ true
+digit_begins byte left n rest small is =
+    digit_by byte left (decimal n) rest (decimal_nonempty n small) (decimal_is_digits n small) is

@@ -212,10 +212,11 @@ numbers_more before numbers byte more =
     ∙ ap (λ (l : List ℕ). before ++ (codes "separators" ++ l)) (append_assoc (flat_map spaced numbers) (byte ∷ []) more)
 
 pub number_fault : (first : FirstLines) (segments : List SegmentLine) (line : FirstLine)
-    (numbers past text more : List ℕ) → ReadNumbers first segments line numbers past → IsEnough true text more
+    (numbers : List ℕ) (begins : Bool) (past text more : List ℕ) → ReadNumbers first segments line numbers past
+    → ((n : ℕ) (x : List ℕ) → n < 2 ^ 64 → text ++ more ≡ decimal n ++ x → begins ≡ true) → IsEnough begins text more
     → ((n : ℕ) (last : Bool) (rest : List ℕ) → n < 2 ^ 64 → text ≡ decimal n ++ (stop_byte last ∷ rest) → ⊥)
     → IsFaultLine (past ++ (text ++ more)) (6 + 2 * length segments)
-number_fault first segments line numbers past text more read enough none =
+number_fault first segments line numbers begins past text more read may enough none =
     let rest : List ℕ = codes "separators" ++ (flat_map spaced numbers ++ (32 ∷ (text ++ more))) in
     let shown : read.before ++ rest ≡ past ++ (text ++ more) =
     sym (ap (λ (t : List ℕ). t ++ (text ++ more)) read.is ∙ numbers_more read.before numbers 32 (text ++ more)) in
@@ -227,8 +228,9 @@ number_fault first segments line numbers past text more read enough none =
     (flat_map spaced ns ++ (10 ∷ x)) (is ∙ line_then ns x)) in
     let s = stops next.numbers x in
     let short = decimal_short next.number in
-    let within = inside (decimal next.number) (stop_byte s.last) s.behind true text more
-    (decimal_is_one next.number next.fits) (omega (arith, short)) refl enough
+    let within = inside (decimal next.number) (stop_byte s.last) s.behind begins text more
+    (decimal_is_one next.number next.fits) (omega (arith, short))
+    (may next.number (flat_map spaced next.numbers ++ (10 ∷ x)) next.fits next.is) enough
     (next.is ∙ ap (λ (l : List ℕ). decimal next.number ++ l) s.is) in
     none next.number s.last within.left next.fits within.is))
 

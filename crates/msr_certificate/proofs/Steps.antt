@@ -1,5 +1,5 @@
 -- What a step of reading does, from what stands at the start of the text.
-use Rattle.std.proofs.Common.{◌≡◌, ◌∙◌, ap, sym, refl, inl, inr, subst, arith, ℕ, ◌-◌, ◌<◌, ◌≤◌, ◌^◌, ◌==◌, Bool, true, false, List, [], ◌∷◌, ◌++◌, append_assoc, drop, length, length-append, decimal, codes, All, map, Result, Ok, Err}
+use Rattle.std.proofs.Common.{◌≡◌, ◌∙◌, ap, sym, refl, inl, inr, subst, arith, ℕ, ◌-◌, ◌<◌, ◌≤◌, ◌^◌, ◌==◌, ◌||◌, Bool, true, false, List, [], ◌∷◌, ◌++◌, append_assoc, drop, length, length-append, decimal, codes, All, map, Result, Ok, Err}
 use Rattle.std.proofs.Math.Seq.{drop-append_seam}
 use Rattle.std.proofs.lemmas.List.{append-nil}
 use Rattle.std.proofs.lemmas.List.Elements.{All-push}
@@ -39,7 +39,7 @@ pub refused : (old new : Draft) (whole : List ℕ) (begins : Bool) (text : List 
 refused old new whole begins text line (Ok (Taken n)) same fault is = absurd is
 refused old new whole begins text line (Ok (Cut n)) same fault is = record {
   same = same;
-  fault = λ past follows. rw is
+  fault = λ past follows. rw is.0
       (subst (λ (t : List ℕ). IsFaultLine (past ++ t) line) (append-nil whole)
       (fault past [] follows record { enough = inr refl }));
 }
@@ -53,6 +53,16 @@ refused old new whole begins text line (Err Memory) same fault is = absurd is
 pub one_is_none : (text : List ℕ) → IsOneLine text → list_any (λ (byte : ℕ). byte == 10) text ≡ false
 one_is_none [] one = refl
 one_is_none (byte ∷ text) one = let rest = one_is_none text one.1 in rw (one.0, rest) refl
+
+none_by : (test : Bool) (rest : Bool) → (test || rest) ≡ false → (test ≡ false) × (rest ≡ false)
+none_by true rest none = absurd cc
+none_by false rest none = (refl, none)
+
+pub none_is_one : (text : List ℕ) → list_any (λ (byte : ℕ). byte == 10) text ≡ false → IsOneLine text
+none_is_one [] none = tt
+none_is_one (byte ∷ text) none =
+    let both = none_by (byte == 10) (list_any (λ (b : ℕ). b == 10) text) none in
+    (both.0, none_is_one text both.1)
 
 -- what a draft follows at its place
 pub follows_at : (draft : Draft) (place : Place) (past : List ℕ) → draft.place ≡ place

@@ -113,10 +113,11 @@ IsStep old new text (Ok (Cut line)) = IsCut old new text line
 IsStep old new text (Ok (Whole first)) = IsWhole old new text first
 IsStep old new text (Err fault) = (past more : List ℕ) → Follows old past → IsTextFault (past ++ (text ++ more)) fault
 
--- the line is cut, or it is at fault however the text goes on
+-- the line is cut, and more bytes can make it another; or it is at fault however the text goes on
 abbrev pub IsRefused : Bool → List ℕ → ℕ → Result Progress ReportFault → Type 0
 IsRefused begins text line (Ok (Taken n)) = ⊥
-IsRefused begins text line (Ok (Cut n)) = n ≡ line
+IsRefused begins text line (Ok (Cut n)) =
+    (n ≡ line) × ((begins ≡ true) × (IsOneLine text × (length text < line_limit)))
 IsRefused begins text line (Ok (Whole first)) = ⊥
 IsRefused begins text line (Err (Line n)) = (n ≡ line) × IsSettled begins text
 IsRefused begins text line (Err Read) = ⊥

@@ -9,7 +9,7 @@ ghost use Rattle.msr_certificate.specs.TextFault.{IsTextFault};
 ghost use Rattle.msr_certificate.specs.declared.draft.Place.TheVariants.{Start, Segment, Separators, Number, End};
 
 use crate::fault::ReportFault;
-use crate::fields::{after, may_begin, number};
+use crate::fields::{after, may_be_number, may_begin, number};
 use crate::first::{FaultAt, FirstLines, first_lines};
 use crate::lines::{FirstLine, end, opening};
 use msr_report::{Report, SegmentLine};
@@ -212,7 +212,11 @@ impl Draft {
         ensures { self.old.place ≡ Number first line → IsStep self.old self.new text.now result }
     {
         let Some((n, last, rest)) = separator(text) else {
-            return refuse(text, true, 1 + line_after(self.segments.as_slice()));
+            return refuse(
+                text,
+                may_be_number(text),
+                1 + line_after(self.segments.as_slice()),
+            );
         };
         self.numbers.push(n)?;
         self.go_on(first, line, last)?;

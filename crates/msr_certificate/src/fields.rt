@@ -26,6 +26,16 @@ pub(crate) fn may_begin(text: &[u8], word: &[u8]) -> bool
     text.starts_with(word) | word.starts_with(text)
 }
 
+/// Whether a text that begins with this one may begin with a number.
+pub(crate) fn may_be_number(text: &[u8]) -> bool
+    ensures { (n : ℕ) (more rest : List ℕ) → n < 2 ^ 64 → text.now ++ more ≡ decimal n ++ rest → result ≡ true }
+{
+    let Some((byte, _)) = text.split_first() else {
+        return true;
+    };
+    byte.is_ascii_digit()
+}
+
 /// How many digits the text begins with.
 fn count_digits(text: &[u8]) -> usize
     ensures within { result ≤ length text.now }
