@@ -98,7 +98,14 @@ fn gives_up_a_line_without_an_end(rt: HostRuntime) -> Result<(), Fail> {
     let lines = "msrepack 1\nlength 256\ntolerance 1000\nread 1 empty 0 mismatched 0\n";
     assert!(rt; stops_in(alloc, 1, "", "\0")?);
     assert!(rt; stops_in(alloc, 1, "msrepack 1", " ")?);
-    assert!(rt; stops_in(alloc, 4, "msrepack 1\nlength 256\ntolerance 1000\nread ", "1")?);
+    assert!(rt;
+        stops_in(
+            alloc,
+            4,
+            "msrepack 1\nlength 256\ntolerance 1000\nread ",
+            "1"
+        )?
+    );
     assert!(rt; stops_in(alloc, 5, lines, "segment ")?);
     Ok(())
 }
