@@ -158,14 +158,3 @@ line_text line text more rest opening is = (
         ∙ sym (words_then line.key opening.word line.samples line.records line.separators rest),
   ),
 )
-
-pub line_long : (line : FormLine) (word : List ℕ) → IsFormLineText line word → 8 ≤ length word
-line_long line word is = let same = ap (λ (l : List ℕ). length l) is.is in omega (arith, same)
-
-pub texts_long : (lines : List FormLine) (text : List ℕ) → AreFormLineTexts lines text → 2 * length lines ≤ length text
-texts_long [] text are = omega arith
-texts_long (line ∷ lines) text are =
-    let long = line_long line are.0 are.1.1.0 in
-    let behind = texts_long lines are.1.0 are.1.1.1 in
-    let same = ap (λ (l : List ℕ). length l) are.1.1.2 in
-    omega (arith, long, behind, same, length-append are.0 are.1.0)
