@@ -1,5 +1,5 @@
 -- Some segments were read, and the rest of the text may go on.
-use Rattle.std.proofs.Common.{◌≡◌, ◌∙◌, ap, sym, refl, arith, ℕ, zero, suc, ◌+◌, ◌*◌, ◌<◌, ◌≤◌, ◌^◌, List, [], ◌∷◌, ◌++◌, append_assoc, length, All, map, slice_index, length-append}
+use Rattle.std.proofs.Common.{◌≡◌, ◌∙◌, ap, sym, refl, arith, ℕ, zero, suc, ◌+◌, ◌*◌, ◌<◌, ◌≤◌, ◌^◌, List, [], ◌∷◌, ◌++◌, append_assoc, length, All, map, length-append}
 use Rattle.std.proofs.lemmas.List.{append-nil}
 use Rattle.msr_words.specs.Lengths.{bytes_of}
 use Rattle.msr_report.specs.Proper.{records_of, IsProperLine}
@@ -7,11 +7,10 @@ use Rattle.msr_report.specs.Text.{separators_line, end_line, first_lines, AreSeg
 use Rattle.msr_base.specs.declared.counts.Counts.{Counts}
 use Rattle.msr_report.specs.declared.report.SegmentLine.{SegmentLine}
 use Rattle.msr_report.specs.declared.report.Report.{Report}
-use Rattle.msr_report.proofs.Written.{records_append}
 use Rattle.msr_certificate.specs.Form.{FormLine, IsFirst, IsFormLine, IsFormLineText, AreFormLineTexts, IsOpening, form_records, form_line, first_then}
 use Rattle.msr_certificate.specs.Reading.{IsReadFrom}
-use Rattle.msr_certificate.specs.Rest.{AtLine, InFirst, tail_5}
-use Rattle.msr_certificate.proofs.Segments.{first_line_then, Tail, tail_from_first, at_map, texts_long}
+use Rattle.msr_certificate.specs.Rest.{AtLine}
+use Rattle.msr_certificate.proofs.Segments.{first_line_then, Tail}
 use Rattle.msr_certificate.proofs.LineFeeds.{same_cons}
 
 -- the lines of these segments stand after the first four

@@ -1,5 +1,5 @@
 -- The words of a separators' line.
-use Rattle.std.proofs.Common.{◌≡◌, ◌∙◌, ap, sym, refl, arith, ℕ, suc, ◌<◌, ◌^◌, List, [], ◌∷◌, ◌++◌, append_assoc, All, codes, decimal, flat_map}
+use Rattle.std.proofs.Common.{◌≡◌, ◌∙◌, ap, sym, refl, ℕ, List, [], ◌∷◌, ◌++◌, append_assoc, codes, decimal, flat_map}
 use Rattle.std.proofs.lemmas.List.{append-nil}
 use Rattle.msr_report.specs.Text.{separators_line}
 use Rattle.msr_certificate.specs.Fields.{EndsNumber}

@@ -1,14 +1,12 @@
 -- What was read of a source, and what is answered when it was not read to its end.
-use Rattle.std.proofs.Common.{◌≡◌, ◌∙◌, ◌⊎◌, inl, inr, ap, sym, refl, subst, List, ℕ, true, false, [], ◌++◌, ◌↔◌, append_assoc, drop, Result, Ok, Err, IfOk, IfErr, IsErrOf}
-use Rattle.std.proofs.lemmas.List.{append-nil}
+use Rattle.std.proofs.Common.{◌≡◌, ◌∙◌, ◌⊎◌, inl, inr, ap, sym, refl, subst, List, ℕ, true, false, [], ◌++◌, ◌↔◌, append_assoc, drop, Ok, Err, IsErrOf}
 use Rattle.msr_devices.specs.Device.{Device, Gives, HasFailed, HasLeft, IsCalm, IsSteady}
 use Rattle.msr_devices.specs.ReadBuffer.{Window, IsFilled, StopsFilling}
 use Rattle.msr_devices.specs.declared.read_buffer.FillFault.{FillFault}
 use Rattle.msr_devices.specs.declared.read_buffer.FillFault.TheVariants as fill
-use Rattle.msr_devices.proofs.Chaining.{calm_calm, calm_failed, calm_same, gives_append, left_of, steady_sound, steady_steady}
-use Rattle.msr_report.specs.declared.report.Report.{Report}
+use Rattle.msr_devices.proofs.Chaining.{calm_calm, calm_failed, gives_append, left_of, steady_sound, steady_steady}
 use Rattle.msr_certificate.specs.Draft.{Follows, IsStep, IsTaken}
-use Rattle.msr_certificate.specs.Reading.{IsReadFrom, ReadsReport, fault_of_fill}
+use Rattle.msr_certificate.specs.Reading.{ReadsReport, fault_of_fill}
 use Rattle.msr_certificate.specs.TextFault.{IsTextFault}
 use Rattle.msr_certificate.specs.declared.draft.Draft.{Draft}
 use Rattle.msr_certificate.specs.declared.draft.Progress.{Progress}
