@@ -20,7 +20,7 @@ use Rattle.msr_certificate.proofs.Segments.{Next, opening_body, end_body, openin
 use Rattle.msr_certificate.proofs.SegmentsRead.{opening_not_end}
 use Rattle.msr_certificate.proofs.NextLines.{ReadsNone, at_second, at_behind, fault_second, fault_segment, fault_behind}
 use Rattle.msr_certificate.proofs.BegunReports.{before_segment, before_second, before_behind}
-use Rattle.msr_certificate.proofs.Separators.{spaced, line_then}
+use Rattle.msr_certificate.proofs.Separators.{spaced, line_then, ends_number}
 use Rattle.msr_certificate.proofs.SameFields.{same_number, differ}
 use Rattle.msr_certificate.proofs.Enough.{inside, opening_short, end_short, decimal_short}
 use Rattle.msr_certificate.proofs.ReadTexts.{going_of, only_opening}
@@ -175,10 +175,6 @@ ends_space : (ns tail : List ℕ) → EndsNumber (flat_map spaced ns ++ (32 ∷ 
 ends_space [] tail = refl
 ends_space (n ∷ ns) tail = refl
 
-ends_feed : (ns tail : List ℕ) → EndsNumber (flat_map spaced ns ++ (10 ∷ tail))
-ends_feed [] tail = refl
-ends_feed (n ∷ ns) tail = refl
-
 next_number : (ns ms tail x : List ℕ) → All (λ n. n < 2 ^ 64) ns → All (λ n. n < 2 ^ 64) ms
     → flat_map spaced ns ++ (32 ∷ tail) ≡ flat_map spaced ms ++ (10 ∷ x) → NextNumber tail x
 next_number [] [] tail x each_n each_m is = absurd (differ 32 10 tail x refl is)
@@ -198,7 +194,7 @@ next_number (n ∷ ns) (m ∷ ms) tail x each_n each_m is =
     sym (append_assoc (spaced n) (flat_map spaced ns) (32 ∷ tail)) ∙ is
     ∙ append_assoc (spaced m) (flat_map spaced ms) (10 ∷ x) in
     let number = same_number n m behind other_behind (each_n 0 0 (omega arith)) (each_m 0 0 (omega arith))
-    (ends_space ns tail) (ends_feed ms x) (same_cons 32 32 (decimal n ++ behind)
+    (ends_space ns tail) (ends_number ms x) (same_cons 32 32 (decimal n ++ behind)
     (decimal m ++ other_behind) split).1 in
     next_number ns ms tail x (λ k d within. each_n (suc k) d (omega arith))
     (λ k d within. each_m (suc k) d (omega arith)) number.1

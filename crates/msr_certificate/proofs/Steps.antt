@@ -292,29 +292,11 @@ drop_taken old new text n taken =
     ap (λ (l : List ℕ). drop n l) taken.is ∙ ap (λ (m : ℕ). drop m (taken.taken ++ taken.rest)) taken.count
     ∙ drop-append_seam taken.taken taken.rest
 
-pub taken_within : (old new : Draft) (text : List ℕ) (n : ℕ) → IsTaken old new text n → n ≤ length text
-taken_within old new text n taken =
-    omega (
-      arith,
-      ap (λ (l : List ℕ). length l) taken.is,
-      length-append taken.taken taken.rest,
-      taken.count,
-    )
-
 -- what was read of a text, and what is left
 pub record Left (draft : Draft) (whole rest : List ℕ) : Type 0 where
   pub read : List ℕ
   pub follows : Follows draft read
   pub is : whole ≡ read ++ rest
-
-pub left_taken : (old new : Draft) (whole text rest : List ℕ) (n : ℕ) → Left old whole text → IsTaken old new text n
-    → rest ≡ drop n text → Left new whole rest
-left_taken old new whole text rest n left taken is = record {
-  read = left.read ++ taken.taken;
-  follows = taken.follows left.read left.follows;
-  is = left.is ∙ ap (λ (l : List ℕ). left.read ++ l) taken.is ∙ sym (append_assoc left.read taken.taken taken.rest)
-      ∙ ap (λ (l : List ℕ). (left.read ++ taken.taken) ++ l) (sym (is ∙ drop_taken old new text n taken));
-}
 
 pub left_fault : (draft : Draft) (whole rest : List ℕ) (why : ReportFault) → Left draft whole rest
     → ((past more : List ℕ) → Follows draft past → IsTextFault (past ++ (rest ++ more)) why) → IsTextFault whole why

@@ -1,14 +1,12 @@
 -- What was read of a source, and what is answered when it was not read to its end.
-use Rattle.std.proofs.Common.{◌≡◌, ◌∙◌, ◌⊎◌, inl, inr, ap, sym, refl, subst, List, ℕ, true, false, [], ◌++◌, ◌↔◌, append_assoc, drop, Result, Ok, Err, IfOk, IfErr, IsErrOf}
-use Rattle.std.proofs.lemmas.List.{append-nil}
+use Rattle.std.proofs.Common.{◌≡◌, ◌∙◌, ◌⊎◌, inl, inr, ap, sym, refl, subst, List, ℕ, true, false, [], ◌++◌, ◌↔◌, append_assoc, drop, Ok, Err, IsErrOf}
 use Rattle.msr_devices.specs.Device.{Device, Gives, HasFailed, HasLeft, IsCalm, IsSteady}
 use Rattle.msr_devices.specs.ReadBuffer.{Window, IsFilled, StopsFilling}
 use Rattle.msr_devices.specs.declared.read_buffer.FillFault.{FillFault}
 use Rattle.msr_devices.specs.declared.read_buffer.FillFault.TheVariants as fill
-use Rattle.msr_devices.proofs.Chaining.{calm_calm, calm_failed, calm_same, gives_append, left_of, steady_sound, steady_steady}
-use Rattle.msr_report.specs.declared.report.Report.{Report}
+use Rattle.msr_devices.proofs.Chaining.{calm_calm, calm_failed, gives_append, left_of, steady_sound, steady_steady}
 use Rattle.msr_certificate.specs.Draft.{Follows, IsStep, IsTaken}
-use Rattle.msr_certificate.specs.Reading.{IsReadFrom, ReadsReport, fault_of_fill}
+use Rattle.msr_certificate.specs.Reading.{ReadsReport, fault_of_fill}
 use Rattle.msr_certificate.specs.TextFault.{IsTextFault}
 use Rattle.msr_certificate.specs.declared.draft.Draft.{Draft}
 use Rattle.msr_certificate.specs.declared.draft.Progress.{Progress}
@@ -32,16 +30,6 @@ judged start now bytes (Line n) came fault = let left = left_of now in
 judged start now bytes Read came fault = absurd (fault [])
 judged start now bytes Memory came fault = let left = left_of start in (left.0, left.1, tt)
 
--- and the source did not fail
-pub judged_tells : {T : Type 0} (start now : Device) (bytes : List ℕ) (why : ReportFault) → IsSteady start now
-    → ((more : List ℕ) → IsTextFault (bytes ++ more) why)
-    → IsErrOf {T = T} (Err why) Read ↔ HasFailed start now
-judged_tells start now bytes (Line n) steady fault =
-    ((λ e. absurd cc), (λ has_failed. absurd (steady_sound start now steady has_failed)))
-judged_tells start now bytes Read steady fault = absurd (fault [])
-judged_tells start now bytes Memory steady fault =
-    ((λ e. absurd cc), (λ has_failed. absurd (steady_sound start now steady has_failed)))
-
 -- a source that was not read to its end failed, or memory was refused
 pub stopped_tells : {T : Type 0} (start old new : Device) (want : ℕ) (before after : Window) (why : FillFault)
     → IsCalm start old → StopsFilling want old new before after why
@@ -53,31 +41,6 @@ stopped_tells start old new want before after fill.Memory calm stops = (
   (λ has_failed. absurd (steady_sound start old calm.steady (rw stops.0 at has_failed))),
 )
 
--- the same of a source that was read to its end
-answers : (text : List ℕ) (result : Result Report ReportFault) → IfOk result (λ report. IsReadFrom report text)
-    → IfErr result (IsTextFault text) → ReadsReport text result
-answers text (Ok report) found fault = found
-answers text (Err (Line n)) found fault = fault
-answers text (Err Read) found fault = tt
-answers text (Err Memory) found fault = tt
-
-pub finished : (start now : Device) (bytes : List ℕ) (result : Result Report ReportFault) → Gives start now bytes
-    → HasLeft now [] → IfOk result (λ report. IsReadFrom report bytes) → IfErr result (IsTextFault bytes)
-    → (text : List ℕ) × HasLeft start text × ReadsReport text result
-finished start now bytes result came none found fault =
-    let left : HasLeft start (bytes ++ []) = came.front [] none in
-    (bytes, rw (append-nil bytes) at left, answers bytes result found fault)
-
-pub finished_tells : (start now : Device) (bytes : List ℕ) (result : Result Report ReportFault) → IsSteady start now
-    → IfErr result (IsTextFault bytes) → IsErrOf result Read ↔ HasFailed start now
-finished_tells start now bytes (Ok report) steady fault =
-    ((λ e. absurd cc), (λ has_failed. absurd (steady_sound start now steady has_failed)))
-finished_tells start now bytes (Err (Line n)) steady fault =
-    ((λ e. absurd cc), (λ has_failed. absurd (steady_sound start now steady has_failed)))
-finished_tells start now bytes (Err Read) steady fault = absurd fault
-finished_tells start now bytes (Err Memory) steady fault =
-    ((λ e. absurd cc), (λ has_failed. absurd (steady_sound start now steady has_failed)))
-
 -- The bytes that came are those that the draft follows, and then those of the buffer.
 pub record IsReading (start now : Device) (draft : Draft) (buffer : Window) : Type 0 where
   pub read : List ℕ
@@ -86,17 +49,6 @@ pub record IsReading (start now : Device) (draft : Draft) (buffer : Window) : Ty
   pub end : buffer.ended ≡ true → HasLeft now []
   pub calm : buffer.ended ≡ false → IsCalm start now
   pub steady : IsSteady start now
-
-pub reading_start : (now : Device) (draft : Draft) (buffer : Window) → Follows draft [] → buffer.bytes ≡ []
-    → buffer.ended ≡ false → IsReading now now draft buffer
-reading_start now draft buffer follows none open_before = record {
-  read = [];
-  follows = follows;
-  came = record { front = λ rest h. rw none h };
-  end = λ e. absurd cc;
-  calm = λ e. calm_same now;
-  steady = (calm_same now).steady;
-}
 
 pub reading_taken : (start now : Device) (old new : Draft) (before after : Window) (n : ℕ)
     → IsReading start now old before → IsTaken old new before.bytes n → after.bytes ≡ drop n before.bytes

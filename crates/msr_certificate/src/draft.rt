@@ -1,4 +1,4 @@
-//! A report of which some was read.
+//! A report that is read as its text comes.
 ghost use Rattle.std.specs.Prelude.{◌≡◌, ◌<◌, ◌≤◌, ◌+◌, ◌*◌, ◌^◌, ◌++◌, ◌∷◌, [], ℕ, List, Bool, All, IfOk, IfErr, IfSome, IsSomeAnd, SomeIff, OnOk, length, codes};
 ghost use Rattle.std.specs.Fmt.{decimal};
 ghost use Rattle.msr_report.specs.Proper.{records_of};
@@ -16,7 +16,7 @@ use msr_report::{Report, SegmentLine};
 use std::alloc::{AllocError, Global};
 use std::mem;
 
-/// Every line but that of the separators is shorter.
+/// Every line but that of the separators is shorter, and so is each word of that one with the byte after it.
 const LINE_LIMIT: usize = 4096;
 
 /// What may come next.
@@ -160,6 +160,7 @@ impl Draft {
         }
     }
 
+    /// The first four lines.
     fn read_first(&mut self, text: &[u8]) -> Result<Progress, ReportFault>
         ensures { self.old.place ≡ Start → IsStep self.old self.new text.now result }
     {
@@ -172,6 +173,7 @@ impl Draft {
         }
     }
 
+    /// The first line of a segment, or the last line.
     fn read_segment(&mut self, first: FirstLines, text: &[u8]) -> Result<Progress, ReportFault>
         ensures { self.old.place ≡ Segment first → IsStep self.old self.new text.now result }
     {
@@ -187,6 +189,7 @@ impl Draft {
         refuse(text, begins, line_after(self.segments.as_slice()))
     }
 
+    /// The word before the separators.
     fn read_word(
         &mut self,
         first: FirstLines,
@@ -203,6 +206,7 @@ impl Draft {
         Ok(Progress::Taken(text.len() - rest.len()))
     }
 
+    /// A separator.
     fn read_number(
         &mut self,
         first: FirstLines,
@@ -245,6 +249,7 @@ impl Draft {
         Ok(())
     }
 
+    /// Nothing, after the last line.
     fn read_nothing(&mut self, first: FirstLines, text: &[u8]) -> Result<Progress, ReportFault>
         ensures { self.old.place ≡ End first → IsStep self.old self.new text.now result }
     {

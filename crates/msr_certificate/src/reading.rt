@@ -9,7 +9,8 @@ use msr_devices::{ReadBuffer, Source};
 use msr_report::Report;
 use std::alloc::Global;
 
-/// Reads a report to the end of the source, or until a line of it is at fault.
+/// Reads a report to the end of the source, or until a line of it is at fault. Bytes are asked for only when those
+/// that came decide nothing more.
 pub fn read_report<Q: Source>(alloc: Global, source: &mut Q) -> Result<Report, ReportFault>
     requires { CanCountCall (Q.device source.old) }
     ensures answer { (text : List ℕ) × HasLeft (Q.device source.old) text × ReadsReport text result }
