@@ -2,12 +2,14 @@
 small archive.
 
 Each run has the folders anew. In those of the records and the reports stand what an earlier run left of one day, what a
-run that was killed left beside it, and a file of which the archive knows nothing; with --resume also what an earlier
-walk left whole of another day. Whatever fails, each line printed is that of the undisturbed run, or tells that this
-very entry is refused, by a text for such a fault; if a day is left alone it may be repacked, and if it is checked
-it may be told as not shown; the totals and the status are those of the lines; a day that is told as done or left alone
-has its records and its report whole, a refused one has neither; records that have their name have their report; the
-stamp of an input stands beside nothing that was not made from that input; and no other file is touched.
+run that was killed left beside it (its claim, and what has the number of the claim), and a file of which the archive
+knows nothing; with --resume also what an earlier walk left whole of another day. Whatever fails, each line printed is
+that of the undisturbed run, or tells that this very entry is refused, by a text for such a fault; if a day is left
+alone it may be repacked, and if it is checked it may be told as not shown; the totals and the status are those of the
+lines; a day that is told as done or left alone has its records and its report whole, a refused one has neither, unless
+it could not be claimed: then nothing of it was touched; records that have their name have their report; the stamp of an
+input stands beside nothing that was not made from that input; and no other file is touched. Unless removing failed, one
+more walk, undisturbed, then leaves what the undisturbed one does.
 """
 import collections
 import os
@@ -34,7 +36,8 @@ TEXTS = {
     "reading": {"read fault"},
     "writing": {"write fault"},
     "opening": {"cannot open", "listing"},
-    "looking": {"cannot open", "listing", "write fault"},
+    "looking": {"another walk is at work", "cannot open", "listing", "write fault"},
+    "locking": {"another walk is at work"},
     "cutting": {"cannot open"},
     "syncing": {"write fault"},
     "closing": set(),
@@ -48,13 +51,24 @@ TEXTS = {
 KILLED = -signal.SIGKILL
 
 Walked = collections.namedtuple("Walked", "status printed complained files")
-# What may have failed: kinds of calls, the texts that may tell it, whether standard error may have failed with it.
-Failed = collections.namedtuple("Failed", "kinds texts silent", defaults=(False,))
+# What may have failed: kinds of calls, the texts that may tell it, whether standard error may have failed with it,
+# whether the day may not have been claimed for it.
+Failed = collections.namedtuple("Failed", "kinds texts silent unclaimed", defaults=(False, False))
 
 
 def names_of(path):
     """The files of a day's records, of its report and of the stamp of its input."""
     return f"out/{path}", f"reports/{path}.txt", f"reports/{path}.from"
+
+
+def claim_of(path):
+    return f"out/{path}.claim"
+
+
+def beside(path, files):
+    """What stands beside the files of a day: its claim, and what has the number of one."""
+    parts = re.compile("|".join(rf"{re.escape(name)}\.\d+\.part" for name in names_of(path)))
+    return {name: text for name, text in files.items() if name == claim_of(path) or parts.fullmatch(name)}
 
 
 class Tree:
@@ -67,26 +81,36 @@ class Tree:
             self.earlier = {name: done[name] for name in names_of(FIRST)}
         self.calm = self.run()
 
+    def put(self, path, text):
+        os.makedirs(os.path.dirname(f"{self.top}/{path}"), exist_ok=True)
+        with open(f"{self.top}/{path}", "wb") as it:
+            it.write(text)
+        os.utime(f"{self.top}/{path}", ns=(CHANGED, CHANGED))
+
     def make(self):
+        """Makes the folders anew, and gives what stands in them."""
         shutil.rmtree(self.top, ignore_errors=True)
-        files = {**OTHERS, **self.earlier}
-        for name, text in zip(names_of(SECOND if self.earlier else FIRST), OLD):
-            files[name], files[f"{name}.part"] = text, b"of a run that was killed"
+        left = SECOND if self.earlier else FIRST
+        files = {**OTHERS, **self.earlier, **dict(zip(names_of(left), OLD)), claim_of(left): b""}
         for path in (FIRST, SECOND, OTHER):
             with open(f"{day.ROOT}/examples/sds/{path}", "rb") as it:
                 files[f"sds/{path}"] = it.read()
         if self.cut:
             files[f"sds/{FIRST}"] = files[f"sds/{FIRST}"][:-1]
         for path, text in files.items():
-            os.makedirs(os.path.dirname(f"{self.top}/{path}"), exist_ok=True)
-            with open(f"{self.top}/{path}", "wb") as it:
-                it.write(text)
-            os.utime(f"{self.top}/{path}", ns=(CHANGED, CHANGED))
-        return files
+            self.put(path, text)
+        number = os.stat(f"{self.top}/{claim_of(left)}").st_ino
+        for name in names_of(left):
+            self.put(f"{name}.{number}.part", b"of a run that was killed")
+        return self.files()
 
     def run(self, before=(), limit=None, options=None):
         """Walks the folders made anew; `before` are the words before the program's."""
         self.made = self.make()
+        return self.walk(before, limit, options)
+
+    def walk(self, before=(), limit=None, options=None):
+        """Walks the folders as they are."""
         folders = [f"{self.top}/{name}" for name in ("sds", "out", "reports")]
         more = self.options if options is None else options
         words = [*before, self.bench.program, "archive", "--length", "256", *more, *folders]
@@ -117,7 +141,11 @@ class Tree:
             return walked, it.read()
 
     def hold(self, what, walked, failed):
-        self.bench.hold(f"{self.title}, {what}", wrong_with(self, walked, failed))
+        wrong = wrong_with(self, walked, failed)
+        is_mended = walked.files == self.calm.files or "removing" in failed.kinds
+        if not wrong and not is_mended and self.walk().files != self.calm.files:
+            wrong = "the next walk does not leave what the undisturbed one does"
+        self.bench.hold(f"{self.title}, {what}", wrong)
 
 
 def entries_of(printed):
@@ -199,17 +227,30 @@ def wrong_with(tree, walked, failed):
         right = whole and walked.status == int(refused) or failed.silent and walked.status == 1
     if not right:
         return f"status {walked.status}, {walked.complained!r}, after {walked.printed[-120:]!r}"
-    return files_wrong_with(tree, walked, told, failed.kinds)
+    return files_wrong_with(tree, walked, told, failed)
 
 
-def day_wrong_with(tree, path, line, files, kinds):
+def left_wrong_with(path, left, killed, stays, kinds):
+    """What is wrong with what stands beside a day's files: of a killed walk it may stay whole or in part, if it may at all;
+    of this one only what could not be removed, and a claim of which the system did not tell whose it is."""
+    if KILLED in kinds or "removing" in kinds:
+        return None
+    left = {name: text for name, text in left.items() if not (stays and killed.get(name) == text)}
+    if left and not (set(left) == {claim_of(path)} and kinds & {"looking", "locking"}):
+        return f"something beside it is left: {sorted(left)}"
+    return None
+
+
+def day_wrong_with(tree, path, line, files, failed):
     """What is wrong with the files of a day of which this line was told, or none, or None. They are taken out of `files`."""
-    names, parts = names_of(path), [f"{name}.part" for name in names_of(path)]
-    has, beside = [files.pop(name, None) for name in names], [files.pop(name, None) for name in parts]
-    old, killed = [tree.made.get(name) for name in names], [tree.made.get(name) for name in parts]
+    kinds, names, left = failed.kinds, names_of(path), beside(path, files)
+    has = [files.pop(name, None) for name in names]
+    for name in left:
+        files.pop(name)
+    old, killed = [tree.made.get(name) for name in names], beside(path, tree.made)
     new = [tree.calm.files.get(name) for name in names]
-    untouched = (has, beside) == (old, killed)
-    stays = KILLED in kinds or "removing" in kinds or not line or "looking" in kinds and untouched
+    unclaimed = has == old and ("looking" in kinds or failed.unclaimed)
+    stays = KILLED in kinds or "removing" in kinds or not line or unclaimed
     if any(it not in (None, o, n) for it, o, n in zip(has, old, new)):
         return "neither whole nor as it was"
     if has[0] is not None and has[0] == new[0] and has[1] != new[1]:
@@ -220,30 +261,27 @@ def day_wrong_with(tree, path, line, files, kinds):
         return "done, and not as in the undisturbed run"
     if line.startswith("same ") and has != new:
         return "left alone, and touched"
-    if line.startswith("refused ") and path_of(line) != path and not untouched:
+    if line.startswith("refused ") and path_of(line) != path and (has, left) != (old, killed):
         return "in a folder without a list, and touched"
     if line.startswith(("refused ", "notshown ")) and path_of(line) == path and any(has) and not stays:
         return "refused, and not removed"
-    if any(beside) and not stays and (path_of(line) == path or beside != killed):
-        return "something beside it is left"
-    return None
+    return left_wrong_with(path, left, killed, stays or path_of(line) != path, kinds)
 
 
 def same_or_none(here, there):
     return here in (None, there)
 
 
-def files_wrong_with(tree, walked, told, kinds):
+def files_wrong_with(tree, walked, told, failed):
     """What is wrong with the files that a run left, or None."""
     files, made = dict(walked.files), dict(tree.made)
     for path in (FIRST, SECOND):
         line = next((it for it in told if is_within(path, path_of(it))), "")
-        wrong = day_wrong_with(tree, path, line, files, kinds)
+        wrong = day_wrong_with(tree, path, line, files, failed)
         if wrong:
             return f"{path}: {wrong}"
-        for name in names_of(path):
+        for name in (*names_of(path), *beside(path, made)):
             made.pop(name, None)
-            made.pop(f"{name}.part", None)
     return None if files == made else f"other files: {sorted(files.items() ^ made.items())}"
 
 
@@ -255,8 +293,15 @@ def failed_of(hit, fault):
         return Failed(kinds, set())
     # A write of nothing asks whether the output is open, and is asked once.
     asks = any(call.kind == "writing" and call.fd == 1 and call.number == 1 for call in hit)
-    patient = kinds <= {"reading", "writing"} and fault.what == "error=EINTR" and fault.row < IN_A_ROW and not asks
-    return Failed(kinds, set() if patient else set().union(*(TEXTS[kind] for kind in kinds)), silent)
+    waits = kinds <= {"reading", "writing", "locking"}
+    patient = waits and fault.what == "error=EINTR" and fault.row < IN_A_ROW and not asks
+    texts = set() if patient else set().union(*(TEXTS[kind] for kind in kinds))
+    return Failed(kinds, texts, silent, any(may_unclaim(call) for call in hit))
+
+
+def may_unclaim(call):
+    """Whether a day may not be claimed if this call fails."""
+    return call.target.endswith(".claim") or call.kind == "making" and "/tree/out" in call.target
 
 
 def each_call(tree):
