@@ -140,6 +140,13 @@ def prefixes(outcome, calm, records):
     return None
 
 
+def old_report(case, outcome):
+    """What is wrong with the report of a feed after status 1."""
+    if case.words[0] != "feed" or outcome.status != 1 or not outcome.records:
+        return None
+    return f"REPORT has {len(outcome.records)} bytes, and is to be empty"
+
+
 def judged(case, calm, calls, at, fault, outcome, hit):
     """What is wrong with a run in which these calls were hit, or None."""
     if not hit:
@@ -153,10 +160,10 @@ def judged(case, calm, calls, at, fault, outcome, hit):
     if not told(outcome, lines, call.kind == "writing" and fault.row == 0):
         return f"status {outcome.status}, {outcome.complained[-200:]!r}, where it is to be: {' or '.join(sorted(lines))}"
     cut = next((n for n, it in enumerate(calls) if it.kind == "cutting"), len(calls))
-    if at > cut and case.words[0] == "feed" and outcome.records:
-        return f"REPORT has {len(outcome.records)} bytes, and is to be empty"
-    if at > cut:
-        return prefixes(outcome, calm, set())
+    # The report of a feed is cut, too, if the write of nothing before it fails.
+    is_cut = at > cut or case.words[0] == "feed" and call.kind == "writing"
+    if is_cut:
+        return old_report(case, outcome) or prefixes(outcome, calm, set())
     return prefixes(outcome, calm, {OLD} if fault.row else {OLD, b""})
 
 
@@ -205,7 +212,7 @@ def lost_output(bench, case):
     calm = bench.run(case)
     for to in (">&-", "> /dev/full"):
         outcome = bench.run(case, ("sh", "-c", f'exec "$0" "$@" {to}'))
-        bench.hold(f"{case.title}, {to}", ended(outcome, calm, "write fault"))
+        bench.hold(f"{case.title}, {to}", ended(outcome, calm, "write fault") or old_report(case, outcome))
 
 
 def one_output(bench, case):

@@ -132,7 +132,13 @@ def read_words(words):
 
 def is_one(name, other):
     """Whether both are one regular file."""
-    return bool(other) and os.path.isfile(name) and os.path.isfile(other) and os.path.samefile(name, other)
+    return bool(name and other) and os.path.isfile(name) and os.path.isfile(other) and os.path.samefile(name, other)
+
+
+def read_apart(name, given):
+    """An input is not the file that is printed to."""
+    if is_one(name, given.redirecting):
+        raise Ends(2, told("the output is the input"))
 
 
 def calls_for(text, device, is_by_lines=False):
@@ -164,13 +170,17 @@ def opened(name, given):
         file = os.open(name, os.O_RDONLY)
     except OSError:
         raise Ends(1, told(f"cannot open {name}")) from None
+    read_apart(name, given)
     content = walks.read_to_end(file)
     return content or b"", content is None
 
 
 def inputs(name, given):
     """What may come of an input; only here `-` is no file."""
-    return stream(given) if name == "-" else [opened(name, given)]
+    if name != "-":
+        return [opened(name, given)]
+    read_apart(given.redirected, given)
+    return stream(given)
 
 
 def made(name, source, given):
@@ -213,9 +223,13 @@ def decided(content, task):
 
 def feed(task, given):
     [report_name] = task.names
+    read = inputs("-", given)
     made(report_name, given.redirected, given)
     empty = {report_name: b""}
-    for content, fails in stream(given):
+    if given.writing.fails == 0:
+        yield Outcome(1, b"", told("write fault"), files=empty)
+        return
+    for content, fails in read:
         records, report, fault = model.repacked(content, task.length, task.tolerance, task.strict)
         if fails:
             yield Outcome(1, records, told("read fault"), True, empty, empty, least=decided(content, task))
@@ -279,10 +293,11 @@ def printing(outcome, device):
 
 
 def run(words, given):
-    """The outcomes that a run may have; an output that is closed is found before anything is opened."""
+    """The outcomes that a run may have; an output that is closed is found before anything is opened but a feed's report,
+    which is made even so."""
     try:
         task = read_words(words)
-        if given.writing.fails == 0:
+        if given.writing.fails == 0 and task.command != "feed":
             return [Outcome(1, b"", told("write fault"))]
         outcomes = list(DOES[task.command](task, given))
     except Ends as end:

@@ -222,6 +222,17 @@ class Script:
             count = len(list(alike))
             yield f"{samples} {encoding}" + (f" *{count}" if count > 1 else "")
 
+    def rises(self, path, line):
+        """The numbers after the first word of a line, those that are equally far apart in one line."""
+        row = []
+        for number in map(int, self.read(path).decode().splitlines()[int(line) - 1].split(" ")[1:]):
+            if row and (number == row[-1] or len(row) > 1 and number - row[-1] != row[1] - row[0]):
+                yield risen(row)
+                row = []
+            row.append(number)
+        if row:
+            yield risen(row)
+
     def ends(self, path, counts):
         content, (first, last) = self.read(path), map(int, counts.split("/"))
         return ended(content[:first]) + ended(content[max(0, len(content) - last) :])
@@ -266,6 +277,7 @@ class Script:
             "ends": lambda: self.ends(one, other),
             "hex": lambda: self.hex(one, other),
             "shapes": lambda: list(self.shapes(one, other)),
+            "rises": lambda: list(self.rises(one, other)),
         }
         if verb not in does:
             raise NoStep
@@ -278,7 +290,7 @@ class Script:
         told = dict(word.split("=", 1) for word in before.split())
         devices = [device(told.pop(name, "")) for name in ("reading", "writing")]
         source, into, *redirects = [told.pop(name, None) for name in ("from", "into", "redirected", "redirecting")]
-        content = self.read(source) if source else b""
+        content = (self.read(source) if source else b"")[: int(told.pop("cut", sys.maxsize))]
         unsaid = {path for path, held in self.loose.items() if held}
         return Given(content, *devices, *redirects, walks.Odd(**told), unsaid), into
 
@@ -292,24 +304,58 @@ class Script:
                 fcntl.flock(files.enter_context(open(path, "ab")), fcntl.LOCK_EX | fcntl.LOCK_NB)
             return [printed(outcome, words, into) for outcome in commands.run(words, given)]
 
+    def each(self, first, last, text):
+        """What a run prints with each number, like neighbours once; what stands in files after the last one."""
+        if first > last:
+            raise NoStep
+        alike, files = [], {}
+        for number in range(first, last + 1):
+            one, *others = self.run(*halves(text.replace("{number}", str(number))))
+            if others or one.own or one.loose:
+                raise Unsaid("a repeated run whose text is not said")
+            text_of = ended(one.whole) + one.rest
+            if not alike or alike[-1][2] != text_of:
+                alike.append([number, number, text_of])
+            alike[-1][1], files = number, {**files, **one.files}
+        return Print(b"".join(marked(*row) for row in alike), files=files)
+
     def line(self, line):
         """What a line may print."""
         for name, text in self.names.items():
             line = line.replace(f"{{{name}}}", text)
         if not line or line.startswith("#"):
             return [Print(b"")]
-        if "{" in line:
-            return [Print(NO_STEP)]
         try:
+            if repeated := re.match(r"each (\d+) to (\d+) (.*)", line):
+                return [self.each(int(repeated[1]), int(repeated[2]), repeated[3])]
+            if "{" in line:
+                raise NoStep
             if "$" in line:
-                before, after = line.split("$", 1)
-                return self.run(before, after.split())
+                return self.run(*halves(line))
             verb, _, rest = line.partition(" ")
             one, _, other = rest.partition(" ")
             answer = self.step(verb, one, other)
-        except (NoStep, OSError, ValueError, KeyError, TypeError, struct.error):
+        except (NoStep, OSError, ValueError, LookupError, TypeError, struct.error):
             return [Print(NO_STEP)]
         return [answer if isinstance(answer, Print) else Print(shown(answer))]
+
+
+def risen(row):
+    """Numbers that are equally far apart."""
+    return f"{row[0]}" if len(row) == 1 else f"{row[0]} by {row[1] - row[0]} to {row[-1]}"
+
+
+def halves(line):
+    """The settings of a run, and its words."""
+    if "{" in line:
+        raise NoStep
+    before, after = line.split("$", 1)
+    return before, after.split()
+
+
+def marked(first, last, text):
+    """What came of a run with these numbers, which stand before it."""
+    return (f"{first}: " if first == last else f"{first} to {last}: ").encode() + text
 
 
 def device(text):

@@ -74,7 +74,7 @@ first_lines_are bytes tolerance counts is_first =
       ),
     )
 
-first_append : (bytes tolerance : ℕ) (counts : Counts) (xs ys : List ℕ)
+pub first_append : (bytes tolerance : ℕ) (counts : Counts) (xs ys : List ℕ)
     → first_then bytes tolerance counts xs ++ ys ≡ first_then bytes tolerance counts (xs ++ ys)
 first_append bytes tolerance counts xs ys = simp append_assoc
 

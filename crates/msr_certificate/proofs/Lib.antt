@@ -15,4 +15,9 @@ pub mod StoppedSources
 pub mod SameFields
 pub mod OneForm
 pub mod Forms
-pub mod WholeLines
+pub mod Begun
+pub mod Enough
+pub mod ReadTexts
+pub mod Faults
+pub mod FirstFaults
+pub mod Steps

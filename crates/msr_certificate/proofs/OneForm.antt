@@ -115,7 +115,7 @@ key_is a b xs ys us vs name quality settings rate correction timing =
       timing = b.timing;
     } = cc in same
 
-same_key : (key other : Key) (xs ys : List ℕ) → IsKey key → IsKey other → EndsNumber xs → EndsNumber ys
+pub same_key : (key other : Key) (xs ys : List ℕ) → IsKey key → IsKey other → EndsNumber xs → EndsNumber ys
     → key_then key xs ≡ key_then other ys → (key ≡ other) × (xs ≡ ys)
 same_key key other xs ys is_key is_other ends_xs ends_ys is =
     let timing_then : List ℕ = codes " timing " ++ (decimal key.timing ++ xs) in
@@ -161,7 +161,7 @@ same_spaced (n ∷ ns) (m ∷ ms) xs ys each_n each_m is =
     (λ k d within. each_m (suc k) d (omega arith)) first.1 in
     (ap (λ (x : ℕ). x ∷ ns) first.0 ∙ ap (λ (l : List ℕ). m ∷ l) rest.0, rest.1)
 
-same_separators : (ns ms xs ys : List ℕ) → All (λ n. n < 2 ^ 64) ns → All (λ n. n < 2 ^ 64) ms
+pub same_separators : (ns ms xs ys : List ℕ) → All (λ n. n < 2 ^ 64) ns → All (λ n. n < 2 ^ 64) ms
     → separators_line ns ++ xs ≡ separators_line ms ++ ys → (ns ≡ ms) × (xs ≡ ys)
 same_separators ns ms xs ys each_n each_m is =
     same_spaced ns ms xs ys each_n each_m (append_cancel_left (codes "separators")

@@ -1,5 +1,5 @@
 -- The lines of the segments: from the lines that were read to the rest of the text.
-use Rattle.std.proofs.Common.{◌≡◌, ◌∙◌, ap, sym, refl, arith, ℕ, zero, suc, ◌+◌, ◌*◌, ◌<◌, ◌≤◌, ◌^◌, List, [], ◌∷◌, ◌++◌, append_assoc, length, decimal, codes, All, ℤ, length-append}
+use Rattle.std.proofs.Common.{◌≡◌, ◌∙◌, ap, sym, refl, arith, ℕ, zero, suc, ◌+◌, ◌<◌, ◌^◌, List, [], ◌∷◌, ◌++◌, append_assoc, length, decimal, codes, All, ℤ}
 use Rattle.msr_record.specs.declared.row.Key.{Key}
 use Rattle.msr_report.specs.Text.{segment_words, separators_line, end_line, IsTimeText}
 use Rattle.msr_certificate.specs.Form.{FormLine, IsKey, IsFormLine, IsFormLineText, AreFormLineTexts, IsOpening, key_then, form_records}
@@ -158,14 +158,3 @@ line_text line text more rest opening is = (
         ∙ sym (words_then line.key opening.word line.samples line.records line.separators rest),
   ),
 )
-
-pub line_long : (line : FormLine) (word : List ℕ) → IsFormLineText line word → 8 ≤ length word
-line_long line word is = let same = ap (λ (l : List ℕ). length l) is.is in omega (arith, same)
-
-pub texts_long : (lines : List FormLine) (text : List ℕ) → AreFormLineTexts lines text → 2 * length lines ≤ length text
-texts_long [] text are = omega arith
-texts_long (line ∷ lines) text are =
-    let long = line_long line are.0 are.1.1.0 in
-    let behind = texts_long lines are.1.0 are.1.1.1 in
-    let same = ap (λ (l : List ℕ). length l) are.1.1.2 in
-    omega (arith, long, behind, same, length-append are.0 are.1.0)

@@ -1,5 +1,5 @@
 -- Some segments were read, and the rest of the text may go on.
-use Rattle.std.proofs.Common.{◌≡◌, ◌∙◌, ap, sym, refl, arith, ℕ, zero, suc, ◌+◌, ◌*◌, ◌<◌, ◌≤◌, ◌^◌, List, [], ◌∷◌, ◌++◌, append_assoc, length, All, map, slice_index, length-append}
+use Rattle.std.proofs.Common.{◌≡◌, ◌∙◌, ap, sym, refl, arith, ℕ, zero, suc, ◌+◌, ◌*◌, ◌<◌, ◌≤◌, ◌^◌, List, [], ◌∷◌, ◌++◌, append_assoc, length, All, map, length-append}
 use Rattle.std.proofs.lemmas.List.{append-nil}
 use Rattle.msr_words.specs.Lengths.{bytes_of}
 use Rattle.msr_report.specs.Proper.{records_of, IsProperLine}
@@ -7,11 +7,10 @@ use Rattle.msr_report.specs.Text.{separators_line, end_line, first_lines, AreSeg
 use Rattle.msr_base.specs.declared.counts.Counts.{Counts}
 use Rattle.msr_report.specs.declared.report.SegmentLine.{SegmentLine}
 use Rattle.msr_report.specs.declared.report.Report.{Report}
-use Rattle.msr_report.proofs.Written.{records_append}
 use Rattle.msr_certificate.specs.Form.{FormLine, IsFirst, IsFormLine, IsFormLineText, AreFormLineTexts, IsOpening, form_records, form_line, first_then}
 use Rattle.msr_certificate.specs.Reading.{IsReadFrom}
-use Rattle.msr_certificate.specs.Rest.{AtLine, InFirst, tail_5}
-use Rattle.msr_certificate.proofs.Segments.{first_line_then, Tail, tail_from_first, at_map, texts_long}
+use Rattle.msr_certificate.specs.Rest.{AtLine}
+use Rattle.msr_certificate.proofs.Segments.{first_line_then, Tail}
 use Rattle.msr_certificate.proofs.LineFeeds.{same_cons}
 
 -- the lines of these segments stand after the first four
@@ -23,19 +22,6 @@ pub record Going (text : List ℕ) (bytes tolerance : ℕ) (counts : Counts) (se
   pub is_first : IsFirst bytes tolerance counts
   pub shown : text ≡ first_then bytes tolerance counts (lines ++ rest)
   pub at : AtLine (Tail (length segments) (records_of segments)) text rest (4 + 2 * length segments)
-
-pub going_start : (text : List ℕ) (bytes tolerance : ℕ) (counts : Counts) (segments : List SegmentLine) (rest : List ℕ)
-    → segments ≡ [] → IsFirst bytes tolerance counts → text ≡ first_then bytes tolerance counts rest
-    → AtLine (InFirst tail_5) text rest 4
-    → Going text bytes tolerance counts segments rest
-going_start text bytes tolerance counts segments rest none is_first shown at = record {
-  lines = [];
-  are = rw none refl;
-  each = rw none (λ k d within. absurd (omega arith));
-  is_first = is_first;
-  shown = shown;
-  at = rw none (at_map (InFirst tail_5) (Tail 0 0) text rest 4 tail_from_first at);
-}
 
 pub texts_more : (lines : List FormLine) (text : List ℕ) (line : FormLine) (more : List ℕ)
     → AreFormLineTexts lines text → IsFormLineText line more → AreFormLineTexts (lines ++ line ∷ []) (text ++ more)
@@ -55,7 +41,7 @@ texts_more (l ∷ lines) text line more are is =
       ),
     )
 
-map_more : (segments : List SegmentLine) (segment : SegmentLine)
+pub map_more : (segments : List SegmentLine) (segment : SegmentLine)
     → map form_line (segments ++ segment ∷ []) ≡ map form_line segments ++ form_line segment ∷ []
 map_more [] segment = refl
 map_more (s ∷ segments) segment = ap (λ (l : List FormLine). form_line s ∷ l) (map_more segments segment)
@@ -67,32 +53,6 @@ all_more [] line all is (suc k) d within = absurd (omega arith)
 all_more (l ∷ lines) line all is zero d within = all 0 l (omega arith)
 all_more (l ∷ lines) line all is (suc k) d within =
     all_more lines line (λ j e w. all (suc j) e (omega arith)) is k d (omega arith)
-
-pub going_more : (text : List ℕ) (bytes tolerance : ℕ) (counts : Counts) (segments segments' : List SegmentLine)
-    (segment : SegmentLine) (rest rest' word : List ℕ)
-    → Going text bytes tolerance counts segments rest → segments' ≡ segments ++ segment ∷ []
-    → IsFormLine (form_line segment) → IsFormLineText (form_line segment) word → rest ≡ word ++ rest'
-    → AtLine (Tail (suc (length segments)) (records_of segments + segment.records)) text rest'
-    (suc (suc (4 + 2 * length segments)))
-    → Going text bytes tolerance counts segments' rest'
-going_more text bytes tolerance counts segments segments' segment rest rest' word going pushed is_line is_text is
-    at = record {
-      lines = going.lines ++ word;
-      are = rw (pushed, map_more segments segment)
-          (texts_more (map form_line segments) going.lines (form_line segment) word going.are is_text);
-      each = rw (pushed, map_more segments segment)
-          (all_more (map form_line segments) (form_line segment) going.each is_line);
-      is_first = going.is_first;
-      shown = going.shown ∙ ap (first_then bytes tolerance counts)
-          (ap (λ (t : List ℕ). going.lines ++ t) is ∙ sym (append_assoc going.lines word rest'));
-      at =
-          let count : length segments' ≡ suc (length segments) =
-          rw (pushed, length-append segments (segment ∷ [])) (omega arith) in
-          let total : records_of segments' ≡ records_of segments + segment.records =
-          rw pushed (omega (arith, records_append segments (segment ∷ []))) in
-          let lines : 4 + 2 * suc (length segments) ≡ suc (suc (4 + 2 * length segments)) = omega arith in
-          rw (count, total, lines) at;
-    }
 
 -- the same in a report's own words
 texts_of : (segments : List SegmentLine) (text : List ℕ) → AreFormLineTexts (map form_line segments) text
@@ -155,11 +115,6 @@ found_report report text rest going fits is = record {
   };
 }
 
-pub all_from_places : (ns : List ℕ) → ((k : ℕ) → slice_index ns k < 2 ^ 64) → All (λ n. n < 2 ^ 64) ns
-all_from_places [] each k d within = absurd (omega arith)
-all_from_places (n ∷ ns) each zero d within = each 0
-all_from_places (n ∷ ns) each (suc k) d within = all_from_places ns (λ j. each (suc j)) k d (omega arith)
-
 two_heads : (a b : ℕ) (xs ys : List ℕ) → a ≡ 115 → b ≡ 101 → a ∷ xs ≡ b ∷ ys → ⊥
 two_heads a b xs ys is_a is_b e = let same : a ≡ b = (same_cons a b xs ys e).0 in omega arith
 
@@ -167,25 +122,10 @@ pub opening_not_end : (line : FormLine) (more rest x : List ℕ) (count total : 
     → IsOpening line.key line.start line.samples line.records more rest → rest ≡ end_line count total ++ x → ⊥
 opening_not_end line more rest x count total opening is = two_heads 115 101 _ _ refl refl (sym opening.is ∙ is)
 
-first_long : (bytes tolerance : ℕ) (counts : Counts) (more : List ℕ)
+pub first_long : (bytes tolerance : ℕ) (counts : Counts) (more : List ℕ)
     → 18 + length more ≤ length (first_then bytes tolerance counts more)
 first_long bytes tolerance counts more = simp length-append (omega arith)
 
 pub length-lines : (segments : List SegmentLine) → length (map form_line segments) ≡ length segments
 length-lines [] = refl
 length-lines (s ∷ segments) = ap suc (length-lines segments)
-
-pub going_long : (text : List ℕ) (bytes tolerance : ℕ) (counts : Counts) (segments : List SegmentLine)
-    (rest : List ℕ) → Going text bytes tolerance counts segments rest → 18 + 2 * length segments ≤ length text
-going_long text bytes tolerance counts segments rest going =
-    let all = first_long bytes tolerance counts (going.lines ++ rest) in
-    let same = ap (λ (l : List ℕ). length l) going.shown in
-    omega (
-      arith,
-      all,
-      same,
-      length-append going.lines rest,
-      texts_long
-          (map form_line segments) going.lines going.are,
-      length-lines segments,
-    )

@@ -13,13 +13,6 @@ AreLines zero text = text ≡ []
 AreLines (suc n) text = (line : List ℕ) × ((more : List ℕ)
     × (IsOneLine line × AreLines n more × (text ≡ line ++ (10 ∷ more))))
 
--- The text begins with `n` lines, each with its line feed.
-pub record HasLines (text : List ℕ) (n : ℕ) : Type 0 where
-  pub first : List ℕ
-  pub behind : List ℕ
-  pub lines : AreLines n first
-  pub whole : text ≡ first ++ behind
-
 -- The first n lines of the text, each with its line feed, begin the text of a report of the right form. If they
 -- are all its lines, its records fit 64 bits: that is a matter of the last line, which tells their number.
 pub record BeginsReport (text : List ℕ) (n : ℕ) : Type 0 where

@@ -4,5 +4,6 @@ pub mod Fault
 pub mod Ending
 pub mod Rest
 pub mod TextFault
+pub mod Draft
 pub mod Reading
 pub mod Laws

@@ -1,5 +1,5 @@
 //! The fields at the start of a text: each reader answers the field and the text after it.
-ghost use Rattle.std.specs.Prelude.{◌≡◌, ◌<◌, ◌≤◌, ◌^◌, ◌++◌, ◌∷◌, [], ℕ, ℤ, List, IfSome, IsSomeAnd, false, length};
+ghost use Rattle.std.specs.Prelude.{◌≡◌, ◌<◌, ◌≤◌, ◌^◌, ◌++◌, ◌∷◌, [], ℕ, ℤ, List, IfSome, IsSomeAnd, true, false, length};
 ghost use Rattle.std.specs.Fmt.{decimal, signed_decimal, digit_glyph};
 ghost use Rattle.std.specs.Int.{w16, w32};
 ghost use Rattle.std.specs.Int.RustNames.{FitsSigned};
@@ -17,6 +17,23 @@ pub(crate) fn after<'a>(text: &'a [u8], word: &[u8]) -> Option<&'a [u8]>
     ensures only { (rest : List ℕ) → text.now ≡ word.now ++ rest → IsSomeAnd result (λ x. x.now ≡ rest) }
 {
     text.strip_prefix(word)
+}
+
+/// Whether a text that begins with this one may begin with the word.
+pub(crate) fn may_begin(text: &[u8], word: &[u8]) -> bool
+    ensures { (more rest : List ℕ) → text.now ++ more ≡ word.now ++ rest → result ≡ true }
+{
+    text.starts_with(word) | word.starts_with(text)
+}
+
+/// Whether a text that begins with this one may begin with a number.
+pub(crate) fn may_be_number(text: &[u8]) -> bool
+    ensures { (n : ℕ) (more rest : List ℕ) → n < 2 ^ 64 → text.now ++ more ≡ decimal n ++ rest → result ≡ true }
+{
+    let Some((byte, _)) = text.split_first() else {
+        return true;
+    };
+    byte.is_ascii_digit()
 }
 
 /// How many digits the text begins with.

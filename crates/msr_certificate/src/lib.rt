@@ -1,8 +1,10 @@
 //! A report read from its text.
 #![tactic(auto)]
 
+mod draft;
 mod fault;
 mod fields;
+mod first;
 mod keys;
 mod laws;
 mod lines;

@@ -1,6 +1,6 @@
 -- How tasks end: done, stopped, or before they begin.
 use Rattle.std.specs.Prelude.{⊤}
-use Rattle.std.proofs.Common.{◌≡◌, ℕ, Bool, List, [], codes, refl, subst, sym, inr, append-nil, Result, Ok, Err}
+use Rattle.std.proofs.Common.{◌≡◌, ◌⊎◌, ℕ, Bool, List, [], codes, refl, subst, sym, inl, inr, append-nil, Result, Ok, Err}
 use Rattle.msr_devices.specs.Device.{Device, Takes}
 use Rattle.msr_devices.proofs.Chaining.{calm_same, left_of, takes_append, takes_none}
 use Rattle.msr_base.specs.declared.counts.Counts.{Counts}
@@ -20,7 +20,7 @@ use Rattle.msr_command.specs.declared.task_fault.TaskFault.{TaskFault}
 use Rattle.msr_command.specs.declared.task_fault.TaskFault.TheVariants.{CannotOpen, SameFile, SameOutput, Overlap, Closed, Tool}
 use Rattle.msr_command.specs.declared.words.Task.{Task}
 use Rattle.msr_command.specs.declared.words.Task.TheVariants.{Repack, List as Listing, Check, Archive, Feed}
-use Rattle.msr_command.specs.Ends.{Checks, Does, Ends, Feeds, FeedAnswers, FeedEnds, FeedsTo, IfChecked, IfWritten, IsUncreated, IsUnopened, ListEnds, ListsNamed, Over, RepackEnds, Repacks, RepacksNamed, StopsRecords, StopsReport, WalksArchive, WritesList, WritesRecords, WritesReport, days_asked}
+use Rattle.msr_command.specs.Ends.{Checks, Does, Ends, EndsClosed, Feeds, FeedAnswers, FeedEnds, FeedsTo, IfChecked, IfWritten, IsUncreated, IsUnread, ListEnds, ListsNamed, Over, RepackEnds, Repacks, RepacksNamed, StopsRecords, StopsReport, WalksArchive, WritesList, WritesRecords, WritesReport, days_asked}
 
 -- nothing was read or printed
 over_none : (known : Type 0) (says : (input printed : List ℕ) → Type 0) (source out0 out : Device) → Takes out0 out [] →
@@ -56,16 +56,16 @@ over_said known says others source out0 out then does = record {
   ends = then does.input does.printed does.ends;
 }
 
--- a file cannot be opened or made
+-- a file cannot be opened or made, or is another one
 
-unopened : (done : Done → Type 0) (stopped : ToolFault → Type 0) (stop : TaskFault) → IsUnopened stop →
-    Ends done IsUnopened stopped [] (Err stop)
-unopened done stopped (CannotOpen name) is = (tt, refl)
-unopened done stopped SameFile is = absurd is
-unopened done stopped SameOutput is = absurd is
-unopened done stopped Overlap is = absurd is
-unopened done stopped Closed is = absurd is
-unopened done stopped (Tool why) is = absurd is
+unread : (done : Done → Type 0) (stopped : ToolFault → Type 0) (stop : TaskFault) → IsUnread stop →
+    Ends done IsUnread stopped [] (Err stop)
+unread done stopped (CannotOpen name) is = (tt, refl)
+unread done stopped SameFile is = (tt, refl)
+unread done stopped SameOutput is = absurd is
+unread done stopped Overlap is = absurd is
+unread done stopped Closed is = absurd is
+unread done stopped (Tool why) is = absurd is
 
 uncreated : (done : Done → Type 0) (stopped : ToolFault → Type 0) (stop : TaskFault) → IsUncreated stop →
     Ends done IsUncreated stopped [] (Err stop)
@@ -76,13 +76,18 @@ uncreated done stopped Overlap is = absurd is
 uncreated done stopped Closed is = absurd is
 uncreated done stopped (Tool why) is = absurd is
 
-unopened_uncreated : (stop : TaskFault) → IsUnopened stop → IsUncreated stop
-unopened_uncreated (CannotOpen name) is = tt
-unopened_uncreated SameFile is = absurd is
-unopened_uncreated SameOutput is = absurd is
-unopened_uncreated Overlap is = absurd is
-unopened_uncreated Closed is = absurd is
-unopened_uncreated (Tool why) is = absurd is
+closed_or : (done : Done → Type 0) (stopped : ToolFault → Type 0) (stop : TaskFault) →
+    (stop ≡ Closed) ⊎ IsUncreated stop → Ends done IsUncreated stopped [] (Err stop)
+closed_or done stopped stop (inl is) = rw is refl
+closed_or done stopped stop (inr is) = uncreated done stopped stop is
+
+pub unread_uncreated : (stop : TaskFault) → IsUnread stop → IsUncreated stop
+unread_uncreated (CannotOpen name) is = tt
+unread_uncreated SameFile is = tt
+unread_uncreated SameOutput is = absurd is
+unread_uncreated Overlap is = absurd is
+unread_uncreated Closed is = absurd is
+unread_uncreated (Tool why) is = absurd is
 
 pub repack_uncreated : (choice : Choice) (known : Type 0) (source out : Device) (stop : TaskFault) → IsUncreated stop →
     Over known (RepackEnds choice (Err stop)) source out out
@@ -90,10 +95,10 @@ repack_uncreated choice known source out stop is =
     over_none known (RepackEnds choice (Err stop)) source out out (takes_none out)
     (λ input. uncreated (IfWritten (WritesReport choice input [])) (StopsReport choice input []) stop is)
 
-pub repack_unopened : (choice : Choice) (name : List ℕ) (standard out : Device) (stop : TaskFault) → IsUnopened stop →
+pub repack_unread : (choice : Choice) (name : List ℕ) (standard out : Device) (stop : TaskFault) → IsUnread stop →
     RepacksNamed choice name standard out out (Err stop)
-repack_unopened choice name standard out stop is =
-    repack_uncreated choice (name ≡ codes "-") standard out stop (unopened_uncreated stop is)
+repack_unread choice name standard out stop is =
+    repack_uncreated choice (name ≡ codes "-") standard out stop (unread_uncreated stop is)
 
 pub feed_uncreated : (choice : Choice) (source out : Device) (stop : TaskFault) → IsUncreated stop →
     Feeds choice source out out (Err stop)
@@ -101,22 +106,31 @@ feed_uncreated choice source out stop is =
     over_none ⊤ (FeedEnds choice (Err stop)) source out out (takes_none out)
     (λ input. uncreated (IfWritten (WritesRecords choice input [])) (StopsRecords choice input []) stop is)
 
-pub list_unopened : (choice : Choice) (name : List ℕ) (standard out : Device) (stop : TaskFault) → IsUnopened stop →
+pub list_unread : (choice : Choice) (name : List ℕ) (standard out : Device) (stop : TaskFault) → IsUnread stop →
     ListsNamed choice name standard out out (Err stop)
-list_unopened choice name standard out stop is =
+list_unread choice name standard out stop is =
     over_none (name ≡ codes "-") (ListEnds choice (Err stop)) standard out out (takes_none out)
-    (λ input. unopened (IfWritten (WritesList choice input []))
+    (λ input. unread (IfWritten (WritesList choice input []))
     (λ why. ListAnswers (settings_of choice) input [] (Err why)) stop is)
 
--- standard output is closed
-pub task_closed : (task : Task) (standard out0 out : Device) → Takes out0 out [] →
-    Does task standard out0 out (Err Closed)
-task_closed (Repack asked) standard out0 out none = over_none _ _ standard out0 out none (λ input. refl)
-task_closed (Listing asked) standard out0 out none = over_none _ _ standard out0 out none (λ input. refl)
-task_closed (Check asked) standard out0 out none =
-    record { input = []; text = []; printed = []; prints = none; ends = refl }
-task_closed (Archive asked) standard out0 out none = record { printed = []; prints = none; ends = refl }
-task_closed (Feed asked) standard out0 out none = over_none _ _ standard out0 out none (λ input. refl)
+-- nothing can be printed
+
+feed_closed : (choice : Choice) (source out0 out : Device) (stop : TaskFault) → Takes out0 out [] →
+    (stop ≡ Closed) ⊎ IsUncreated stop → Feeds choice source out0 out (Err stop)
+feed_closed choice source out0 out stop none ends = over_none _ _ source out0 out none
+    (λ input. closed_or (IfWritten (WritesRecords choice input [])) (StopsRecords choice input []) stop ends)
+
+pub task_closed : (task : Task) (standard out0 out : Device) (stop : TaskFault) → Takes out0 out [] →
+    EndsClosed task stop → Does task standard out0 out (Err stop)
+task_closed (Repack asked) standard out0 out stop none ends =
+    rw ends (over_none _ _ standard out0 out none (λ input. refl))
+task_closed (Listing asked) standard out0 out stop none ends =
+    rw ends (over_none _ _ standard out0 out none (λ input. refl))
+task_closed (Check asked) standard out0 out stop none ends =
+    rw ends (record { input = []; text = []; printed = []; prints = none; ends = refl })
+task_closed (Archive asked) standard out0 out stop none ends =
+    rw ends (record { printed = []; prints = none; ends = refl })
+task_closed (Feed asked) standard out0 out stop none ends = feed_closed asked.options standard out0 out stop none ends
 
 pub then_does : (task : Task) (standard out0 out1 out : Device) (result : Result Done TaskFault) → Takes out0 out1 [] →
     Does task standard out1 out result → Does task standard out0 out result
@@ -188,13 +202,13 @@ pub unfed : (choice : Choice) (source out0 out : Device) (why : ToolFault) →
     FeedsTo choice source out0 out (Err why) → Feeds choice source out0 out (Err (Tool why))
 unfed choice source out0 out why does = over_said _ _ _ source out0 out (λ input printed ends. ends) does
 
-pub check_unopened : (out : Device) (stop : TaskFault) → IsUnopened stop → Checks out out (Err stop)
-check_unopened out stop is = record {
+pub check_unread : (out : Device) (stop : TaskFault) → IsUnread stop → Checks out out (Err stop)
+check_unread out stop is = record {
   input = [];
   text = [];
   printed = [];
   prints = takes_none out;
-  ends = unopened (IfChecked (λ verdict. VerdictAnswers [] [] [] (Ok verdict)))
+  ends = unread (IfChecked (λ verdict. VerdictAnswers [] [] [] (Ok verdict)))
       (λ why. VerdictAnswers [] [] [] (Err why)) stop is;
 }
 

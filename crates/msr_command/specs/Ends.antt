@@ -43,14 +43,14 @@ abbrev pub status_of : Result Done TaskFault → ℕ
 status_of (Ok done) = status_of_done done
 status_of (Err stop) = status_of_task_fault stop
 
--- a file could not be opened
-abbrev pub IsUnopened : TaskFault → Type 0
-IsUnopened (CannotOpen name) = ⊤
-IsUnopened SameFile = ⊥
-IsUnopened SameOutput = ⊥
-IsUnopened Overlap = ⊥
-IsUnopened Closed = ⊥
-IsUnopened (Tool fault) = ⊥
+-- an input could not be opened, or is the output
+abbrev pub IsUnread : TaskFault → Type 0
+IsUnread (CannotOpen name) = ⊤
+IsUnread SameFile = ⊤
+IsUnread SameOutput = ⊥
+IsUnread Overlap = ⊥
+IsUnread Closed = ⊥
+IsUnread (Tool fault) = ⊥
 
 -- a file could not be made, or is the input or another output
 abbrev pub IsUncreated : TaskFault → Type 0
@@ -137,7 +137,7 @@ pub record WritesList (choice : Choice) (input printed : List ℕ) : Type 0 wher
 
 abbrev pub ListEnds : Choice → Result Done TaskFault → (input printed : List ℕ) → Type 0
 ListEnds choice result input printed =
-    Ends (IfWritten (WritesList choice input printed)) IsUnopened
+    Ends (IfWritten (WritesList choice input printed)) IsUnread
     (λ fault. ListAnswers (settings_of choice) input printed (Err fault)) printed result
 
 -- Listing the file of a name.
@@ -173,7 +173,7 @@ Feeds choice standard out0 out result = Over ⊤ (FeedEnds choice result) standa
 
 abbrev pub CheckEnds : (input text printed : List ℕ) → Result Done TaskFault → Type 0
 CheckEnds input text printed result =
-    Ends (IfChecked (λ verdict. VerdictAnswers input text printed (Ok verdict))) IsUnopened
+    Ends (IfChecked (λ verdict. VerdictAnswers input text printed (Ok verdict))) IsUnread
     (λ fault. VerdictAnswers input text printed (Err fault)) printed result
 
 -- Checking some records with some report, and what was printed.
@@ -209,6 +209,14 @@ pub record WasRefused (old new : Device) : Type 0 where
 abbrev pub OpensOutput : (out0 out : Device) → Result (Unit {0}) TaskFault → Type 0
 OpensOutput out0 out (Ok open_now) = Takes out0 out [] × (out.failures ≡ out0.failures) × (out.interruptions ≡ 0)
 OpensOutput out0 out (Err stop) = Takes out0 out [] × (stop ≡ Closed) × WasRefused out0 out
+
+-- a task ends so if nothing can be printed: the report of a feed is made even then, which may fail
+abbrev pub EndsClosed : Task → TaskFault → Type 0
+EndsClosed (Repack asked) stop = stop ≡ Closed
+EndsClosed (Listing asked) stop = stop ≡ Closed
+EndsClosed (Check asked) stop = stop ≡ Closed
+EndsClosed (Archive asked) stop = stop ≡ Closed
+EndsClosed (Feed asked) stop = (stop ≡ Closed) ⊎ IsUncreated stop
 
 -- what doing a task reads and prints, and how it ends
 abbrev pub Does : Task → (standard out0 out : Device) → Result Done TaskFault → Type 0

@@ -1,6 +1,6 @@
 //! Files that are opened, created and made to last.
 ghost use Rattle.std.specs.Prelude.{◌≡◌, IfErr};
-ghost use Rattle.msr_command.specs.Ends.{IsUncreated, IsUnopened};
+ghost use Rattle.msr_command.specs.Ends.{IsUncreated, IsUnread};
 
 use crate::task_fault::TaskFault;
 use msr_tool::ToolFault;
@@ -28,6 +28,20 @@ fn id_of(metadata: &Metadata) -> Option<FileId> {
     })
 }
 
+/// Which file standard output is redirected to, if the system tells it.
+fn id_of_standard_output<R: Files>(rt: &R) -> Option<FileId> {
+    match fs::metadata(rt, "/dev/stdout") {
+        Ok(metadata) => id_of(&metadata),
+        Err(_) => None,
+    }
+}
+
+/// Whether standard output is redirected to an input: what is printed would be read again, or stand in the place of
+/// what is still to be read.
+fn is_printed_to<R: Files>(rt: &R, input: Option<FileId>) -> bool {
+    input.is_some() && input == id_of_standard_output(rt)
+}
+
 /// A file that was opened to be read.
 #[derive(Drop)]
 pub(crate) struct OpenedFile<F> {
@@ -35,39 +49,38 @@ pub(crate) struct OpenedFile<F> {
     pub id: Option<FileId>,
 }
 
-/// Opens the file with this name, also if it is `-`.
+/// Opens the file with this name, also if it is `-`, to be read, unless standard output is redirected to it.
 pub(crate) fn open_file<'a, R: Files>(
     rt: &R,
     name: &'a str,
 ) -> Result<OpenedFile<R::File>, TaskFault<'a>>
-    ensures { IfErr result IsUnopened }
+    ensures { IfErr result IsUnread }
 {
     let Ok(file) = File::open(rt, name) else {
         return Err(TaskFault::CannotOpen(name));
     };
-    match file.metadata() {
-        Ok(metadata) => Ok(OpenedFile {
-            file,
-            id: id_of(&metadata),
-        }),
-        Err(_) => Err(TaskFault::CannotOpen(name)),
+    let Ok(metadata) = file.metadata() else {
+        return Err(TaskFault::CannotOpen(name));
+    };
+    let id = id_of(&metadata);
+    if is_printed_to(rt, id) {
+        return Err(TaskFault::SameFile);
     }
+    Ok(OpenedFile { file, id })
 }
 
-/// Which file standard input is redirected from, if the system tells it.
-pub(crate) fn id_of_standard_input<R: Files>(rt: &R) -> Option<FileId> {
-    match fs::metadata(rt, "/dev/stdin") {
-        Ok(metadata) => id_of(&metadata),
-        Err(_) => None,
+/// Which file standard input is redirected from, if the system tells it, unless standard output is redirected to it.
+pub(crate) fn standard_input<'a, R: Files>(rt: &R) -> Result<Option<FileId>, TaskFault<'a>>
+    ensures { IfErr result IsUnread }
+{
+    let Ok(metadata) = fs::metadata(rt, "/dev/stdin") else {
+        return Ok(None);
+    };
+    let id = id_of(&metadata);
+    if is_printed_to(rt, id) {
+        return Err(TaskFault::SameFile);
     }
-}
-
-/// Which file standard output is redirected to, if the system tells it.
-fn id_of_standard_output<R: Files>(rt: &R) -> Option<FileId> {
-    match fs::metadata(rt, "/dev/stdout") {
-        Ok(metadata) => id_of(&metadata),
-        Err(_) => None,
-    }
+    Ok(id)
 }
 
 /// Creates the file with this name, or opens it and cuts it to nothing, unless it is the input by some name, or what
@@ -79,6 +92,8 @@ pub(crate) fn create_output<'a, R: Files>(
 ) -> Result<R::File, TaskFault<'a>>
     ensures { IfErr result IsUncreated }
 {
+    // Asked before the file is opened: if standard output is closed, the file gets its descriptor.
+    let output = id_of_standard_output(rt);
     let Ok(file) = OpenOptions::new().write(true).create(true).open(rt, name) else {
         return Err(TaskFault::CannotOpen(name));
     };
@@ -91,13 +106,21 @@ pub(crate) fn create_output<'a, R: Files>(
     if input == Some(id) {
         return Err(TaskFault::SameFile);
     }
-    if id_of_standard_output(rt) == Some(id) {
+    if output == Some(id) {
         return Err(TaskFault::SameOutput);
     }
     match file.set_len(0) {
         Ok(()) => Ok(file),
         Err(_) => Err(TaskFault::CannotOpen(name)),
     }
+}
+
+/// Creates the report of a feed, or cuts it to nothing, before anything is read.
+pub(crate) fn create_report<'a, R: Files>(rt: &R, name: &'a str) -> Result<R::File, TaskFault<'a>>
+    ensures { IfErr result IsUncreated }
+{
+    let input = standard_input(rt)?;
+    create_output(rt, name, input)
 }
 
 /// Waits until the system has stored what was printed, if standard output is redirected to a regular file that can

@@ -8,7 +8,7 @@ pub(crate) enum TaskFault<'a> {
     /// The file with this name could not be opened, or not be made.
     #[error("cannot open {0}")]
     CannotOpen(&'a str),
-    /// The output is the input, by another name or a link.
+    /// The output is the input, by another name or a link; or standard output is redirected to an input.
     #[error("the output is the input")]
     SameFile,
     /// A file to be written is what standard output is redirected to.
@@ -17,7 +17,7 @@ pub(crate) enum TaskFault<'a> {
     /// One of an archive's folders is another, or stands below it, by whatever links.
     #[error("the folders overlap")]
     Overlap,
-    /// Standard output is closed.
+    /// Nothing can be printed: standard output is closed, or refuses a write of no bytes.
     #[error("write fault")]
     Closed,
     /// The engine ended.

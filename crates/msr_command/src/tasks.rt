@@ -1,11 +1,11 @@
 //! The tasks of the program, over the system's files, and over any source and sink in the place of standard input and
 //! output.
 ghost use Rattle.msr_devices.specs.Device.{CanCountCall};
-ghost use Rattle.msr_command.specs.Ends.{days_asked, Checks, Does, Feeds, FeedsTo, ListsNamed, OpensOutput, Repacks, RepacksNamed, WalksArchive};
+ghost use Rattle.msr_command.specs.Ends.{days_asked, Checks, Does, EndsClosed, Feeds, FeedsTo, ListsNamed, OpensOutput, Repacks, RepacksNamed, WalksArchive};
 
 use crate::done::Done;
 use crate::files::{
-    FileId, create_output, id_of_standard_input, open_file, settle_standard_output,
+    FileId, create_output, create_report, open_file, settle_standard_output, standard_input,
 };
 use crate::task_fault::TaskFault;
 use crate::words::{Archiving, Checking, Feeding, Listing, Repacking, Task};
@@ -34,7 +34,9 @@ where
     requires output { CanCountCall (O.device output.old) }
     ensures { Does task.entry (I.device input.old) (O.device output.old) (O.device output.new) result }
 {
-    require_open(output)?;
+    let Ok(()) = require_open(output) else {
+        return Err(end_closed(rt, &task));
+    };
     let feeds = matches!(task, Task::Feed(_));
     let done = do_open(rt, alloc, task, input, output)?;
     if !feeds {
@@ -78,6 +80,21 @@ fn require_open<'a, O: Sink>(output: &mut O) -> Result<(), TaskFault<'a>>
     }
 }
 
+/// What a task ends with if nothing can be printed. The report of a feed is cut even then: an old one would tell that
+/// the feed ended well. What is printed goes to descriptor 1, and if that is closed, the report's file gets it. So this
+/// comes last: the file is closed again with nothing in it, and nothing is printed any more.
+fn end_closed<'a, R: Files>(rt: &R, task: &Task<'a>) -> TaskFault<'a>
+    ensures { EndsClosed task.now result }
+{
+    let Task::Feed(asked) = task else {
+        return TaskFault::Closed;
+    };
+    match create_report(rt, asked.report) {
+        Ok(_) => TaskFault::Closed,
+        Err(fault) => fault,
+    }
+}
+
 /// Opens the input before the output is made, so that a wrong input leaves an old output as it is.
 fn repack_file<'a, R: Files, I: Source, O: Sink>(
     rt: &R,
@@ -99,7 +116,7 @@ fn repack_file<'a, R: Files, I: Source, O: Sink>(
     if name == "-" {
         let target = Target {
             name: to,
-            input: id_of_standard_input(rt),
+            input: standard_input(rt)?,
         };
         return repack_from(rt, alloc, options, target, input, output);
     }
@@ -164,8 +181,7 @@ fn feed_input<'a, R: Files, I: Source, O: Sink>(
     ensures { Feeds asked.entry.options (I.device input.old)
         (O.device output.old) (O.device output.new) result }
 {
-    let id = id_of_standard_input(rt);
-    let mut file = create_output(rt, asked.report, id)?;
+    let mut file = create_report(rt, asked.report)?;
     let fed = feed_to(rt, alloc, &mut file, asked.options, input, output);
     match fed {
         Ok(()) => Ok(Done::Written),
@@ -218,6 +234,7 @@ fn list_file<'a, R: Files, I: Source, O: Sink>(
         input: name,
     } = asked;
     if name == "-" {
+        standard_input(rt)?;
         list_segments(alloc, input, output, options)?;
         return Ok(Done::Written);
     }

@@ -1,42 +1,32 @@
 //! msr_check: separating lists and packings, worked out by hand.
 
-use crate::rows::holds;
+use crate::made::Made::{Bounds, Swings};
 use msr_check::{separates, shows_least};
+use msr_fixtures::expect;
 use msr_words::Kind::{self, Int24, Int32, Steim1, Steim2};
 use msr_words::{Length, Run};
 use std::alloc::{AllocError, Global};
 use std::test::Fail;
 
-/// 1000000 at even places and 1020000 at odd ones, but 1000000 at the places from 84 to 88: 173 samples,
-/// of which records of 256 bytes hold 0 to 84 and 85 to 172, and no record holds 0 and 86.
+/// 173 samples, of which records of 256 bytes hold 0 to 84 and 85 to 172, and no record holds 0 and 86.
 fn swings(alloc: Global) -> Result<Vec<i32>, AllocError> {
-    let mut samples = Vec::new(alloc);
-    for place in 0..173 {
-        let calm = 84 <= place && place <= 88;
-        samples.push(if calm || place % 2 == 0 {
-            1_000_000
-        } else {
-            1_020_000
-        })?;
-    }
-    Ok(samples)
+    Swings(173, 1_000_000).samples(alloc)
 }
 
 /// A list of sample numbers, and whether it separates.
 type Separators = (&'static [u64], bool);
 
-fn separators() -> [Separators; 9] {
+fn separators() -> [(&'static str, Separators); 9] {
     [
-        (&[], true),
-        (&[0], true),
-        (&[0, 86], true),
-        (&[0, 85], false),
-        // from 85 a record reaches past 172
-        (&[86, 172], false),
-        (&[86, 0], false),
-        (&[0, 0], false),
-        (&[173], false),
-        (&[0, 86, 173], false),
+        ("no samples", (&[], true)),
+        ("one", (&[0], true)),
+        ("two of two records", (&[0, 86], true)),
+        ("two of one record", (&[0, 85], false)),
+        ("two that a record reaches from 85", (&[86, 172], false)),
+        ("falling", (&[86, 0], false)),
+        ("the same twice", (&[0, 0], false)),
+        ("one after the last", (&[173], false)),
+        ("one after the last, and two before", (&[0, 86, 173], false)),
     ]
 }
 
@@ -50,8 +40,8 @@ fn is_told(samples: &[i32], record_length: Length, row: Separators) -> bool {
 fn which_lists_separate(rt: HostRuntime) -> Result<(), Fail> {
     let record_length = Length::new(256).ok_or("a length")?;
     let samples = swings(rt.alloc())?;
-    for row in separators() {
-        holds(&rt, is_told(&samples, record_length, row), &row);
+    for (name, row) in separators() {
+        expect(is_told(&samples, record_length, row), name)?;
     }
     Ok(())
 }
@@ -59,24 +49,48 @@ fn which_lists_separate(rt: HostRuntime) -> Result<(), Fail> {
 /// Runs by their starts and ends with their kinds, sample numbers, and whether these show the runs to be least.
 type Certificate = (&'static [(u64, u64, Kind)], &'static [u64], bool);
 
-fn certificates() -> [Certificate; 10] {
+fn certificates() -> [(&'static str, Certificate); 10] {
     [
-        (&[(0, 85, Steim1), (85, 173, Steim1)], &[0, 86], true),
-        (&[(0, 85, Steim1), (85, 173, Steim1)], &[0, 85], false),
-        // one separator fewer, one more, a run fewer
-        (&[(0, 85, Steim1), (85, 173, Steim1)], &[0], false),
-        (&[(0, 85, Steim1), (85, 173, Steim1)], &[0, 86, 172], false),
-        (&[(0, 85, Steim1)], &[0], false),
-        // a kind that the run does not fit
-        (&[(0, 85, Steim1), (85, 173, Steim2)], &[0, 86], false),
-        (&[(0, 85, Int32), (85, 173, Steim1)], &[0, 86], false),
-        // a gap, an overlap, an empty run
-        (&[(0, 84, Steim1), (85, 173, Steim1)], &[0, 86], false),
-        (&[(0, 85, Steim1), (84, 173, Steim1)], &[0, 86], false),
         (
-            &[(0, 0, Steim1), (0, 85, Steim1), (85, 173, Steim1)],
-            &[0, 86],
-            false,
+            "least",
+            (&[(0, 85, Steim1), (85, 173, Steim1)], &[0, 86], true),
+        ),
+        (
+            "no separators",
+            (&[(0, 85, Steim1), (85, 173, Steim1)], &[0, 85], false),
+        ),
+        (
+            "a separator fewer",
+            (&[(0, 85, Steim1), (85, 173, Steim1)], &[0], false),
+        ),
+        (
+            "a separator more",
+            (&[(0, 85, Steim1), (85, 173, Steim1)], &[0, 86, 172], false),
+        ),
+        ("a run fewer", (&[(0, 85, Steim1)], &[0], false)),
+        (
+            "Steim-2 that does not fit",
+            (&[(0, 85, Steim1), (85, 173, Steim2)], &[0, 86], false),
+        ),
+        (
+            "integers that do not fit",
+            (&[(0, 85, Int32), (85, 173, Steim1)], &[0, 86], false),
+        ),
+        (
+            "a gap",
+            (&[(0, 84, Steim1), (85, 173, Steim1)], &[0, 86], false),
+        ),
+        (
+            "an overlap",
+            (&[(0, 85, Steim1), (84, 173, Steim1)], &[0, 86], false),
+        ),
+        (
+            "an empty run",
+            (
+                &[(0, 0, Steim1), (0, 85, Steim1), (85, 173, Steim1)],
+                &[0, 86],
+                false,
+            ),
         ),
     ]
 }
@@ -101,41 +115,45 @@ fn is_certified(
 fn which_packings_are_shown_to_be_least(rt: HostRuntime) -> Result<(), Fail> {
     let record_length = Length::new(256).ok_or("a length")?;
     let samples = swings(rt.alloc())?;
-    for row in certificates() {
+    for (name, row) in certificates() {
         let is = is_certified(rt.alloc(), &samples, record_length, row)?;
-        holds(&rt, is, &row);
+        expect(is, name)?;
     }
     Ok(())
 }
 
-fn certificates_of_24_bits() -> [Certificate; 3] {
+fn certificates_of_24_bits() -> [(&'static str, Certificate); 3] {
     [
-        (&[(0, 64, Int24), (64, 65, Steim2)], &[0, 64], true),
-        (&[(0, 65, Int24), (65, 65, Steim2)], &[0, 65], false),
-        (&[(0, 48, Int32), (48, 65, Steim2)], &[0, 48], false),
+        (
+            "least",
+            (&[(0, 64, Int24), (64, 65, Steim2)], &[0, 64], true),
+        ),
+        (
+            "a sample too many",
+            (&[(0, 65, Int24), (65, 65, Steim2)], &[0, 65], false),
+        ),
+        (
+            "32 bits where 24 suffice",
+            (&[(0, 48, Int32), (48, 65, Steim2)], &[0, 48], false),
+        ),
     ]
 }
 
-/// 65 samples, 8388607 and -8388608 in turn: a record of 256 bytes holds 64 of them as 24-bit integers, and 48 as
-/// 32-bit ones.
+/// A record of 256 bytes holds 64 of these samples as 24-bit integers, and 48 as 32-bit ones.
 #[test]
 fn samples_of_24_bits(rt: HostRuntime) -> Result<(), Fail> {
     let record_length = Length::new(256).ok_or("a length")?;
-    let mut samples = Vec::new(rt.alloc());
-    for place in 0..65 {
-        samples.push(if place % 2 == 0 {
-            8_388_607
-        } else {
-            -8_388_608
-        })?;
-    }
-    for row in certificates_of_24_bits() {
+    let samples = Bounds(65).samples(rt.alloc())?;
+    for (name, row) in certificates_of_24_bits() {
         let is = is_certified(rt.alloc(), &samples, record_length, row)?;
-        holds(&rt, is, &row);
+        expect(is, name)?;
     }
-    let lists: [Separators; 2] = [(&[0, 64], true), (&[0, 63], false)];
-    for row in lists {
-        holds(&rt, is_told(&samples, record_length, row), &row);
+    let lists: [(&str, Separators); 2] = [
+        ("two of two records", (&[0, 64], true)),
+        ("two of one record", (&[0, 63], false)),
+    ];
+    for (name, row) in lists {
+        expect(is_told(&samples, record_length, row), name)?;
     }
     Ok(())
 }
@@ -145,30 +163,36 @@ fn samples_of_24_bits(rt: HostRuntime) -> Result<(), Fail> {
 fn a_long_way_between_separators(rt: HostRuntime) -> Result<(), Fail> {
     let record_length = Length::new(512).ok_or("a length")?;
     let zeros = vec![in rt.alloc(); 0; 1_000_000]?;
-    let lists: [Separators; 3] = [
-        (&[0, 500_000, 999_999], true),
-        (&[0, 720], false),
-        (&[0, 721], true),
+    let lists: [(&str, Separators); 3] = [
+        ("a long way", (&[0, 500_000, 999_999], true)),
+        ("the last of a record", (&[0, 720], false)),
+        ("the first after a record", (&[0, 721], true)),
     ];
-    for row in lists {
-        holds(&rt, is_told(&zeros, record_length, row), &row);
+    for (name, row) in lists {
+        expect(is_told(&zeros, record_length, row), name)?;
     }
     Ok(())
 }
 
-fn certificates_of_the_longest() -> [Certificate; 3] {
+fn certificates_of_the_longest() -> [(&'static str, Certificate); 3] {
     [
         (
-            &[(0, 65_535, Steim2), (65_535, 65_536, Steim2)],
-            &[0, 65_535],
-            true,
+            "least",
+            (
+                &[(0, 65_535, Steim2), (65_535, 65_536, Steim2)],
+                &[0, 65_535],
+                true,
+            ),
         ),
         (
-            &[(0, 65_535, Steim2), (65_535, 65_536, Steim2)],
-            &[0, 65_534],
-            false,
+            "no separators",
+            (
+                &[(0, 65_535, Steim2), (65_535, 65_536, Steim2)],
+                &[0, 65_534],
+                false,
+            ),
         ),
-        (&[(0, 65_536, Steim2)], &[0], false),
+        ("a sample too many", (&[(0, 65_536, Steim2)], &[0], false)),
     ]
 }
 
@@ -177,13 +201,12 @@ fn certificates_of_the_longest() -> [Certificate; 3] {
 fn as_far_as_a_header_counts(rt: HostRuntime) -> Result<(), Fail> {
     let record_length = Length::new(65_536).ok_or("a length")?;
     let zeros = vec![in rt.alloc(); 0; 65_536]?;
-    for row in certificates_of_the_longest() {
+    for (name, row) in certificates_of_the_longest() {
         let is = is_certified(rt.alloc(), &zeros, record_length, row)?;
-        holds(&rt, is, &row);
+        expect(is, name)?;
     }
     let shorter = zeros.get(..65_535).ok_or("samples")?;
     let row: Certificate = (&[(0, 65_535, Steim2)], &[0], true);
     let is = is_certified(rt.alloc(), shorter, record_length, row)?;
-    holds(&rt, is, &row);
-    Ok(())
+    expect(is, "one record")
 }

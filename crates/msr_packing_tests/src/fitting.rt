@@ -3,12 +3,13 @@
 
 ghost use Rattle.std.specs.Prelude.{◌≤◌, length};
 
-use crate::rows::holds;
+use crate::made::Made::{Bounds, Swings};
 use msr_filling::{fill_steim1, fill_steim2};
+use msr_fixtures::expect;
 use msr_steim::{Group, Version};
 use msr_words::{
-    AnyKind, Codec, Int16, Int24, Int32, Kind, Length, Run, Steim1, Steim2, Tracker, Window,
-    difference, first_kind, groups, one_division, run_fits,
+    AnyKind, Codec, Int16, Int24, Int32, Kind, Length, Steim1, Steim2, Tracker, Window, difference,
+    first_kind, groups, one_division, run_fits,
 };
 use std::alloc::{AllocError, Global};
 use std::test::Fail;
@@ -41,17 +42,17 @@ fn taken<T: Tracker + Drop>(record_length: Length, sample: i32, difference: i64)
 /// A sample, and how many like it a record of 256 bytes holds as 16-bit and as 24-bit integers.
 type Height = (i32, usize, usize);
 
-fn heights() -> [Height; 9] {
+fn heights() -> [(&'static str, Height); 9] {
     [
-        (0, 96, 64),
-        (32_767, 96, 64),
-        (-32_768, 96, 64),
-        (32_768, 0, 64),
-        (-32_769, 0, 64),
-        (8_388_607, 0, 64),
-        (-8_388_608, 0, 64),
-        (8_388_608, 0, 0),
-        (-8_388_609, 0, 0),
+        ("zero", (0, 96, 64)),
+        ("the greatest of 16 bits", (32_767, 96, 64)),
+        ("the least of 16 bits", (-32_768, 96, 64)),
+        ("one above 16 bits", (32_768, 0, 64)),
+        ("one below 16 bits", (-32_769, 0, 64)),
+        ("the greatest of 24 bits", (8_388_607, 0, 64)),
+        ("the least of 24 bits", (-8_388_608, 0, 64)),
+        ("one above 24 bits", (8_388_608, 0, 0)),
+        ("one below 24 bits", (-8_388_609, 0, 0)),
     ]
 }
 
@@ -64,28 +65,28 @@ fn height_is_right(record_length: Length, row: Height) -> bool {
 /// A difference, and how many like it a record of 256 bytes holds as Steim-1 and as Steim-2.
 type Step = (i64, usize, usize);
 
-fn steps() -> [Step; 20] {
+fn steps() -> [(&'static str, Step); 20] {
     [
-        (0, 172, 301),
-        (7, 172, 301),
-        (-8, 172, 301),
-        (8, 172, 258),
-        (-16, 172, 258),
-        (16, 172, 215),
-        (-32, 172, 215),
-        (32, 172, 172),
-        (-128, 172, 172),
-        (128, 86, 129),
-        (-512, 86, 129),
-        (512, 86, 86),
-        (-16_384, 86, 86),
-        (16_384, 86, 43),
-        (32_768, 43, 43),
-        (-536_870_912, 43, 43),
-        (536_870_912, 43, 0),
-        (-2_147_483_648, 43, 0),
-        (2_147_483_648, 0, 0),
-        (4_294_967_295, 0, 0),
+        ("zero", (0, 172, 301)),
+        ("the greatest of 4 bits", (7, 172, 301)),
+        ("the least of 4 bits", (-8, 172, 301)),
+        ("one above 4 bits", (8, 172, 258)),
+        ("the least of 5 bits", (-16, 172, 258)),
+        ("one above 5 bits", (16, 172, 215)),
+        ("the least of 6 bits", (-32, 172, 215)),
+        ("one above 6 bits", (32, 172, 172)),
+        ("the least of 8 bits", (-128, 172, 172)),
+        ("one above 8 bits", (128, 86, 129)),
+        ("the least of 10 bits", (-512, 86, 129)),
+        ("one above 10 bits", (512, 86, 86)),
+        ("the least of 15 bits", (-16_384, 86, 86)),
+        ("one above 15 bits", (16_384, 86, 43)),
+        ("one above 16 bits", (32_768, 43, 43)),
+        ("the least of 30 bits", (-536_870_912, 43, 43)),
+        ("one above 30 bits", (536_870_912, 43, 0)),
+        ("the least of 32 bits", (-2_147_483_648, 43, 0)),
+        ("one above 32 bits", (2_147_483_648, 0, 0)),
+        ("the greatest of 33 bits", (4_294_967_295, 0, 0)),
     ]
 }
 
@@ -99,13 +100,13 @@ fn step_is_right(record_length: Length, row: Step) -> bool {
 }
 
 #[test]
-fn how_many_samples_a_record_holds(rt: HostRuntime) -> Result<(), Fail> {
+fn how_many_samples_a_record_holds() -> Result<(), Fail> {
     let record_length = shortest()?;
-    for row in heights() {
-        holds(&rt, height_is_right(record_length, row), &row);
+    for (name, row) in heights() {
+        expect(height_is_right(record_length, row), name)?;
     }
-    for row in steps() {
-        holds(&rt, step_is_right(record_length, row), &row);
+    for (name, row) in steps() {
+        expect(step_is_right(record_length, row), name)?;
     }
     Ok(())
 }
@@ -123,13 +124,13 @@ fn takes_all<T: Tracker + Drop>(tracker: &mut T, differences: &[i64]) -> bool {
 /// Forty differences of 70000 fill forty words. 200, then four zeros, then 70000 fill three more, but four
 /// if the largest group is taken first.
 #[test]
-fn steim1_takes_the_least_number_of_words(rt: HostRuntime) -> Result<(), Fail> {
+fn steim1_takes_the_least_number_of_words() -> Result<(), Fail> {
     let mut tracker = Steim1::start(shortest()?);
     let all = takes_all(&mut tracker, &[70_000; 40])
         && takes_all(&mut tracker, &[200, 0, 0, 0, 0, 70_000]);
     let refused = !tracker.push(0, 70_000) && !tracker.push(0, 0);
-    holds(&rt, all && refused, &(all, refused));
-    Ok(())
+    expect(all, "46 differences in 43 words")?;
+    expect(refused, "one more")
 }
 
 /// Whether a tracker refuses such a sample, and then another that it would have taken.
@@ -140,16 +141,15 @@ fn refuses<T: Tracker + Drop>(record_length: Length, sample: i32, difference: i6
 
 /// A tracker that answered false answers false for ever after, whatever comes.
 #[test]
-fn false_for_ever(rt: HostRuntime) -> Result<(), Fail> {
+fn false_for_ever() -> Result<(), Fail> {
     let record_length = shortest()?;
-    let refused = [
-        refuses::<Int16>(record_length, 40_000, 0),
-        refuses::<Int24>(record_length, 8_388_608, 0),
+    expect(refuses::<Int16>(record_length, 40_000, 0), "Int16")?;
+    expect(refuses::<Int24>(record_length, 8_388_608, 0), "Int24")?;
+    expect(
         refuses::<Steim1>(record_length, 0, 4_294_967_295),
-        refuses::<Steim2>(record_length, 0, 536_870_912),
-    ];
-    holds(&rt, refused == [true; 4], &refused);
-    Ok(())
+        "Steim-1",
+    )?;
+    expect(refuses::<Steim2>(record_length, 0, 536_870_912), "Steim-2")
 }
 
 fn codec<C: Codec + Drop>(record_length: Length) -> (u8, usize, usize) {
@@ -163,13 +163,18 @@ fn codec<C: Codec + Drop>(record_length: Length) -> (u8, usize, usize) {
 /// A kind, its code, how many samples it looks back, the most that a record of 256 bytes holds, and what its codec says.
 type KindRow = (Kind, u8, usize, usize, (u8, usize, usize));
 
-fn kinds(record_length: Length) -> [KindRow; 5] {
+fn kinds(record_length: Length) -> [(&'static str, KindRow); 5] {
+    let int16 = codec::<Int16>(record_length);
+    let int24 = codec::<Int24>(record_length);
+    let int32 = codec::<Int32>(record_length);
+    let steim1 = codec::<Steim1>(record_length);
+    let steim2 = codec::<Steim2>(record_length);
     [
-        (Kind::Int16, 1, 0, 96, codec::<Int16>(record_length)),
-        (Kind::Int24, 2, 0, 64, codec::<Int24>(record_length)),
-        (Kind::Int32, 3, 0, 48, codec::<Int32>(record_length)),
-        (Kind::Steim1, 10, 1, 172, codec::<Steim1>(record_length)),
-        (Kind::Steim2, 11, 0, 301, codec::<Steim2>(record_length)),
+        ("Int16", (Kind::Int16, 1, 0, 96, int16)),
+        ("Int24", (Kind::Int24, 2, 0, 64, int24)),
+        ("Int32", (Kind::Int32, 3, 0, 48, int32)),
+        ("Steim-1", (Kind::Steim1, 10, 1, 172, steim1)),
+        ("Steim-2", (Kind::Steim2, 11, 0, 301, steim2)),
     ]
 }
 
@@ -183,33 +188,47 @@ fn kind_is_right(record_length: Length, row: KindRow) -> bool {
 }
 
 #[test]
-fn the_kinds(rt: HostRuntime) -> Result<(), Fail> {
+fn the_kinds() -> Result<(), Fail> {
     let record_length = shortest()?;
-    for row in kinds(record_length) {
-        holds(&rt, kind_is_right(record_length, row), &row);
+    for (name, row) in kinds(record_length) {
+        expect(kind_is_right(record_length, row), name)?;
     }
-    for code in [0, 4, 5, 12, 255] {
-        holds(&rt, Kind::of_code(code).is_none(), &code);
+    for (name, code) in [("0", 0), ("4", 4), ("5", 5), ("12", 12), ("255", 255)] {
+        expect(Kind::of_code(code).is_none(), name)?;
     }
     let any = (AnyKind::LOOK_BACK, AnyKind::most(record_length));
-    holds(&rt, any == (1, 301), &any);
-    Ok(())
+    expect(any == (1, 301), "any kind")
 }
 
 /// A record length: its bytes, their exponent, its frames, and its words for differences.
 type LengthRow = (u32, u8, u32, u32);
 
-fn lengths() -> [LengthRow; 9] {
+fn lengths() -> [(&'static str, LengthRow); 9] {
     [
-        (256, 8, 3, 43),
-        (512, 9, 7, 103),
-        (1024, 10, 15, 223),
-        (2048, 11, 31, 463),
-        (4096, 12, 63, 943),
-        (8192, 13, 127, 1903),
-        (16_384, 14, 255, 3823),
-        (32_768, 15, 511, 7663),
-        (65_536, 16, 1023, 15_343),
+        ("256", (256, 8, 3, 43)),
+        ("512", (512, 9, 7, 103)),
+        ("1024", (1024, 10, 15, 223)),
+        ("2048", (2048, 11, 31, 463)),
+        ("4096", (4096, 12, 63, 943)),
+        ("8192", (8192, 13, 127, 1903)),
+        ("16384", (16_384, 14, 255, 3823)),
+        ("32768", (32_768, 15, 511, 7663)),
+        ("65536", (65_536, 16, 1023, 15_343)),
+    ]
+}
+
+/// Numbers of bytes that no record has.
+fn other_lengths() -> [(&'static str, u32); 9] {
+    [
+        ("0", 0),
+        ("64", 64),
+        ("128", 128),
+        ("255", 255),
+        ("257", 257),
+        ("768", 768),
+        ("32767", 32_767),
+        ("65535", 65_535),
+        ("131072", 131_072),
     ]
 }
 
@@ -225,13 +244,14 @@ fn length_is_right(row: LengthRow) -> bool {
 }
 
 #[test]
-fn the_record_lengths(rt: HostRuntime) {
-    for row in lengths() {
-        holds(&rt, length_is_right(row), &row);
+fn the_record_lengths() -> Result<(), Fail> {
+    for (name, row) in lengths() {
+        expect(length_is_right(row), name)?;
     }
-    for bytes in [0, 64, 128, 255, 257, 768, 32_767, 65_535, 131_072] {
-        holds(&rt, Length::new(bytes).is_none(), &bytes);
+    for (name, bytes) in other_lengths() {
+        expect(Length::new(bytes).is_none(), name)?;
     }
+    Ok(())
 }
 
 /// How many samples of 0 the tracker takes of 70,000.
@@ -242,12 +262,16 @@ fn zeros_taken<T: Tracker + Drop>(record_length: Length) -> usize {
 /// A kind, the most samples of a record of 65536 bytes, and how many its tracker takes.
 type Most = (Kind, usize, usize);
 
-fn most_of_the_longest(record_length: Length) -> [Most; 4] {
+fn most_of_the_longest(record_length: Length) -> [(&'static str, Most); 4] {
+    let int16 = zeros_taken::<Int16>(record_length);
+    let int32 = zeros_taken::<Int32>(record_length);
+    let steim1 = zeros_taken::<Steim1>(record_length);
+    let steim2 = zeros_taken::<Steim2>(record_length);
     [
-        (Kind::Int16, 32_736, zeros_taken::<Int16>(record_length)),
-        (Kind::Int32, 16_368, zeros_taken::<Int32>(record_length)),
-        (Kind::Steim1, 61_372, zeros_taken::<Steim1>(record_length)),
-        (Kind::Steim2, 65_535, zeros_taken::<Steim2>(record_length)),
+        ("Int16", (Kind::Int16, 32_736, int16)),
+        ("Int32", (Kind::Int32, 16_368, int32)),
+        ("Steim-1", (Kind::Steim1, 61_372, steim1)),
+        ("Steim-2", (Kind::Steim2, 65_535, steim2)),
     ]
 }
 
@@ -266,22 +290,22 @@ fn takes_as_many_as_are_counted(record_length: Length) -> bool {
 #[test]
 fn no_more_samples_than_are_counted(rt: HostRuntime) -> Result<(), Fail> {
     let record_length = Length::new(65_536).ok_or("a length")?;
-    for row in most_of_the_longest(record_length) {
+    for (name, row) in most_of_the_longest(record_length) {
         let (kind, most, taken) = row;
-        holds(&rt, kind.most(record_length) == most && taken == most, &row);
+        expect(kind.most(record_length) == most && taken == most, name)?;
     }
     let any = (
         zeros_taken::<AnyKind>(record_length),
         AnyKind::most(record_length),
     );
-    holds(&rt, any == (65_535, 65_535), &any);
-    holds(&rt, takes_as_many_as_are_counted(record_length), &"Steim-2");
+    expect(any == (65_535, 65_535), "any kind")?;
+    expect(takes_as_many_as_are_counted(record_length), "one more")?;
     let mut zeros = vec![in rt.alloc(); 0; 65_535]?;
     let whole = Kind::Steim2.fits(None, &zeros, record_length);
     zeros.push(0)?;
     let more = Kind::Steim2.fits(None, &zeros, record_length);
-    holds(&rt, whole && !more, &(whole, more));
-    Ok(())
+    expect(whole, "65535 samples fit")?;
+    expect(!more, "65536 samples do not")
 }
 
 /// How many groups these zeros have as Steim-2, none if there is no room.
@@ -297,8 +321,8 @@ fn no_division_of_more_than_are_counted(rt: HostRuntime) -> Result<(), Fail> {
     let whole = group_count(rt.alloc(), &zeros, record_length)?;
     zeros.push(0)?;
     let more = group_count(rt.alloc(), &zeros, record_length)?;
-    holds(&rt, (whole, more) == (Some(9363), None), &(whole, more));
-    Ok(())
+    expect(whole == Some(9363), "65535 samples")?;
+    expect(more.is_none(), "65536 samples")
 }
 
 /// Whether a kind fits two samples that lie furthest apart, the highest sample after 0 and after -1,
@@ -315,29 +339,24 @@ fn fits_runs(kind: Kind, length: Length) -> [bool; 5] {
 }
 
 #[test]
-fn which_kinds_a_run_fits(rt: HostRuntime) -> Result<(), Fail> {
+fn which_kinds_a_run_fits() -> Result<(), Fail> {
     let record_length = shortest()?;
     let rows = [
-        (Kind::Int16, [false, false, false, true, true]),
-        (Kind::Int24, [false, false, false, true, true]),
-        (Kind::Int32, [true, true, true, true, true]),
-        (Kind::Steim1, [false, true, false, true, true]),
-        (Kind::Steim2, [false, false, false, true, true]),
+        ("Int16", Kind::Int16, [false, false, false, true, true]),
+        ("Int24", Kind::Int24, [false, false, false, true, true]),
+        ("Int32", Kind::Int32, [true, true, true, true, true]),
+        ("Steim-1", Kind::Steim1, [false, true, false, true, true]),
+        ("Steim-2", Kind::Steim2, [false, false, false, true, true]),
     ];
-    for row in rows {
-        let (kind, expected) = row;
-        holds(&rt, fits_runs(kind, record_length) == expected, &row);
+    for (name, kind, expected) in rows {
+        expect(fits_runs(kind, record_length) == expected, name)?;
     }
     Ok(())
 }
 
 /// 87 samples, 1000000 and 1020000 in turn up to sample 83, then 1020000; and 1040000 as one more.
 fn zigzag(alloc: Global) -> Result<Vec<i32>, AllocError> {
-    let mut samples = Vec::new(alloc);
-    for i in 0..87 {
-        let low = i % 2 == 0 && i < 84;
-        samples.push(if low { 1_000_000 } else { 1_020_000 })?;
-    }
+    let mut samples = Swings(87, 1_020_000).samples(alloc)?;
     samples.push(1_040_000)?;
     Ok(samples)
 }
@@ -356,29 +375,34 @@ fn run_is_right(samples: &[i32], record_length: Length, row: Fitting) -> bool {
 #[test]
 fn differences_of_a_segment(rt: HostRuntime) -> Result<(), Fail> {
     let samples = zigzag(rt.alloc())?;
-    for row in [(0, 0), (1, 20_000), (2, -20_000), (84, 0), (87, 20_000)] {
-        let (at, expected) = row;
+    for (name, at, expected) in [
+        ("of the first sample", 0, 0),
+        ("up", 1, 20_000),
+        ("down", 2, -20_000),
+        ("of two that are alike", 84, 0),
+        ("of the last sample", 87, 20_000),
+    ] {
         let is = at < samples.len() && difference(&samples, at) == expected;
-        holds(&rt, is, &row);
+        expect(is, name)?;
     }
     Ok(())
 }
 
-fn zigzag_runs() -> [Fitting; 13] {
+fn zigzag_runs() -> [(&'static str, Fitting); 13] {
     [
-        (Kind::Steim1, 0, 87, true),
-        (Kind::Steim1, 0, 88, false),
-        (Kind::Steim1, 1, 88, false),
-        (Kind::Steim1, 2, 88, true),
-        (Kind::Steim2, 0, 43, true),
-        (Kind::Steim2, 0, 44, false),
-        (Kind::Steim2, 48, 87, true),
-        (Kind::Int24, 0, 64, true),
-        (Kind::Int24, 0, 65, false),
-        (Kind::Int32, 0, 48, true),
-        (Kind::Int32, 0, 49, false),
-        (Kind::Int16, 0, 1, false),
-        (Kind::Int16, 3, 3, true),
+        ("Steim-1 of 87", (Kind::Steim1, 0, 87, true)),
+        ("Steim-1 of 88", (Kind::Steim1, 0, 88, false)),
+        ("Steim-1 from 1", (Kind::Steim1, 1, 88, false)),
+        ("Steim-1 from 2", (Kind::Steim1, 2, 88, true)),
+        ("Steim-2 of 43", (Kind::Steim2, 0, 43, true)),
+        ("Steim-2 of 44", (Kind::Steim2, 0, 44, false)),
+        ("Steim-2 from 48", (Kind::Steim2, 48, 87, true)),
+        ("Int24 of 64", (Kind::Int24, 0, 64, true)),
+        ("Int24 of 65", (Kind::Int24, 0, 65, false)),
+        ("Int32 of 48", (Kind::Int32, 0, 48, true)),
+        ("Int32 of 49", (Kind::Int32, 0, 49, false)),
+        ("Int16 of a high sample", (Kind::Int16, 0, 1, false)),
+        ("Int16 of none", (Kind::Int16, 3, 3, true)),
     ]
 }
 
@@ -386,44 +410,34 @@ fn zigzag_runs() -> [Fitting; 13] {
 fn runs_of_a_segment(rt: HostRuntime) -> Result<(), Fail> {
     let record_length = shortest()?;
     let samples = zigzag(rt.alloc())?;
-    holds(&rt, samples.len() == 88, &samples.len());
-    for row in zigzag_runs() {
-        holds(&rt, run_is_right(&samples, record_length, row), &row);
+    expect(samples.len() == 88, "88 samples")?;
+    for (name, row) in zigzag_runs() {
+        expect(run_is_right(&samples, record_length, row), name)?;
     }
     Ok(())
 }
 
 #[test]
-fn the_first_kind_of_a_run(rt: HostRuntime) -> Result<(), Fail> {
+fn the_first_kind_of_a_run() -> Result<(), Fail> {
     let kind = first_kind(&[0, 1, 2], 0, 3, shortest()?);
-    let run = Run {
-        start: 0,
-        end: 3,
-        kind,
-    };
-    let is = kind == Kind::Steim2 && run.end - run.start == 3;
-    holds(&rt, is, &run);
-    Ok(())
+    expect(kind == Kind::Steim2, "three samples")
 }
 
 /// Differences of 25 bits take a word each.
 #[test]
 fn a_swing_of_24_bits(rt: HostRuntime) -> Result<(), Fail> {
     let record_length = shortest()?;
-    let mut swing = Vec::new(rt.alloc());
-    for i in 0..65 {
-        swing.push(if i % 2 == 0 { 8_388_607 } else { -8_388_608 })?;
-    }
-    let rows: [Fitting; 6] = [
-        (Kind::Steim2, 0, 43, true),
-        (Kind::Steim2, 0, 44, false),
-        (Kind::Steim1, 0, 44, false),
-        (Kind::Int16, 0, 44, false),
-        (Kind::Int24, 0, 64, true),
-        (Kind::Int24, 0, 65, false),
+    let swing = Bounds(65).samples(rt.alloc())?;
+    let rows: [(&str, Fitting); 6] = [
+        ("Steim-2 of 43", (Kind::Steim2, 0, 43, true)),
+        ("Steim-2 of 44", (Kind::Steim2, 0, 44, false)),
+        ("Steim-1 of 44", (Kind::Steim1, 0, 44, false)),
+        ("Int16 of 44", (Kind::Int16, 0, 44, false)),
+        ("Int24 of 64", (Kind::Int24, 0, 64, true)),
+        ("Int24 of 65", (Kind::Int24, 0, 65, false)),
     ];
-    for row in rows {
-        holds(&rt, run_is_right(&swing, record_length, row), &row);
+    for (name, row) in rows {
+        expect(run_is_right(&swing, record_length, row), name)?;
     }
     Ok(())
 }
@@ -456,12 +470,11 @@ fn the_canonical_groups(rt: HostRuntime) -> Result<(), Fail> {
     let differences = [200, 0, 0, 0, 0, 70_000];
     let found = divided(rt.alloc(), Version::One, &differences)?.ok_or("no division")?;
     let expected: [&[i32]; 3] = [&[200], &[0, 0, 0, 0], &[70_000]];
-    holds(&rt, are_groups(&found, &expected), &found);
+    expect(are_groups(&found, &expected), "three groups")?;
     let none = divided(rt.alloc(), Version::Two, &[])?.ok_or("no division")?;
-    holds(&rt, none.is_empty(), &none);
+    expect(none.is_empty(), "no differences")?;
     let wide = divided(rt.alloc(), Version::Two, &[536_870_912])?;
-    holds(&rt, wide.is_none(), &wide);
-    Ok(())
+    expect(wide.is_none(), "a difference of 31 bits")
 }
 
 /// Whether there are 43 groups, the last of three zeros.
@@ -481,12 +494,11 @@ fn a_last_group_of_three(rt: HostRuntime) -> Result<(), Fail> {
         differences.push(difference(&samples, at))?;
     }
     let longer = divided(rt.alloc(), Version::One, &differences)?;
-    holds(&rt, longer.is_none(), &longer);
+    expect(longer.is_none(), "88 differences")?;
     let last = differences.pop();
-    holds(&rt, last == Some(20_000), &last);
+    expect(last == Some(20_000), "the last one")?;
     let found = divided(rt.alloc(), Version::One, &differences)?.ok_or("no division")?;
-    holds(&rt, ends_in_three_zeros(&found), &found);
-    Ok(())
+    expect(ends_in_three_zeros(&found), "87 differences")
 }
 
 #[test]
@@ -496,13 +508,12 @@ fn sevens_fill_a_record(rt: HostRuntime) -> Result<(), Fail> {
         Kind::Steim2.fits(None, &[0; 301], record_length),
         Kind::Steim2.fits(None, &[0; 302], record_length),
     );
-    holds(&rt, fits == (true, false), &fits);
+    expect(fits == (true, false), "which fits")?;
     let counts = (
         group_count(rt.alloc(), &[0; 301], record_length)?,
         group_count(rt.alloc(), &[0; 302], record_length)?,
     );
-    holds(&rt, counts == (Some(43), None), &counts);
-    Ok(())
+    expect(counts == (Some(43), None), "how many groups")
 }
 
 /// Ten steps of each of these heights in turn, then of -1, and two samples as far apart as can be.
@@ -532,36 +543,35 @@ fn longest_at(samples: &[i32], at: usize) -> usize
 }
 
 /// Places among the stairs, and the size of the longest group from there.
-fn longest() -> [(usize, usize); 18] {
+fn longest() -> [(&'static str, usize, usize); 18] {
     [
-        (0, 7),
-        (1, 7),
-        (8, 6),
-        (11, 6),
-        (21, 5),
-        (31, 4),
-        (41, 3),
-        (51, 2),
-        (61, 1),
-        (93, 7),
-        (96, 4),
-        (99, 1),
-        (100, 0),
-        (101, 0),
-        (102, 0),
-        (103, 7),
-        (108, 4),
-        (112, 0),
+        ("from 0", 0, 7),
+        ("from 1", 1, 7),
+        ("from 8", 8, 6),
+        ("from 11", 11, 6),
+        ("from 21", 21, 5),
+        ("from 31", 31, 4),
+        ("from 41", 41, 3),
+        ("from 51", 51, 2),
+        ("from 61", 61, 1),
+        ("from 93", 93, 7),
+        ("from 96", 96, 4),
+        ("from 99", 99, 1),
+        ("from 100", 100, 0),
+        ("from 101", 101, 0),
+        ("from 102", 102, 0),
+        ("from 103", 103, 7),
+        ("from 108", 108, 4),
+        ("from 112", 112, 0),
     ]
 }
 
 #[test]
 fn the_longest_groups(rt: HostRuntime) -> Result<(), Fail> {
     let samples = stairs(rt.alloc())?;
-    for row in longest() {
-        let (at, size) = row;
+    for (name, at, size) in longest() {
         let is = at <= samples.len() && longest_at(&samples, at) == size;
-        holds(&rt, is, &row);
+        expect(is, name)?;
     }
     Ok(())
 }
@@ -586,7 +596,7 @@ fn an_area_of_steim2(rt: HostRuntime) -> Result<(), Fail> {
     assert!(rt; samples.len() == 100);
     let mut area = [255; 192];
     let used = fill_steim2(None, &samples, &mut area);
-    holds(&rt, used == 15, &used);
+    expect(used == 15, "fifteen words")?;
     let words = [
         0x03FF_FFFF,
         0,
@@ -609,12 +619,7 @@ fn an_area_of_steim2(rt: HostRuntime) -> Result<(), Fail> {
         0x8000_8001,
     ];
     let expected = area_of(rt.alloc(), &words)?;
-    holds(
-        &rt,
-        area.as_slice() == expected.as_slice(),
-        &area.as_slice(),
-    );
-    Ok(())
+    expect(area.as_slice() == expected.as_slice(), "the area")
 }
 
 /// The area of a record of 256 bytes with the Steim-1 words of a run.
@@ -646,19 +651,13 @@ fn areas_of_steim1(rt: HostRuntime) -> Result<(), Fail> {
     ];
     let expected = area_of(rt.alloc(), &words)?;
     let area = steim1_area(rt.alloc(), Some(0), &told)?;
-    holds(
-        &rt,
+    expect(
         area.as_slice() == expected.as_slice(),
-        &area.as_slice(),
-    );
+        "one, four, two, one",
+    )?;
     let untold = [200, 200, 200, 200, 200, 70_200];
     let words = [0x0370_0000, 200, 70_200, 200, 0, 70_000];
     let expected = area_of(rt.alloc(), &words)?;
     let area = steim1_area(rt.alloc(), Some(0), &untold)?;
-    holds(
-        &rt,
-        area.as_slice() == expected.as_slice(),
-        &area.as_slice(),
-    );
-    Ok(())
+    expect(area.as_slice() == expected.as_slice(), "one before four")
 }

@@ -6,6 +6,6 @@ mod certificates;
 #[cfg(test)]
 mod fitting;
 #[cfg(test)]
-mod packings;
+mod made;
 #[cfg(test)]
-mod rows;
+mod packings;

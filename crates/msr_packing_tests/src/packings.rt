@@ -4,221 +4,199 @@
 ghost use Rattle.std.specs.Prelude.{◌≡◌};
 ghost use Rattle.msr_packer.specs.Blocks.{pushed};
 
-use crate::rows::holds;
-use Made::{Bounds, Extremes, Noise, Signs, Swings, Turns, Zeros};
-use msr_fixtures::next_of;
+use crate::made::Made::{self, Bounds, Extremes, Noise, Signs, Swings, Turns, Zeros};
+use msr_fixtures::expect;
 use msr_packer::{BlockPacker, Last, Packing, Piece, Run, StreamPacker, pack};
 use msr_words::Kind::{self, Int16, Int24, Int32, Steim1, Steim2};
 use msr_words::Length;
 use std::alloc::{AllocError, Global};
 use std::test::Fail;
 
-/// The samples of a row are made in one of these ways; the first number says how many there are.
-#[derive(Clone, Copy, Debug)]
-enum Made {
-    Zeros(usize),
-    /// They are -20000 at even places and 20000 at odd ones.
-    Signs(usize),
-    /// They are 1000000 at even places and 1020000 at odd ones, but the sample given at the places
-    /// from 84 to 88.
-    Swings(usize, i32),
-    /// They are 8388607 at even places and -8388608 at odd ones.
-    Bounds(usize),
-    /// They are the two samples that lie furthest apart, in turn.
-    Extremes(usize),
-    /// They are noise by a seed, of the given height.
-    Noise(usize, u64, u32),
-    /// They are noise by a seed, of two heights in turn; the last number says how many samples each
-    /// of these lasts.
-    Turns(usize, u64, u32, u32, usize),
-}
-
-/// A sample of noise of that height, half of it below 0.
-fn of_height(number: u64, height: u32) -> i32 {
-    let above = ((number >> 33) % u64::from(height.max(1))) as i32;
-    above.wrapping_sub((height / 2).cast_signed())
-}
-
-impl Made {
-    fn count(self) -> usize {
-        match self {
-            Zeros(count) | Signs(count) | Swings(count, _) | Bounds(count) | Extremes(count) =>
-                count,
-            Noise(count, _, _) | Turns(count, _, _, _, _) => count,
-        }
-    }
-
-    fn seed(self) -> u64 {
-        match self {
-            Noise(_, seed, _) | Turns(_, seed, _, _, _) => seed,
-            _ => 0,
-        }
-    }
-
-    /// The sample at a place, if the row of chance has that number.
-    fn sample(self, place: usize, number: u64) -> i32 {
-        let even = place % 2 == 0;
-        match self {
-            Zeros(_) => 0,
-            Signs(_) => { if even { -20_000 } else { 20_000 } }
-            Swings(_, calm) => {
-                if 84 <= place && place <= 88 {
-                    calm
-                } else if even {
-                    1_000_000
-                } else {
-                    1_020_000
-                }
-            }
-            Bounds(_) => { if even { 8_388_607 } else { -8_388_608 } }
-            Extremes(_) => { if even { -2_147_483_648 } else { 2_147_483_647 } }
-            Noise(_, _, height) => of_height(number, height),
-            Turns(_, _, calm, loud, stretch) => {
-                let loud_now = place / stretch.max(1) % 2 == 1;
-                of_height(number, if loud_now { loud } else { calm })
-            }
-        }
-    }
-
-    fn samples(self, alloc: Global) -> Result<Vec<i32>, AllocError> {
-        let mut samples = Vec::new(alloc);
-        let mut number = self.seed();
-        for place in 0..self.count() {
-            number = next_of(number);
-            samples.push(self.sample(place, number))?;
-        }
-        Ok(samples)
-    }
-}
-
 /// The length of records, the samples, the ends of the runs with their kinds, and the separators.
 type Row = (u32, Made, &'static [(u64, Kind)], &'static [u64]);
 
 /// Those of noise were found by a search over all cuts, starts and divisions into groups.
-const ROWS: [Row; 24] = [
-    // 43 words of seven differences
-    (256, Zeros(301), &[(301, Steim2)], &[0]),
-    (256, Zeros(302), &[(301, Steim2), (302, Steim2)], &[0, 301]),
-    // 7663 words in 511 frames
-    (32768, Zeros(53641), &[(53641, Steim2)], &[0]),
-    // 15343 words in 1023 frames have room for more samples than a header counts
-    (65536, Zeros(65535), &[(65535, Steim2)], &[0]),
+const ROWS: [(&str, Row); 24] = [
     (
-        65536,
-        Zeros(65536),
-        &[(65535, Steim2), (65536, Steim2)],
-        &[0, 65535],
-    ),
-    // 16368 places of 32 bits
-    (
-        65536,
-        Extremes(16369),
-        &[(16368, Int32), (16369, Int32)],
-        &[0, 16368],
-    ),
-    // 96 places of 16 bits
-    (256, Signs(97), &[(96, Int16), (97, Steim2)], &[0, 96]),
-    // 64 places of 24 bits
-    (256, Bounds(65), &[(64, Int24), (65, Steim2)], &[0, 64]),
-    // if each record starts at the frontier, three are needed
-    (
-        256,
-        Swings(173, 1_000_000),
-        &[(85, Steim1), (173, Steim1)],
-        &[0, 86],
-    ),
-    // a group of three ends the record
-    (256, Swings(87, 1_020_000), &[(87, Steim1)], &[0]),
-    // a difference of more than 32 bits
-    (256, Extremes(2), &[(2, Int32)], &[0]),
-    (
-        256,
-        Noise(400, 1, 10),
-        &[(290, Steim2), (400, Steim2)],
-        &[0, 290],
+        "43 words of seven differences",
+        (256, Zeros(301), &[(301, Steim2)], &[0]),
     ),
     (
-        256,
-        Noise(400, 2, 60),
-        &[(188, Steim2), (375, Steim2), (400, Steim2)],
-        &[0, 188, 375],
+        "one sample more",
+        (256, Zeros(302), &[(301, Steim2), (302, Steim2)], &[0, 301]),
     ),
     (
-        256,
-        Noise(300, 3, 1_000),
-        &[(102, Steim2), (203, Steim2), (300, Steim2)],
-        &[0, 102, 203],
+        "7663 words in 511 frames",
+        (32768, Zeros(53641), &[(53641, Steim2)], &[0]),
     ),
     (
-        256,
-        Noise(300, 4, 20_000),
-        &[(96, Int16), (192, Int16), (288, Int16), (300, Steim2)],
-        &[0, 96, 192, 288],
+        "15343 words in 1023 frames, more than a header counts",
+        (65536, Zeros(65535), &[(65535, Steim2)], &[0]),
     ),
     (
-        256,
-        Noise(300, 5, 250),
-        &[(140, Steim2), (285, Steim2), (300, Steim2)],
-        &[0, 140, 285],
+        "one more than a header counts",
+        (
+            65536,
+            Zeros(65536),
+            &[(65535, Steim2), (65536, Steim2)],
+            &[0, 65535],
+        ),
     ),
     (
-        256,
-        Noise(260, 6, 5_000),
-        &[(96, Int16), (192, Int16), (260, Steim2)],
-        &[0, 96, 192],
+        "16368 places of 32 bits",
+        (
+            65536,
+            Extremes(16369),
+            &[(16368, Int32), (16369, Int32)],
+            &[0, 16368],
+        ),
     ),
     (
-        256,
-        Turns(300, 7, 10, 20_000, 12),
-        &[(118, Steim2), (232, Steim2), (300, Steim2)],
-        &[0, 118, 232],
+        "96 places of 16 bits",
+        (256, Signs(97), &[(96, Int16), (97, Steim2)], &[0, 96]),
     ),
-    // Steim-1 reaches furthest
     (
-        256,
-        Turns(260, 9, 40, 40_000, 6),
-        &[(101, Steim1), (202, Steim1), (260, Steim2)],
-        &[0, 101, 202],
+        "64 places of 24 bits",
+        (256, Bounds(65), &[(64, Int24), (65, Steim2)], &[0, 64]),
     ),
-    // Steim-1, then 16-bit integers
     (
-        256,
-        Turns(200, 10, 250, 33_000, 5),
-        &[(99, Steim1), (195, Int16), (200, Steim2)],
-        &[0, 99, 195],
+        "three if each record starts at the frontier",
+        (
+            256,
+            Swings(173, 1_000_000),
+            &[(85, Steim1), (173, Steim1)],
+            &[0, 86],
+        ),
     ),
-    // Steim-1 reaches furthest from before the frontier
     (
-        256,
-        Turns(200, 12, 60, 70_000, 40),
-        &[(88, Steim1), (177, Steim1), (200, Steim2)],
-        &[0, 89, 177],
+        "a group of three ends the record",
+        (256, Swings(87, 1_020_000), &[(87, Steim1)], &[0]),
     ),
-    // Steim-1 from before the frontier reaches as far as Steim-2 from it
     (
-        256,
-        Turns(260, 13, 120, 2_000_000, 16),
-        &[(69, Steim2), (137, Steim2), (205, Steim2), (260, Steim2)],
-        &[0, 69, 137, 205],
+        "a difference of more than 32 bits",
+        (256, Extremes(2), &[(2, Int32)], &[0]),
     ),
-    // three kinds
     (
-        256,
-        Turns(200, 42, 1_000, 70_000, 90),
-        &[(96, Int16), (160, Int24), (200, Steim2)],
-        &[0, 96, 160],
+        "noise of height 10",
+        (
+            256,
+            Noise(400, 1, 10),
+            &[(290, Steim2), (400, Steim2)],
+            &[0, 290],
+        ),
     ),
-    // differences of more than 32 bits
     (
-        256,
-        Turns(200, 39, 1_000, 2_147_483_648, 80),
-        &[(83, Steim1), (131, Int32), (187, Steim1), (200, Steim2)],
-        &[0, 83, 131, 187],
+        "noise of height 60",
+        (
+            256,
+            Noise(400, 2, 60),
+            &[(188, Steim2), (375, Steim2), (400, Steim2)],
+            &[0, 188, 375],
+        ),
+    ),
+    (
+        "noise of height 1000",
+        (
+            256,
+            Noise(300, 3, 1_000),
+            &[(102, Steim2), (203, Steim2), (300, Steim2)],
+            &[0, 102, 203],
+        ),
+    ),
+    (
+        "noise of height 20000",
+        (
+            256,
+            Noise(300, 4, 20_000),
+            &[(96, Int16), (192, Int16), (288, Int16), (300, Steim2)],
+            &[0, 96, 192, 288],
+        ),
+    ),
+    (
+        "noise of height 250",
+        (
+            256,
+            Noise(300, 5, 250),
+            &[(140, Steim2), (285, Steim2), (300, Steim2)],
+            &[0, 140, 285],
+        ),
+    ),
+    (
+        "noise of height 5000",
+        (
+            256,
+            Noise(260, 6, 5_000),
+            &[(96, Int16), (192, Int16), (260, Steim2)],
+            &[0, 96, 192],
+        ),
+    ),
+    (
+        "noise of heights 10 and 20000",
+        (
+            256,
+            Turns(300, 7, 10, 20_000, 12),
+            &[(118, Steim2), (232, Steim2), (300, Steim2)],
+            &[0, 118, 232],
+        ),
+    ),
+    (
+        "Steim-1 reaches furthest",
+        (
+            256,
+            Turns(260, 9, 40, 40_000, 6),
+            &[(101, Steim1), (202, Steim1), (260, Steim2)],
+            &[0, 101, 202],
+        ),
+    ),
+    (
+        "Steim-1, then 16-bit integers",
+        (
+            256,
+            Turns(200, 10, 250, 33_000, 5),
+            &[(99, Steim1), (195, Int16), (200, Steim2)],
+            &[0, 99, 195],
+        ),
+    ),
+    (
+        "Steim-1 reaches furthest from before the frontier",
+        (
+            256,
+            Turns(200, 12, 60, 70_000, 40),
+            &[(88, Steim1), (177, Steim1), (200, Steim2)],
+            &[0, 89, 177],
+        ),
+    ),
+    (
+        "Steim-1 from before the frontier reaches as far as Steim-2",
+        (
+            256,
+            Turns(260, 13, 120, 2_000_000, 16),
+            &[(69, Steim2), (137, Steim2), (205, Steim2), (260, Steim2)],
+            &[0, 69, 137, 205],
+        ),
+    ),
+    (
+        "three kinds",
+        (
+            256,
+            Turns(200, 42, 1_000, 70_000, 90),
+            &[(96, Int16), (160, Int24), (200, Steim2)],
+            &[0, 96, 160],
+        ),
+    ),
+    (
+        "differences of more than 32 bits",
+        (
+            256,
+            Turns(200, 39, 1_000, 2_147_483_648, 80),
+            &[(83, Steim1), (131, Int32), (187, Steim1), (200, Steim2)],
+            &[0, 83, 131, 187],
+        ),
     ),
 ];
 
 /// The rows, as an array that no proof looks into.
-fn rows() -> [Row; 24] {
+fn rows() -> [(&'static str, Row); 24] {
     ROWS
 }
 
@@ -246,8 +224,8 @@ fn packs(alloc: Global, row: Row) -> Result<bool, Fail> {
 
 #[test]
 fn the_rows(rt: HostRuntime) -> Result<(), Fail> {
-    for row in rows() {
-        holds(&rt, packs(rt.alloc(), row)?, &row);
+    for (name, row) in rows() {
+        expect(packs(rt.alloc(), row)?, name)?;
     }
     Ok(())
 }
@@ -256,13 +234,12 @@ fn the_rows(rt: HostRuntime) -> Result<(), Fail> {
 fn no_samples(rt: HostRuntime) -> Result<(), Fail> {
     let record_length = Length::new(512).ok_or("a length")?;
     let packing = pack(rt.alloc(), &[], record_length)?;
-    let is = packing.runs.is_empty() && packing.separators.is_empty();
-    holds(&rt, is, &packing);
-    Ok(())
+    expect(packing.runs.is_empty(), "runs")?;
+    expect(packing.separators.is_empty(), "separators")
 }
 
-/// The first run that is not one of 721 samples of a day, or does not have its separator where it starts.
-fn first_odd(packing: &Packing) -> Option<(Run, u64)> {
+/// Whether each run has 721 samples of a day, or what is left of it, and its separator where it starts.
+fn are_sevens_of_a_day(packing: &Packing) -> bool {
     let mut start = 0u64;
     for (run, separator) in packing.runs.iter().zip(packing.separators.as_slice()) {
         let end = start.saturating_add(721).min(8_640_000);
@@ -272,11 +249,11 @@ fn first_odd(packing: &Packing) -> Option<(Run, u64)> {
             kind: Steim2,
         };
         if *run != expected || *separator != start {
-            return Some((*run, *separator));
+            return false;
         }
         start = end;
     }
-    None
+    true
 }
 
 /// A day at 100 samples a second that rises by one: 103 words of seven differences, and 257 samples left.
@@ -289,21 +266,19 @@ fn the_ramp_of_a_day(rt: HostRuntime) -> Result<(), Fail> {
     }
     let packing = pack(rt.alloc(), samples.as_slice(), record_length)?;
     let counts = (packing.runs.len(), packing.separators.len());
-    holds(&rt, counts == (11_984, 11_984), &counts);
-    let odd = first_odd(&packing);
-    holds(&rt, odd.is_none(), &odd);
+    expect(counts == (11_984, 11_984), "how many")?;
+    expect(are_sevens_of_a_day(&packing), "each run and separator")?;
     let last = packing.runs.as_slice().last().copied();
     let expected = Run {
         start: 8_639_743,
         end: 8_640_000,
         kind: Steim2,
     };
-    holds(&rt, last == Some(expected), &last);
-    Ok(())
+    expect(last == Some(expected), "the last run")
 }
 
 /// What a packer of a stream gives, and the samples that it shows with each piece and at the end.
-#[derive(Debug, Drop, PartialEq)]
+#[derive(Drop, PartialEq)]
 struct Streamed {
     packing: Packing,
     samples: Vec<i32>,
@@ -401,27 +376,26 @@ fn in_some(
     given.with_last(packer.end())
 }
 
-/// The size of the pushes that do not give the packing of a row, 0 for samples pushed one after another.
-fn wrong_stream(alloc: Global, row: Row) -> Result<Option<usize>, Fail> {
+/// Whether samples that are pushed one after another, and some at a time, give the packing of a row.
+fn is_streamed(alloc: Global, row: Row) -> Result<bool, Fail> {
     let (bytes, made, _, _) = row;
     let record_length = Length::new(bytes).ok_or("a length")?;
     let whole = Streamed::whole(alloc, made, record_length)?;
     if stream_of(alloc, whole.samples.as_slice(), record_length)? != whole {
-        return Ok(Some(0));
+        return Ok(false);
     }
     for size in [1, 7, 100, 1_000_000] {
         if in_some(alloc, whole.samples.as_slice(), record_length, size)? != whole {
-            return Ok(Some(size));
+            return Ok(false);
         }
     }
-    Ok(None)
+    Ok(true)
 }
 
 #[test]
 fn the_rows_as_a_stream(rt: HostRuntime) -> Result<(), Fail> {
-    for row in rows() {
-        let wrong = wrong_stream(rt.alloc(), row)?;
-        holds(&rt, wrong.is_none(), &(row, wrong));
+    for (name, row) in rows() {
+        expect(is_streamed(rt.alloc(), row)?, name)?;
     }
     Ok(())
 }
@@ -464,24 +438,23 @@ fn in_blocks(
     Ok(given)
 }
 
-/// The size of the blocks that do not give the packing of a row: one sample, a few, about a record, or all at once.
-fn wrong_blocks(alloc: Global, row: Row) -> Result<Option<usize>, Fail> {
+/// Whether blocks give the packing of a row: of one sample, a few, about a record, or all at once.
+fn is_in_blocks(alloc: Global, row: Row) -> Result<bool, Fail> {
     let (bytes, made, _, _) = row;
     let record_length = Length::new(bytes).ok_or("a length")?;
     let whole = Streamed::whole(alloc, made, record_length)?;
     for size in [1, 7, 100, 1_000_000] {
         if in_blocks(alloc, whole.samples.as_slice(), record_length, size)? != whole {
-            return Ok(Some(size));
+            return Ok(false);
         }
     }
-    Ok(None)
+    Ok(true)
 }
 
 #[test]
 fn the_rows_in_blocks(rt: HostRuntime) -> Result<(), Fail> {
-    for row in rows() {
-        let wrong = wrong_blocks(rt.alloc(), row)?;
-        holds(&rt, wrong.is_none(), &(row, wrong));
+    for (name, row) in rows() {
+        expect(is_in_blocks(rt.alloc(), row)?, name)?;
     }
     Ok(())
 }
@@ -501,15 +474,14 @@ fn zeros_one_after_another(rt: HostRuntime) -> Result<(), Fail> {
         samples: zeros,
         joined: true,
     };
-    holds(&rt, given == expected, &given);
+    expect(given == expected, "three pieces")?;
     let none = stream_of(alloc, &[], record_length)?;
     let is = none.packing.runs.is_empty() && none.samples.is_empty();
-    holds(&rt, is, &none);
-    Ok(())
+    expect(is, "no samples")
 }
 
 /// What a stream packer kept back while it was pushed samples.
-#[derive(Clone, Copy, Debug)]
+#[derive(Clone, Copy)]
 struct KeptBack {
     /// How many pushes there were when the first piece was given.
     first_given: Option<usize>,
@@ -547,6 +519,6 @@ fn no_more_than_two_runs_are_kept_back(rt: HostRuntime) -> Result<(), Fail> {
     let zeros = vec![in rt.alloc(); 0; 603]?;
     let kept = kept_back(rt.alloc(), &zeros, record_length)?;
     let soon = matches!(kept.first_given, Some(pushes) if pushes <= 603);
-    holds(&rt, soon && kept.most <= 602, &kept);
-    Ok(())
+    expect(soon, "the first piece")?;
+    expect(kept.most <= 602, "what is kept back")
 }

@@ -84,6 +84,40 @@ fn stops_at_the_line_at_fault(rt: HostRuntime) -> Result<(), Fail> {
     Ok(())
 }
 
+/// Whether that line is told of a text that begins so and goes on with 7,000 of the byte, which come in a thousand
+/// calls and more. The call of that number would fail.
+fn gives_up(
+    alloc: Global,
+    line: u64,
+    begin: &str,
+    byte: &str,
+    call: u64,
+) -> Result<bool, AllocError> {
+    let text = format!(in alloc; "{begin}{}", byte.repeat(alloc, 7_000)?)?;
+    let fault = read_from(alloc, text.as_str(), Some(call)).err();
+    Ok(fault == Some(ReportFault::Line(line)))
+}
+
+#[test]
+fn gives_up_a_line_without_an_end(rt: HostRuntime) -> Result<(), Fail> {
+    let alloc = rt.alloc();
+    let (begin, _) = REPORT.split_once("301").ok_or("no separators")?;
+    assert!(rt; gives_up(alloc, 1, "", "\0", 1)?);
+    assert!(rt; gives_up(alloc, 1, "msrepack 1", " ", 2)?);
+    assert!(rt;
+        gives_up(
+            alloc,
+            4,
+            "msrepack 1\nlength 256\ntolerance 1000\nread ",
+            "1",
+            700
+        )?
+    );
+    assert!(rt; gives_up(alloc, 6, begin, "x", 30)?);
+    assert!(rt; gives_up(alloc, 6, begin, "1", 700)?);
+    Ok(())
+}
+
 fn is_told(alloc: Global, fault: ReportFault, text: &str) -> Result<bool, AllocError> {
     Ok(format!(in alloc; "{fault}")?.as_str() == text)
 }

@@ -105,12 +105,12 @@ fn report(alloc: Global) -> Result<Report, Fail>
     })
 }
 
-/// Whether a sink that takes 50 bytes in a call, and fails at that one if it is told, has the text as far as it came.
+/// Whether a sink that takes 20 bytes in a call, and fails at that one if it is told, has the text as far as it came.
 fn is_written(alloc: Global, report: &Report, fails_at: Option<u64>, size: usize) -> bool
     requires { IsProper report.now }
 {
     let behavior = Behavior {
-        most: 50,
+        most: 20,
         interruptions: 0,
         fails_at,
     };
@@ -124,13 +124,13 @@ fn is_written(alloc: Global, report: &Report, fails_at: Option<u64>, size: usize
     fault == want && sink.bytes().len() == size && TEXT.as_bytes().starts_with(sink.bytes())
 }
 
-/// The text has 539 bytes, so eleven writes.
+/// The text has 539 bytes, so 27 writes.
 #[test]
 fn text_and_prefixes_of_it(rt: HostRuntime) -> Result<(), Fail> {
     let report = report(rt.alloc())?;
     assert!(rt; is_written(rt.alloc(), &report, None, TEXT.len()));
-    for call in 0usize..11 {
-        let is_part = is_written(rt.alloc(), &report, Some(call as u64), 50 * call);
+    for call in 0usize..27 {
+        let is_part = is_written(rt.alloc(), &report, Some(call as u64), 20 * call);
         assert!(rt; is_part, "at {call}");
     }
     Ok(())

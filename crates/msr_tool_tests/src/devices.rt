@@ -3,12 +3,14 @@
 ghost use Rattle.std.specs.Prelude.{◌≡◌, [], Some};
 ghost use Rattle.msr_devices.specs.Device.{unused};
 
-use crate::fixtures::{Edits, PLAIN, edited, options, packed_zeros, zeros};
-use crate::texts::{LIST, LISTED, NO_SEGMENTS, ONE_SEGMENT};
+use crate::fixtures::{Edits, PLAIN, edited, options, packed_swings, packed_zeros, swings, zeros};
+use crate::texts::{LIST, LISTED, ONE_SEGMENT, SWINGS};
 use msr_devices::Behavior;
-use msr_fixtures::steim_record;
+use msr_fixtures::{expect, steim_record};
+use msr_header::HeaderFault;
+use msr_record::FaultKind;
 use msr_tool::{
-    FromRead, FromWrite, Options, Sink, TestSink, TestSource, ToolFault, check_and_tell,
+    Fault, FromRead, FromWrite, Options, Sink, TestSink, TestSource, ToolFault, check_and_tell,
     check_packed, feed_and_report, list_segments, repack, repack_and_report,
 };
 use std::alloc::Global;
@@ -238,16 +240,26 @@ fn each_call_in_turn(rt: HostRuntime) -> Result<(), Fail> {
     let packed = packed_zeros(alloc)?;
     let listed = edited(alloc, &LISTED)?;
     let (input, packed, listed) = (input.as_slice(), packed.as_slice(), listed.as_slice());
+    let (swings, least) = (swings(alloc)?, packed_swings(alloc)?);
+    let (swings, least) = (swings.as_slice(), least.as_slice());
+    let other = SWINGS.replace(alloc, "separators 0 86", "separators 0 85")?;
     let none: &[u8] = &[];
     // The call, the records and the report that it reads, the bytes and the text that it writes.
-    let rows: [(Call, &[u8], &str, &[u8], &str); 7] = [
+    let rows: [(Call, &[u8], &str, &[u8], &str); 8] = [
         (Call::Repack, input, "", packed, ""),
         (Call::List, listed, "", LIST.as_bytes(), ""),
-        (Call::Check, packed, ONE_SEGMENT, none, ""),
+        (Call::Check, least, SWINGS, none, ""),
         (Call::RepackAndReport, input, "", packed, ONE_SEGMENT),
+        (Call::RepackAndReport, swings, "", least, SWINGS),
         (Call::FeedAndReport, input, "", packed, ONE_SEGMENT),
-        (Call::CheckAndTell, packed, ONE_SEGMENT, none, "least\n"),
-        (Call::CheckAndTell, packed, NO_SEGMENTS, none, "not shown\n"),
+        (Call::CheckAndTell, least, SWINGS, none, "least\n"),
+        (
+            Call::CheckAndTell,
+            least,
+            other.as_str(),
+            none,
+            "not shown\n",
+        ),
     ];
     for (call, records, report, written, told) in rows {
         let worked = Worked {
@@ -263,6 +275,34 @@ fn each_call_in_turn(rt: HostRuntime) -> Result<(), Fail> {
                 moves_single_bytes(&rt, alloc, options, worked, place);
             }
         }
+    }
+    Ok(())
+}
+
+/// Three records, and 47 bytes of a fourth.
+#[test]
+fn a_cut_record_is_a_fault_of_the_input(rt: HostRuntime) -> Result<(), Fail> {
+    let mut records = edited(rt.alloc(), &LISTED)?;
+    records.extend_from_slice(&[0; 47])?;
+    let fault = ToolFault::Input(Fault {
+        offset: 768,
+        kind: FaultKind::Header(HeaderFault::Truncated),
+    });
+    let plain = Odd {
+        place: Place::Told,
+        behavior: PLAIN,
+        accepts_nothing: false,
+    };
+    for (name, call) in [("repack", Call::Repack), ("list", Call::List)] {
+        let worked = Worked {
+            call,
+            records: records.as_slice(),
+            report: "",
+            written: &[],
+            told: "",
+        };
+        let found = ended(rt.alloc(), options()?, worked, plain).fault;
+        expect(found == Some(fault), name)?;
     }
     Ok(())
 }

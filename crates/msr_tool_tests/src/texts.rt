@@ -11,15 +11,6 @@ use msr_words::Length;
 use std::alloc::{AllocError, Global};
 use std::test::Fail;
 
-/// The report of an input without records.
-pub const NO_SEGMENTS: &str = "\
-msrepack 1
-length 512
-tolerance 1000
-read 0 empty 0 mismatched 0
-end 0 segments 0 records
-";
-
 /// The report of one segment, of 302 samples in two records.
 pub const ONE_SEGMENT: &str = "\
 msrepack 1
@@ -29,6 +20,18 @@ read 1 empty 0 mismatched 0
 segment XX.TEST_.00.BHZ D rate 20 1 flags 00 00 00 correction 0 timing 0 \
 start 2020,001,00:00:00.000000 samples 302 records 2
 separators 0 301
+end 1 segments 2 records
+";
+
+/// The report of one segment, of 173 samples in two records.
+pub const SWINGS: &str = "\
+msrepack 1
+length 256
+tolerance 1000
+read 1 empty 0 mismatched 0
+segment XX.TEST_.00.BHZ D rate 20 1 flags 00 00 00 correction 0 timing 0 \
+start 2020,001,00:00:00.000000 samples 173 records 2
+separators 0 86
 end 1 segments 2 records
 ";
 

@@ -5,6 +5,7 @@
 #![tactic(auto)]
 
 mod claims;
+mod each;
 mod files;
 mod inputs;
 mod names;

@@ -1,7 +1,7 @@
 //! Steps that print what is in files.
 
 use crate::files::tell;
-use crate::numbers::{count, no_step};
+use crate::numbers::{count, no_step, number};
 use std::{fs, io};
 
 /// How many bytes a file has.
@@ -119,6 +119,69 @@ fn shapes(rt: &HostRuntime, path: &str, length: &str) -> io::Result<()> {
     tell_shapes(rt, shape, times)
 }
 
+/// Numbers of which each is as far above the one before it as the second one is above the first.
+#[derive(Clone, Copy)]
+struct Rise {
+    first: i64,
+    /// How far, or 0 of a single number.
+    by: i64,
+    last: i64,
+}
+
+impl Rise {
+    /// A single number.
+    fn of(number: i64) -> Rise {
+        Rise {
+            first: number,
+            by: 0,
+            last: number,
+        }
+    }
+
+    /// With one more number, if it is as far from the last one.
+    fn with(self, number: i64) -> Option<Rise> {
+        let by = number.wrapping_sub(self.last);
+        let goes_on = by != 0 && (self.by == 0 || self.by == by);
+        goes_on.then_some(Rise {
+            by,
+            last: number,
+            ..self
+        })
+    }
+
+    fn tell(self, rt: &HostRuntime) -> io::Result<()> {
+        if self.by == 0 {
+            return println!(rt; "{}", self.first);
+        }
+        println!(rt; "{} by {} to {}", self.first, self.by, self.last)
+    }
+}
+
+/// The numbers after the first word of a line, those that rise evenly in one line.
+fn rises(rt: &HostRuntime, path: &str, line: &str) -> io::Result<()> {
+    let place = count(line)?.saturating_sub(1);
+    let text = fs::read_to_string(rt, path)?;
+    let Some(line) = text.lines().nth(place) else {
+        return Err(no_step());
+    };
+    let mut words = line.split(' ').skip(1);
+    let Some(word) = words.next() else {
+        return Ok(());
+    };
+    let mut rise = Rise::of(number(word)?);
+    for word in words {
+        let next = number(word)?;
+        match rise.with(next) {
+            Some(longer) => rise = longer,
+            None => {
+                rise.tell(rt)?;
+                rise = Rise::of(next);
+            }
+        }
+    }
+    rise.tell(rt)
+}
+
 /// The question with these words.
 pub fn ask(rt: &HostRuntime, verb: &str, one: &str, other: &str) -> io::Result<()> {
     match verb {
@@ -131,6 +194,7 @@ pub fn ask(rt: &HostRuntime, verb: &str, one: &str, other: &str) -> io::Result<(
         "ends" => ends(rt, one, other),
         "hex" => hex(rt, one, other),
         "shapes" => shapes(rt, one, other),
+        "rises" => rises(rt, one, other),
         _ => Err(no_step()),
     }
 }

@@ -7,30 +7,43 @@ use msr_tool::{TestSink, TestSource};
 use std::fs::{File, OpenOptions};
 use std::{fs, io};
 
-/// The bytes of standard input.
-fn given(rt: &HostRuntime, from: &str) -> io::Result<Vec<u8>> {
-    if from.is_empty() {
+/// What came of a run: what it printed, unless a file keeps that, its complaint, and its status.
+#[derive(Drop, PartialEq)]
+pub struct Answer {
+    printed: Vec<u8>,
+    complaint: Vec<u8>,
+    status: u8,
+}
+
+impl Answer {
+    /// Prints it, with the complaint marked.
+    pub fn tell(&self, rt: &HostRuntime) -> io::Result<()> {
+        files::tell(rt, self.printed.as_slice())?;
+        if !self.complaint.is_empty() {
+            print!(rt; "! ")?;
+            files::tell(rt, self.complaint.as_slice())?;
+        }
+        println!(rt; "status {}", self.status)
+    }
+}
+
+/// The bytes of standard input: those of the file that is named, as many as come.
+fn given(rt: &HostRuntime, settings: &Settings<'_>) -> io::Result<Vec<u8>> {
+    if settings.from.is_empty() {
         return Ok(Vec::new(rt.alloc()));
     }
-    fs::read(rt, from)
+    let mut bytes = fs::read(rt, settings.from)?;
+    bytes.truncate(settings.cut);
+    Ok(bytes)
 }
 
-/// Prints or keeps what a run printed.
-fn keep(rt: &HostRuntime, printed: &[u8], into: &str) -> io::Result<()> {
+/// What a run printed, or nothing, if a file is to keep it.
+fn shown(rt: &HostRuntime, printed: &[u8], into: &str) -> io::Result<Vec<u8>> {
     if into.is_empty() {
-        files::tell(rt, printed)
-    } else {
-        files::write(rt, into, printed)
+        return Ok(printed.to_vec(rt.alloc())?);
     }
-}
-
-/// Prints what a run wrote to standard error, marked.
-fn complain(rt: &HostRuntime, complaint: &[u8]) -> io::Result<()> {
-    if complaint.is_empty() {
-        return Ok(());
-    }
-    print!(rt; "! ")?;
-    files::tell(rt, complaint)
+    files::write(rt, into, printed)?;
+    Ok(Vec::new(rt.alloc()))
 }
 
 /// Locks the file, as another program would, until it is closed.
@@ -43,10 +56,10 @@ fn hold(rt: &HostRuntime, path: &str) -> io::Result<Option<File>> {
     Ok(Some(file))
 }
 
-/// Runs msrepack with these words, of which the first is its name, and prints what came of it.
-fn run_with(rt: &HostRuntime, settings: &Settings<'_>, words: &[&str]) -> io::Result<()> {
+/// Runs msrepack with these words, of which the first is its name.
+fn run_with(rt: &HostRuntime, settings: &Settings<'_>, words: &[&str]) -> io::Result<Answer> {
     let _held = hold(rt, settings.held)?;
-    let input = given(rt, settings.from)?;
+    let input = given(rt, settings)?;
     let mut source = TestSource::new(input.as_slice(), settings.reading);
     let mut sink = TestSink::new(Vec::new(rt.alloc()), settings.writing);
     let mut complaint = Vec::new(rt.alloc());
@@ -58,13 +71,15 @@ fn run_with(rt: &HostRuntime, settings: &Settings<'_>, words: &[&str]) -> io::Re
         &mut sink,
         &mut complaint,
     );
-    keep(rt, sink.bytes(), settings.into)?;
-    complain(rt, complaint.as_slice())?;
-    println!(rt; "status {status}")
+    Ok(Answer {
+        printed: shown(rt, sink.bytes(), settings.into)?,
+        complaint,
+        status,
+    })
 }
 
-/// A run whose settings stand before the `$` and its words after it.
-pub fn step(rt: &HostRuntime, before: &str, after: &str) -> io::Result<()> {
+/// What came of a run whose settings stand before the `$` and its words after it.
+pub fn answer_to(rt: &HostRuntime, before: &str, after: &str) -> io::Result<Answer> {
     let mut settings = Settings::new(rt);
     for setting in before.split_whitespace() {
         settings = settings.with(setting)?;

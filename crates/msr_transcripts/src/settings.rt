@@ -12,12 +12,13 @@ const PLAIN: Behavior = Behavior {
     fails_at: None,
 };
 
-/// What a run is given beside its words: the name of the file that is its standard input, of the one that keeps what it
-/// prints, and of one that another program has locked, if there are such; how its streams behave, and what is odd in the
-/// files that it sees.
+/// What a run is given beside its words: the name of the file that is its standard input and how many of its bytes come
+/// at most, of the one that keeps what it prints, and of one that another program has locked, if there are such; how its
+/// streams behave, and what is odd in the files that it sees.
 #[derive(Clone, Copy)]
 pub struct Settings<'a> {
     pub from: &'a str,
+    pub cut: usize,
     pub into: &'a str,
     pub held: &'a str,
     pub reading: Behavior,
@@ -49,6 +50,7 @@ impl<'a> Settings<'a> {
     pub fn new(rt: &'a HostRuntime) -> Settings<'a> {
         Settings {
             from: "",
+            cut: usize::MAX,
             into: "",
             held: "",
             reading: PLAIN,
@@ -62,6 +64,7 @@ impl<'a> Settings<'a> {
         let (name, value) = setting.split_once('=').unwrap_or((setting, ""));
         match name {
             "from" => self.from = value,
+            "cut" => self.cut = count(value)?,
             "into" => self.into = value,
             "held" => self.held = value,
             "reading" => self.reading = behavior(value)?,

@@ -1,18 +1,18 @@
 use Rattle.std.proofs.lemmas.Result.{err_from_is_err_and}
-use Rattle.msr_command.proofs.Endings.{check_unopened, check_stops}
+use Rattle.msr_command.proofs.Endings.{check_unread, check_stops}
 use Rattle.msr_command.proofs.tasks.check_files.Goals as goal
 
 pub returns-in_err-open_file : goal.returns-in_err-open_file
 returns-in_err-open_file g c =
     let p = err_from_is_err_and c.from_residual.result c.from_residual.ensures.1 in
-    rw (p.1, p.2) (check_unopened
+    rw (p.1, p.2) (check_unread
     (g.O.Sink.device c.args.output.now) c.in_err-open_file.field-0.0 c.in_err-open_file.ensures)
 
 pub returns-in_err-open_file-2 : goal.returns-in_err-open_file-2
 returns-in_err-open_file-2 g c =
     let p = err_from_is_err_and c.from_residual-in_err-open_file-2.result
     c.from_residual-in_err-open_file-2.ensures.1 in
-    rw (p.1, p.2) (check_unopened
+    rw (p.1, p.2) (check_unread
     (g.O.Sink.device c.args.output.now) c.in_err-open_file-2.field-0.0 c.in_err-open_file-2.ensures)
 
 pub returns-in_err-verdict : goal.returns-in_err-verdict

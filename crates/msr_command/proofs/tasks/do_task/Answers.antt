@@ -2,19 +2,17 @@ use Rattle.std.proofs.lemmas.Result.{err_from_is_err_and}
 use Rattle.msr_command.proofs.Endings.{task_closed, then_does, task_unsettled}
 use Rattle.msr_command.proofs.tasks.do_task.Goals as goal
 
-pub returns-in_err-require_open : goal.returns-in_err-require_open
-returns-in_err-require_open g c =
-    let p = err_from_is_err_and c.from_residual.result c.from_residual.ensures.1 in
-    let closed = c.in_err-require_open.ensures in
-    rw (p.1, p.2, closed.1) (task_closed c.args.task (g.I.Source.device c.args.input.now)
-    (g.O.Sink.device c.args.output.now) (g.O.Sink.device c.require_open.new.output) closed.0)
+pub returns-in_default : goal.returns-in_default
+returns-in_default g c =
+    task_closed c.args.task (g.I.Source.device c.args.input.now) (g.O.Sink.device c.args.output.now)
+    (g.O.Sink.device c.require_open.new.output) c.end_closed.result c.in_default.ensures.0 c.end_closed.ensures
 
 pub returns-in_err-done : goal.returns-in_err-done
 returns-in_err-done g c =
-    let p = err_from_is_err_and c.from_residual-in_err-done.result c.from_residual-in_err-done.ensures.1 in
+    let p = err_from_is_err_and c.from_residual.result c.from_residual.ensures.1 in
     rw (p.1, p.2) (then_does c.args.task (g.I.Source.device c.args.input.now) (g.O.Sink.device c.args.output.now)
     (g.O.Sink.device c.require_open.new.output)
-    (g.O.Sink.device c.do_open.new.output) _ c.in_ok-require_open.ensures.0 c.in_err-done.ensures)
+    (g.O.Sink.device c.do_open.new.output) _ c.in-Ok.ensures.0 c.in_err-done.ensures)
 
 pub returns-in_err-settle_standard_output : goal.returns-in_err-settle_standard_output
 returns-in_err-settle_standard_output g c =
@@ -22,7 +20,7 @@ returns-in_err-settle_standard_output g c =
     c.from_residual-in_err-settle_standard_output.ensures.1 in
     let does = then_does c.args.task (g.I.Source.device c.args.input.now) (g.O.Sink.device c.args.output.now)
     (g.O.Sink.device c.require_open.new.output)
-    (g.O.Sink.device c.do_open.new.output) _ c.in_ok-require_open.ensures.0 c.in_ok-done.ensures in
+    (g.O.Sink.device c.do_open.new.output) _ c.in-Ok.ensures.0 c.in_ok-done.ensures in
     rw (p.1, p.2, c.in_err-settle_standard_output.ensures)
     (task_unsettled c.args.task (g.I.Source.device c.args.input.now) (g.O.Sink.device c.args.output.now)
     (g.O.Sink.device c.do_open.new.output) c.in_ok-done.done does)
@@ -31,4 +29,4 @@ pub returns : goal.returns
 returns g c =
     then_does c.args.task (g.I.Source.device c.args.input.now) (g.O.Sink.device c.args.output.now)
     (g.O.Sink.device c.require_open.new.output)
-    (g.O.Sink.device c.do_open.new.output) _ c.in_ok-require_open.ensures.0 c.in_ok-done.ensures
+    (g.O.Sink.device c.do_open.new.output) _ c.in-Ok.ensures.0 c.in_ok-done.ensures
