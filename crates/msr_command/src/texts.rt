@@ -139,8 +139,10 @@ channel NET.STA.LOC.CHAN files N read N written N
 files N skipped N refused N
 
 Records and report appear under their names whole or not at all: they are written beside
-them, with .part added, and then renamed, the report first. Those of a refused file are
-removed, also if they were there before. The walk goes on after a refused file.
+them, as PATH.N.part, and then renamed, the report first. Those of a refused file are
+removed, also if they were there before. While a walk does a file, PATH.claim stands
+beside its records, locked, and other walks leave the file alone. Nothing in ROOT is
+changed, also if links lead there. The walk goes on after a refused file.
 
 Status 0 if all was walked and nothing refused, else 1; 2 if the command line is wrong.";
 
