@@ -181,7 +181,11 @@ where
     let Some(id) = leads_to(rt, path, &file) else {
         return Ok(());
     };
-    day.files(alloc, id.number)?.sweep(rt);
+    // Without the claim nobody would know what to remove.
+    let files = day.files(alloc, id.number)?;
+    if !files.sweep(rt) {
+        return Err(ClaimFault::CannotOpen);
+    }
     match fs::remove_file(rt, path) {
         Ok(()) => Ok(()),
         Err(_) => Err(ClaimFault::CannotOpen),

@@ -62,11 +62,12 @@ impl Model for DayFiles {
 }
 
 impl DayFiles {
-    /// Removes what stands beside their names, as far as the system lets.
-    pub(crate) fn sweep<R: Files>(&self, rt: &R) {
-        self.records.sweep(rt);
-        self.report.sweep(rt);
-        self.stamp.sweep(rt);
+    /// Removes what stands beside their names, and tells whether nothing is there any more.
+    pub(crate) fn sweep<R: Files>(&self, rt: &R) -> bool {
+        let records = self.records.sweep(rt);
+        let report = self.report.sweep(rt);
+        let stamp = self.stamp.sweep(rt);
+        records && report && stamp
     }
 
     /// The stamp and the records of an earlier walk go before anything gets its name, so that what has a stamp was made

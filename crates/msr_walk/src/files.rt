@@ -49,16 +49,21 @@ impl FileId {
     }
 }
 
+/// Whether such an error tells that nothing stands under a name.
+pub(crate) fn tells_none(kind: ErrorKind) -> bool {
+    matches!(kind, ErrorKind::NotFound | ErrorKind::NotADirectory)
+}
+
 /// Whether both names lead to one file or folder, by whatever paths or links, or the system does not tell. If nothing
 /// stands under one of them they do not.
 pub(crate) fn may_be_one<R: Files>(rt: &R, a: &str, b: &str) -> bool {
     let first = match fs::metadata(rt, a) {
         Ok(metadata) => metadata,
-        Err(error) => return error.kind() != ErrorKind::NotFound,
+        Err(error) => return !tells_none(error.kind()),
     };
     match fs::metadata(rt, b) {
         Ok(second) => FileId::of(&first) == FileId::of(&second),
-        Err(error) => error.kind() != ErrorKind::NotFound,
+        Err(error) => !tells_none(error.kind()),
     }
 }
 
@@ -156,9 +161,12 @@ impl NewFile {
         }
     }
 
-    /// Removes what stands beside its name, as far as the system lets.
-    pub(crate) fn sweep<R: Files>(&self, rt: &R) {
-        fs::remove_file(rt, self.part.as_str()).ok();
+    /// Removes what stands beside its name, and tells whether nothing is there any more.
+    pub(crate) fn sweep<R: Files>(&self, rt: &R) -> bool {
+        match fs::remove_file(rt, self.part.as_str()) {
+            Ok(()) => true,
+            Err(error) => tells_none(error.kind()),
+        }
     }
 
     /// Removes an older file of its name, if there is one.

@@ -1,10 +1,9 @@
 //! Where folders stand: whether one is another or stands below it, by whatever links, mounts and names.
-use crate::files::{FileId, folder_of};
+use crate::files::{FileId, folder_of, tells_none};
 use crate::folders::Archive;
 use crate::paths::join;
 use std::alloc::{AllocError, Global};
 use std::fs;
-use std::io::ErrorKind;
 use std::rt::Files;
 
 /// Where a folder stands, seen from another.
@@ -57,10 +56,11 @@ fn nearest_folder<'a, R: Files>(rt: &R, path: &'a str) -> Option<&'a str> {
                     return Some(place);
                 }
             }
-            Err(error) => match error.kind() {
-                ErrorKind::NotFound | ErrorKind::NotADirectory => {}
-                _ => return None,
-            },
+            Err(error) => {
+                if !tells_none(error.kind()) {
+                    return None;
+                }
+            }
         }
         place = above(place);
     }
@@ -125,22 +125,37 @@ pub fn folders_overlap<R: Files>(
     )
 }
 
-/// Whether what is made of the days of a folder, with that path from the archive's own, certainly stands outside the
-/// archive.
+/// Whether what is made of the days of a folder, with that path from the archive's own, certainly stands outside a
+/// folder of the archive: its own, or that of the days, which may be a link that leads out of it.
+fn stands_outside<R: Files>(
+    rt: &R,
+    alloc: Global,
+    archive: &Archive<'_>,
+    folder: &str,
+    of_archive: &str,
+) -> Result<bool, AllocError> {
+    let Ok(metadata) = fs::metadata(rt, of_archive) else {
+        return Ok(false);
+    };
+    let other = FileId::of(&metadata);
+    let records = join(alloc, archive.out, folder)?;
+    let reports = join(alloc, archive.reports, folder)?;
+    Ok(
+        place_of(rt, alloc, records.as_str(), other)? == Place::Apart
+            && place_of(rt, alloc, reports.as_str(), other)? == Place::Apart,
+    )
+}
+
+/// Whether what is made of the days of that folder certainly stands outside the archive.
 pub(crate) fn stands_apart<R: Files>(
     rt: &R,
     alloc: Global,
     archive: &Archive<'_>,
     folder: &str,
 ) -> Result<bool, AllocError> {
-    let Ok(metadata) = fs::metadata(rt, archive.root) else {
-        return Ok(false);
-    };
-    let root = FileId::of(&metadata);
-    let records = join(alloc, archive.out, folder)?;
-    let reports = join(alloc, archive.reports, folder)?;
+    let days = join(alloc, archive.root, folder)?;
     Ok(
-        place_of(rt, alloc, records.as_str(), root)? == Place::Apart
-            && place_of(rt, alloc, reports.as_str(), root)? == Place::Apart,
+        stands_outside(rt, alloc, archive, folder, archive.root)?
+            && stands_outside(rt, alloc, archive, folder, days.as_str())?,
     )
 }
