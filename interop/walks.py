@@ -204,7 +204,7 @@ class Walk:
         """What was done with a day, and its counts."""
         source, records, report = (f"{top}/{path}" for top in (self.root, self.out, self.reports))
         places = Places(records, f"{report}.txt", f"{report}.from", f"{records}.claim")
-        if self.is_in_archive(places) or self.is_own(source, places):
+        if self.is_in_archive(source, places) or self.is_own(source, places):
             raise NotDone("cannot open")
         claim = self.claimed(places)
         try:
@@ -228,11 +228,12 @@ class Walk:
                 remove(*places[:3])
             raise
 
-    def is_in_archive(self, places):
-        """Whether what is made of a day would stand in the archive, or the system does not tell."""
+    def is_in_archive(self, source, places):
+        """Whether what is made of a day would stand in the archive, or in the folder of the day, which the archive may
+        have by a link; or the system does not tell."""
         try:
-            root = id_of(self.root)
-            return any(root in ids_above(os.path.dirname(path)) for path in places)
+            tops = {id_of(self.root), id_of(os.path.dirname(source))}
+            return any(tops & set(ids_above(os.path.dirname(path))) for path in places)
         except OSError:
             return True
 
