@@ -327,12 +327,19 @@ def packing(samples, size):
 
 
 def is_separating(samples, size, separators):
-    """Whether no run that fits any kind holds two of them; they rise, and are numbers of samples."""
+    """Whether no run that fits any kind holds two of them; they rise, and are numbers of samples. A run that holds two
+    may begin before the first of them: a Steim-1 record can reach further from a sample earlier, by other groups. What
+    of it begins at most eight samples before that one fits, too."""
     differences = [0] + [after - before for before, after in zip(samples, samples[1:])]
     pairs = list(zip(separators, separators[1:]))
     if any(after <= before for before, after in pairs) or any(place >= len(samples) for place in separators):
         return False
-    return all(end_of(kind, samples, differences, before, size) <= after for before, after in pairs for kind in KINDS)
+    return not any(
+        end_of(kind, samples, differences, start, size) > after
+        for before, after in pairs
+        for kind in KINDS
+        for start in range(max(0, before - 8), before + 1)
+    )
 
 
 @functools.lru_cache(1000)
