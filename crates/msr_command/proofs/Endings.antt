@@ -6,7 +6,8 @@ use Rattle.msr_devices.proofs.Chaining.{calm_same, left_of, takes_append, takes_
 use Rattle.msr_base.specs.declared.counts.Counts.{Counts}
 use Rattle.msr_report.specs.declared.report.Report.{Report}
 use Rattle.msr_verdict.specs.declared.verdict.Verdict.{Verdict}
-use Rattle.msr_tool.specs.Choice.{Choice, settings_of}
+use Rattle.msr_options.specs.Choice.{Choice}
+use Rattle.msr_tool.specs.Settings.{settings_of}
 use Rattle.msr_tool.specs.Listing.{ListAnswers}
 use Rattle.msr_tool.specs.Tasks.{Reports, Tells, VerdictAnswers}
 use Rattle.msr_tool.specs.declared.fault.ToolFault.{ToolFault}
@@ -18,8 +19,8 @@ use Rattle.msr_command.specs.declared.done.Done.{Done}
 use Rattle.msr_command.specs.declared.done.Done.TheVariants.{Written, Checked, Walked}
 use Rattle.msr_command.specs.declared.task_fault.TaskFault.{TaskFault}
 use Rattle.msr_command.specs.declared.task_fault.TaskFault.TheVariants.{CannotOpen, SameFile, SameOutput, Overlap, Closed, Tool}
-use Rattle.msr_command.specs.declared.words.Task.{Task}
-use Rattle.msr_command.specs.declared.words.Task.TheVariants.{Repack, List as Listing, Check, Archive, Feed}
+use Rattle.msr_arguments.specs.declared.task.Task.{Task}
+use Rattle.msr_arguments.specs.declared.task.Task.TheVariants.{Repack, List as Listing, Check, Archive, Feed}
 use Rattle.msr_command.specs.Ends.{Checks, Does, Ends, EndsClosed, Feeds, FeedAnswers, FeedEnds, FeedsTo, IfChecked, IfWritten, IsUncreated, IsUnread, ListEnds, ListsNamed, Over, RepackEnds, Repacks, RepacksNamed, StopsRecords, StopsReport, WalksArchive, WritesList, WritesRecords, WritesReport, days_asked}
 
 -- nothing was read or printed

@@ -4,7 +4,8 @@ use Rattle.std.specs.declared.io.Error.{Error}
 use Rattle.msr_devices.specs.Device.{Device, CountsError, HasFailed, HasLeft, Takes}
 use Rattle.msr_base.specs.declared.counts.Counts.{Counts}
 use Rattle.msr_report.specs.declared.report.Report.{Report}
-use Rattle.msr_tool.specs.Choice.{Choice, settings_of}
+use Rattle.msr_options.specs.Choice.{Choice}
+use Rattle.msr_tool.specs.Settings.{settings_of}
 use Rattle.msr_tool.specs.Listing.{IsListed, ListAnswers}
 use Rattle.msr_tool.specs.Tasks.{IsReported, ReportAnswers, VerdictAnswers}
 use Rattle.msr_verdict.specs.declared.verdict.Verdict.{Verdict}
@@ -16,12 +17,12 @@ use Rattle.msr_command.specs.declared.done.Done.{Done}
 use Rattle.msr_command.specs.declared.done.Done.TheVariants.{Written, Checked, Walked}
 use Rattle.msr_command.specs.declared.task_fault.TaskFault.{TaskFault}
 use Rattle.msr_command.specs.declared.task_fault.TaskFault.TheVariants.{CannotOpen, SameFile, SameOutput, Overlap, Closed, Tool}
-use Rattle.msr_command.specs.declared.words.Archiving.{Archiving}
-use Rattle.msr_command.specs.declared.words.NoTask.{NoTask}
-use Rattle.msr_command.specs.declared.words.NoTask.TheVariants.{Ending, Memory}
-use Rattle.msr_command.specs.declared.words.Task.{Task}
-use Rattle.msr_command.specs.declared.words.Task.TheVariants.{Repack, List as Listing, Check, Archive, Feed}
-use Rattle.msr_command.specs.Tasks.{HasStatus, IsDefault}
+use Rattle.msr_arguments.specs.declared.task.Archiving.{Archiving}
+use Rattle.msr_arguments.specs.declared.task.NoTask.{NoTask}
+use Rattle.msr_arguments.specs.declared.task.NoTask.TheVariants.{Ending, Memory}
+use Rattle.msr_arguments.specs.declared.task.Task.{Task}
+use Rattle.msr_arguments.specs.declared.task.Task.TheVariants.{Repack, List as Listing, Check, Archive, Feed}
+use Rattle.msr_arguments.specs.Tasks.{HasStatus, IsDefault}
 
 -- 0 for what was written or is least, 3 for what is not shown, 1 for a walk on which an entry was refused
 abbrev pub status_of_done : Done → ℕ

@@ -1,3 +1,1 @@
-pub mod Tasks
-pub mod Found
 pub mod Ends

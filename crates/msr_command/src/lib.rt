@@ -1,19 +1,11 @@
-//! The program's words and tasks: what a command line asks for, what is done with its files, and what is told at the
-//! end.
+//! The program's tasks: what is done with the files that a command line names, and what is told at the end.
 #![tactic(auto)]
 
-mod commands;
 mod done;
 mod files;
 mod program;
 mod task_fault;
 mod tasks;
-mod texts;
-mod words;
 
+pub use msr_arguments::NOT_UTF8;
 pub use program::{complain, run};
-pub use texts::NOT_UTF8;
-pub use words::{
-    Archiving, Checking, Ending, Feeding, Folders, Listing, NoTask, Repacking, Task, Walking,
-    read_words,
-};

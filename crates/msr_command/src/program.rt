@@ -3,11 +3,11 @@ ghost use Rattle.std.specs.Io.KnownBytes.{Appends};
 ghost use Rattle.std.specs.Prelude.{◌≡◌, ◌⊎◌, ◌++◌, OnOk, codes, length};
 ghost use Rattle.msr_devices.specs.Device.{CanCountCall};
 ghost use Rattle.msr_command.specs.Ends.{EndsTask, EndsText, EndsWithoutTask, status_of_task_fault};
-ghost use Rattle.msr_command.specs.declared.words.NoTask.TheVariants.{Ending as WithText};
+ghost use Rattle.msr_arguments.specs.declared.task.NoTask.TheVariants.{Ending as WithText};
 
 use crate::task_fault::TaskFault;
 use crate::tasks::do_task;
-use crate::words::{Ending, NoTask, read_words};
+use msr_arguments::{Ending, NoTask, read_words};
 use msr_devices::{Sink, Source, write_all};
 use msr_walk::LockFile;
 use std::alloc::Global;

@@ -8,7 +8,7 @@ use crate::files::{
     FileId, create_output, create_report, open_file, settle_standard_output, standard_input,
 };
 use crate::task_fault::TaskFault;
-use crate::words::{Archiving, Checking, Feeding, Listing, Repacking, Task};
+use msr_arguments::{Archiving, Checking, Feeding, Listing, Repacking, Task};
 use msr_tool::{
     FromRead, FromWrite, Options, Sink, Source, ToolFault, check_and_tell, feed_and_report,
     list_segments, repack_and_report,

@@ -1,6 +1,6 @@
 //! What the calls are made with: samples whose packings were worked out by hand, and records of them.
 ghost use Rattle.std.specs.Prelude.{◌≡◌, IfSome, OnErr};
-ghost use Rattle.msr_tool.specs.Choice.{size_of};
+ghost use Rattle.msr_options.specs.Choice.{size_of};
 
 use msr_devices::Behavior;
 use msr_fixtures::{START, key_at};

@@ -1,3 +1,4 @@
 pub mod Parts
 pub mod SdsPath
 pub mod Separators
+pub mod Folders

@@ -2,11 +2,14 @@
 //! to the archive's folder: `YEAR/NET/STA/CHAN.TYPE/NET.STA.LOC.CHAN.TYPE.YEAR.DAY`.
 #![tactic(auto)]
 
+mod folders;
 mod parts;
 
 ghost use Rattle.std.specs.Prelude.{◌≡◌, ◌↔◌, IfOk};
 ghost use Rattle.std.specs.String.{string_bytes};
 ghost use Rattle.msr_sds.specs.SdsPath.{SdsPath, ReadsAs, ReadsAsDay, IsWaveform, HasDate, OneReading, text_of};
+
+pub use folders::{FOLDERS, levels_below};
 
 use parts::Parts;
 use std::alloc::{AllocError, Global};

@@ -6,7 +6,8 @@ use Rattle.msr_report.specs.declared.report.Report.{Report}
 use Rattle.msr_input.specs.Input.{AllAgree, OneListOfRecords, OneFirstFault, ReadableHasNoFault, counts_of}
 use Rattle.msr_output.specs.Output.{OneOutput, Packed}
 use Rattle.msr_tool.specs.Answer.{IsReportOf, IsRepacked}
-use Rattle.msr_tool.specs.Choice.{Choice, as_strict, settings_of, size_of}
+use Rattle.msr_options.specs.Choice.{Choice, as_strict, size_of}
+use Rattle.msr_tool.specs.Settings.{settings_of}
 use Rattle.msr_tool.specs.Laws.{OneRepacking, OneRefusal, ReadableIsRepacked, ReadableIsListed, StrictWritesTheSame}
 use Rattle.msr_tool.specs.declared.fault.ToolFault.TheVariants as fault
 

@@ -23,7 +23,8 @@ use Rattle.msr_input.specs.declared.fault.ReadFault.TheVariants as read
 use Rattle.msr_input.specs.declared.row_reader.NextRow.{NextRow}
 use Rattle.msr_output.specs.Output.{Packed, OutputKeepsSegments, OutputHasSize, segment_of_packed, count_of_runs}
 use Rattle.msr_output.specs.Decided.{IsDecidedOutput, IsEncoded}
-use Rattle.msr_tool.specs.Choice.{Choice, settings_of, size_of}
+use Rattle.msr_options.specs.Choice.{Choice, size_of}
+use Rattle.msr_tool.specs.Settings.{settings_of}
 use Rattle.msr_tool.specs.Writing.{Lined, GoesOn, HasLined, LinesMore, LinesAll, StopsLining, current_with, ended_with}
 use Rattle.msr_tool.specs.Answer.{AreLinesOf}
 use Rattle.msr_tool.specs.Fault.{fault_of_reading}

@@ -15,7 +15,8 @@ use Rattle.msr_input.specs.Input.{AreRead, NoneOverruns, OneListOfRecords, rows_
 use Rattle.msr_output.specs.Output.{cuts_of, segment_of_packed}
 use Rattle.msr_output.proofs.Times.{nominal_within}
 use Rattle.msr_verdict.specs.Packed.{IsFull, AreShownBy}
-use Rattle.msr_tool.specs.Choice.{settings_of, size_of}
+use Rattle.msr_options.specs.Choice.{size_of}
+use Rattle.msr_tool.specs.Settings.{settings_of}
 use Rattle.msr_tool.specs.Shown.{EndsBeforeTheLast, RepackedIsShown}
 use Rattle.msr_tool.proofs.ShownRows.{IsWithin, AreWithin, record_of, lines_within, cuts_within, rows_sound, bytes_begin, records_full, records_rows}
 use Rattle.msr_tool.proofs.ShownPrefixes.{IsPrefixOf, last_of_prefix}

@@ -11,7 +11,7 @@ use Rattle.msr_devices.specs.declared.fault.WriteFault.TheVariants as write
 use Rattle.msr_verdict.specs.declared.verdict.Verdict.{Verdict}
 use Rattle.msr_tool.specs.Answer.{Answers, IsRepacked}
 use Rattle.msr_tool.specs.Checking.{CheckAnswers, IsChecked}
-use Rattle.msr_tool.specs.Choice.{Choice}
+use Rattle.msr_options.specs.Choice.{Choice}
 use Rattle.msr_tool.specs.Fault.{fault_of_writing}
 use Rattle.msr_tool.specs.Tasks.{IsReportedInPart, ReportAnswers, Reports, Tells, VerdictAnswers, verdict_line}
 use Rattle.msr_tool.specs.declared.fault.ToolFault.{ToolFault}

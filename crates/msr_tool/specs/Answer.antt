@@ -13,7 +13,8 @@ use Rattle.msr_input.specs.declared.fault.Fault.{Fault}
 use Rattle.msr_input.specs.Input.{AreRead, IsReadable, IsFirstFault, rows_of_records, counts_of}
 use Rattle.msr_output.specs.Writing.{IsLineOf}
 use Rattle.msr_output.specs.Output.{Packed, IsOutput, IsPrefixOfOutput, segment_of_packed}
-use Rattle.msr_tool.specs.Choice.{Choice, settings_of, size_of}
+use Rattle.msr_options.specs.Choice.{Choice, size_of}
+use Rattle.msr_tool.specs.Settings.{settings_of}
 use Rattle.msr_tool.specs.declared.fault.ToolFault.{ToolFault}
 use Rattle.msr_tool.specs.declared.fault.ToolFault.TheVariants as fault
 

@@ -9,7 +9,8 @@ use Rattle.msr_input.specs.Input.{IsReadable}
 use Rattle.msr_input.specs.declared.settings.Settings.{Settings}
 use Rattle.msr_input.specs.declared.fault.Fault.{Fault}
 use Rattle.msr_output.specs.Output.{Packed}
-use Rattle.msr_tool.specs.Choice.{Choice, as_strict, settings_of}
+use Rattle.msr_options.specs.Choice.{Choice, as_strict}
+use Rattle.msr_tool.specs.Settings.{settings_of}
 use Rattle.msr_tool.specs.Answer.{AreLinesOf, IsRepacked, IsRefusedAt, Answers}
 use Rattle.msr_tool.specs.Listing.{ListAnswers}
 use Rattle.msr_tool.specs.declared.fault.ToolFault.{ToolFault}

@@ -1,4 +1,4 @@
-pub mod Choice
+pub mod Settings
 pub mod Fault
 pub mod Answer
 pub mod Writing

@@ -10,7 +10,8 @@ use Rattle.msr_input.specs.Input.{IsReadable}
 use Rattle.msr_verdict.specs.Packed.{ShowsLeast}
 use Rattle.msr_verdict.specs.declared.verdict.Verdict.{Verdict}
 use Rattle.msr_verdict.specs.declared.verdict.Verdict.TheVariants.{Least}
-use Rattle.msr_tool.specs.Choice.{Choice, settings_of}
+use Rattle.msr_options.specs.Choice.{Choice}
+use Rattle.msr_tool.specs.Settings.{settings_of}
 use Rattle.msr_tool.specs.Answer.{IsRepacked}
 use Rattle.msr_tool.specs.Checking.{CheckAnswers}
 use Rattle.msr_tool.specs.declared.fault.ToolFault.{ToolFault}

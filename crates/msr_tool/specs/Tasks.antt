@@ -10,7 +10,7 @@ use Rattle.msr_verdict.specs.Texts.{text_of}
 use Rattle.msr_verdict.specs.declared.verdict.Verdict.{Verdict}
 use Rattle.msr_tool.specs.Answer.{IsRepacked, IsRefusedAt, IsStopped}
 use Rattle.msr_tool.specs.Checking.{IsChecked}
-use Rattle.msr_tool.specs.Choice.{Choice}
+use Rattle.msr_options.specs.Choice.{Choice}
 use Rattle.msr_tool.specs.declared.fault.ToolFault.{ToolFault}
 use Rattle.msr_tool.specs.declared.fault.ToolFault.TheVariants as fault
 

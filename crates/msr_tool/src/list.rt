@@ -1,14 +1,15 @@
 //! Listing the segments of an input.
 ghost use Rattle.std.specs.Prelude.{◌↔◌, List, ℕ, IsErrOf};
 ghost use Rattle.msr_devices.specs.Device.{CanCountCall, CountsFew, HasFailed, HasLeft, Takes};
-ghost use Rattle.msr_tool.specs.Choice.{settings_of};
+ghost use Rattle.msr_tool.specs.Settings.{settings_of};
 ghost use Rattle.msr_tool.specs.Listing.{ListAnswers};
 
 use crate::fault::ToolFault;
 use crate::list_writer::ListWriter;
-use crate::options::Options;
+use crate::settings::settings_of;
 use msr_devices::{Sink, Source};
 use msr_input::RowReader;
+use msr_options::Options;
 use msr_report::Counts;
 use std::alloc::Global;
 
@@ -34,7 +35,7 @@ pub fn list_segments<R: Source, W: Sink>(
     ensures few_source { CountsFew (R.device source.old) (R.device source.new) }
     ensures few_sink { CountsFew (W.device sink.old) (W.device sink.new) }
 {
-    let mut reader = RowReader::new(alloc, options.settings());
+    let mut reader = RowReader::new(alloc, settings_of(options));
     let mut writer = ListWriter::new(alloc);
     'rows: while let Some(next) = reader.next_outline(source)? {
         writer.take(sink, &next)?;

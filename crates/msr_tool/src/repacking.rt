@@ -7,9 +7,10 @@ ghost use Rattle.msr_tool.specs.Live.{IsLive};
 
 use crate::fault::ToolFault;
 use crate::lined_writer::LinedWriter;
-use crate::options::Options;
+use crate::settings::settings_of;
 use msr_devices::{Sink, Source};
 use msr_input::RowReader;
+use msr_options::Options;
 use msr_output::{output_has_size, output_keeps_segments};
 use msr_report::Report;
 use std::alloc::Global;
@@ -105,7 +106,7 @@ fn repack_with<R: Source, W: Sink>(
     ensures few_source { CountsFew (R.device source.old) (R.device source.new) }
     ensures few_sink { CountsFew (W.device sink.old) (W.device sink.new) }
 {
-    let mut reader = RowReader::new(alloc, options.settings());
+    let mut reader = RowReader::new(alloc, settings_of(options));
     let mut writer = LinedWriter::new(alloc, options.length());
     'records: while let Some(next) = reader.next_record(source)? {
         writer.take(sink, next)?;

@@ -8,9 +8,9 @@ ghost use Rattle.msr_tool.specs.Tasks.{Reports, Tells};
 
 use crate::check::check_packed;
 use crate::fault::ToolFault;
-use crate::options::Options;
 use crate::repacking::{feed, repack};
 use msr_devices::{Sink, Source, write_all};
+use msr_options::Options;
 use msr_report::Report;
 use msr_verdict::Verdict;
 use std::alloc::Global;

@@ -1,15 +1,15 @@
--- The folder of a path, from where its last slash stands, and the names of a path.
-use Rattle.std.proofs.Common.{◌≡◌, ◌≢◌, ℕ, ◌+◌, ◌-◌, ◌<◌, ◌≤◌, arith, Bool, true, false, not, List, [], length, length-drop, take, drop, get_or, get_or-drop, reverse, refl, ap, sym, ◌∙◌, lit<, All, Option, None, Some}
+-- The folder of a path, from where its last slash stands.
+use Rattle.std.proofs.Common.{◌≡◌, ◌≢◌, ℕ, ◌+◌, ◌-◌, ◌<◌, ◌≤◌, arith, Bool, true, false, not, List, [], length, length-drop, take, drop, get_or, get_or-drop, reverse, ap, sym, ◌∙◌, lit<, Option, None, Some}
 use Rattle.std.proofs.lemmas.Bool.Decides.{nat_tests}
 use Rattle.std.proofs.lemmas.List.{get_or-reverse, length-reverse}
 use Rattle.std.proofs.lemmas.List.Sums.{prefix_len_is}
 use Rattle.std.proofs.lemmas.Str.{len_utf8_ascii}
 use Rattle.std.proofs.lemmas.Str.Pattern.{NoCharPasses-char}
-use Rattle.std.specs.Bool.{Decides, MatchBool}
-use Rattle.std.specs.List.{AllWithin, HoldsAt, suffix_len}
+use Rattle.std.specs.List.{suffix_len}
 use Rattle.std.specs.Option.{MatchOption, option_map, unwrap_or}
 use Rattle.std.specs.Str.Pattern.{RFindsChar, SplitsAroundMatch}
-use Rattle.msr_walk.specs.Files.{IsName, folder_of, is_slash, names_of}
+use Rattle.msr_sds.specs.Folders.{is_slash}
+use Rattle.msr_walk.specs.Files.{folder_of}
 use denote.Ref.{Bor}
 
 is_other : (byte : ℕ) → byte ≢ 47 → not (is_slash byte) ≡ true
@@ -62,11 +62,3 @@ folder_from_rsplit path (Some x) h =
     NoCharPasses-char 47 (drop j path) (k - j) h.2.0 (lit< tt) short
     (get_or-drop j path (k - j) 0 ∙ ap (λ n. get_or path n 0) place ∙ e) in
     h.3 ∙ sym (folder_at path i within (at.byte (lit< tt)) others)
-
--- what `all` gives over the names of a path
-pub names_from_all : (path : List ℕ) (r : Bool) →
-    MatchBool r (AllWithin IsName (names_of path) 0 (length (names_of path)))
-    ((k : ℕ) × (k < length (names_of path)) × HoldsAt (λ name. ¬ (IsName name)) (names_of path) k) →
-    Decides r (All IsName (names_of path))
-names_from_all path true h = (λ _ k d lt. h k d (omega arith) lt, λ _. refl)
-names_from_all path false h = (λ e. absurd cc, λ all. absurd (h.2 [] (all h.0 [] h.1)))

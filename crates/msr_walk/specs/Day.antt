@@ -5,7 +5,7 @@ use Rattle.msr_certificate.specs.Reading.{IsReadFrom}
 use Rattle.msr_report.specs.Proper.{records_of}
 use Rattle.msr_report.specs.declared.report.Report.{Report}
 use Rattle.msr_tool.specs.Checking.{CheckAnswers, IsChecked}
-use Rattle.msr_tool.specs.Choice.{Choice, size_of}
+use Rattle.msr_options.specs.Choice.{Choice, size_of}
 use Rattle.msr_tool.specs.Tasks.{IsReported, ReportAnswers}
 use Rattle.msr_tool.specs.declared.fault.ToolFault.{ToolFault}
 use Rattle.msr_tool.specs.declared.fault.ToolFault.TheVariants.{Memory}

@@ -10,7 +10,7 @@ use crate::claim::LockFile;
 use crate::day::Day;
 use crate::listing::{ListFault, names_in};
 use crate::outcome::{DayFault, Outcome};
-use crate::paths::{FOLDERS, channel_text, entry_path, join, levels_below};
+use crate::paths::{channel_text, entry_path, join};
 use crate::places::stands_apart;
 use crate::summary::write_summary;
 use crate::tally::Tally;

@@ -18,5 +18,4 @@ mod tally;
 pub use claim::{Lock, LockFile};
 pub use files::settle;
 pub use folders::{Archive, walk};
-pub use paths::levels_below;
 pub use places::folders_overlap;

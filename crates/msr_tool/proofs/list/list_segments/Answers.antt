@@ -1,7 +1,7 @@
 use Rattle.std.proofs.Common.{◌++◌}
 use Rattle.std.proofs.lemmas.Result.{err_from_is_err_and}
 use Rattle.std.specs.Option.{option_to_list}
-use Rattle.msr_tool.specs.Choice.{settings_of}
+use Rattle.msr_tool.specs.Settings.{settings_of}
 use Rattle.msr_tool.specs.Writing.{ended_by}
 use Rattle.msr_tool.proofs.Listed.{prefix_listed}
 use Rattle.msr_tool.proofs.RowsSoFar.{given_read, rows_end, rows_stop}
@@ -14,8 +14,8 @@ rows-init g c =
     under_none (settings_of c.args.options) (g.R.Source.device c.args.source.now)
     (g.W.Sink.device c.args.sink.now) c.new-reader.result c.new-writer.result
     (c.new-reader.ensures.none (g.R.Source.device c.args.source.now))
-    (rw c.settings.ensures.same at c.new-reader.ensures.following)
-    (rw c.settings.ensures.same at c.new-reader.ensures.strict)
+    (rw c.settings_of.ensures.same at c.new-reader.ensures.following)
+    (rw c.settings_of.ensures.same at c.new-reader.ensures.strict)
     (c.new-writer.ensures.none
     (g.W.Sink.device c.args.sink.now)) c.new-writer.ensures.last c.new-writer.ensures.few_wait
 

@@ -1,5 +1,5 @@
 use Rattle.msr_input.specs.Records.{left_with}
-use Rattle.msr_tool.specs.Choice.{settings_of}
+use Rattle.msr_tool.specs.Settings.{settings_of}
 use Rattle.msr_tool.proofs.ListUnderWay.{UnderList}
 use Rattle.msr_tool.proofs.list.list_segments.Given as goal
 

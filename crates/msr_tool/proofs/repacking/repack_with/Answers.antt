@@ -8,7 +8,7 @@ use Rattle.msr_certificate.proofs.Forms.{is_length}
 use Rattle.msr_devices.proofs.Chaining.{calm_same, steady_can_count, steady_then_few}
 use Rattle.msr_input.specs.Reading.{StopsReading}
 use Rattle.msr_output.specs.Output.{segment_of_packed}
-use Rattle.msr_tool.specs.Choice.{settings_of}
+use Rattle.msr_tool.specs.Settings.{settings_of}
 use Rattle.msr_tool.specs.Fault.{fault_of_reading}
 use Rattle.msr_tool.specs.Writing.{all_with}
 use Rattle.msr_tool.specs.declared.fault.ToolFault.TheVariants as fault
@@ -28,8 +28,8 @@ records-init g c =
         joining = record { tolerance = c.args.options.tolerance; current = None };
         rows = no_rows (settings_of c.args.options) (g.R.Source.device c.args.source.now) c.new-reader.result
             (c.new-reader.ensures.none (g.R.Source.device c.args.source.now))
-            (rw c.settings.ensures.same at c.new-reader.ensures.following)
-            (rw c.settings.ensures.same at c.new-reader.ensures.strict);
+            (rw c.settings_of.ensures.same at c.new-reader.ensures.following)
+            (rw c.settings_of.ensures.same at c.new-reader.ensures.strict);
         lined = c.new-writer.ensures.none (g.W.Sink.device c.args.sink.now);
         goes_on = rw c.new-writer.ensures.last tt;
         size = rw (c.new-writer.ensures.size, c.length.ensures.same) refl;

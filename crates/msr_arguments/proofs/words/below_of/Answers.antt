@@ -1,0 +1,23 @@
+use Rattle.std.proofs.Common.{◌≡◌, map, length, arith, rules}
+use Rattle.std.proofs.lemmas.Bool.{both_ways}
+use Rattle.std.proofs.lemmas.List.{get_or_default}
+use Rattle.msr_arguments.proofs.Apart.{apart_all, apart_more, apart_none}
+use Rattle.msr_arguments.proofs.words.below_of.Goals as goal
+
+pub loop-place-init : goal.loop-place-init
+loop-place-init c = apart_none _ _
+
+pub loop-place-preserved : goal.loop-place-preserved
+loop-place-preserved c =
+    apart_more _ c.args.given.now c.loop-place.place _ c.loop-place-test.true
+    (get_or_default c.args.given.now c.loop-place.place _ _ c.loop-place-test.true)
+    c.loop-place.invariant
+    (λ any. both_ways c.overlaps_one.result c.if-overlaps_one.false (c.overlaps_one.ensures.1 any))
+
+pub returns-in-Ok-clause-apart : goal.returns-in-Ok-clause-apart
+returns-in-Ok-clause-apart c =
+    let same : map (λ folder. folder.now) c.in-Ok.below.items ≡ map (λ folder. folder.now) c.args.given.now =
+    search rules in
+    let all : c.loop-place.place ≡ length c.args.given.now =
+    omega (arith, c.loop-place-test.false, c.loop-place.auto.place-end) in
+    rw same (apart_all _ c.args.given.now (rw all at c.loop-place.invariant))

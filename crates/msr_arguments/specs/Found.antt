@@ -1,0 +1,106 @@
+-- What a task asks for, by what clap found under the names of its arguments.
+use Rattle.std.specs.Prelude.{◌≡◌, ◌≢◌, ◌⊎◌, ℕ, ⊤, Bool, false, true, List, [], codes, map, Option, None, Some, option_map, unwrap_or, ok_or}
+use Rattle.std.specs.Str.Parse.{ParsesUnsigned}
+use Rattle.clap.specs.Words.{first_value, matched_of, one_text, raw_values}
+use Rattle.clap.specs.declared.error.kind.ErrorKind.{ErrorKind}
+use Rattle.clap.specs.declared.error.kind.ErrorKind.TheVariants.{DisplayHelp, DisplayVersion, OutOfMemory}
+use Rattle.clap.specs.declared.parser.matches.Found.{Found}
+use Rattle.msr_options.specs.Choice.{Choice, size_of}
+use Rattle.msr_words.specs.RecordLength.{IsRecordLength}
+use Rattle.msr_arguments.specs.Tasks.{IsTolerance}
+use Rattle.msr_arguments.specs.declared.task.Checking.{Checking}
+use Rattle.msr_arguments.specs.declared.task.Folders.{Folders}
+use Rattle.msr_arguments.specs.declared.task.NoTask.{NoTask}
+use Rattle.msr_arguments.specs.declared.task.NoTask.TheVariants.{Ending, Memory}
+use Rattle.msr_arguments.specs.declared.task.Task.{Task}
+use Rattle.msr_arguments.specs.declared.task.Task.TheVariants.{Repack, List as Listing, Check, Archive, Feed}
+use Rattle.msr_arguments.specs.declared.task.Walking.{Walking}
+
+-- the number of 32 bits that a text is in decimal digits, after a plus or none; none if there is no text, or it is no
+-- such number
+abbrev pub IsNumberOf : (text : Option (List ℕ)) → (number : Option ℕ) → Type 0
+IsNumberOf None number = number ≡ None
+IsNumberOf (Some text) number = ParsesUnsigned 32 10 text (ok_or number text)
+
+-- whether a flag is set, by its text; clap gives it no other
+abbrev pub IsFlagOf : (text : Option (List ℕ)) → (flag : Bool) → Type 0
+IsFlagOf None flag = flag ≡ false
+IsFlagOf (Some text) flag = (text ≡ codes "true" → flag ≡ true) × (text ≡ codes "false" → flag ≡ false)
+
+-- the values of an argument that may be given several times
+abbrev pub texts_under : Found → (name : List ℕ) → List (List ℕ)
+texts_under found name = unwrap_or (option_map raw_values (matched_of found name)) []
+
+-- the tolerance that was found
+abbrev pub IsToleranceIn : Found → (tolerance : ℕ) → Type 0
+IsToleranceIn found tolerance = IsNumberOf (one_text found (codes "tolerance")) (Some tolerance)
+
+-- the length that was found, or 512 bytes
+pub record IsLengthIn (found : Found) (bytes : ℕ) : Type 0 where
+  pub number : Option ℕ
+  pub is : IsNumberOf (one_text found (codes "length")) number
+  pub bytes_are : bytes ≡ unwrap_or number 512
+
+-- the options are those that were found
+pub record AsksOptions (found : Found) (options : Choice) : Type 0 where
+  pub tolerance : IsToleranceIn found options.tolerance
+  pub length : IsLengthIn found (size_of options)
+  pub strict : IsFlagOf (one_text found (codes "strict")) options.strict
+
+-- the numbers that were found are those of options
+pub record HoldsOptions (found : Found) : Type 0 where
+  pub tolerance : ℕ
+  pub tolerance_in : IsToleranceIn found tolerance
+  pub is_tolerance : IsTolerance tolerance
+  pub bytes : ℕ
+  pub length_in : IsLengthIn found bytes
+  pub is_length : IsRecordLength bytes
+
+-- each folder is the one of its name
+pub record AsksFolders (found : Found) (folders : Folders) : Type 0 where
+  pub root : first_value found (codes "ROOT") ≡ Some folders.root.now
+  pub out : first_value found (codes "OUT") ≡ Some folders.out.now
+  pub reports : first_value found (codes "REPORTS") ≡ Some folders.reports.now
+
+-- an archive is to be walked as was found
+pub record AsksWalking (found : Found) (walking : Walking) : Type 0 where
+  pub below : map (λ folder. folder.now) walking.below.items ≡ texts_under found (codes "below")
+  pub resume : IsFlagOf (one_text found (codes "resume")) walking.resume
+  pub check : IsFlagOf (one_text found (codes "check")) walking.check
+
+-- the names of a check are those of its words
+pub record AsksCheck (found : Found) (checking : Checking) : Type 0 where
+  pub packed : first_value found (codes "PACKED") ≡ Some checking.packed.now
+  pub report : first_value found (codes "REPORT") ≡ Some checking.report.now
+
+-- the options and the names of a task are those that were found
+abbrev pub AsksTask : Found → Task → Type 0
+AsksTask found (Repack asked) = AsksOptions found asked.options ×
+    (first_value found (codes "IN") ≡ Some asked.input.now)
+    × (first_value found (codes "OUT") ≡ option_map (λ name. name.now) asked.output)
+AsksTask found (Listing asked) =
+    AsksOptions found asked.options × (first_value found (codes "IN") ≡ Some asked.input.now)
+AsksTask found (Check asked) = AsksCheck found asked
+AsksTask found (Archive asked) =
+    AsksOptions found asked.options × AsksFolders found asked.folders × AsksWalking found asked.walking
+AsksTask found (Feed asked) =
+    AsksOptions found asked.options × (first_value found (codes "REPORT") ≡ Some asked.report.now)
+
+-- the command that asks for a task
+abbrev pub command_of : Task → List ℕ
+command_of (Repack asked) = codes "repack"
+command_of (Listing asked) = codes "list"
+command_of (Check asked) = codes "check"
+command_of (Archive asked) = codes "archive"
+command_of (Feed asked) = codes "feed"
+
+-- clap was asked for help or for the version
+abbrev pub IsShown : ErrorKind → Type 0
+IsShown kind = (kind ≡ DisplayHelp) ⊎ (kind ≡ DisplayVersion)
+
+-- what clap found in place of a task ends with status 0 for help and the version, and else with 2, unless memory is
+-- refused
+abbrev pub EndsFor : ErrorKind → NoTask → Type 0
+EndsFor kind (Ending ending) =
+    (kind ≢ OutOfMemory) × (((ending.status ≡ 0) × IsShown kind) ⊎ ((ending.status ≡ 2) × ¬ (IsShown kind)))
+EndsFor kind Memory = ⊤

@@ -1,0 +1,78 @@
+-- What the words of a command line ask for.
+use Rattle.std.specs.Prelude.{◌≡◌, ◌≢◌, ◌⊎◌, ◌≤◌, ℕ, ⊤, Bool, false, List, ◌++◌, AllPairs, None, IfSome, codes, string_bytes}
+use Rattle.msr_options.specs.Choice.{Choice, size_of}
+use Rattle.msr_arguments.specs.declared.task.Folders.{Folders}
+use Rattle.msr_arguments.specs.declared.task.Task.{Task}
+use Rattle.msr_arguments.specs.declared.task.Task.TheVariants.{Repack, List as Listing, Check, Archive, Feed}
+use Rattle.msr_arguments.specs.declared.task.NoTask.{NoTask}
+use Rattle.msr_arguments.specs.declared.task.NoTask.TheVariants.{Ending, Memory}
+
+-- 1 to 1,000,000 microseconds
+pub record IsTolerance (tolerance : ℕ) : Type 0 where
+  pub least : 1 ≤ tolerance
+  pub most : tolerance ≤ 1_000_000
+
+-- the tolerance that is asked for is in its range; a check takes that of the report
+abbrev pub HasTolerance : Task → Type 0
+HasTolerance (Repack asked) = IsTolerance asked.options.tolerance
+HasTolerance (Listing asked) = IsTolerance asked.options.tolerance
+HasTolerance (Check asked) = ⊤
+HasTolerance (Archive asked) = IsTolerance asked.options.tolerance
+HasTolerance (Feed asked) = IsTolerance asked.options.tolerance
+
+-- the path begins with the folder's name and a slash
+abbrev pub IsBelow : (folder path : List ℕ) → Type 0
+IsBelow folder path = (rest : List ℕ) × (path ≡ folder ++ (codes "/" ++ rest))
+
+-- one folder is the other, or stands below it, by their names
+abbrev pub Overlap : (a b : List ℕ) → Type 0
+Overlap a b = (a ≡ b) ⊎ (IsBelow a b ⊎ IsBelow b a)
+
+-- of these folders of an archive none is another or stands below it
+abbrev pub AreApart : (folders : List (List ℕ)) → Type 0
+AreApart folders = AllPairs (λ a b. ¬ (Overlap a b)) folders
+
+-- no two of the folders overlap
+pub record StandApart (folders : Folders) : Type 0 where
+  pub out : ¬ (Overlap folders.root.now folders.out.now)
+  pub reports : ¬ (Overlap folders.root.now folders.reports.now)
+  pub outputs : ¬ (Overlap folders.out.now folders.reports.now)
+
+-- the output, if one is asked for, has another name than the input; the folders of an archive stand apart
+abbrev pub KeepsInput : Task → Type 0
+KeepsInput (Repack asked) = IfSome asked.output (λ name. name.now ≢ asked.input.now)
+KeepsInput (Listing asked) = ⊤
+KeepsInput (Check asked) = ⊤
+KeepsInput (Archive asked) = StandApart asked.folders
+KeepsInput (Feed asked) = ⊤
+
+-- the options that have these numbers
+pub record AreOptions (bytes tolerance : ℕ) (strict : Bool) (options : Choice) : Type 0 where
+  pub size : size_of options ≡ bytes
+  pub tolerance_is : options.tolerance ≡ tolerance
+  pub strict_is : options.strict ≡ strict
+
+-- standard input is to be repacked to nowhere, with records of 512 bytes and a tolerance of 1000 microseconds, and not
+-- strictly
+abbrev pub IsDefault : Task → Type 0
+IsDefault (Repack asked) =
+    AreOptions 512 1000 false asked.options × (asked.input.now ≡ codes "-") × (asked.output ≡ None)
+IsDefault (Listing asked) = ⊥
+IsDefault (Check asked) = ⊥
+IsDefault (Archive asked) = ⊥
+IsDefault (Feed asked) = ⊥
+
+-- a bad command line: the text to end with, and status 2, unless memory is refused
+abbrev pub IsWrong : (text : List ℕ) → NoTask → Type 0
+IsWrong text (Ending ending) = (string_bytes ending.text ≡ text) × (ending.status ≡ 2)
+IsWrong text Memory = ⊤
+
+-- a bad command line, whatever its text
+abbrev pub IsBadLine : NoTask → Type 0
+IsBadLine (Ending ending) = ending.status ≡ 2
+IsBadLine Memory = ⊤
+
+-- no task, with status 0 for help and the version and 2 for a bad command line
+abbrev pub HasStatus : NoTask → Type 0
+HasStatus (Ending ending) = (ending.status ≡ 0) ⊎ (ending.status ≡ 2)
+HasStatus Memory = ⊤

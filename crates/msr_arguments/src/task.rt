@@ -1,0 +1,100 @@
+//! What the program can be asked to do.
+use msr_options::Options;
+use std::alloc::AllocError;
+
+/// A file to be repacked.
+#[derive(Clone, Copy, Debug, PartialEq, Eq)]
+pub struct Repacking<'a> {
+    pub options: Options,
+    /// The name of a file, or `-` for standard input.
+    pub input: &'a str,
+    /// Where the records go, or nowhere.
+    pub output: Option<&'a str>,
+}
+
+/// Standard input, which is to be repacked to standard output while it comes.
+#[derive(Clone, Copy, Debug, PartialEq, Eq)]
+pub struct Feeding<'a> {
+    pub options: Options,
+    /// The name of the file that gets the report.
+    pub report: &'a str,
+}
+
+/// A file whose segments are to be listed.
+#[derive(Clone, Copy, Debug, PartialEq, Eq)]
+pub struct Listing<'a> {
+    /// Of these no length, since no record is written.
+    pub options: Options,
+    /// The name of a file, or `-` for standard input.
+    pub input: &'a str,
+}
+
+/// Packed records to be checked against a report.
+#[derive(Clone, Copy, Debug, PartialEq, Eq)]
+pub struct Checking<'a> {
+    /// The name of the file with the records.
+    pub packed: &'a str,
+    /// The name of the file with the report.
+    pub report: &'a str,
+}
+
+/// The folders of an archive, of the records that are written, and of their reports.
+#[derive(Clone, Copy, Debug, PartialEq, Eq)]
+pub struct Folders<'a> {
+    pub root: &'a str,
+    pub out: &'a str,
+    pub reports: &'a str,
+}
+
+/// Which folders of an archive are walked, and what is asked of its days.
+#[derive(Debug, Drop, PartialEq, Eq)]
+pub struct Walking<'a> {
+    /// The paths, from the archive's folder, of the folders that are walked; none for the whole archive.
+    pub below: Vec<&'a str>,
+    /// Whether days are left alone that an earlier walk did.
+    pub resume: bool,
+    /// Whether the records of a day are held against their report before they get their name.
+    pub check: bool,
+}
+
+/// An archive whose day files are to be repacked.
+#[derive(Debug, Drop, PartialEq, Eq)]
+pub struct Archiving<'a> {
+    pub options: Options,
+    pub folders: Folders<'a>,
+    pub walking: Walking<'a>,
+}
+
+/// What the program is asked to do.
+#[derive(Debug, Drop, PartialEq, Eq)]
+pub enum Task<'a> {
+    Repack(Repacking<'a>),
+    List(Listing<'a>),
+    Check(Checking<'a>),
+    Archive(Archiving<'a>),
+    Feed(Feeding<'a>),
+}
+
+/// The text to end with, and the status.
+#[derive(Debug, Drop)]
+pub struct Ending {
+    pub text: String,
+    pub status: u8,
+}
+
+/// Why there is no task.
+#[derive(Debug, Drop)]
+pub enum NoTask {
+    Ending(Ending),
+    Memory,
+}
+
+impl From<AllocError> for NoTask {
+    ghost use Rattle.msr_arguments.specs.declared.task.NoTask.TheVariants.{Memory};
+
+    ghost from_gives = { λ _ why. why ≡ Memory };
+
+    fn from(_error: AllocError) -> NoTask {
+        NoTask::Memory
+    }
+}

@@ -1,0 +1,314 @@
+//! What the words of a command line ask for.
+ghost use Rattle.std.specs.Prelude.{◌≡◌, ◌≢◌, ◌<◌, ◌↔◌, length, codes, false, Some, IfOk, IfErr, IfSome, IsSome, IsOk, IsOkAnd, IsTrue, Any, map};
+ghost use Rattle.msr_words.specs.RecordLength.{IsRecordLength};
+ghost use Rattle.clap.specs.Words.{first_value, found_of, kind_of, one_text, subcommand_name_of};
+ghost use Rattle.msr_arguments.specs.Found.{AsksCheck, AsksFolders, AsksOptions, AsksTask, AsksWalking, EndsFor, HoldsOptions, IsFlagOf, IsNumberOf, command_of};
+ghost use Rattle.msr_arguments.specs.Tasks.{AreApart, AreOptions, HasStatus, HasTolerance, IsBadLine, IsBelow, IsDefault, IsTolerance, IsWrong, KeepsInput, Overlap, StandApart};
+
+use crate::commands::command;
+use crate::task::{
+    Archiving, Checking, Ending, Feeding, Folders, Listing, NoTask, Repacking, Task, Walking,
+};
+use crate::texts;
+use clap::ArgMatches;
+use clap::error::ErrorKind;
+use msr_options::Options;
+use msr_sds::levels_below;
+use msr_words::Length;
+use std::alloc::{AllocError, Global};
+
+/// The length of written records if none is asked for.
+const LENGTH: u32 = 512;
+
+/// The tolerance in microseconds if none is asked for.
+const TOLERANCE: u32 = 1000;
+
+/// How an input is repacked if nothing else is asked for.
+fn default_options() -> Options
+    ensures { AreOptions 512 1000 false result }
+{
+    let length = Length::new(LENGTH).unwrap();
+    Options::new(length, TOLERANCE).unwrap()
+}
+
+/// What is done if there are no words.
+fn default_task<'a>() -> Task<'a>
+    ensures default { IsDefault result }
+    ensures tolerance { HasTolerance result }
+    ensures keeps_input { KeepsInput result }
+{
+    Task::Repack(Repacking {
+        options: default_options(),
+        input: "-",
+        output: None,
+    })
+}
+
+/// The answer to a wrong command line.
+fn wrong(alloc: Global, text: &str) -> NoTask
+    ensures { IsWrong text.now result }
+{
+    match String::from_str(alloc, text) {
+        Ok(text) => NoTask::Ending(Ending { text, status: 2 }),
+        Err(AllocError) => NoTask::Memory,
+    }
+}
+
+/// The answer to what clap found: a fault, or that help or the version is asked for.
+fn ending_of(alloc: Global, error: &clap::Error) -> NoTask
+    ensures ends { EndsFor (kind_of error.now) result }
+    ensures status { HasStatus result }
+{
+    if error.kind() == ErrorKind::OutOfMemory {
+        return NoTask::Memory;
+    }
+    match error.to_string(alloc) {
+        Ok(text) => NoTask::Ending(Ending {
+            text,
+            status: if error.use_stderr() { 2 } else { 0 },
+        }),
+        Err(AllocError) => NoTask::Memory,
+    }
+}
+
+/// These options, exactly if the length is one of a record and the tolerance is in its range.
+fn options_of(alloc: Global, bytes: u32, tolerance: u32, strict: bool) -> Result<Options, NoTask>
+    ensures ok { IsOk result ↔ (IsRecordLength bytes × IsTolerance tolerance) }
+    ensures asked { IfOk result (AreOptions bytes tolerance strict) }
+    ensures status { IfErr result IsBadLine }
+{
+    let Some(length) = Length::new(bytes) else {
+        return Err(wrong(alloc, texts::NOT_A_LENGTH));
+    };
+    match Options::new(length, tolerance) {
+        Some(options) => Ok(options.strict(strict)),
+        None => Err(wrong(alloc, texts::NO_COMMAND)),
+    }
+}
+
+fn number_in(found: &ArgMatches<'_>, name: &str) -> Option<u32>
+    ensures { IsNumberOf (one_text (found_of found.now) name.now) result }
+{
+    found.get_one::<u32>(name)
+}
+
+fn flag_in(found: &ArgMatches<'_>, name: &str) -> bool
+    ensures { IsFlagOf (one_text (found_of found.now) name.now) result }
+{
+    found.get_flag(name)
+}
+
+/// What clap found of them. A list has no length, and any serves.
+fn options_in(alloc: Global, found: &ArgMatches<'_>) -> Result<Options, NoTask>
+    ensures asked { IfOk result (AsksOptions (found_of found.now)) }
+    ensures given { HoldsOptions (found_of found.now) → IsOk result }
+    ensures tolerance { IfOk result (λ options. IsTolerance options.tolerance) }
+    ensures status { IfErr result IsBadLine }
+{
+    let Some(tolerance) = number_in(found, "tolerance") else {
+        return Err(wrong(alloc, texts::NO_COMMAND));
+    };
+    let bytes = number_in(found, "length").unwrap_or(LENGTH);
+    options_of(alloc, bytes, tolerance, flag_in(found, "strict"))
+}
+
+/// A file to be repacked, exactly if the output is not the input.
+fn repacking_of<'a>(
+    alloc: Global,
+    options: Options,
+    input: &'a str,
+    output: Option<&'a str>,
+) -> Result<Repacking<'a>, NoTask>
+    ensures ok { IsOk result ↔ IfSome output.entry (λ name. name.now ≢ input.now) }
+    ensures asked { IfOk result (λ asked. (asked.options ≡ options) × (asked.input.now ≡ input.now)
+        × (asked.output ≡ output.entry)) }
+    ensures status { IfErr result IsBadLine }
+{
+    if let Some(name) = output {
+        if name == input {
+            return Err(wrong(alloc, texts::SAME_FILE));
+        }
+    }
+    Ok(Repacking {
+        options,
+        input,
+        output,
+    })
+}
+
+/// Packed records to be checked: first the file with the records, then that with the report.
+fn checking_in<'a>(found: &ArgMatches<'a>) -> Option<Checking<'a>>
+    ensures asked { IfSome result (AsksCheck (found_of found.now)) }
+    ensures given { IsSome (first_value (found_of found.now) (codes "PACKED"))
+        → IsSome (first_value (found_of found.now) (codes "REPORT")) → IsSome result }
+{
+    let packed = found.get_str("PACKED")?;
+    let report = found.get_str("REPORT")?;
+    Some(Checking { packed, report })
+}
+
+/// Whether one folder is the other, or stands below it, by their names.
+fn overlap(a: &str, b: &str) -> bool
+    ensures { IsTrue result ↔ Overlap a.now b.now }
+{
+    a == b || is_below(a, b) || is_below(b, a)
+}
+
+/// Whether the second stands below the first, by their names.
+fn is_below(folder: &str, path: &str) -> bool
+    ensures { IsTrue result ↔ IsBelow folder.now path.now }
+{
+    match path.strip_prefix(folder) {
+        Some(rest) => rest.starts_with('/'),
+        None => false,
+    }
+}
+
+fn folders_in<'a>(found: &ArgMatches<'a>) -> Option<Folders<'a>>
+    ensures asked { IfSome result (AsksFolders (found_of found.now)) }
+    ensures given { IsSome (first_value (found_of found.now) (codes "ROOT"))
+        → IsSome (first_value (found_of found.now) (codes "OUT"))
+        → IsSome (first_value (found_of found.now) (codes "REPORTS")) → IsSome result }
+{
+    let root = found.get_str("ROOT")?;
+    let out = found.get_str("OUT")?;
+    let reports = found.get_str("REPORTS")?;
+    Some(Folders { root, out, reports })
+}
+
+/// Whether one of the folders is that one, or either stands below the other, by their names.
+fn overlaps_one(folders: &[&str], folder: &str) -> bool
+    ensures { IsTrue result ↔ Any (λ other. Overlap other.now folder.now) folders.now }
+{
+    folders.iter().any(|other| overlap(other, folder))
+}
+
+/// The folders of an archive that are to be walked: paths of names, of which no two overlap.
+fn below_of<'a>(alloc: Global, given: &[&'a str]) -> Result<Vec<&'a str>, NoTask>
+    ensures asked { IfOk result (λ below. map (λ folder. folder.now) below.items
+        ≡ map (λ folder. folder.now) given.now) }
+    ensures apart { IfOk result (λ below. AreApart (map (λ folder. folder.now) below.items)) }
+    ensures status { IfErr result IsBadLine }
+{
+    for place in 0..given.len() {
+        if levels_below(given[place]).is_none() {
+            return Err(wrong(alloc, texts::NOT_BELOW));
+        }
+        if overlaps_one(&given[..place], given[place]) {
+            return Err(wrong(alloc, texts::OVERLAP));
+        }
+    }
+    match given.to_vec(alloc) {
+        Ok(below) => Ok(below),
+        Err(AllocError) => Err(NoTask::Memory),
+    }
+}
+
+fn walking_in<'a>(alloc: Global, found: &ArgMatches<'a>) -> Result<Walking<'a>, NoTask>
+    ensures asked { IfOk result (AsksWalking (found_of found.now)) }
+    ensures apart { IfOk result (λ walking. AreApart (map (λ folder. folder.now) walking.below.items)) }
+    ensures status { IfErr result IsBadLine }
+{
+    let below = match found.get_strs("below") {
+        Some(given) => below_of(alloc, given)?,
+        None => Vec::new(alloc),
+    };
+    Ok(Walking {
+        below,
+        resume: flag_in(found, "resume"),
+        check: flag_in(found, "check"),
+    })
+}
+
+/// An archive to be repacked, exactly if no two folders overlap.
+fn archiving_of<'a>(
+    alloc: Global,
+    options: Options,
+    folders: Folders<'a>,
+    walking: Walking<'a>,
+) -> Result<Archiving<'a>, NoTask>
+    ensures ok { IsOk result ↔ StandApart folders.entry }
+    ensures asked { IfOk result (λ asked. (asked.options ≡ options) × (asked.folders ≡ folders.entry)
+        × (asked.walking ≡ walking.entry)) }
+    ensures status { IfErr result IsBadLine }
+{
+    let Folders { root, out, reports } = folders;
+    if overlap(root, out) || overlap(root, reports) || overlap(out, reports) {
+        return Err(wrong(alloc, texts::OVERLAP));
+    }
+    Ok(Archiving {
+        options,
+        folders,
+        walking,
+    })
+}
+
+/// What clap found. It lets no line through without a command, its inputs and numbers in their ranges.
+fn task_of<'a>(alloc: Global, matches: &ArgMatches<'a>) -> Result<Task<'a>, NoTask>
+    ensures command { IfOk result (λ task. subcommand_name_of matches.now ≡ Some (command_of task)) }
+    ensures tolerance { IfOk result HasTolerance }
+    ensures keeps_input { IfOk result KeepsInput }
+    ensures status { IfErr result IsBadLine }
+{
+    let Some((name, found)) = matches.subcommand() else {
+        return Err(wrong(alloc, texts::NO_COMMAND));
+    };
+    task_in(alloc, name, found)
+}
+
+/// What clap found under the command of this name.
+fn task_in<'a>(alloc: Global, name: &str, found: &ArgMatches<'a>) -> Result<Task<'a>, NoTask>
+    ensures command { IfOk result (λ task. name.now ≡ command_of task) }
+    ensures asked { IfOk result (AsksTask (found_of found.now)) }
+    ensures tolerance { IfOk result HasTolerance }
+    ensures keeps_input { IfOk result KeepsInput }
+    ensures status { IfErr result IsBadLine }
+{
+    if name == "check" {
+        return match checking_in(found) {
+            Some(asked) => Ok(Task::Check(asked)),
+            None => Err(wrong(alloc, texts::NO_COMMAND)),
+        };
+    }
+    let options = options_in(alloc, found)?;
+    if name == "archive" {
+        let walking = walking_in(alloc, found)?;
+        return match folders_in(found) {
+            Some(folders) => Ok(Task::Archive(archiving_of(alloc, options, folders, walking)?)),
+            None => Err(wrong(alloc, texts::NO_COMMAND)),
+        };
+    }
+    if name == "feed" {
+        return match found.get_str("REPORT") {
+            Some(report) => Ok(Task::Feed(Feeding { options, report })),
+            None => Err(wrong(alloc, texts::NO_COMMAND)),
+        };
+    }
+    let Some(input) = found.get_str("IN") else {
+        return Err(wrong(alloc, texts::NO_COMMAND));
+    };
+    if name == "list" {
+        return Ok(Task::List(Listing { options, input }));
+    }
+    if name == "repack" {
+        let output = found.get_str("OUT");
+        return Ok(Task::Repack(repacking_of(alloc, options, input, output)?));
+    }
+    Err(wrong(alloc, texts::NO_COMMAND))
+}
+
+/// The task that the words ask for, of which the first is the program's name.
+pub fn read_words<'a>(alloc: Global, words: &'a [&'a str]) -> Result<Task<'a>, NoTask>
+    ensures default { length words.now < 2 → IsOkAnd result IsDefault }
+    ensures tolerance { IfOk result HasTolerance }
+    ensures keeps_input { IfOk result KeepsInput }
+    ensures status { IfErr result HasStatus }
+{
+    if words.len() < 2 {
+        return Ok(default_task());
+    }
+    match command(alloc)?.try_get_matches_from(words) {
+        Ok(matches) => task_of(alloc, &matches),
+        Err(error) => Err(ending_of(alloc, &error)),
+    }
+}

@@ -1,6 +1,0 @@
-use Rattle.msr_command.proofs.Apart.{ApartBefore}
-use Rattle.msr_command.proofs.words.below_of.Given as goal
-
--- no two of the folders so far overlap
-abbrev pub invariant-loop-place : goal.invariant-loop-place
-invariant-loop-place l = ApartBefore (λ folder. folder.now) l.given l.place

@@ -1,0 +1,19 @@
+-- How an input is repacked.
+use Rattle.std.specs.Prelude.{ℕ, Bool}
+use Rattle.msr_words.specs.declared.lengths.Length.{Length}
+use Rattle.msr_words.specs.Lengths.{bytes_of}
+
+-- the length of the records that are written, the tolerance in microseconds, and whether a record is refused whose
+-- reverse constant does not agree
+pub record Choice : Type 0 where
+  pub record_length : Length
+  pub tolerance : ℕ
+  pub strict : Bool
+
+-- how many bytes a record that is written has
+abbrev pub size_of : Choice → ℕ
+size_of choice = bytes_of choice.record_length
+
+-- the same choice, strict or not
+abbrev pub as_strict : Bool → Choice → Choice
+as_strict strict choice = record { record_length = choice.record_length; tolerance = choice.tolerance; strict = strict }
