@@ -90,6 +90,7 @@ pub enum NoTask {
 }
 
 impl From<AllocError> for NoTask {
+    ghost use Rattle.std.specs.Prelude.{◌≡◌};
     ghost use Rattle.msr_arguments.specs.declared.task.NoTask.TheVariants.{Memory};
 
     ghost from_gives = { λ _ why. why ≡ Memory };
