@@ -1,6 +1,6 @@
 //! What the words of a command line ask for.
 ghost use Rattle.std.specs.Prelude.{◌≡◌, ◌≢◌, ◌<◌, ◌↔◌, length, codes, false, Some, IfOk, IfErr, IfSome, IsSome, IsOk, IsOkAnd, IsTrue, Any, map};
-ghost use Rattle.msr_words.specs.RecordLength.{IsRecordLength};
+ghost use Rattle.msr_kinds.specs.RecordLength.{IsRecordLength};
 ghost use Rattle.clap.specs.Words.{first_value, found_of, kind_of, one_text, subcommand_name_of};
 ghost use Rattle.msr_arguments.specs.Found.{AsksCheck, AsksFolders, AsksOptions, AsksTask, AsksWalking, EndsFor, HoldsOptions, IsFlagOf, IsNumberOf, command_of};
 ghost use Rattle.msr_arguments.specs.Tasks.{AreApart, AreOptions, HasStatus, HasTolerance, IsBadLine, IsBelow, IsDefault, IsTolerance, IsWrong, KeepsInput, Overlap, StandApart};
@@ -12,9 +12,9 @@ use crate::task::{
 use crate::texts;
 use clap::ArgMatches;
 use clap::error::ErrorKind;
+use msr_kinds::Length;
 use msr_options::Options;
 use msr_sds::levels_below;
-use msr_words::Length;
 use std::alloc::{AllocError, Global};
 
 /// The length of written records if none is asked for.

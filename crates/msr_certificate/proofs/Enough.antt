@@ -3,7 +3,7 @@ use Rattle.std.proofs.Common.{◌≡◌, ◌∙◌, ap, sym, inl, inr, ◌⊎◌
 use Rattle.std.specs.Fmt.{digits, digits_onto, digit_glyph, signed_decimal}
 use Rattle.std.specs.Char.{is_ascii_alphanumeric}
 use Rattle.std.proofs.lemmas.List.{append-nil, length-replicate}
-use Rattle.msr_record.specs.declared.row.Key.{Key}
+use Rattle.msr_rows.specs.declared.row.Key.{Key}
 use Rattle.msr_report.specs.Text.{IsTimeText, byte_text, field_text, hex_text, split_text}
 use Rattle.msr_certificate.specs.Fields.{AreBytes}
 use Rattle.msr_certificate.specs.Form.{Form, IsKey, key_then}

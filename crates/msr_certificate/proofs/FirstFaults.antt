@@ -1,6 +1,6 @@
 -- The faults of the lines before the segments.
 use Rattle.std.proofs.Common.{◌≡◌, ◌∙◌, ap, rules, arith, ℕ, ◌<◌, ◌≤◌, ◌^◌, Bool, true, List, ◌∷◌, ◌++◌, append_assoc, codes, decimal}
-use Rattle.msr_words.specs.RecordLength.{IsRecordLength}
+use Rattle.msr_kinds.specs.RecordLength.{IsRecordLength}
 use Rattle.msr_certificate.specs.Fault.{IsFaultLine}
 use Rattle.msr_certificate.specs.Rest.{tail_1, tail_2, tail_3, tail_4, tail_5, body_1, body_2, body_3, body_4}
 use Rattle.msr_certificate.specs.Draft.{IsEnough}

@@ -1,6 +1,6 @@
 -- From each of the lines before the segments to the next, or to a fault there.
 use Rattle.std.proofs.Common.{◌≡◌, ◌∙◌, ap, ℕ, suc, ◌≤◌, List, ◌∷◌, ◌++◌, codes, decimal}
-use Rattle.msr_words.specs.RecordLength.{IsRecordLength}
+use Rattle.msr_kinds.specs.RecordLength.{IsRecordLength}
 use Rattle.msr_certificate.specs.Form.{Form, IsForm}
 use Rattle.msr_certificate.specs.Fault.{BeginsReport, IsFaultLine}
 use Rattle.msr_certificate.specs.Rest.{InFirst, AtLine, tail_1, tail_2, tail_3, tail_4, body_1, body_2, body_3}

@@ -1,8 +1,8 @@
 -- A proper report has the form of one.
 use Rattle.std.proofs.Common.{arith, ℕ, zero, suc, ◌<◌, List, [], ◌∷◌, length, get_or, All, map}
-use Rattle.msr_words.specs.declared.lengths.Length.{Length}
-use Rattle.msr_words.specs.Lengths.{bytes_of}
-use Rattle.msr_words.specs.RecordLength.{IsRecordLength}
+use Rattle.msr_kinds.specs.declared.lengths.Length.{Length}
+use Rattle.msr_kinds.specs.Lengths.{bytes_of}
+use Rattle.msr_kinds.specs.RecordLength.{IsRecordLength}
 use Rattle.msr_report.specs.declared.report.SegmentLine.{SegmentLine}
 use Rattle.msr_certificate.specs.Form.{IsFormLine, form_line}
 

@@ -1,7 +1,7 @@
 -- From a line of a segment, or the last line, to the next line.
 use Rattle.std.proofs.Common.{◌≡◌, ◌∙◌, ap, sym, refl, rules, arith, ℕ, zero, suc, ◌+◌, ◌-◌, ◌<◌, ◌^◌, List, [], ◌∷◌, ◌++◌, append_assoc, length, decimal, codes, All, flat_map, ℤ}
 use Rattle.std.proofs.lemmas.List.{append-nil, append_cancel_left}
-use Rattle.msr_record.specs.declared.row.Key.{Key}
+use Rattle.msr_rows.specs.declared.row.Key.{Key}
 use Rattle.msr_report.specs.Text.{separators_line, end_line}
 use Rattle.msr_certificate.specs.Form.{FormLine, IsKey, IsFormLine, IsFormLineText, AreFormLineTexts, IsOpening, form_records}
 use Rattle.msr_certificate.specs.Fault.{IsOneLine, BeginsReport, IsFaultLine}

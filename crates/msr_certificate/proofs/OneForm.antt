@@ -3,7 +3,7 @@ use Rattle.std.proofs.Common.{◌≡◌, ◌∙◌, ap, sym, refl, arith, ℕ, s
 use Rattle.std.proofs.lemmas.List.{append-nil, append_cancel_left}
 use Rattle.std.specs.Fmt.{signed_decimal}
 use Rattle.msr_time.specs.SampleRate.{SampleRate}
-use Rattle.msr_record.specs.declared.row.Key.{Key}
+use Rattle.msr_rows.specs.declared.row.Key.{Key}
 use Rattle.msr_report.specs.Text.{separators_line, end_line, AreSegmentTexts, IsReportText}
 use Rattle.msr_base.specs.declared.counts.Counts.{Counts}
 use Rattle.msr_report.specs.declared.report.SegmentLine.{SegmentLine}

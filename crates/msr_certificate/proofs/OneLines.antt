@@ -8,7 +8,7 @@ use Rattle.jiff_core.proofs.CalendarLemmas.{days_in_year_bounds}
 use Rattle.msr_time.specs.declared.btime.BTime.{BTime}
 use Rattle.msr_time.specs.Instant.{IsTime}
 use Rattle.msr_header.specs.Reading.{is_quality}
-use Rattle.msr_record.specs.declared.row.Key.{Key}
+use Rattle.msr_rows.specs.declared.row.Key.{Key}
 use Rattle.msr_report.specs.Text.{IsTimeText, split_text, date_text, clock_text, padded_decimal, hex_text, field_text}
 use Rattle.msr_certificate.specs.Fields.{AreBytes, name_then, rate_then, flags_then}
 use Rattle.msr_certificate.specs.Form.{IsKey, key_then}

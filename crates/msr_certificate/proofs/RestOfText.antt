@@ -1,7 +1,7 @@
 -- From the lines that were read to the rest of the text.
 use Rattle.std.proofs.Common.{◌≡◌, ◌∙◌, ap, sym, refl, rules, arith, ℕ, suc, ◌-◌, ◌<◌, ◌≤◌, ◌^◌, List, [], ◌∷◌, ◌++◌, append_assoc, length, decimal, codes}
 use Rattle.std.proofs.Math.Nat.{pow-le-pow_right}
-use Rattle.msr_words.specs.RecordLength.{IsRecordLength, most_exponent}
+use Rattle.msr_kinds.specs.RecordLength.{IsRecordLength, most_exponent}
 use Rattle.msr_report.specs.Text.{counts_line, end_line}
 use Rattle.msr_base.specs.declared.counts.Counts.{Counts}
 use Rattle.msr_certificate.specs.Form.{Form, IsForm, IsFirst, IsFormText, form_records, first_then}

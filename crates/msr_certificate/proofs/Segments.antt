@@ -1,6 +1,6 @@
 -- The lines of the segments: from the lines that were read to the rest of the text.
 use Rattle.std.proofs.Common.{◌≡◌, ◌∙◌, ap, sym, refl, arith, ℕ, zero, suc, ◌+◌, ◌<◌, ◌^◌, List, [], ◌∷◌, ◌++◌, append_assoc, length, decimal, codes, All, ℤ}
-use Rattle.msr_record.specs.declared.row.Key.{Key}
+use Rattle.msr_rows.specs.declared.row.Key.{Key}
 use Rattle.msr_report.specs.Text.{segment_words, separators_line, end_line, IsTimeText}
 use Rattle.msr_certificate.specs.Form.{FormLine, IsKey, IsFormLine, IsFormLineText, AreFormLineTexts, IsOpening, key_then, form_records}
 use Rattle.msr_certificate.specs.Rest.{InFirst, AtLine, tail_5}

@@ -1,7 +1,7 @@
 -- Some segments were read, and the rest of the text may go on.
 use Rattle.std.proofs.Common.{◌≡◌, ◌∙◌, ap, sym, refl, arith, ℕ, zero, suc, ◌+◌, ◌*◌, ◌<◌, ◌≤◌, ◌^◌, List, [], ◌∷◌, ◌++◌, append_assoc, length, All, map, length-append}
 use Rattle.std.proofs.lemmas.List.{append-nil}
-use Rattle.msr_words.specs.Lengths.{bytes_of}
+use Rattle.msr_kinds.specs.Lengths.{bytes_of}
 use Rattle.msr_report.specs.Proper.{records_of, IsProperLine}
 use Rattle.msr_report.specs.Text.{separators_line, end_line, first_lines, AreSegmentTexts}
 use Rattle.msr_base.specs.declared.counts.Counts.{Counts}

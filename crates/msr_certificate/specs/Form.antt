@@ -6,13 +6,13 @@ use Rattle.std.specs.Int.{w16, w32}
 use Rattle.std.specs.Int.RustNames.{FitsSigned}
 use Rattle.msr_time.specs.Instant.{IsInstant}
 use Rattle.msr_header.specs.Reading.{is_quality}
-use Rattle.msr_words.specs.RecordLength.{IsRecordLength}
-use Rattle.msr_record.specs.declared.row.Key.{Key}
+use Rattle.msr_kinds.specs.RecordLength.{IsRecordLength}
+use Rattle.msr_rows.specs.declared.row.Key.{Key}
 use Rattle.msr_report.specs.Text.{IsTimeText, segment_words, separators_line, counts_line, end_line}
 use Rattle.msr_base.specs.declared.counts.Counts.{Counts}
 use Rattle.msr_report.specs.declared.report.SegmentLine.{SegmentLine}
 use Rattle.msr_report.specs.declared.report.Report.{Report}
-use Rattle.msr_words.specs.Lengths.{bytes_of}
+use Rattle.msr_kinds.specs.Lengths.{bytes_of}
 use Rattle.msr_certificate.specs.Fields.{AreBytes, name_then, rate_then, flags_then}
 
 -- the fields of a key are in the ranges of their types, with a quality and a rate that a record can have

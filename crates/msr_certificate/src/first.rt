@@ -1,14 +1,14 @@
 //! The lines before the segments.
 ghost use Rattle.std.specs.Prelude.{◌≡◌, ◌++◌, ℕ, List, IfOk, IfErr};
-ghost use Rattle.msr_words.specs.Lengths.{bytes_of};
+ghost use Rattle.msr_kinds.specs.Lengths.{bytes_of};
 ghost use Rattle.msr_certificate.specs.Form.{first_then, IsFirst};
 ghost use Rattle.msr_certificate.specs.Fault.{IsFaultLine};
 ghost use Rattle.msr_certificate.specs.Draft.{IsEnough};
 
 use crate::fields::may_begin;
 use crate::lines::{counts, record_length, title, tolerance};
+use msr_kinds::Length;
 use msr_report::Counts;
-use msr_words::Length;
 
 /// What the lines before the segments say.
 #[derive(Clone, Copy)]

@@ -6,13 +6,13 @@ ghost use Rattle.std.specs.Int.RustNames.{FitsSigned};
 ghost use Rattle.msr_report.specs.Text.{hex_text, field_text};
 ghost use Rattle.msr_certificate.specs.Fields.{EndsNumber, AreBytes, name_then, rate_then, flags_then};
 ghost use Rattle.msr_header.specs.Reading.{is_quality};
-ghost use Rattle.msr_record.specs.declared.row.Key.{Key as ChannelKey};
+ghost use Rattle.msr_rows.specs.declared.row.Key.{Key as ChannelKey};
 ghost use Rattle.msr_certificate.specs.Form.{IsKey, key_then};
 
 use crate::fields::{
     after, five_bytes, hex_byte, number, signed, signed_16, three_bytes, two_bytes,
 };
-use msr_record::Key;
+use msr_rows::Key;
 use msr_time::Rate;
 
 /// Two bytes of a name and a dot.

@@ -5,8 +5,8 @@ ghost use Rattle.msr_report.specs.Proper.{IsProper, IsProperLine};
 ghost use Rattle.msr_certificate.specs.Form.{IsForm, IsFormLine, IsKey, form_line, form_of};
 ghost use Rattle.msr_certificate.specs.Laws.{NoLineAtFault, OneReport, TextIsReadBack};
 
-use msr_record::Key;
 use msr_report::{Counts, Report, SegmentLine};
+use msr_rows::Key;
 
 /// Two reports with the same text say the same.
 pub fn one_report()

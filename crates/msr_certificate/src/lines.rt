@@ -2,19 +2,19 @@
 ghost use Rattle.std.specs.Prelude.{◌≡◌, ◌<◌, ◌≤◌, ◌^◌, ◌++◌, ◌∷◌, ℕ, ℤ, List, IfSome, IsSomeAnd, codes};
 ghost use Rattle.std.specs.Fmt.{decimal};
 ghost use Rattle.msr_time.specs.Instant.{IsInstant};
-ghost use Rattle.msr_words.specs.Lengths.{bytes_of};
-ghost use Rattle.msr_words.specs.RecordLength.{IsRecordLength};
+ghost use Rattle.msr_kinds.specs.Lengths.{bytes_of};
+ghost use Rattle.msr_kinds.specs.RecordLength.{IsRecordLength};
 ghost use Rattle.msr_report.specs.Text.{IsTimeText};
-ghost use Rattle.msr_record.specs.declared.row.Key.{Key as ChannelKey};
+ghost use Rattle.msr_rows.specs.declared.row.Key.{Key as ChannelKey};
 ghost use Rattle.msr_certificate.specs.Fields.{EndsNumber};
 ghost use Rattle.msr_certificate.specs.Form.{IsKey, IsOpening};
 
 use crate::fields::{after, number};
 use crate::keys::channel_key;
 use crate::times::instant;
-use msr_record::Key;
+use msr_kinds::Length;
 use msr_report::Counts;
-use msr_words::Length;
+use msr_rows::Key;
 
 /// The start of a segment.
 fn start(text: &[u8]) -> Option<(i64, &[u8])>

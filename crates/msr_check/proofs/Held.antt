@@ -1,8 +1,8 @@
 -- Two samples that one run holds, by the starts at and before the first of them.
 use Rattle.std.proofs.Common.{◌≡◌, ◌↔◌, ℕ, ◌+◌, ◌-◌, ◌<◌, ◌≤◌, min, Bool, true, false, ◌||◌, IsTrue, IsFalse, ℤ, List, length, arith, refl, inl, inr}
 use Rattle.std.proofs.lemmas.Bool.{cases_lt}
-use Rattle.msr_words.specs.declared.kinds.Kind.{Kind}
-use Rattle.msr_words.specs.declared.kinds.Kind.TheVariants.{Int16, Int24, Int32, Steim1, Steim2}
+use Rattle.msr_kinds.specs.declared.kinds.Kind.{Kind}
+use Rattle.msr_kinds.specs.declared.kinds.Kind.TheVariants.{Int16, Int24, Int32, Steim1, Steim2}
 use Rattle.msr_words.specs.Segment.{run_points}
 use Rattle.msr_words.specs.Fit.{Fits}
 use Rattle.msr_words.specs.Laws.{look_back_of}

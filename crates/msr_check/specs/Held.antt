@@ -1,6 +1,6 @@
 -- Two samples that one record holds.
 use Rattle.std.specs.Prelude.{ℕ, ◌<◌, ◌≤◌, ℤ, List}
-use Rattle.msr_words.specs.declared.kinds.Kind.{Kind}
+use Rattle.msr_kinds.specs.declared.kinds.Kind.{Kind}
 use Rattle.msr_words.specs.Fit.{Fits, IsRun}
 
 -- some run of that kind that fits holds both samples, of which the first stands before the second

@@ -2,12 +2,13 @@
 #![tactic(auto)]
 
 ghost use Rattle.std.specs.Prelude.{◌≡◌, ◌<◌, ◌↔◌, length, IsTrue, IsFalse};
-ghost use Rattle.msr_words.specs.Lengths.{bytes_of};
+ghost use Rattle.msr_kinds.specs.Lengths.{bytes_of};
 ghost use Rattle.msr_words.specs.Fit.{Fits, IsRun};
 ghost use Rattle.msr_check.specs.Held.{Holds};
 ghost use Rattle.msr_words.specs.Packing.{NoneHolds, IsPacking, IsSeparating, IsLeast};
 
-use msr_words::{Kind, Length, Run, run_fits};
+use msr_kinds::{Kind, Length};
+use msr_words::{Fitting, Run, run_fits};
 
 /// Some run of that kind that fits holds both samples. It is enough to try the starts that the kind needs,
 /// at and before the first sample, and the end after the second.

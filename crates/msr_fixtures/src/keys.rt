@@ -1,9 +1,9 @@
 //! The key of the one header.
 ghost use Rattle.std.specs.Prelude.{◌≡◌, IsTrue, false};
 ghost use Rattle.msr_header.specs.Reading.{is_quality};
-ghost use Rattle.msr_record.specs.Correction.{is_pending};
+ghost use Rattle.msr_rows.specs.Correction.{is_pending};
 
-use msr_record::Key;
+use msr_rows::Key;
 use msr_time::Rate;
 
 /// The key of a row of the header, but with that rate.

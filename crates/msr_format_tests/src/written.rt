@@ -4,6 +4,7 @@ use crate::worked::{ONE_ZERO, alternating, alternating_record};
 use msr_fixtures::{Edit, START, expect, key_at, record, steim_record};
 use msr_record::{Kind, Length, Record, decode_record, encode_record};
 use msr_time::{Rate, is_instant};
+use msr_words::Fitting;
 use std::alloc::Global;
 use std::test::Fail;
 

@@ -7,7 +7,7 @@ use msr_fixtures::{START, key_at};
 use msr_record::encode_record;
 use msr_time::{Rate, is_instant};
 use msr_tool::Options;
-use msr_words::{Kind, Length};
+use msr_words::{Fitting, Kind, Length};
 use std::alloc::{AllocError, Global};
 
 /// A device that moves all that it is given, and never fails.

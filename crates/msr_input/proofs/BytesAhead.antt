@@ -3,9 +3,9 @@ use Rattle.std.proofs.Common.{inl, inr, ◌⊎◌, take, length-take, ◌≡◌,
 use Rattle.std.proofs.lemmas.List.{append-nil, take-append-le, take_all}
 use Rattle.std.proofs.lemmas.List.{take-take}
 use Rattle.std.proofs.lemmas.Bool.{cases_Bool, cases_lt, le-leb, lt-leb}
-use Rattle.msr_record.specs.Records.{IsRecordOf}
-use Rattle.msr_record.specs.declared.row.Record.{Record}
-use Rattle.msr_record.proofs.FirstBytes.{own_record}
+use Rattle.msr_rows.specs.Records.{IsRecordOf}
+use Rattle.msr_rows.specs.declared.row.Record.{Record}
+use Rattle.msr_rows.proofs.FirstBytes.{own_record}
 use Rattle.msr_input.specs.Reading.{HoldsRecord, room_with}
 use Rattle.msr_input.specs.Steps.{CameBefore, StopsDecoding, fault_of_fill}
 use Rattle.msr_input.proofs.SettledRefusals.{held_some}

@@ -3,12 +3,12 @@ use Rattle.std.proofs.Common.{◌≡◌, ◌≢◌, ℕ, inl, inr, true, List, [
 use Rattle.std.specs.Option.{option_to_list}
 use Rattle.std.proofs.lemmas.List.{append-nil}
 use Rattle.std.proofs.lemmas.List.Elements.{All-pop, All-push}
-use Rattle.msr_record.specs.Records.{IsRecordOf, IsRowOf, RowIsInTime, TakesMemory}
-use Rattle.msr_record.specs.declared.row.Record.{Record}
-use Rattle.msr_record.specs.declared.row.Row.{Row}
-use Rattle.msr_record.specs.declared.fault.FaultKind.TheVariants.{TimeRange}
-use Rattle.msr_record.proofs.UnseenBytes.{record_fits, shown_record}
-use Rattle.msr_record.proofs.WritableRows.{row_is_writable}
+use Rattle.msr_rows.specs.Records.{IsRecordOf, IsRowOf, RowIsInTime, TakesMemory}
+use Rattle.msr_rows.specs.declared.row.Record.{Record}
+use Rattle.msr_rows.specs.declared.row.Row.{Row}
+use Rattle.msr_rows.specs.declared.fault.FaultKind.TheVariants.{TimeRange}
+use Rattle.msr_rows.proofs.UnseenBytes.{record_fits, shown_record}
+use Rattle.msr_rows.proofs.WritableRows.{row_is_writable}
 use Rattle.msr_devices.specs.Device.{Device}
 use Rattle.msr_devices.proofs.Chaining.{left_of}
 use Rattle.msr_segments.specs.Spans.{Overruns}

@@ -1,11 +1,11 @@
 -- An input has one list of records, and at most one first fault.
 use Rattle.std.proofs.Common.{◌≡◌, ℕ, Bool, ◌<◌, inl, inr, List, [], ◌∷◌, ◌++◌, length, refl, sym, ap, subst, ◌∙◌, arith}
 use Rattle.std.proofs.lemmas.List.{append-nil}
-use Rattle.msr_record.specs.Records.{IsRefused}
-use Rattle.msr_record.specs.declared.row.Record.{Record}
-use Rattle.msr_record.specs.declared.fault.FaultKind.{FaultKind}
-use Rattle.msr_record.specs.declared.fault.FaultKind.TheVariants.{Memory}
-use Rattle.msr_record.proofs.OneAnswer.{one_record}
+use Rattle.msr_rows.specs.Records.{IsRefused}
+use Rattle.msr_rows.specs.declared.row.Record.{Record}
+use Rattle.msr_rows.specs.declared.fault.FaultKind.{FaultKind}
+use Rattle.msr_rows.specs.declared.fault.FaultKind.TheVariants.{Memory}
+use Rattle.msr_rows.proofs.OneAnswer.{one_record}
 use Rattle.msr_segments.specs.Segments.{AreSegments}
 use Rattle.msr_segments.proofs.DivisionLaws.{one_list}
 use Rattle.msr_input.specs.Input.{AllAgree, BeginsWith, NoneOverruns, IsRefusedAlone, IsRefusedAfter, bytes_of_records, rows_of_records, OneListOfRecords, OneFirstFault, ReadableHasNoFault, MemoryIsNoFault}

@@ -3,11 +3,11 @@ use Rattle.std.proofs.Common.{◌≡◌, ℕ, ◌+◌, ◌≤◌, ◌⊎◌, inl
 use Rattle.std.specs.Prelude.{is_some, if◌then◌else◌}
 use Rattle.std.specs.Option.{option_to_list}
 use Rattle.std.proofs.lemmas.List.{append-nil}
-use Rattle.msr_record.specs.Records.{IsRecordOf}
-use Rattle.msr_record.specs.declared.row.Record.{Record}
-use Rattle.msr_record.specs.declared.row.Row.{Row}
-use Rattle.msr_record.proofs.UnseenBytes.{record_fits}
-use Rattle.msr_record.proofs.OneAnswer.{one_record}
+use Rattle.msr_rows.specs.Records.{IsRecordOf}
+use Rattle.msr_rows.specs.declared.row.Record.{Record}
+use Rattle.msr_rows.specs.declared.row.Row.{Row}
+use Rattle.msr_rows.proofs.UnseenBytes.{record_fits}
+use Rattle.msr_rows.proofs.OneAnswer.{one_record}
 use Rattle.msr_input.specs.Input.{Agrees, AllAgree, BeginsWith, bytes_of_records, rows_of_records, empty_count, mismatch_count}
 
 pub begins_snoc : (records : List Record) (found : Record) (input rest : List ℕ) → BeginsWith records input rest

@@ -2,10 +2,10 @@
 use Rattle.std.proofs.Common.{◌≡◌, ◌≢◌, ℕ, ◌+◌, ◌^◌, ◌<◌, ◌≤◌, ◌-◌, ◌⊎◌, inl, inr, Bool, true, false, List, [], ◌∷◌, ◌++◌, length, drop, refl, sym, ap, subst, ◌∙◌, arith, append_assoc, length-append, length-drop, Option, Result, Ok, Err, IfErr, MatchResult}
 use Rattle.std.proofs.lemmas.Bool.{cases_Bool}
 use Rattle.std.proofs.lemmas.List.{append-nil, drop-append-le}
-use Rattle.msr_record.specs.Records.{IsRecordOf}
-use Rattle.msr_record.specs.declared.row.Record.{Record}
-use Rattle.msr_record.specs.declared.fault.FaultKind.{FaultKind}
-use Rattle.msr_record.proofs.UnseenBytes.{record_fits, shown_record}
+use Rattle.msr_rows.specs.Records.{IsRecordOf}
+use Rattle.msr_rows.specs.declared.row.Record.{Record}
+use Rattle.msr_rows.specs.declared.fault.FaultKind.{FaultKind}
+use Rattle.msr_rows.proofs.UnseenBytes.{record_fits, shown_record}
 use Rattle.msr_devices.specs.Device.{Device, HasLeft, GivesOnto, IsCalm}
 use Rattle.msr_devices.specs.ReadBuffer.{Window, IsFilled}
 use Rattle.msr_devices.proofs.Chaining.{calm_same, calm_calm, calm_failed, steady_steady, left_of}

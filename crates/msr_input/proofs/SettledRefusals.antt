@@ -6,15 +6,15 @@ use Rattle.std.proofs.lemmas.Nat.{pow_pos}
 use Rattle.std.proofs.lemmas.List.{take-append-le}
 use Rattle.msr_header.proofs.FoundLemmas.{header_sound}
 use Rattle.msr_header.proofs.ShownLemmas.{AreBytes, SameFirst, covers_first, header_alike}
-use Rattle.msr_record.specs.Records.{IsRefused}
-use Rattle.msr_record.specs.declared.fault.FaultKind.{FaultKind}
-use Rattle.msr_record.specs.declared.fault.FaultKind.TheVariants.{Header, NoRate, OtherEncoding, BadDataOffset, DataShort, BadCode, TimeRange, ReverseMismatch, Memory}
+use Rattle.msr_rows.specs.Records.{IsRefused}
+use Rattle.msr_rows.specs.declared.fault.FaultKind.{FaultKind}
+use Rattle.msr_rows.specs.declared.fault.FaultKind.TheVariants.{Header, NoRate, OtherEncoding, BadDataOffset, DataShort, BadCode, TimeRange, ReverseMismatch, Memory}
 use Rattle.msr_header.specs.declared.fault.HeaderFault.{HeaderFault}
 use Rattle.msr_devices.specs.ReadBuffer.{Window}
 use Rattle.msr_input.specs.Input.{IsRefusedAlone}
 use Rattle.msr_input.specs.Reading.{HoldsRecord}
 use Rattle.msr_input.specs.Steps.{fault_at, may_change, StopsDecoding}
-use Rattle.msr_record.proofs.FirstBytes.{SameRecord, own_same}
+use Rattle.msr_rows.proofs.FirstBytes.{SameRecord, own_same}
 use Rattle.msr_input.proofs.Strict.{alone_same}
 
 -- a refusal of 1048576 bytes or more stays one, whatever follows them

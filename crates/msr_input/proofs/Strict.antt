@@ -1,12 +1,12 @@
 -- Refusals for a reverse constant that does not agree, beside those of a record by itself.
 use Rattle.std.proofs.Common.{◌≡◌, ◌≢◌, ℕ, inl, inr, Bool, true, false, List, refl, sym, subst, ◌∙◌}
-use Rattle.msr_record.specs.Records.{IsRecordOf, IsRefused}
-use Rattle.msr_record.specs.Reverse.{HasReverse, IsRefusedBeforeTime}
-use Rattle.msr_record.specs.declared.row.Record.{Record}
-use Rattle.msr_record.specs.declared.fault.FaultKind.{FaultKind}
-use Rattle.msr_record.specs.declared.fault.FaultKind.TheVariants.{ReverseMismatch, TimeRange}
-use Rattle.msr_record.proofs.FirstBytes.{SameRecord, refused_same, reverse_same, turned}
-use Rattle.msr_record.proofs.OneAnswer.{not_refused, one_fault, reverse_not_refused, reverse_of_record, reverse_one}
+use Rattle.msr_rows.specs.Records.{IsRecordOf, IsRefused}
+use Rattle.msr_rows.specs.Reverse.{HasReverse, IsRefusedBeforeTime}
+use Rattle.msr_rows.specs.declared.row.Record.{Record}
+use Rattle.msr_rows.specs.declared.fault.FaultKind.{FaultKind}
+use Rattle.msr_rows.specs.declared.fault.FaultKind.TheVariants.{ReverseMismatch, TimeRange}
+use Rattle.msr_rows.proofs.FirstBytes.{SameRecord, refused_same, reverse_same, turned}
+use Rattle.msr_rows.proofs.OneAnswer.{not_refused, one_fault, reverse_not_refused, reverse_of_record, reverse_one}
 use Rattle.msr_input.specs.Input.{Agrees, IsRefusedAlone, Mismatches}
 
 -- every fault but that of the time comes before the reverse constant

@@ -2,12 +2,12 @@
 -- is refused. Each record is judged by all bytes that are left from its first one on.
 use Rattle.std.specs.Prelude.{◌≡◌, ◌≢◌, ◌⊎◌, ℕ, ◌+◌, ◌<◌, Bool, false, IsTrue, if◌then◌else◌, List, [], ◌∷◌, ◌++◌, length, drop, is_some, Some}
 use Rattle.std.specs.Option.{option_to_list}
-use Rattle.msr_record.specs.Records.{IsRecordOf, IsRefused}
-use Rattle.msr_record.specs.Reverse.{HasReverse}
-use Rattle.msr_record.specs.declared.row.Record.{Record}
-use Rattle.msr_record.specs.declared.row.Row.{Row}
-use Rattle.msr_record.specs.declared.fault.FaultKind.{FaultKind}
-use Rattle.msr_record.specs.declared.fault.FaultKind.TheVariants.{TimeRange, ReverseMismatch, Memory}
+use Rattle.msr_rows.specs.Records.{IsRecordOf, IsRefused}
+use Rattle.msr_rows.specs.Reverse.{HasReverse}
+use Rattle.msr_rows.specs.declared.row.Record.{Record}
+use Rattle.msr_rows.specs.declared.row.Row.{Row}
+use Rattle.msr_rows.specs.declared.fault.FaultKind.{FaultKind}
+use Rattle.msr_rows.specs.declared.fault.FaultKind.TheVariants.{TimeRange, ReverseMismatch, Memory}
 use Rattle.msr_segments.specs.Segments.{AreSegments, LastEndsOutOfRange}
 use Rattle.msr_segments.specs.declared.joiner.Segment.{Segment}
 use Rattle.msr_base.specs.declared.counts.Counts.{Counts}

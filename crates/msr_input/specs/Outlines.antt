@@ -1,7 +1,7 @@
 -- Records and rows without their samples.
 use Rattle.std.specs.Prelude.{length, option_map}
-use Rattle.msr_record.specs.declared.row.Record.{Record}
-use Rattle.msr_record.specs.declared.row.Row.{Row}
+use Rattle.msr_rows.specs.declared.row.Record.{Record}
+use Rattle.msr_rows.specs.declared.row.Row.{Row}
 use Rattle.msr_segments.specs.Spans.{span_of}
 use Rattle.msr_segments.specs.declared.span.Span.{Span}
 use Rattle.msr_input.specs.declared.outline.Outline.{Outline}

@@ -3,9 +3,9 @@ use Rattle.std.specs.Prelude.{◌≡◌, ◌⊎◌, ℕ, ◌*◌, ◌≤◌, max
 use Rattle.std.specs.Option.{option_to_list}
 use Rattle.msr_header.specs.Reading.{header_of, is_quality}
 use Rattle.msr_header.specs.declared.header.Header.{Header}
-use Rattle.msr_record.specs.Correction.{is_pending}
-use Rattle.msr_record.specs.Records.{TakesMemory}
-use Rattle.msr_record.specs.declared.row.Record.{Record}
+use Rattle.msr_rows.specs.Correction.{is_pending}
+use Rattle.msr_rows.specs.Records.{TakesMemory}
+use Rattle.msr_rows.specs.declared.row.Record.{Record}
 use Rattle.msr_devices.specs.Device.{Device, HasLeft, HasFailed, IsSteady}
 use Rattle.msr_segments.specs.Segments.{SegmentIsInTime}
 use Rattle.msr_segments.specs.Joining.{Joining, HasJoined}

@@ -1,8 +1,8 @@
 -- What a reader of rows shows, and what reading them does.
 use Rattle.std.specs.Prelude.{◌≡◌, true, List, [], ◌∷◌, ◌++◌, Option, None, Some, MatchOption}
 use Rattle.std.specs.Option.{option_to_list}
-use Rattle.msr_record.specs.declared.row.Record.{Record}
-use Rattle.msr_record.specs.declared.row.Row.{Row}
+use Rattle.msr_rows.specs.declared.row.Record.{Record}
+use Rattle.msr_rows.specs.declared.row.Row.{Row}
 use Rattle.msr_devices.specs.Device.{Device}
 use Rattle.msr_segments.specs.Spans.{Following, IsStep}
 use Rattle.msr_segments.specs.Segments.{row_segment, row_span}

@@ -1,11 +1,11 @@
 -- What the steps of reading do: bytes are read ahead, a record is read, and its row is joined.
 use Rattle.std.specs.Prelude.{◌≡◌, ◌⊎◌, ℕ, ◌<◌, ◌≤◌, Bool, false, nat_lt, List, ◌++◌, length, Option, None, Some, IsSome, IfSome}
 use Rattle.msr_time.specs.Instant.{IsInstant}
-use Rattle.msr_record.specs.Records.{IsRecordOf}
-use Rattle.msr_record.specs.declared.row.Record.{Record}
-use Rattle.msr_record.specs.declared.row.Row.{Row}
-use Rattle.msr_record.specs.declared.fault.FaultKind.{FaultKind}
-use Rattle.msr_record.specs.declared.fault.FaultKind.TheVariants as refusal
+use Rattle.msr_rows.specs.Records.{IsRecordOf}
+use Rattle.msr_rows.specs.declared.row.Record.{Record}
+use Rattle.msr_rows.specs.declared.row.Row.{Row}
+use Rattle.msr_rows.specs.declared.fault.FaultKind.{FaultKind}
+use Rattle.msr_rows.specs.declared.fault.FaultKind.TheVariants as refusal
 use Rattle.msr_devices.specs.Device.{Device, GivesOnto, HasFailed}
 use Rattle.msr_devices.specs.ReadBuffer.{Window, IsFilled}
 use Rattle.msr_devices.specs.declared.read_buffer.FillFault.{FillFault}

@@ -3,7 +3,7 @@ ghost use Rattle.std.specs.Prelude.{◌≡◌};
 ghost use Rattle.msr_input.specs.Steps.{fault_of_fill, fault_at};
 
 use msr_devices::FillFault;
-use msr_record::FaultKind;
+use msr_rows::FaultKind;
 use thiserror::Error;
 
 /// A refusal of the record that begins at the offset.

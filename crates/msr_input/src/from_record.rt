@@ -1,13 +1,13 @@
 //! What a reader makes of the bytes of a record: the record with its samples, or its outline.
 ghost use Rattle.std.specs.Prelude.{◌≡◌, ◌≢◌, ℕ, List, false, IfErr, IfOk, IfSome, IsErrOf, Ok};
 ghost use Rattle.msr_header.specs.Reading.{header_of};
-ghost use Rattle.msr_record.specs.Records.{IsRecordOf, IsRefused, TakesMemory};
-ghost use Rattle.msr_record.specs.declared.row.Record.{Record as Found};
+ghost use Rattle.msr_rows.specs.Records.{IsRecordOf, IsRefused, TakesMemory};
+ghost use Rattle.msr_rows.specs.declared.row.Record.{Record as Found};
 ghost use Rattle.msr_input.specs.Outlines.{outline_of};
 ghost use Rattle.msr_input.specs.Steps.{CanJoin, IsJudged};
 
 use crate::outline::{Outline, RowOutline};
-use msr_record::{FaultKind, Record, RecordView, Row, decode_record, view_record};
+use msr_rows::{FaultKind, Record, RecordView, Row, decode_record, view_record};
 use std::alloc::Global;
 
 /// What a reader makes of the bytes of a record.

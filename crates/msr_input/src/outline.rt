@@ -1,5 +1,5 @@
 //! Records and rows without their samples.
-use msr_record::Key;
+use msr_rows::Key;
 
 /// A row without its samples.
 #[derive(Clone, Copy, Debug)]

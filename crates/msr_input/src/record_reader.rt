@@ -40,7 +40,7 @@ impl Model for RecordReader {
 impl RecordReader {
     ghost use Rattle.std.specs.Prelude.{◌≡◌, ◌≢◌, ◌↔◌, ◌≤◌, ◌<◌, ◌⊎◌, List, [], ◌∷◌, ◌++◌, length, true, IsTrue, OnOk, IfOk, IfErr, IsErrOf, MatchResult, MatchOption};
     ghost use Rattle.msr_devices.specs.Device.{Device, CanCountCall, CountsFew, IsSteady};
-    ghost use Rattle.msr_record.specs.declared.row.Record.{Record as Found};
+    ghost use Rattle.msr_rows.specs.declared.row.Record.{Record as Found};
     ghost use Rattle.msr_input.specs.Records.{HaveCome, HaveComeShort, StopsRecords, left_with};
     ghost use Rattle.msr_input.specs.Reading.{HoldsRecord};
     ghost use Rattle.msr_input.specs.Steps.{IsGiven, IsNext};

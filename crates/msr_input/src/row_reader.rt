@@ -7,7 +7,7 @@ use crate::settings::Settings;
 use crate::step::{follow, next_outline, next_row};
 use msr_base::Counts;
 use msr_devices::Source;
-use msr_record::{Record, Row};
+use msr_rows::{Record, Row};
 use msr_segments::{Follow, Step};
 use std::alloc::Global;
 use std::marker::Model;
@@ -56,7 +56,7 @@ impl Model for RowReader {
 impl RowReader {
     ghost use Rattle.std.specs.Prelude.{◌≡◌, ◌≢◌, ◌↔◌, ◌≤◌, ◌<◌, List, [], length, None, IsTrue, OnOk, OnErr, IfOk, IfErr, IsErrOf, IfSome, MatchResult, MatchOption};
     ghost use Rattle.msr_devices.specs.Device.{Device, CanCountCall, CountsFew, IsSteady};
-    ghost use Rattle.msr_record.specs.declared.row.Record.{Record as Found};
+    ghost use Rattle.msr_rows.specs.declared.row.Record.{Record as Found};
     ghost use Rattle.msr_segments.specs.Spans.{IsInBounds, IsStep};
     ghost use Rattle.msr_segments.specs.Segments.{row_segment};
     ghost use Rattle.msr_segments.specs.declared.follow.Step.{Step as Answer};

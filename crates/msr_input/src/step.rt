@@ -1,7 +1,7 @@
 //! The steps of reading: bytes ahead, a record, its row, its counts.
 ghost use Rattle.std.specs.Prelude.{◌≡◌, ◌≢◌, ◌+◌, ◌<◌, ◌-◌, ◌^◌, true, List, [], ◌∷◌, ◌++◌, length, IfOk, IfErr, IfSome, IsErrOf, OnErr, MatchResult, MatchOption, if◌then◌else◌};
-ghost use Rattle.msr_record.specs.Records.{IsRefused};
-ghost use Rattle.msr_record.specs.declared.row.Record.{Record as Found};
+ghost use Rattle.msr_rows.specs.Records.{IsRefused};
+ghost use Rattle.msr_rows.specs.declared.row.Record.{Record as Found};
 ghost use Rattle.msr_devices.specs.Device.{CanCountCall, CountsFew};
 ghost use Rattle.msr_devices.specs.ReadBuffer.{IsFilled};
 ghost use Rattle.msr_segments.specs.Spans.{IsInBounds};
@@ -17,7 +17,7 @@ use crate::outline::{Outline, RowOutline};
 use crate::row_reader::{NextOutline, NextRow};
 use msr_base::Counts;
 use msr_devices::{ReadBuffer, Source};
-use msr_record::{FaultKind, Row, reverse_in};
+use msr_rows::{FaultKind, Row, reverse_in};
 use msr_segments::{Follow, JoinFault, JoinKind, Joiner, OutOfRange, Segment, Step};
 use std::alloc::Global;
 

@@ -1,7 +1,7 @@
 -- How an input is repacked.
 use Rattle.std.specs.Prelude.{ℕ, Bool}
-use Rattle.msr_words.specs.declared.lengths.Length.{Length}
-use Rattle.msr_words.specs.Lengths.{bytes_of}
+use Rattle.msr_kinds.specs.declared.lengths.Length.{Length}
+use Rattle.msr_kinds.specs.Lengths.{bytes_of}
 
 -- the length of the records that are written, the tolerance in microseconds, and whether a record is refused whose
 -- reverse constant does not agree

@@ -4,7 +4,7 @@
 
 ghost use Rattle.std.specs.Prelude.{◌≡◌, ◌↔◌, ◌≤◌, false, IsSome, IfSome};
 
-use msr_words::Length;
+use msr_kinds::Length;
 use std::marker::Model;
 
 const LEAST_TOLERANCE: u32 = 1;

@@ -4,7 +4,7 @@ use Rattle.std.specs.List.{flat_map}
 use Rattle.std.proofs.lemmas.List.{map-append}
 use Rattle.std.proofs.lemmas.Grind.{flat_map-append}
 use Rattle.msr_words.specs.declared.kinds.Run.{Run}
-use Rattle.msr_record.specs.declared.row.Row.{Row}
+use Rattle.msr_rows.specs.declared.row.Row.{Row}
 use Rattle.msr_segments.specs.declared.joiner.Segment.{Segment}
 use Rattle.msr_output.specs.Output.{Packed, Cut, AreWritten, next_number, number_after, cuts_at, cuts_of}
 use Rattle.msr_output.specs.Writing.{AppendsRecordOfRun, AppendsRecords}

@@ -11,11 +11,11 @@ use Rattle.msr_time.proofs.RateLemmas.{nominal_is, quotient_bounds}
 use Rattle.msr_words.specs.declared.kinds.Run.{Run}
 use Rattle.msr_words.specs.Fit.{Fits}
 use Rattle.msr_words.specs.Packing.{IsCanonical}
-use Rattle.msr_words.specs.RecordLength.{IsRecordLength, least_exponent}
+use Rattle.msr_kinds.specs.RecordLength.{IsRecordLength, least_exponent}
 use Rattle.msr_words.specs.Segment.{points}
 use Rattle.msr_packer.proofs.PackingsExist.{has_packing}
 use Rattle.msr_packer.proofs.Least.{found}
-use Rattle.msr_record.specs.declared.row.Row.{Row}
+use Rattle.msr_rows.specs.declared.row.Row.{Row}
 use Rattle.msr_record.proofs.Existing.{has_record}
 use Rattle.msr_segments.specs.declared.joiner.Segment.{Segment}
 use Rattle.msr_output.specs.Output.{Packed, IsPacked, Cut, IsRecordOfRun, IsWritableSegment, AreWritten, IsOutput, IsPrefixOfOutput, next_number, number_after, sample_before, cuts_at, cuts_of, segment_of_packed}

@@ -7,9 +7,9 @@ use Rattle.msr_time.proofs.NominalLemmas.{nominal_one}
 use Rattle.msr_words.specs.declared.kinds.Run.{Run}
 use Rattle.msr_words.specs.Packing.{IsCanonical}
 use Rattle.msr_packer.proofs.Canonical.{one_packing}
-use Rattle.msr_record.specs.declared.row.Row.{Row}
+use Rattle.msr_rows.specs.declared.row.Row.{Row}
 use Rattle.msr_record.specs.Written.{IsWritten}
-use Rattle.msr_record.proofs.OneAnswer.{rows_equal}
+use Rattle.msr_rows.proofs.OneAnswer.{rows_equal}
 use Rattle.msr_record.proofs.OneWritten.{written_once}
 use Rattle.msr_segments.specs.declared.joiner.Segment.{Segment}
 use Rattle.msr_output.specs.Output.{Packed, IsPacked, Cut, IsRowOfRun, AreWritten, IsOutput, next_number, sample_before, cuts_of, segment_of_packed}

@@ -11,7 +11,7 @@ use Rattle.msr_devices.proofs.Chaining.{calm_calm, calm_failed, takes_append}
 use Rattle.msr_words.specs.declared.kinds.Run.{Run}
 use Rattle.msr_words.specs.Fit.{Fits, IsRun}
 use Rattle.msr_words.specs.Packing.{IsCanonical}
-use Rattle.msr_words.specs.RecordLength.{IsRecordLength}
+use Rattle.msr_kinds.specs.RecordLength.{IsRecordLength}
 use Rattle.msr_packer.specs.Blocks.{Holding, Packs, pushed}
 use Rattle.msr_packer.specs.Held.{Shows, before_place}
 use Rattle.msr_packer.specs.declared.held.Piece.{Piece}
@@ -20,8 +20,8 @@ use Rattle.msr_packer.proofs.Holding.{begins_all, begins_rest}
 use Rattle.msr_packer.proofs.InBlocks.{last_begin}
 use Rattle.msr_packer.proofs.Least.{found}
 use Rattle.msr_record.specs.Written.{IsWritableKey}
-use Rattle.msr_record.specs.declared.row.Key.{Key}
-use Rattle.msr_record.specs.declared.row.Row.{Row}
+use Rattle.msr_rows.specs.declared.row.Key.{Key}
+use Rattle.msr_rows.specs.declared.row.Row.{Row}
 use Rattle.msr_segments.specs.Spans.{SpanIsInTime, span_of}
 use Rattle.msr_segments.specs.declared.joiner.Segment.{Segment}
 use Rattle.msr_output.specs.Opened.{AppendsMore, AppendsSome, CanEncode, CanGoOn, Gives, HasBegun, IsOpen, Opened, empty_segment, longer_by}

@@ -3,7 +3,7 @@ use Rattle.std.proofs.Common.{◌≡◌, ℕ, ◌+◌, ◌*◌, List, [], ◌∷
 use Rattle.std.specs.List.{flat_map}
 use Rattle.std.proofs.lemmas.List.{length-map}
 use Rattle.msr_words.specs.declared.kinds.Run.{Run}
-use Rattle.msr_record.specs.declared.row.Row.{Row}
+use Rattle.msr_rows.specs.declared.row.Row.{Row}
 use Rattle.msr_output.specs.Output.{Packed, Cut, AreWritten, IsOutput, next_number, cuts_of, count_of_runs}
 
 written_size : (size n : ℕ) (cuts : List Cut) (rows : List Row) (bytes : List ℕ)

@@ -5,17 +5,17 @@ use Rattle.std.specs.List.{flat_map}
 use Rattle.msr_devices.specs.Device.{Device, Takes, IsCalm}
 use Rattle.msr_header.specs.Reading.{is_quality}
 use Rattle.msr_words.specs.declared.kinds.Run.{Run}
-use Rattle.msr_words.specs.declared.lengths.Length.{Length}
+use Rattle.msr_kinds.specs.declared.lengths.Length.{Length}
 use Rattle.msr_words.specs.Fit.{Fits}
-use Rattle.msr_words.specs.Lengths.{bytes_of}
+use Rattle.msr_kinds.specs.Lengths.{bytes_of}
 use Rattle.msr_words.specs.Packing.{IsCanonical}
-use Rattle.msr_words.specs.RecordLength.{IsRecordLength}
+use Rattle.msr_kinds.specs.RecordLength.{IsRecordLength}
 use Rattle.msr_words.specs.Segment.{points}
 use Rattle.msr_packer.specs.Blocks.{Holding, Packs, PacksLast, pushed}
-use Rattle.msr_record.specs.Correction.{is_pending}
+use Rattle.msr_rows.specs.Correction.{is_pending}
 use Rattle.msr_record.specs.Written.{IsWritableKey}
-use Rattle.msr_record.specs.declared.row.Key.{Key}
-use Rattle.msr_record.specs.declared.row.Row.{Row}
+use Rattle.msr_rows.specs.declared.row.Key.{Key}
+use Rattle.msr_rows.specs.declared.row.Row.{Row}
 use Rattle.msr_segments.specs.Spans.{SpanIsInTime, span_of}
 use Rattle.msr_segments.specs.Segments.{SegmentIsInTime}
 use Rattle.msr_segments.specs.declared.joiner.Segment.{Segment}

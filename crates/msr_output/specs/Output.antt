@@ -5,11 +5,11 @@ use Rattle.std.specs.Int.{w32}
 use Rattle.std.specs.List.{flat_map}
 use Rattle.msr_time.specs.SampleRate.{IsRoundedNominal}
 use Rattle.msr_words.specs.Packing.{IsPacking, IsLeast, IsSeparating, IsCanonical}
-use Rattle.msr_words.specs.RecordLength.{IsRecordLength}
+use Rattle.msr_kinds.specs.RecordLength.{IsRecordLength}
 use Rattle.msr_words.specs.declared.kinds.Run.{Run}
-use Rattle.msr_record.specs.Records.{IsRowOf, IsRecordOf, RowIsInTime}
+use Rattle.msr_rows.specs.Records.{IsRowOf, IsRecordOf, RowIsInTime}
 use Rattle.msr_record.specs.Written.{IsWritten, IsWritableKey}
-use Rattle.msr_record.specs.declared.row.Row.{Row}
+use Rattle.msr_rows.specs.declared.row.Row.{Row}
 use Rattle.msr_segments.specs.Segments.{AreSegments, SegmentIsInTime}
 use Rattle.msr_segments.specs.declared.joiner.Segment.{Segment}
 

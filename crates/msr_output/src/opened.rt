@@ -2,12 +2,12 @@
 ghost use Rattle.std.specs.Prelude.{◌≡◌, ℕ, ℤ, List, [], ◌++◌, ◌+◌, ◌<◌, ◌≤◌, ◌^◌, length, IfOk, IfSome, IsNone, OnOk, IsTrue, MatchResult, true, false};
 ghost use Rattle.msr_header.specs.Reading.{is_quality};
 ghost use Rattle.msr_words.specs.declared.kinds.Run.{Run};
-ghost use Rattle.msr_words.specs.Lengths.{bytes_of};
+ghost use Rattle.msr_kinds.specs.Lengths.{bytes_of};
 ghost use Rattle.msr_words.specs.Packing.{IsCanonical};
 ghost use Rattle.msr_packer.specs.Blocks.{HoldsFew, left_of, pushed};
 ghost use Rattle.msr_packer.specs.Held.{Shows, pieces_of, runs_of, separators_of};
 ghost use Rattle.msr_packer.specs.declared.held.Piece.{Piece};
-ghost use Rattle.msr_record.specs.Correction.{is_pending};
+ghost use Rattle.msr_rows.specs.Correction.{is_pending};
 ghost use Rattle.msr_record.specs.Written.{IsKey};
 ghost use Rattle.msr_time.specs.Instant.{IsInstant};
 ghost use Rattle.msr_segments.specs.Spans.{SpanIsInTime, span_of};
@@ -16,10 +16,11 @@ ghost use Rattle.msr_output.specs.Opened.{AppendsMore, CanEncode, CanGoOn, Encod
 ghost use Rattle.msr_output.specs.Output.{next_number};
 ghost use Rattle.msr_output.specs.Writing.{AppendsRecordOfRun};
 
+use msr_kinds::Length;
 use msr_packer::{BlockPacker, Piece};
 use msr_record::{Key, encode_record};
 use msr_report::SegmentLine;
-use msr_words::{Length, Run};
+use msr_words::Run;
 use std::alloc::{AllocError, Global};
 use std::marker::Model;
 

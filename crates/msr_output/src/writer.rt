@@ -1,9 +1,9 @@
 //! A writer of segments.
 use crate::opened::OpenSegment;
 use msr_devices::{Sink, WriteBuffer, WriteFault};
+use msr_kinds::Length;
 use msr_record::{Key, are_32_bit};
 use msr_report::SegmentLine;
-use msr_words::Length;
 use std::alloc::Global;
 use std::marker::Model;
 
@@ -19,7 +19,7 @@ pub struct SegmentWriter {
 
 impl Model for SegmentWriter {
     ghost use Rattle.std.specs.Prelude.{◌≤◌};
-    ghost use Rattle.msr_words.specs.Lengths.{bytes_of};
+    ghost use Rattle.msr_kinds.specs.Lengths.{bytes_of};
     ghost use Rattle.msr_output.specs.Writing.{Writing};
 
     ghost Value = { Writing };
@@ -31,10 +31,10 @@ impl Model for SegmentWriter {
 
 impl SegmentWriter {
     ghost use Rattle.std.specs.Prelude.{◌≡◌, ◌+◌, ◌<◌, ◌≤◌, ◌^◌, List, [], ◌∷◌, ◌++◌, length, map, MatchResult, OnOk, false, IsTrue};
-    ghost use Rattle.msr_words.specs.Lengths.{bytes_of};
+    ghost use Rattle.msr_kinds.specs.Lengths.{bytes_of};
     ghost use Rattle.msr_header.specs.Reading.{is_quality};
-    ghost use Rattle.msr_record.specs.Correction.{is_pending};
-    ghost use Rattle.msr_record.specs.declared.row.Row.{Row};
+    ghost use Rattle.msr_rows.specs.Correction.{is_pending};
+    ghost use Rattle.msr_rows.specs.declared.row.Row.{Row};
     ghost use Rattle.msr_devices.specs.Device.{Device, CanCountCall, CountsFew, IsCalm};
     ghost use Rattle.msr_output.specs.Output.{Packed, segment_of_packed};
     ghost use Rattle.msr_output.specs.Writing.{HasWritten, HasWrittenAll, WritesSegment, StopsWriting};

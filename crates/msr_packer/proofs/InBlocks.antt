@@ -1,7 +1,7 @@
 -- What a packer of blocks knows after each call.
 use Rattle.std.proofs.Common.{◌≡◌, ℕ, ◌≤◌, Bool, true, false, ℤ, List, [], ◌++◌, length, Option, Some, None, IsNone, sym, ap, ◌∙◌, subst, append-nil}
 use Rattle.msr_words.specs.declared.kinds.Run.{Run}
-use Rattle.msr_words.specs.Lengths.{bytes_of}
+use Rattle.msr_kinds.specs.Lengths.{bytes_of}
 use Rattle.msr_words.specs.Packing.{IsCanonical}
 use Rattle.msr_packer.specs.Blocks.{Holding, LeftAt, Packs, PacksLast, holding_of}
 use Rattle.msr_packer.specs.Held.{GivesPiece, Holds, IsWindow, Stays, pieces_of, runs_of, separators_of}

@@ -3,7 +3,7 @@ use Rattle.std.proofs.Common.{◌≡◌, ℕ, ◌+◌, ◌-◌, ◌<◌, ◌≤�
 use Rattle.std.specs.Prelude.{slice_index_or}
 use Rattle.std.proofs.lemmas.Bool.{cases_lt}
 use Rattle.std.proofs.lemmas.List.Elements.{All-append, All-contains, All-nil, All-push, Contains-push}
-use Rattle.msr_words.specs.declared.kinds.Kind.{Kind}
+use Rattle.msr_kinds.specs.declared.kinds.Kind.{Kind}
 use Rattle.msr_words.specs.Bounds.{AreIntegers, IsOfBits}
 use Rattle.msr_words.specs.Fit.{Fits, IsRun}
 use Rattle.msr_words.specs.Laws.{most_of}

@@ -2,7 +2,7 @@
 use Rattle.std.specs.Prelude.{◌≡◌, ℕ, ◌+◌, ◌-◌, ◌≤◌, Bool, true, false, ℤ, List, ◌++◌, length, Option, if◌then◌else◌}
 use Rattle.msr_words.specs.declared.kinds.Run.{Run}
 use Rattle.msr_words.specs.Laws.{most_any}
-use Rattle.msr_words.specs.Lengths.{bytes_of}
+use Rattle.msr_kinds.specs.Lengths.{bytes_of}
 use Rattle.msr_words.specs.Packing.{IsCanonical}
 use Rattle.msr_packer.specs.Held.{BeginsAll, IsWindow, LeavesFew, Stays, before_shown, frontier_of, shown_by}
 use Rattle.msr_packer.specs.declared.held.Current.{Current}

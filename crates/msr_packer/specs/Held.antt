@@ -3,7 +3,7 @@ use Rattle.std.specs.Prelude.{◌≡◌, ℕ, zero, suc, ◌+◌, ◌-◌, ◌*�
 use Rattle.msr_words.specs.declared.kinds.Run.{Run}
 use Rattle.msr_words.specs.Fit.{FitsAny, IsFirstKind}
 use Rattle.msr_words.specs.Laws.{most_any}
-use Rattle.msr_words.specs.Lengths.{bytes_of}
+use Rattle.msr_kinds.specs.Lengths.{bytes_of}
 use Rattle.msr_words.specs.Packing.{Joins, IsCanonical, IsStep}
 use Rattle.msr_words.specs.Segment.{run_points}
 use Rattle.msr_packer.specs.SoFar.{IsSoFar}

@@ -1,10 +1,10 @@
 -- What is known of a step that is not decided yet.
 use Rattle.std.specs.Prelude.{ℕ, ◌+◌, ◌<◌, ◌≤◌, ℤ, List, length, map}
-use Rattle.msr_words.specs.declared.kinds.Kind.{Kind}
-use Rattle.msr_words.specs.declared.kinds.Kind.TheVariants as kinds
+use Rattle.msr_kinds.specs.declared.kinds.Kind.{Kind}
+use Rattle.msr_kinds.specs.declared.kinds.Kind.TheVariants as kinds
 use Rattle.msr_words.specs.Fit.{Fits, FitsAny, IsRun}
 use Rattle.msr_words.specs.Packing.{IsStep}
-use Rattle.msr_words.specs.RecordLength.{words_of}
+use Rattle.msr_kinds.specs.RecordLength.{words_of}
 use Rattle.msr_words.specs.Segment.{run_points}
 use Rattle.msr_words.specs.Trackers.{FollowsIntegers, FollowsSteim1, FollowsSteim2}
 use Rattle.msr_packer.specs.Steps.{AreEnds}

@@ -1,8 +1,8 @@
 -- Steps from a frontier with records of some kinds.
 use Rattle.std.specs.Prelude.{◌≡◌, ℕ, ◌+◌, ◌<◌, ◌≤◌, ◌⊎◌, min, ℤ, List, [], ◌∷◌, length, All}
 use Rattle.msr_words.specs.Bounds.{IsOfBits}
-use Rattle.msr_words.specs.declared.kinds.Kind.{Kind}
-use Rattle.msr_words.specs.declared.kinds.Kind.TheVariants.{Int16, Int24, Int32, Steim1, Steim2}
+use Rattle.msr_kinds.specs.declared.kinds.Kind.{Kind}
+use Rattle.msr_kinds.specs.declared.kinds.Kind.TheVariants.{Int16, Int24, Int32, Steim1, Steim2}
 use Rattle.msr_words.specs.Fit.{Fits, IsRun, rank}
 use Rattle.msr_words.specs.Laws.{IsNarrow}
 use Rattle.msr_words.specs.Segment.{run_points}

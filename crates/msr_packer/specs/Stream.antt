@@ -2,7 +2,7 @@
 use Rattle.std.specs.Prelude.{◌≡◌, ℕ, ◌+◌, ◌*◌, ◌≤◌, ℤ, List, ◌++◌, length, drop}
 use Rattle.msr_words.specs.declared.kinds.Run.{Run}
 use Rattle.msr_words.specs.Laws.{most_any}
-use Rattle.msr_words.specs.Lengths.{bytes_of}
+use Rattle.msr_kinds.specs.Lengths.{bytes_of}
 use Rattle.msr_words.specs.Packing.{Joins, IsCanonical}
 use Rattle.msr_packer.specs.Blocks.{Holding, HoldsFew, Packs}
 use Rattle.msr_packer.specs.Held.{BeginsAll, IsSound, LeavesFew, Stays, frontier_of, runs_of, separators_of}

@@ -3,13 +3,14 @@
 ghost use Rattle.std.specs.Prelude.{◌≡◌, ℕ, ℤ, List, [], ◌++◌, ◌+◌, ◌*◌, ◌^◌, ◌<◌, ◌≤◌, length, IfSome, IsNone, MatchResult};
 ghost use Rattle.msr_words.specs.declared.kinds.Run.{Run};
 ghost use Rattle.msr_words.specs.Laws.{most_any};
-ghost use Rattle.msr_words.specs.Lengths.{bytes_of};
+ghost use Rattle.msr_kinds.specs.Lengths.{bytes_of};
 ghost use Rattle.msr_words.specs.Packing.{IsCanonical};
 ghost use Rattle.msr_packer.specs.Blocks.{BlocksBeginAll, BlocksEnd, BlocksLeaveFew, HoldsFew, LastBlocksBegin, Packs, PacksLast, left_of, pushed};
 ghost use Rattle.msr_packer.specs.Held.{Shows, pieces_of, runs_of, separators_of};
 
 use crate::held::{Held, Piece};
-use msr_words::{AnyKind, Length, Tracker};
+use msr_kinds::Length;
+use msr_words::{AnyKind, Tracker};
 use std::alloc::{AllocError, Global};
 use std::marker::Model;
 

@@ -4,14 +4,15 @@ ghost use Rattle.std.specs.Prelude.{◌≡◌, ℕ, ℤ, List, [], ◌++◌, ◌
 ghost use Rattle.msr_words.specs.declared.kinds.Run.{Run};
 ghost use Rattle.msr_words.specs.Fit.{Fits, FitsAny, IsRun};
 ghost use Rattle.msr_words.specs.Laws.{most_any};
-ghost use Rattle.msr_words.specs.Lengths.{bytes_of};
+ghost use Rattle.msr_kinds.specs.Lengths.{bytes_of};
 ghost use Rattle.msr_words.specs.Packing.{IsCanonical, IsStep};
 ghost use Rattle.msr_packer.specs.Held.{GivesPiece, HasPlaces, Holds, IsNext, IsSound, Shows, Stays, before_shown, frontier_of, piece_of, pieces_of, runs_of, separators_of, shown_by, start_of};
 ghost use Rattle.msr_packer.specs.Steps.{AreEnds};
 
 use crate::kind_of;
 use crate::step::{Found, next_step};
-use msr_words::{Kind, Length, Run};
+use msr_kinds::{Kind, Length};
+use msr_words::Run;
 use std::alloc::Global;
 
 /// A run of the packing, with the separator that goes with it.

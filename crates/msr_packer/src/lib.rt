@@ -11,7 +11,7 @@ mod stream;
 
 ghost use Rattle.std.specs.Prelude.{◌≡◌, ℕ, ◌+◌, ◌≤◌, length, ◌++◌, IfOk, List, OnOk, ℤ};
 ghost use Rattle.msr_words.specs.declared.kinds.Run.{Run};
-ghost use Rattle.msr_words.specs.Lengths.{bytes_of};
+ghost use Rattle.msr_kinds.specs.Lengths.{bytes_of};
 ghost use Rattle.msr_words.specs.Segment.{run_points};
 ghost use Rattle.msr_words.specs.Fit.{Fits, IsRun, IsFirstKind};
 ghost use Rattle.msr_packer.specs.Held.{pieces_of, runs_of, separators_of};
@@ -22,8 +22,9 @@ pub use blocks::{BlockPacker, blocks_begin_all, blocks_end, blocks_leave_few, la
 pub use existence::{packing_exists, step_of_window};
 pub use held::Piece;
 use held::{Current, frontier_of, piece_of};
+use msr_kinds::{Kind, Length};
 pub use msr_words::Run;
-use msr_words::{Kind, Length, first_kind};
+use msr_words::first_kind;
 use std::alloc::{AllocError, Global};
 use step::Found;
 pub use stream::{Last, StreamPacker, Taken, pieces_begin_all, stream_leaves_few};

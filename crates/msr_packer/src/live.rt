@@ -2,13 +2,14 @@
 //! decided before it refuses.
 
 ghost use Rattle.std.specs.Prelude.{◌≡◌, ℕ, ◌+◌, ◌<◌, ◌≤◌, ◌-ℤ◌, [], length, pos, slice_index_or, IfSome, IsNone};
-ghost use Rattle.msr_words.specs.Lengths.{bytes_of};
+ghost use Rattle.msr_kinds.specs.Lengths.{bytes_of};
 ghost use Rattle.msr_words.specs.Fit.{Fits, IsRun};
 ghost use Rattle.msr_words.specs.Segment.{difference_at, run_points};
 ghost use Rattle.msr_packer.specs.Live.{Follows, IsDecided, IsLive, IsTracked, kind_of_tracker};
 
 use crate::step::{Found, next_step};
-use msr_words::{Int16, Int24, Int32, Kind, Length, Steim1, Steim2, Tracker};
+use msr_kinds::{Kind, Length};
+use msr_words::{Int16, Int24, Int32, Steim1, Steim2, Tracker};
 
 /// A tracker of one of the kinds.
 #[derive(Clone, Copy, Debug)]

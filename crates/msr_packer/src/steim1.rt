@@ -1,13 +1,14 @@
 //! How far a Steim-1 record reaches, word by word.
 
 ghost use Rattle.std.specs.Prelude.{◌≤◌, ℤ, List, length};
-ghost use Rattle.msr_words.specs.declared.kinds.Kind.TheVariants.{Steim1 as FirstSteim};
+ghost use Rattle.msr_kinds.specs.declared.kinds.Kind.TheVariants.{Steim1 as FirstSteim};
 ghost use Rattle.msr_words.specs.Bounds.{IsEnd};
 ghost use Rattle.msr_words.specs.FirstGroup.{IsSizeAt};
-ghost use Rattle.msr_words.specs.Lengths.{bytes_of};
+ghost use Rattle.msr_kinds.specs.Lengths.{bytes_of};
 ghost use Rattle.msr_words.specs.Steim1Reach.{IsSteim1Word};
 
-use msr_words::{FourSizes, Length, Window, steim1_word_by_word};
+use msr_kinds::Length;
+use msr_words::{FourSizes, Window, steim1_word_by_word};
 
 /// How many differences the next word reaches further, and whether the last of them is spare: of 8 bits, and the words
 /// hold those before it too.

@@ -1,9 +1,9 @@
 //! One record more: how far a record reaches that starts at or before a frontier.
 
 ghost use Rattle.std.specs.Prelude.{pos, slice_index_or, ◌≡◌, ℕ, ◌+◌, ◌<◌, ◌≤◌, ◌⊎◌, ◌∷◌, [], length, IsTrue, IsFalse, IfSome, map, count_by};
-ghost use Rattle.msr_words.specs.declared.kinds.Kind.TheVariants.{Int32 as Integers32, Steim1 as FirstSteim, Steim2 as SecondSteim};
+ghost use Rattle.msr_kinds.specs.declared.kinds.Kind.TheVariants.{Int32 as Integers32, Steim1 as FirstSteim, Steim2 as SecondSteim};
 ghost use Rattle.msr_words.specs.Bounds.{AreIntegers, BeginsWithFour, IsEnd, IsOfBits, is_wide};
-ghost use Rattle.msr_words.specs.Lengths.{bytes_of};
+ghost use Rattle.msr_kinds.specs.Lengths.{bytes_of};
 ghost use Rattle.msr_words.specs.Fit.{Fits, FitsAny, IsRun};
 ghost use Rattle.msr_words.specs.Packing.{IsStep};
 ghost use Rattle.msr_words.specs.Laws.{IsNarrow, look_back_of};
@@ -12,9 +12,10 @@ ghost use Rattle.msr_words.specs.Window.{IsSize};
 ghost use Rattle.msr_packer.specs.Steps.{AreEnds, AreEndsAmong, AreNarrowThrough, AreOfBits, IsStepAmong, NonePast, NotLess, longer_kinds};
 
 use crate::steim1::steim1_reach;
+use msr_kinds::{Kind, Length};
 use msr_words::{
-    Int32, Kind, Length, Steim2, Tracker, Window, difference, fits_bits, is_narrow,
-    steim2_greedy_reach, wide_one,
+    Fitting, Int32, Steim2, Tracker, Window, difference, fits_bits, is_narrow, steim2_greedy_reach,
+    wide_one,
 };
 
 /// One record more: it starts at `start`, reaches to `end`, and is of that kind.

@@ -3,7 +3,7 @@
 ghost use Rattle.std.specs.Prelude.{◌≡◌, ℕ, ℤ, List, [], ◌∷◌, ◌++◌, ◌+◌, ◌<◌, ◌≤◌, ◌⊎◌, ◌^◌, length, take, MatchResult, IfOk, IsNone};
 ghost use Rattle.msr_words.specs.declared.kinds.Run.{Run};
 ghost use Rattle.msr_words.specs.Laws.{most_any};
-ghost use Rattle.msr_words.specs.Lengths.{bytes_of};
+ghost use Rattle.msr_kinds.specs.Lengths.{bytes_of};
 ghost use Rattle.msr_packer.specs.Blocks.{pushed};
 ghost use Rattle.msr_packer.specs.Held.{Holds, frontier_of, pieces_of, runs_of, samples_of, separators_of};
 ghost use Rattle.msr_packer.specs.Stream.{IsEnd, IsStreaming, PiecesBeginAll, StreamLeavesFew, Streams};
@@ -11,7 +11,8 @@ ghost use Rattle.msr_packer.specs.Stream.{IsEnd, IsStreaming, PiecesBeginAll, St
 use crate::held::{Current, Held, Piece, frontier_of, likely_of, remove_front, start_of};
 use crate::live::Live;
 use arrayvec::ArrayVec;
-use msr_words::{AnyKind, Length, Tracker};
+use msr_kinds::Length;
+use msr_words::{AnyKind, Tracker};
 use std::alloc::{AllocError, Global};
 use std::marker::Model;
 

@@ -8,8 +8,8 @@ use msr_filling::{fill_steim1, fill_steim2};
 use msr_fixtures::expect;
 use msr_steim::{Group, Version};
 use msr_words::{
-    AnyKind, Codec, Int16, Int24, Int32, Kind, Length, Steim1, Steim2, Tracker, Window, difference,
-    first_kind, groups, one_division, run_fits,
+    AnyKind, Codec, Fitting, Int16, Int24, Int32, Kind, Length, Steim1, Steim2, Tracker, Window,
+    difference, first_kind, groups, one_division, run_fits,
 };
 use std::alloc::{AllocError, Global};
 use std::test::Fail;

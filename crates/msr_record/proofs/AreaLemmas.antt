@@ -15,9 +15,9 @@ use Rattle.msr_plain.specs.Plain.{FitsThreeBytes}
 use Rattle.msr_steim.specs.Word.{AreGroups, FitsBits}
 use Rattle.msr_steim.specs.declared.word.Version.{Version}
 use Rattle.msr_words.specs.Fit.{Fits}
-use Rattle.msr_words.specs.RecordLength.{least_exponent, most_exponent, words_of}
+use Rattle.msr_kinds.specs.RecordLength.{least_exponent, most_exponent, words_of}
 use Rattle.msr_words.specs.Segment.{differences, points, points_after}
-use Rattle.msr_words.specs.declared.kinds.Kind.{Kind}
+use Rattle.msr_kinds.specs.declared.kinds.Kind.{Kind}
 use Rattle.msr_words.proofs.Runs.{length-points_before}
 
 -- the points of some samples have the samples

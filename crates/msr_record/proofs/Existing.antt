@@ -25,16 +25,16 @@ use Rattle.msr_steim.proofs.Filled.{length-frame_bytes}
 use Rattle.msr_words.specs.Canonical.{IsCanonicalDivision}
 use Rattle.msr_words.specs.Division.{CanDivide}
 use Rattle.msr_words.specs.Fit.{Fits}
-use Rattle.msr_words.specs.RecordLength.{IsRecordLength, words_of}
+use Rattle.msr_kinds.specs.RecordLength.{IsRecordLength, words_of}
 use Rattle.msr_words.specs.Segment.{differences, points}
-use Rattle.msr_words.specs.declared.kinds.Kind.{Kind}
-use Rattle.msr_words.specs.declared.kinds.Kind.TheVariants.{Int16, Int24, Int32, Steim1, Steim2}
+use Rattle.msr_kinds.specs.declared.kinds.Kind.{Kind}
+use Rattle.msr_kinds.specs.declared.kinds.Kind.TheVariants.{Int16, Int24, Int32, Steim1, Steim2}
 use Rattle.msr_words.proofs.DivisionsExist.{has_division}
 use Rattle.msr_words.proofs.Runs.{length-points_before}
-use Rattle.msr_record.specs.Area.{Carries, ReverseAgrees}
-use Rattle.msr_record.specs.Correction.{is_pending}
+use Rattle.msr_rows.specs.Area.{Carries, ReverseAgrees}
+use Rattle.msr_rows.specs.Correction.{is_pending}
 use Rattle.msr_record.specs.Written.{AppendsRecord, AreFrames, AreNumbers, IsKey, IsWrittenArea, frame_count, header_for}
-use Rattle.msr_record.specs.declared.row.Key.{Key}
+use Rattle.msr_rows.specs.declared.row.Key.{Key}
 use Rattle.msr_record.proofs.AreaLemmas.{all_16, all_24, few_samples, frames_carry, frames_end, room_for, whole_frames}
 use Rattle.msr_record.proofs.WritingLemmas.{appends_record}
 

@@ -1,14 +1,5 @@
-pub mod HeaderFacts
-pub mod KeyLemmas
-pub mod FieldLemmas
-pub mod TimeLemmas
-pub mod RowLemmas
-pub mod OneAnswer
 pub mod AreaLemmas
 pub mod FilledFrames
 pub mod WritingLemmas
 pub mod OneWritten
-pub mod FirstBytes
-pub mod UnseenBytes
-pub mod WritableRows
 pub mod Existing

@@ -10,10 +10,10 @@ use Rattle.msr_steim.specs.declared.word.Version.{Version}
 use Rattle.msr_steim.specs.declared.word.Version.TheVariants.{One, Two}
 use Rattle.msr_words.proofs.WrittenDivision.{one_chosen}
 use Rattle.msr_words.specs.Segment.{differences}
-use Rattle.msr_words.specs.declared.kinds.Kind.{Kind}
-use Rattle.msr_words.specs.declared.kinds.Kind.TheVariants.{Int16, Int24, Int32, Steim1, Steim2}
+use Rattle.msr_kinds.specs.declared.kinds.Kind.{Kind}
+use Rattle.msr_kinds.specs.declared.kinds.Kind.TheVariants.{Int16, Int24, Int32, Steim1, Steim2}
 use Rattle.msr_record.specs.Written.{AreFrames, AreNumbers, IsWritten, IsWrittenArea, frame_count, header_for}
-use Rattle.msr_record.specs.declared.row.Key.{Key}
+use Rattle.msr_rows.specs.declared.row.Key.{Key}
 
 not_below : (d e : ℕ) → 2 ^ d ≡ 2 ^ e → d < e → ⊥
 not_below d e p l = let less : 2 ^ d < 2 ^ e = pow-lt l in omega (arith, less, p)

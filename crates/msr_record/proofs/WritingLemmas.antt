@@ -14,19 +14,19 @@ use Rattle.msr_header.specs.Reading.{header_of, is_sequence_byte, is_quality}
 use Rattle.msr_header.specs.Writing.{header_bytes, IsWritable, as_read}
 use Rattle.msr_base.specs.declared.order.Order.TheVariants.{Big}
 use Rattle.msr_header.specs.declared.header.Header.{Header}
-use Rattle.msr_words.specs.RecordLength.{least_exponent, most_exponent}
-use Rattle.msr_words.specs.Fit.{code_of}
-use Rattle.msr_words.specs.declared.kinds.Kind.{Kind}
-use Rattle.msr_words.specs.declared.kinds.Kind.TheVariants.{Int16, Int24, Int32, Steim1, Steim2}
-use Rattle.msr_record.specs.Kinds.{kind_of_code}
-use Rattle.msr_record.specs.Correction.{key_of, start_of, is_pending, correction_micros}
-use Rattle.msr_record.specs.Area.{Carries, ReverseAgrees}
-use Rattle.msr_record.specs.Records.{has_area, field_faults, data_area, IsRowOf}
+use Rattle.msr_kinds.specs.RecordLength.{least_exponent, most_exponent}
+use Rattle.msr_kinds.specs.Codes.{code_of}
+use Rattle.msr_kinds.specs.declared.kinds.Kind.{Kind}
+use Rattle.msr_kinds.specs.declared.kinds.Kind.TheVariants.{Int16, Int24, Int32, Steim1, Steim2}
+use Rattle.msr_rows.specs.Kinds.{kind_of_code}
+use Rattle.msr_rows.specs.Correction.{key_of, start_of, is_pending, correction_micros}
+use Rattle.msr_rows.specs.Area.{Carries, ReverseAgrees}
+use Rattle.msr_rows.specs.Records.{has_area, field_faults, data_area, IsRowOf}
 use Rattle.msr_base.specs.Faults.{first_fault}
 use Rattle.msr_record.specs.Written.{sequence_digits, header_for, IsWrittenArea, AppendsRecord}
-use Rattle.msr_record.specs.declared.row.Key.{Key}
-use Rattle.msr_record.specs.declared.row.Row.{Row}
-use Rattle.msr_record.proofs.FieldLemmas.{has_rate_true, fields_pass}
+use Rattle.msr_rows.specs.declared.row.Key.{Key}
+use Rattle.msr_rows.specs.declared.row.Row.{Row}
+use Rattle.msr_rows.proofs.FieldLemmas.{has_rate_true, fields_pass}
 
 kind_back : (kind : Kind) → kind_of_code (code_of kind) ≡ Some kind
 kind_back Int16 = refl

@@ -13,15 +13,16 @@ use Rattle.msr_steim.specs.Frames.{frame_bytes}
 use Rattle.msr_steim.specs.declared.word.Version.{Version}
 use Rattle.msr_steim.specs.declared.word.Version.TheVariants.{One, Two}
 use Rattle.msr_words.specs.Canonical.{IsCanonicalDivision}
-use Rattle.msr_words.specs.Fit.{Fits, code_of}
-use Rattle.msr_words.specs.RecordLength.{IsRecordLength}
+use Rattle.msr_words.specs.Fit.{Fits}
+use Rattle.msr_kinds.specs.Codes.{code_of}
+use Rattle.msr_kinds.specs.RecordLength.{IsRecordLength}
 use Rattle.msr_words.specs.Segment.{differences, points}
-use Rattle.msr_words.specs.declared.kinds.Kind.{Kind}
-use Rattle.msr_words.specs.declared.kinds.Kind.TheVariants.{Int16, Int24, Int32, Steim1, Steim2}
+use Rattle.msr_kinds.specs.declared.kinds.Kind.{Kind}
+use Rattle.msr_kinds.specs.declared.kinds.Kind.TheVariants.{Int16, Int24, Int32, Steim1, Steim2}
 use Rattle.msr_header.specs.Reading.{is_quality}
-use Rattle.msr_record.specs.Correction.{is_pending}
-use Rattle.msr_record.specs.Records.{IsRowOf, IsRecordOf, IsInTime}
-use Rattle.msr_record.specs.declared.row.Key.{Key}
+use Rattle.msr_rows.specs.Correction.{is_pending}
+use Rattle.msr_rows.specs.Records.{IsRowOf, IsRecordOf, IsInTime}
+use Rattle.msr_rows.specs.declared.row.Key.{Key}
 
 -- the six decimal digits of a sequence number, as text
 abbrev pub sequence_digits : ℕ → List ℕ

@@ -3,16 +3,15 @@ ghost use Rattle.std.specs.Prelude.{◌≡◌, ◌≢◌, pos, ◌+◌, ◌-◌,
 ghost use Rattle.msr_time.specs.Instant.{IsInstant};
 ghost use Rattle.msr_header.specs.Reading.{is_quality};
 ghost use Rattle.msr_words.specs.Fit.{Fits};
-ghost use Rattle.msr_words.specs.Lengths.{bytes_of};
+ghost use Rattle.msr_kinds.specs.Lengths.{bytes_of};
 ghost use Rattle.msr_words.specs.Segment.{points};
-ghost use Rattle.msr_record.specs.Correction.{is_pending};
+ghost use Rattle.msr_rows.specs.Correction.{is_pending};
 ghost use Rattle.msr_record.specs.Written.{sequence_digits, header_for, AppendsRecord};
 
-use crate::row::Key;
 use crate::written_area::fill_area;
 use msr_header::{Header, Order, Timing, write_header};
+use msr_kinds::{Kind, Length};
 use msr_time::{BTime, split};
-use msr_words::{Kind, Length};
 use std::alloc::{AllocError, Global};
 
 /// The digit of a number at a power of ten.

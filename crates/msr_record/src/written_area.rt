@@ -4,17 +4,17 @@ ghost use Rattle.std.specs.Int.{w32};
 ghost use Rattle.msr_steim.specs.Area.{CarriesSteim, ReverseAgrees as FramesAgree};
 ghost use Rattle.msr_words.specs.Division.{CanDivide};
 ghost use Rattle.msr_words.specs.Fit.{Fits};
-ghost use Rattle.msr_words.specs.RecordLength.{words_of};
-ghost use Rattle.msr_words.specs.Lengths.{bytes_of};
+ghost use Rattle.msr_kinds.specs.RecordLength.{words_of};
+ghost use Rattle.msr_kinds.specs.Lengths.{bytes_of};
 ghost use Rattle.msr_words.specs.Segment.{differences, points};
-ghost use Rattle.msr_record.specs.Area.{Carries, ReverseAgrees};
+ghost use Rattle.msr_rows.specs.Area.{Carries, ReverseAgrees};
 ghost use Rattle.msr_record.specs.Written.{AreFrames, IsWrittenArea, frame_count};
 
 use msr_filling::{fill_steim1, fill_steim2};
 use msr_header::Order;
+use msr_kinds::{Kind, Length};
 use msr_plain::{Width, fill_plain};
 use msr_steim::Version;
-use msr_words::{Kind, Length};
 use std::alloc::{AllocError, Global};
 
 /// Each sample has 32 bits, which is known of it once it is read.

@@ -5,7 +5,7 @@ use Rattle.msr_time.specs.Instant.{IsInstant}
 use Rattle.msr_time.specs.declared.btime.BTime.{BTime}
 use Rattle.msr_time.proofs.Existing.{has_split}
 use Rattle.msr_time.proofs.TimeLemmas.{split_one}
-use Rattle.msr_record.specs.declared.row.Key.{Key}
+use Rattle.msr_rows.specs.declared.row.Key.{Key}
 use Rattle.msr_report.specs.Proper.{IsProper, IsProperLine, records_of}
 use Rattle.msr_report.specs.Text.{IsTimeText, split_text, segment_words, segment_line, separators_line, IsListLine, IsSegmentText, AreSegmentTexts, first_lines, end_line, IsReportText}
 use Rattle.msr_report.specs.declared.report.SegmentLine.{SegmentLine}

@@ -6,8 +6,8 @@ use Rattle.std.specs.Fmt.{decimal, signed_decimal, digit_glyph}
 use Rattle.msr_time.specs.Instant.{IsSplit}
 use Rattle.msr_time.specs.SampleRate.{SampleRate}
 use Rattle.msr_time.specs.declared.btime.BTime.{BTime}
-use Rattle.msr_words.specs.Lengths.{bytes_of}
-use Rattle.msr_record.specs.declared.row.Key.{Key}
+use Rattle.msr_kinds.specs.Lengths.{bytes_of}
+use Rattle.msr_rows.specs.declared.row.Key.{Key}
 use Rattle.msr_report.specs.Proper.{records_of}
 use Rattle.msr_base.specs.declared.counts.Counts.{Counts}
 use Rattle.msr_report.specs.declared.report.SegmentLine.{SegmentLine}

@@ -3,7 +3,7 @@ ghost use Rattle.std.specs.Prelude.{◌≡◌, ◌++◌, ◌≤◌, ◌<◌, IfO
 ghost use Rattle.msr_time.specs.Instant.{IsInstant};
 ghost use Rattle.msr_report.specs.Text.{hex_text, byte_text, field_text, name_text, rate_text, flags_text, padded_decimal, date_text, clock_text, split_text, IsTimeText, settings_text};
 
-use msr_record::Key;
+use msr_rows::Key;
 use msr_time::{BTime, Rate, split};
 use std::alloc::{AllocError, Global};
 

@@ -1,6 +1,6 @@
 //! What holds of the texts of reports.
 ghost use Rattle.std.specs.Prelude.{◌≡◌, ℕ, ℤ, List};
-ghost use Rattle.msr_record.specs.declared.row.Key.{Key};
+ghost use Rattle.msr_rows.specs.declared.row.Key.{Key};
 ghost use Rattle.msr_report.specs.Proper.{IsProper};
 ghost use Rattle.msr_report.specs.Text.{IsListLine, IsReportText};
 ghost use Rattle.msr_report.specs.declared.report.Report.{Report as AReport};

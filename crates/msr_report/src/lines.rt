@@ -6,7 +6,7 @@ ghost use Rattle.msr_report.specs.Text.{words_after_quality, segment_words, IsLi
 use crate::fields::{name_string, settings_string, time_string};
 use crate::report::{Report, SegmentLine};
 use msr_base::Counts;
-use msr_record::Key;
+use msr_rows::Key;
 use std::alloc::{AllocError, Global};
 
 /// The words after the quality, and then more text.

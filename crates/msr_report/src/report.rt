@@ -1,7 +1,7 @@
 //! What a report says.
 use msr_base::Counts;
-use msr_record::Key;
-use msr_words::Length;
+use msr_kinds::Length;
+use msr_rows::Key;
 
 /// A segment, and in how many records it was written.
 #[derive(Debug, Drop)]

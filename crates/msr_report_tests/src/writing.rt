@@ -1,7 +1,7 @@
 //! msr_output: sinks that fail, and what waits until a flush. Runs of the program show the bytes of the records.
 ghost use Rattle.std.specs.Prelude.{◌≡◌, ◌+◌, ◌-◌, ◌<◌, ◌≤◌, ◌^◌, IsTrue, false};
 ghost use Rattle.msr_header.specs.Reading.{is_quality};
-ghost use Rattle.msr_record.specs.Correction.{is_pending};
+ghost use Rattle.msr_rows.specs.Correction.{is_pending};
 ghost use Rattle.msr_segments.specs.Segments.{SegmentIsInTime};
 
 use msr_base::Samples;

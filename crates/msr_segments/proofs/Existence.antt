@@ -5,8 +5,8 @@ use Rattle.std.specs.Bool.{Decides}
 use Rattle.std.proofs.lemmas.Bool.{cases_lt}
 use Rattle.std.proofs.lemmas.List.{append-nil}
 use Rattle.msr_time.specs.SampleRate.{SampleRate, IsNear, period_of, scaled_time}
-use Rattle.msr_record.specs.declared.row.Row.{Row}
-use Rattle.msr_record.proofs.KeyLemmas.{key_test}
+use Rattle.msr_rows.specs.declared.row.Row.{Row}
+use Rattle.msr_rows.proofs.KeyLemmas.{key_test}
 use Rattle.msr_segments.specs.declared.span.Span.{Span}
 use Rattle.msr_segments.specs.Spans.{Continues}
 use Rattle.msr_segments.specs.Segments.{Part, part_span, row_span, IsDivision, HasDivision}

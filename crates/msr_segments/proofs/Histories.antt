@@ -5,7 +5,7 @@ use Rattle.std.specs.List.{flat_map}
 use Rattle.std.specs.Option.{option_to_list}
 use Rattle.std.proofs.lemmas.List.{append-nil, map-append}
 use Rattle.std.proofs.lemmas.Grind.{flat_map-append}
-use Rattle.msr_record.specs.declared.row.Row.{Row}
+use Rattle.msr_rows.specs.declared.row.Row.{Row}
 use Rattle.msr_segments.specs.declared.span.Span.{Span}
 use Rattle.msr_segments.specs.declared.joiner.Segment.{Segment}
 use Rattle.msr_segments.specs.declared.follow.Step.{Step}

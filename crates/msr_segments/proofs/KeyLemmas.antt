@@ -5,8 +5,8 @@ use Rattle.std.specs.Cmp.Lexicographic.{pointwise}
 use Rattle.std.proofs.Math.Dec.{eqb}
 use Rattle.std.proofs.lemmas.Bool.Decides.{Decides-eqb, Decides-int_eq}
 use Rattle.std.proofs.lemmas.Slice.Eq.{slice_eq-Decides}
-use Rattle.msr_record.specs.declared.row.Key.{Key}
-use Rattle.msr_record.proofs.KeyLemmas.{key_test, key_same}
+use Rattle.msr_rows.specs.declared.row.Key.{Key}
+use Rattle.msr_rows.proofs.KeyLemmas.{key_test, key_same}
 
 bytes_same : (xs : List ℕ) → pointwise eqb xs xs ≡ true
 bytes_same xs = (slice_eq-Decides Decides-eqb xs xs (pointwise eqb xs xs) refl).1 refl

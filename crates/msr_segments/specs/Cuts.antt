@@ -3,7 +3,7 @@
 use Rattle.std.specs.Prelude.{◌≡◌, ℕ, ◌≤◌, List, [], ◌∷◌, ◌++◌, length, map}
 use Rattle.std.specs.List.{flat_map}
 use Rattle.msr_time.specs.SampleRate.{IsRoundedNominal}
-use Rattle.msr_record.specs.declared.row.Row.{Row}
+use Rattle.msr_rows.specs.declared.row.Row.{Row}
 use Rattle.msr_segments.specs.declared.joiner.Segment.{Segment}
 use Rattle.msr_segments.specs.Segments.{Part, rows_of, segment_of, row_segment, with_row, AreSegments}
 

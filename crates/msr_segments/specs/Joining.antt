@@ -2,8 +2,8 @@
 use Rattle.std.specs.Prelude.{◌≡◌, ◌↔◌, ◌⊎◌, ℕ, List, [], ◌∷◌, ◌++◌, length, map, ℤ, Option, Some, None, option_map}
 use Rattle.std.specs.List.{flat_map}
 use Rattle.std.specs.Option.{option_to_list}
-use Rattle.msr_record.specs.declared.row.Row.{Row}
-use Rattle.msr_record.specs.Records.{RowIsInTime}
+use Rattle.msr_rows.specs.declared.row.Row.{Row}
+use Rattle.msr_rows.specs.Records.{RowIsInTime}
 use Rattle.msr_segments.specs.declared.span.Span.{Span}
 use Rattle.msr_segments.specs.declared.joiner.Segment.{Segment}
 use Rattle.msr_segments.specs.declared.follow.Step.{Step}

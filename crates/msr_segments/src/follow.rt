@@ -1,6 +1,6 @@
 //! Following rows from span to span, without their samples.
 use crate::span::Span;
-use msr_record::Key;
+use msr_rows::Key;
 use std::marker::Model;
 
 /// What a row does: it begins a segment, or joins the one that was begun last.
@@ -37,7 +37,7 @@ impl Model for Follow {
 impl Follow {
     ghost use Rattle.std.specs.Prelude.{◌≡◌, ◌↔◌, ◌≤◌, List, [], ◌∷◌, ◌++◌, IsErr, IfOk, OnOk, OnErr, None};
     ghost use Rattle.msr_time.specs.Instant.{IsInstant};
-    ghost use Rattle.msr_record.specs.declared.row.Row.{Row};
+    ghost use Rattle.msr_rows.specs.declared.row.Row.{Row};
     ghost use Rattle.msr_segments.specs.declared.follow.Step.{Step as Answer};
     ghost use Rattle.msr_segments.specs.Spans.{Overruns, IsInBounds, IsStep, span_of};
     ghost use Rattle.msr_segments.specs.Segments.{row_span};

@@ -5,7 +5,7 @@ ghost use Rattle.msr_segments.specs.Joining.{segment_at};
 use crate::follow::{Follow, Step};
 use crate::span::Span;
 use msr_base::Samples;
-use msr_record::{Key, Row};
+use msr_rows::{Key, Row};
 use std::alloc::Global;
 use std::marker::Model;
 use std::mem;
@@ -75,7 +75,7 @@ impl Joiner {
     ghost use Rattle.std.specs.Option.{option_to_list};
     ghost use Rattle.msr_time.specs.Instant.{IsInstant};
     ghost use Rattle.msr_segments.specs.declared.joiner.Segment.{Segment as Joined};
-    ghost use Rattle.msr_record.specs.declared.row.Row.{Row as Given};
+    ghost use Rattle.msr_rows.specs.declared.row.Row.{Row as Given};
     ghost use Rattle.msr_segments.specs.Spans.{Overruns};
     ghost use Rattle.msr_segments.specs.Segments.{AreSegments, row_span};
     ghost use Rattle.msr_segments.specs.Joining.{HasJoined, ContinuesLast, IsPush, following_of};

@@ -3,7 +3,7 @@ ghost use Rattle.std.specs.Prelude.{◌≡◌, ◌↔◌, ◌≤◌, ◌^◌, Is
 ghost use Rattle.msr_time.specs.Instant.{IsInstant};
 ghost use Rattle.msr_segments.specs.Spans.{Continues, EndsOutOfRange, SpanIsInTime, longer};
 
-use msr_record::Key;
+use msr_rows::Key;
 
 /// Where the samples of a row or of a segment lie.
 #[derive(Clone, Copy, Debug)]

@@ -1,6 +1,6 @@
 -- What follows from the answers.
 use Rattle.std.proofs.Common.{◌∙◌, Bool, true, false, ℕ, List, refl, sym, ap, Ok, Err}
-use Rattle.msr_record.specs.declared.row.Record.{Record}
+use Rattle.msr_rows.specs.declared.row.Record.{Record}
 use Rattle.msr_base.specs.declared.counts.Counts.{Counts}
 use Rattle.msr_report.specs.declared.report.Report.{Report}
 use Rattle.msr_input.specs.Input.{AllAgree, OneListOfRecords, OneFirstFault, ReadableHasNoFault, counts_of}

@@ -1,6 +1,6 @@
 -- What was repacked is shown by each report that its report's text is that of.
 use Rattle.std.proofs.Common.{◌≡◌, ◌∙◌, refl, sym, ap, subst, ℕ, false, List, [], ◌∷◌, map, length, All, Ok, Err}
-use Rattle.msr_words.specs.Lengths.{bytes_of}
+use Rattle.msr_kinds.specs.Lengths.{bytes_of}
 use Rattle.msr_words.specs.Packing.{IsSeparating}
 use Rattle.msr_segments.specs.Segments.{Part, segment_of, IsDivision}
 use Rattle.msr_report.specs.declared.report.SegmentLine.{SegmentLine}

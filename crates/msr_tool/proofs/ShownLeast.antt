@@ -4,9 +4,9 @@ use Rattle.std.specs.List.{flat_map}
 use Rattle.std.specs.Prelude.{All}
 use Rattle.std.specs.Option.{option_to_list}
 use Rattle.msr_time.specs.SampleRate.{IsRoundedNominal}
-use Rattle.msr_record.specs.declared.row.Key.{Key}
-use Rattle.msr_record.specs.declared.row.Row.{Row}
-use Rattle.msr_record.specs.declared.row.Record.{Record}
+use Rattle.msr_rows.specs.declared.row.Key.{Key}
+use Rattle.msr_rows.specs.declared.row.Row.{Row}
+use Rattle.msr_rows.specs.declared.row.Record.{Record}
 use Rattle.msr_segments.specs.Spans.{EndsOutOfRange}
 use Rattle.msr_segments.specs.Segments.{Part, segment_of, segment_span, IsDivision, LastEndsOutOfRange}
 use Rattle.msr_segments.specs.declared.joiner.Segment.{Segment}

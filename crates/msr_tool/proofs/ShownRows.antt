@@ -6,10 +6,10 @@ use Rattle.std.proofs.lemmas.List.{drop_at}
 use Rattle.std.proofs.lemmas.List.Elements.{All-head, All-tail}
 use Rattle.msr_time.specs.Instant.{IsInstant}
 use Rattle.msr_words.specs.declared.kinds.Run.{Run}
-use Rattle.msr_record.specs.Records.{IsInTime, RowIsInTime, IsRecordOf}
-use Rattle.msr_record.specs.declared.row.Key.{Key}
-use Rattle.msr_record.specs.declared.row.Row.{Row}
-use Rattle.msr_record.specs.declared.row.Record.{Record}
+use Rattle.msr_rows.specs.Records.{IsInTime, RowIsInTime, IsRecordOf}
+use Rattle.msr_rows.specs.declared.row.Key.{Key}
+use Rattle.msr_rows.specs.declared.row.Row.{Row}
+use Rattle.msr_rows.specs.declared.row.Record.{Record}
 use Rattle.msr_segments.specs.declared.joiner.Segment.{Segment}
 use Rattle.msr_report.specs.Proper.{IsProperLine}
 use Rattle.msr_report.specs.declared.report.SegmentLine.{SegmentLine}

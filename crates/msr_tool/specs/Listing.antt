@@ -1,7 +1,7 @@
 -- What listing the segments of an input answers and leaves in the sink: a line for each segment, and a last line
 -- with the counts of the records.
 use Rattle.std.specs.Prelude.{◌≡◌, ◌⊎◌, ℕ, List, [], ◌∷◌, ◌++◌, length, Result, Ok, Err}
-use Rattle.msr_record.specs.declared.row.Record.{Record}
+use Rattle.msr_rows.specs.declared.row.Record.{Record}
 use Rattle.msr_segments.specs.Segments.{AreSegments}
 use Rattle.msr_segments.specs.declared.joiner.Segment.{Segment}
 use Rattle.msr_report.specs.Text.{IsListLine, counts_line}

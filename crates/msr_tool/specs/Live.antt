@@ -1,6 +1,6 @@
 -- What stands in the sink of a feed whenever it reads.
 use Rattle.std.specs.Prelude.{◌≡◌, ℕ, ◌+◌, List, ◌++◌, length}
-use Rattle.msr_record.specs.declared.row.Record.{Record}
+use Rattle.msr_rows.specs.declared.row.Record.{Record}
 use Rattle.msr_devices.specs.Device.{Device, HasLeft, Takes}
 use Rattle.msr_segments.specs.Segments.{AreSegments}
 use Rattle.msr_segments.specs.declared.joiner.Segment.{Segment}

@@ -2,7 +2,7 @@
 use Rattle.std.specs.Prelude.{◌≡◌, ℕ, ◌+◌, ◌<◌, ◌≤◌, ◌^◌, false, ℤ, List, ◌++◌, length, map, All, Option, None, Some, IfSome}
 use Rattle.std.specs.Option.{option_to_list}
 use Rattle.msr_devices.specs.Device.{Device, HasFailed, IsSteady}
-use Rattle.msr_record.specs.declared.row.Row.{Row}
+use Rattle.msr_rows.specs.declared.row.Row.{Row}
 use Rattle.msr_segments.specs.Spans.{SpanIsInTime, span_of}
 use Rattle.msr_segments.specs.Segments.{row_segment}
 use Rattle.msr_segments.specs.declared.follow.Step.{Step}

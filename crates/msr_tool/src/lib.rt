@@ -25,10 +25,10 @@ pub use msr_devices::{
     Behavior, FromRead, FromWrite, Sink, Source, TestSink, TestSource, WriteFault,
 };
 pub use msr_input::Fault;
+pub use msr_kinds::Length;
 pub use msr_options::Options;
-pub use msr_record::{FaultKind, Key};
 pub use msr_report::{Counts, Report, SegmentLine};
+pub use msr_rows::{FaultKind, Key};
 pub use msr_verdict::Verdict;
-pub use msr_words::Length;
 pub use repacking::{feed, repack};
 pub use tasks::{check_and_tell, feed_and_report, repack_and_report};

@@ -3,11 +3,11 @@ use crate::fault::ToolFault;
 use msr_certificate::line_has_form;
 use msr_devices::Sink;
 use msr_input::{NextRecord, NextRow};
+use msr_kinds::Length;
 use msr_output::{OpenSegment, SegmentWriter};
-use msr_record::Row;
 use msr_report::SegmentLine;
+use msr_rows::Row;
 use msr_segments::Step;
-use msr_words::Length;
 use std::alloc::Global;
 use std::marker::Model;
 
@@ -31,7 +31,7 @@ impl Model for LinedWriter {
 impl LinedWriter {
     ghost use Rattle.std.specs.Prelude.{◌≡◌, ◌≤◌, List, [], ◌++◌, length, map, Option, None, Some, IfSome, MatchResult, OnOk};
     ghost use Rattle.std.specs.Option.{option_to_list};
-    ghost use Rattle.msr_words.specs.Lengths.{bytes_of};
+    ghost use Rattle.msr_kinds.specs.Lengths.{bytes_of};
     ghost use Rattle.msr_devices.specs.Device.{Device, CanCountCall, CountsFew, IsCalm};
     ghost use Rattle.msr_segments.specs.Segments.{row_segment};
     ghost use Rattle.msr_segments.specs.declared.joiner.Segment.{Segment};

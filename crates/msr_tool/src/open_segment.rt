@@ -3,7 +3,7 @@ ghost use Rattle.std.specs.Prelude.{◌≡◌, ◌≤◌, ◌^◌, IfSome};
 ghost use Rattle.msr_tool.specs.ListWriting.{open_row, open_longer};
 
 use msr_input::RowOutline;
-use msr_record::Key;
+use msr_rows::Key;
 
 /// The segment that was begun last, as its line tells it: without its samples.
 #[derive(Clone, Copy, Debug)]

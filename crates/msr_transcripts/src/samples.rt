@@ -5,7 +5,7 @@ use crate::numbers::no_step;
 use msr_fixtures::{START, key_at};
 use msr_record::encode_record;
 use msr_time::{Rate, is_instant};
-use msr_words::{Kind, Length};
+use msr_words::{Fitting, Kind, Length};
 use std::alloc::Global;
 use std::io;
 

@@ -4,11 +4,11 @@ use Rattle.std.specs.Prelude.{slice_get, option_map, IfSome, MatchOption}
 use Rattle.std.specs.Option.{option_to_list}
 use Rattle.std.proofs.lemmas.Bool.{both_ways, cases_Bool}
 use Rattle.std.proofs.lemmas.List.{append-nil}
-use Rattle.msr_record.proofs.OneAnswer.{some_same}
+use Rattle.msr_rows.proofs.OneAnswer.{some_same}
 use Rattle.msr_words.specs.declared.kinds.Run.{Run}
-use Rattle.msr_words.specs.declared.kinds.Kind.{Kind}
-use Rattle.msr_record.specs.declared.row.Row.{Row}
-use Rattle.msr_record.specs.declared.row.Record.{Record}
+use Rattle.msr_kinds.specs.declared.kinds.Kind.{Kind}
+use Rattle.msr_rows.specs.declared.row.Row.{Row}
+use Rattle.msr_rows.specs.declared.row.Record.{Record}
 use Rattle.msr_segments.specs.Segments.{Part, rows_of, segment_of}
 use Rattle.msr_segments.specs.Joining.{Joining, HasJoined}
 use Rattle.msr_segments.specs.declared.joiner.Segment.{Segment}

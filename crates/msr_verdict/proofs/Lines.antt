@@ -1,7 +1,7 @@
 -- Parts of the rows beside lines of a report.
 use Rattle.std.proofs.Common.{◌≡◌, ◌↔◌, ℕ, suc, Bool, List, [], ◌∷◌, ◌++◌, length, refl, ap, subst, Some}
 use Rattle.std.specs.Prelude.{IsTrue, slice_get}
-use Rattle.msr_record.proofs.OneAnswer.{some_same}
+use Rattle.msr_rows.proofs.OneAnswer.{some_same}
 use Rattle.msr_words.specs.declared.kinds.Run.{Run}
 use Rattle.msr_words.specs.Packing.{IsPacking, IsSeparating}
 use Rattle.msr_segments.specs.Segments.{Part}

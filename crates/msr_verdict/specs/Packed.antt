@@ -1,10 +1,10 @@
 -- When a report shows that every segment of packed records stands in the fewest records.
 use Rattle.std.specs.Prelude.{◌≡◌, ℕ, ◌+◌, ◌≤◌, false, List, [], ◌∷◌, length, All, IsSome, Result, Ok, Err}
 use Rattle.msr_words.specs.declared.kinds.Run.{Run}
-use Rattle.msr_words.specs.Lengths.{bytes_of}
+use Rattle.msr_kinds.specs.Lengths.{bytes_of}
 use Rattle.msr_words.specs.Packing.{IsPacking, IsSeparating}
-use Rattle.msr_record.specs.declared.row.Row.{Row}
-use Rattle.msr_record.specs.declared.row.Record.{Record}
+use Rattle.msr_rows.specs.declared.row.Row.{Row}
+use Rattle.msr_rows.specs.declared.row.Record.{Record}
 use Rattle.msr_segments.specs.Segments.{Part, rows_of, segment_of, IsDivision}
 use Rattle.msr_segments.specs.declared.joiner.Segment.{Segment}
 use Rattle.msr_report.specs.declared.report.SegmentLine.{SegmentLine}

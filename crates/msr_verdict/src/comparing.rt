@@ -42,7 +42,7 @@ impl Model for Comparing {
 
 impl Comparing {
     ghost use Rattle.std.specs.Prelude.{◌≡◌, ◌↔◌, ◌<◌, ◌^◌, [], length, true, OnOk, IfErr, IfSome, IsTrue};
-    ghost use Rattle.msr_words.specs.Lengths.{bytes_of};
+    ghost use Rattle.msr_kinds.specs.Lengths.{bytes_of};
     ghost use Rattle.msr_verdict.specs.Compared.{ComparesEnded, AddsPiece, IsShownAt};
 
     /// Before the first segment.

@@ -1,11 +1,11 @@
 //! What a record is as a run of its segment.
 ghost use Rattle.std.specs.Prelude.{MatchOption};
-ghost use Rattle.msr_words.specs.Lengths.{bytes_of};
+ghost use Rattle.msr_kinds.specs.Lengths.{bytes_of};
 ghost use Rattle.msr_verdict.specs.Packed.{IsFull};
 ghost use Rattle.msr_verdict.specs.Compared.{IsPieceOf};
 
-use msr_record::Record;
-use msr_words::{Kind, Length};
+use msr_kinds::{Kind, Length};
+use msr_rows::Record;
 
 /// The samples of a record: how many, and how they are stored.
 #[derive(Clone, Copy, Debug)]

@@ -11,7 +11,6 @@ pub mod GroupSizes
 pub mod Parts
 pub mod Plain
 pub mod Pushes
-pub mod RecordLengths
 pub mod Runs
 pub mod Steim1Ahead
 pub mod Steim1Counts

@@ -1,10 +1,10 @@
 -- What one more sample does to whether a run fits.
 use Rattle.std.proofs.Common.{◌≡◌, ℕ, ◌+◌, ◌-◌, ◌≤◌, ◌<◌, zero, suc, ap, pos, ◌-ℤ◌, ◌||◌, slice_index_or, Bool, true, false, refl, IsTrue, ◌↔◌, ℤ, List, [], ◌∷◌, ◌++◌, length, arith, length-append}
 use Rattle.std.proofs.lemmas.List.Elements.{All-push, Contains-push, All-contains}
-use Rattle.msr_words.specs.declared.kinds.Kind.TheVariants.{Int16, Int24, Int32, Steim1, Steim2}
+use Rattle.msr_kinds.specs.declared.kinds.Kind.TheVariants.{Int16, Int24, Int32, Steim1, Steim2}
 use Rattle.msr_words.specs.Segment.{difference_at}
 use Rattle.msr_steim.specs.Word.{FitsBits}
-use Rattle.msr_words.specs.declared.kinds.Kind.{Kind}
+use Rattle.msr_kinds.specs.declared.kinds.Kind.{Kind}
 use Rattle.msr_words.specs.Bounds.{AreIntegers}
 use Rattle.msr_words.specs.Fit.{Fits, FitsAny}
 use Rattle.msr_words.specs.Laws.{most_of}

@@ -7,7 +7,7 @@ use Rattle.msr_steim.specs.Word.{FitsBits}
 use Rattle.msr_words.specs.Fit.{IsRun, FitsIntegers, FitsInt32}
 use Rattle.std.proofs.lemmas.List.Elements.{All-map}
 use Rattle.msr_words.specs.Laws.{PrefixLaw, BackStepLaw}
-use Rattle.msr_words.specs.declared.kinds.Kind.{Kind}
+use Rattle.msr_kinds.specs.declared.kinds.Kind.{Kind}
 use Rattle.msr_words.specs.declared.kinds.Run.{Run}
 
 pub length-points_after : (before : ℤ) (samples : List ℤ) → length (points_after before samples) ≡ length samples

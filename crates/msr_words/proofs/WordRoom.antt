@@ -13,8 +13,8 @@ use Rattle.msr_words.specs.Division.{CanDivide}
 use Rattle.msr_words.specs.Fit.{Fits}
 use Rattle.msr_words.specs.Groups.{IsOneBelow}
 use Rattle.msr_words.specs.Segment.{difference_at, points, run_points}
-use Rattle.msr_words.specs.declared.kinds.Kind.TheVariants.{Steim1, Steim2}
-use Rattle.msr_words.specs.RecordLength.{words_of}
+use Rattle.msr_kinds.specs.declared.kinds.Kind.TheVariants.{Steim1, Steim2}
+use Rattle.msr_kinds.specs.RecordLength.{words_of}
 use Rattle.msr_words.specs.Lemmas.KindLaws.{prefix_kind}
 use Rattle.msr_words.specs.Lemmas.LeastCounts.{a_group_has_few}
 use Rattle.msr_words.specs.Lemmas.SteimLaws.{all_more, head_group, one_has_few, tail_groups}

@@ -4,13 +4,13 @@ use Rattle.std.specs.List.{AllByRecursion}
 use Rattle.msr_steim.specs.declared.word.Version.{Version}
 use Rattle.msr_steim.specs.declared.word.Version.TheVariants.{One}
 use Rattle.msr_steim.specs.Word.{FitsBits}
-use Rattle.msr_words.specs.declared.kinds.Kind.{Kind}
-use Rattle.msr_words.specs.declared.kinds.Kind.TheVariants.{Steim2}
+use Rattle.msr_kinds.specs.declared.kinds.Kind.{Kind}
+use Rattle.msr_kinds.specs.declared.kinds.Kind.TheVariants.{Steim2}
 use Rattle.msr_words.specs.Division.{CanDivide}
 use Rattle.msr_words.specs.Fit.{Fits, IsRun}
 use Rattle.msr_words.specs.Groups.{IsLongestGroup}
 use Rattle.msr_words.specs.Laws.{most_of}
-use Rattle.msr_words.specs.RecordLength.{words_of}
+use Rattle.msr_kinds.specs.RecordLength.{words_of}
 use Rattle.msr_words.specs.Segment.{run_points}
 
 -- whether it is a number of `width` bits

@@ -3,10 +3,10 @@ use Rattle.std.specs.Prelude.{ℕ, ◌+◌, ◌*◌, ◌<◌, ◌≤◌, ℤ, Li
 use Rattle.msr_steim.specs.declared.word.Version.{Version}
 use Rattle.msr_steim.specs.declared.word.Version.TheVariants.{One, Two}
 use Rattle.msr_steim.specs.Word.{FitsBits}
-use Rattle.msr_words.specs.declared.kinds.Kind.{Kind}
-use Rattle.msr_words.specs.declared.kinds.Kind.TheVariants.{Int16, Int24, Int32, Steim1, Steim2}
+use Rattle.msr_kinds.specs.declared.kinds.Kind.{Kind}
+use Rattle.msr_kinds.specs.declared.kinds.Kind.TheVariants.{Int16, Int24, Int32, Steim1, Steim2}
 use Rattle.msr_words.specs.Division.{CanDivide}
-use Rattle.msr_words.specs.RecordLength.{words_of}
+use Rattle.msr_kinds.specs.RecordLength.{words_of}
 use Rattle.msr_words.specs.Segment.{run_points}
 
 -- the header counts the samples of a record in 16 bits
@@ -66,11 +66,3 @@ rank Int32 = 4
 -- of the kinds that the run fits, the one that is tried first
 abbrev pub IsFirstKind : ℕ → List (ℤ × ℤ) → Kind → Type 0
 IsFirstKind bytes run kind = Fits kind bytes run × ((other : Kind) → rank other < rank kind → Fits other bytes run → ⊥)
-
--- the number of its encoding
-abbrev pub code_of : Kind → ℕ
-code_of Int16 = 1
-code_of Int24 = 2
-code_of Int32 = 3
-code_of Steim1 = 10
-code_of Steim2 = 11

@@ -1,10 +1,10 @@
 -- The laws of a tracker. They hold for lists of any whole numbers.
 use Rattle.std.specs.Prelude.{ℕ, ◌+◌, ◌-◌, ◌*◌, ◌/◌, ◌≤◌, max, min, ℤ, List, [], ◌++◌, length, drop, All}
 use Rattle.msr_steim.specs.Word.{FitsBits}
-use Rattle.msr_words.specs.declared.kinds.Kind.{Kind}
-use Rattle.msr_words.specs.declared.kinds.Kind.TheVariants.{Int16, Int24, Int32, Steim1, Steim2}
+use Rattle.msr_kinds.specs.declared.kinds.Kind.{Kind}
+use Rattle.msr_kinds.specs.declared.kinds.Kind.TheVariants.{Int16, Int24, Int32, Steim1, Steim2}
 use Rattle.msr_words.specs.Fit.{most_counted}
-use Rattle.msr_words.specs.RecordLength.{words_of}
+use Rattle.msr_kinds.specs.RecordLength.{words_of}
 
 -- what a run begins with fits if the run does
 abbrev pub PrefixLaw : (List (ℤ × ℤ) → Type 0) → Type 0

@@ -1,6 +1,4 @@
 pub mod Segment
-pub mod RecordLength
-pub mod Lengths
 pub mod Division
 pub mod Fit
 pub mod Laws

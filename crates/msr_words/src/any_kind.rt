@@ -1,16 +1,16 @@
 //! The trackers of all kinds, side by side.
 
 ghost use Rattle.std.specs.Prelude.{map};
-ghost use Rattle.msr_words.specs.RecordLength.{words_of};
+ghost use Rattle.msr_kinds.specs.RecordLength.{words_of};
 ghost use Rattle.msr_words.specs.Fit.{FitsAny};
 ghost use Rattle.msr_words.specs.Laws.{most_any};
-ghost use Rattle.msr_words.specs.declared.kinds.Kind.TheVariants.{Int16, Int24, Int32};
+ghost use Rattle.msr_kinds.specs.declared.kinds.Kind.TheVariants.{Int16, Int24, Int32};
 ghost use Rattle.msr_words.specs.Trackers.{FollowsIntegers, FollowsSteim1, FollowsSteim2};
 ghost use Rattle.msr_words.specs.Lemmas.KindLaws.{any_laws};
 
 use crate::codecs::{Int16, Int24, Int32, Steim1, Steim2, Tracker};
-use crate::kinds::Kind;
-use crate::lengths::Length;
+use crate::kinds::Fitting;
+use msr_kinds::{Kind, Length};
 
 /// The trackers of all kinds, side by side: whether the run fits a record of some kind.
 #[derive(Clone, Copy, Debug, PartialEq, Eq)]

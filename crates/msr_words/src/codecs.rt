@@ -1,18 +1,19 @@
 //! Trackers: whether the samples pushed so far fit one record, for each kind of record.
 
 ghost use Rattle.std.specs.Prelude.{◌≡◌, ℕ, ◌+◌, ◌^◌, ◌<◌, ◌≤◌, ◌↔◌, ◌++◌, ◌∷◌, ℤ, List, [], IsTrue, map};
-ghost use Rattle.msr_words.specs.declared.kinds.Kind.{Kind};
-ghost use Rattle.msr_words.specs.declared.kinds.Kind.TheVariants.{Steim1, Steim2};
-ghost use Rattle.msr_words.specs.Lengths.{bytes_of};
-ghost use Rattle.msr_words.specs.RecordLength.{words_of};
-ghost use Rattle.msr_words.specs.Fit.{Fits, code_of};
+ghost use Rattle.msr_kinds.specs.declared.kinds.Kind.{Kind};
+ghost use Rattle.msr_kinds.specs.declared.kinds.Kind.TheVariants.{Steim1, Steim2};
+ghost use Rattle.msr_kinds.specs.Lengths.{bytes_of};
+ghost use Rattle.msr_kinds.specs.RecordLength.{words_of};
+ghost use Rattle.msr_words.specs.Fit.{Fits};
+ghost use Rattle.msr_kinds.specs.Codes.{code_of};
 ghost use Rattle.msr_words.specs.Trackers.{FollowsIntegers, FollowsSteim1, FollowsSteim2, IsInteger, integers_of};
 ghost use Rattle.msr_words.specs.Laws.{TrackerLaws, most_of};
 ghost use Rattle.msr_words.specs.Lemmas.KindLaws.{integers_laws, kind_laws};
 
 use crate::counts::{LeastCounts, steim2_capacity};
-use crate::kinds::Kind;
-use crate::lengths::Length;
+use crate::kinds::Fitting;
+use msr_kinds::{Kind, Length};
 use msr_steim::fits_bits;
 
 /// A tracker says, one sample after another, whether what was pushed so far fits one record.

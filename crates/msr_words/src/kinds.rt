@@ -1,78 +1,64 @@
-//! The kinds of records, and which runs fit them.
+//! Which runs fit a record of a kind.
 
-ghost use Rattle.std.specs.Prelude.{◌≡◌, All, ℕ, ◌^◌, ◌<◌, ◌≤◌, ◌↔◌, IsTrue, Some, drop, length};
+ghost use Rattle.std.specs.Prelude.{◌≡◌, All, ℕ, ℤ, List, ◌^◌, ◌<◌, ◌≤◌, ◌↔◌, IsTrue, drop, length};
 ghost use Rattle.msr_steim.specs.Word.{FitsBits};
-ghost use Rattle.msr_words.specs.Lengths.{bytes_of};
+ghost use Rattle.msr_kinds.specs.Lengths.{bytes_of};
 ghost use Rattle.msr_steim.specs.declared.word.Version.TheVariants.{One, Two};
-ghost use Rattle.msr_words.specs.declared.kinds.Kind.TheVariants.{Steim1 as FirstSteim, Steim2 as SecondSteim};
+ghost use Rattle.msr_kinds.specs.declared.kinds.Kind.TheVariants.{Steim1 as FirstSteim, Steim2 as SecondSteim};
 ghost use Rattle.msr_words.specs.Segment.{points, run_points, differences, difference_at, difference_from};
 ghost use Rattle.msr_words.specs.Division.{CanDivide};
 ghost use Rattle.msr_words.specs.Groups.{IsCapacity, IsLongestGroup};
 ghost use Rattle.msr_words.specs.Laws.{DominanceLaw, look_back_of, most_of};
-ghost use Rattle.msr_words.specs.Fit.{Fits, FitsAny, IsRun, IsFirstKind, code_of};
+ghost use Rattle.msr_words.specs.Fit.{Fits, FitsAny, IsRun, IsFirstKind};
+ghost use Rattle.msr_kinds.specs.Codes.{code_of};
 
 use crate::counts::{LeastCounts, magnitude};
-use crate::lengths::Length;
 use crate::window::Window;
+use msr_kinds::{Kind, Length};
 use msr_steim::fits_bits;
 
 /// As many samples as the header of a record counts, in 16 bits.
 pub(crate) const MOST_COUNTED: usize = 65_535;
 
-/// What a record holds.
-#[derive(Clone, Copy, Debug, PartialEq, Eq)]
-pub enum Kind {
-    Int16,
-    Int24,
-    Int32,
-    Steim1,
-    Steim2,
-}
+/// What fits a record of a kind.
+pub trait Fitting {
+    /// How many starts before a cut may be needed.
+    ghost look_back: { Self → ℕ };
 
-impl Kind {
-    ghost use Rattle.msr_words.specs.declared.kinds.Kind.{Kind};
+    /// How many samples a record of that many bytes has at most.
+    ghost most: { Self → ℕ → ℕ };
 
-    /// The number of its encoding.
-    pub fn code(self) -> u8
-        ensures { result ≡ code_of self }
-    {
-        match self {
-            Kind::Int16 => 1,
-            Kind::Int24 => 2,
-            Kind::Int32 => 3,
-            Kind::Steim1 => 10,
-            Kind::Steim2 => 11,
-        }
-    }
-
-    /// The kind with that encoding.
-    pub fn of_code(code: u8) -> Option<Kind>
-        ensures { (kind : Kind) → (result ≡ Some kind ↔ code_of kind ≡ code) }
-    {
-        match code {
-            1 => Some(Kind::Int16),
-            2 => Some(Kind::Int24),
-            3 => Some(Kind::Int32),
-            10 => Some(Kind::Steim1),
-            11 => Some(Kind::Steim2),
-            _ => None,
-        }
-    }
+    /// The run fits a record of that many bytes.
+    ghost fits: { Self → ℕ → List (ℤ × ℤ) → Type 0 };
 
     /// How many starts before a cut may be needed when a run of this kind is cut.
-    pub fn look_back(self) -> usize
-        ensures { result ≡ look_back_of self }
-    {
+    fn look_back(self) -> usize
+        ensures { result ≡ look_back self };
+
+    /// How many samples one record of this kind has at most.
+    fn most(self, record_length: Length) -> usize
+        ensures { result ≡ most self (bytes_of record_length) };
+
+    /// The run fits one record of this kind; `before` is the sample before it, none at a segment's start.
+    fn fits(self, before: Option<i32>, run: &[i32], record_length: Length) -> bool
+        ensures { IsTrue result ↔ fits self (bytes_of record_length) (points before run.now) };
+}
+
+impl Fitting for Kind {
+    ghost look_back = { look_back_of };
+
+    ghost most = { most_of };
+
+    ghost fits = { Fits };
+
+    fn look_back(self) -> usize {
         match self {
             Kind::Steim1 => 1,
             Kind::Int16 | Kind::Int24 | Kind::Int32 | Kind::Steim2 => 0,
         }
     }
 
-    /// How many samples one record of this kind has at most.
-    pub fn most(self, record_length: Length) -> usize
-        ensures { result ≡ most_of self (bytes_of record_length) }
-    {
+    fn most(self, record_length: Length) -> usize {
         let room = match self {
             Kind::Int16 => ((record_length.bytes() - 64) / 2) as usize,
             Kind::Int24 => ((record_length.bytes() - 64) / 3) as usize,
@@ -83,10 +69,7 @@ impl Kind {
         room.min(MOST_COUNTED)
     }
 
-    /// The run fits one record of this kind; `before` is the sample before it, none at a segment's start.
-    pub fn fits(self, before: Option<i32>, run: &[i32], record_length: Length) -> bool
-        ensures { IsTrue result ↔ Fits self (bytes_of record_length) (points before run.now) }
-    {
+    fn fits(self, before: Option<i32>, run: &[i32], record_length: Length) -> bool {
         if run.len() > self.most(record_length) {
             return false;
         }

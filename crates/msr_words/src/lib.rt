@@ -9,7 +9,6 @@ mod division;
 mod existence;
 mod first_group;
 mod kinds;
-mod lengths;
 mod window;
 
 pub use any_kind::AnyKind;
@@ -23,8 +22,9 @@ pub use division::{groups, one_division};
 pub use existence::{division_exists, fitting_is_decided};
 pub use first_group::sizes_of;
 pub use kinds::{
-    Kind, Run, difference, difference_after, first_kind, longest_group, run_fits, steim2_dominates,
+    Fitting, Run, difference, difference_after, first_kind, longest_group, run_fits,
+    steim2_dominates,
 };
-pub use lengths::Length;
+pub use msr_kinds::{Kind, Length};
 pub use msr_steim::fits_bits;
 pub use window::{FourSizes, Window};

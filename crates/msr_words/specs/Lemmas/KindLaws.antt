@@ -5,8 +5,8 @@ use Rattle.std.proofs.lemmas.List.{take_at, drop_at, drop_all, map-append, lengt
 use Rattle.std.proofs.lemmas.List.Elements.{All-nil, All-take, All-drop}
 use Rattle.std.proofs.lemmas.Nat.{le-div}
 use Rattle.std.proofs.Math.Nat.{mul-div-le, mul-le-mul_left, mul_comm}
-use Rattle.msr_words.specs.declared.kinds.Kind.{Kind}
-use Rattle.msr_words.specs.declared.kinds.Kind.TheVariants.{Int16, Int24, Int32, Steim1, Steim2}
+use Rattle.msr_kinds.specs.declared.kinds.Kind.{Kind}
+use Rattle.msr_kinds.specs.declared.kinds.Kind.TheVariants.{Int16, Int24, Int32, Steim1, Steim2}
 use Rattle.msr_steim.specs.declared.word.Version.{Version}
 use Rattle.msr_steim.specs.declared.word.Version.TheVariants.{One, Two}
 use Rattle.msr_steim.specs.Word.{FitsBits}
@@ -16,7 +16,7 @@ use Rattle.msr_words.specs.Trackers.{integers_of}
 use Rattle.msr_words.specs.Lemmas.SteimLaws.{places_of, largest_of, prefix_law, back_step_law, size_law, none_divides}
 use Rattle.msr_words.specs.Bounds.{AreIntegers}
 use Rattle.msr_words.specs.Fit.{FitsIntegers, FitsInt32, FitsSteim, HasRoom, Fits, FitsAny}
-use Rattle.msr_words.specs.RecordLength.{words_of}
+use Rattle.msr_kinds.specs.RecordLength.{words_of}
 
 -- if each part after a cut fits by itself, none of the samples before it is needed; and the other way round
 pub back_step_by_suffix : (fits : List (ℤ × ℤ) → Type 0) → SuffixLaw fits → BackStepLaw 0 fits

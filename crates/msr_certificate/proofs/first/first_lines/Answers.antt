@@ -1,5 +1,5 @@
 use Rattle.std.proofs.Common.{◌∙◌, ap, sym, rules, ℕ, List, ◌++◌, ◌∷◌, codes, decimal}
-use Rattle.msr_words.specs.Lengths.{bytes_of}
+use Rattle.msr_kinds.specs.Lengths.{bytes_of}
 use Rattle.msr_certificate.proofs.FirstFaults.{fault_1, fault_2, fault_3, fault_4}
 use Rattle.msr_certificate.proofs.RestOfText.{counts_split, counts_then}
 use Rattle.msr_certificate.proofs.first.first_lines.Goals as goal

@@ -1,6 +1,6 @@
 use Rattle.std.proofs.Common.{◌≡◌, ◌∷◌, ◌++◌, [], length, arith, ap, refl, ◌∙◌, length-append, Bool, Option, Some, None}
 use Rattle.std.specs.Prelude.{is_some, if◌then◌else◌, option_map}
-use Rattle.msr_record.specs.declared.row.Row.{Row}
+use Rattle.msr_rows.specs.declared.row.Row.{Row}
 use Rattle.msr_base.specs.declared.counts.Counts.{Counts}
 use Rattle.msr_input.specs.Input.{empty_count, mismatch_count}
 use Rattle.msr_input.specs.Outlines.{row_outline}

@@ -2,8 +2,8 @@ use Rattle.std.proofs.Common.{refl, ◌≡◌, ◌+◌, ◌<◌, ◌∙◌, rule
 use Rattle.std.proofs.lemmas.Result.{err_from_is_err_and}
 use Rattle.std.specs.Prelude.{◌==◌}
 use Rattle.msr_header.proofs.ShownLemmas.{AreBytes}
-use Rattle.msr_record.specs.declared.fault.FaultKind.{FaultKind}
-use Rattle.msr_record.specs.declared.fault.FaultKind.TheVariants.{Memory}
+use Rattle.msr_rows.specs.declared.fault.FaultKind.{FaultKind}
+use Rattle.msr_rows.specs.declared.fault.FaultKind.TheVariants.{Memory}
 use Rattle.msr_input.specs.Steps.{may_change}
 use Rattle.msr_input.proofs.BytesAhead.{came_short, filled_none, filled_more, refused_short, room_none, room_more, room_found}
 use Rattle.msr_input.proofs.SettledRefusals.{decoding_stops, none_held}

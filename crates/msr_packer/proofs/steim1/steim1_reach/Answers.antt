@@ -1,6 +1,6 @@
 use Rattle.std.proofs.Common.{arith, ◌≡◌, ◌+◌, ◌-◌, None, suc, subst, true, drop}
 use Rattle.msr_words.specs.Segment.{differences}
-use Rattle.msr_words.specs.RecordLength.{words_of}
+use Rattle.msr_kinds.specs.RecordLength.{words_of}
 use Rattle.msr_words.specs.Steim1Reach.{IsSteim1End, IsSteim1Reach, IsSteim1Word}
 use Rattle.msr_words.proofs.Windows.{window_on}
 use Rattle.msr_words.proofs.Steim1Runs.{behind, left_behind, length-behind, none_reached, walk_ends}

@@ -1,5 +1,5 @@
 use Rattle.std.proofs.Common.{arith, refl, ◌-◌, [], ◌∷◌, inl, inr}
-use Rattle.msr_words.specs.declared.kinds.Kind.TheVariants.{Int16, Steim1, Steim2}
+use Rattle.msr_kinds.specs.declared.kinds.Kind.TheVariants.{Int16, Steim1, Steim2}
 use Rattle.msr_words.specs.Lemmas.KindLaws.{int16_by_bits}
 use Rattle.msr_words.proofs.WordRoom.{wide_of_steim1, wide_of_steim2}
 use Rattle.msr_packer.specs.declared.step.Step.{Step}

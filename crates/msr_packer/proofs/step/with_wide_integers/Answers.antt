@@ -1,6 +1,6 @@
 -- 24-bit integers reach no further than a run that is known already, or they are tried.
 use Rattle.std.proofs.Common.{arith, refl, ◌≡◌, ◌∷◌, max}
-use Rattle.msr_words.specs.declared.kinds.Kind.TheVariants.{Int24, Int32}
+use Rattle.msr_kinds.specs.declared.kinds.Kind.TheVariants.{Int24, Int32}
 use Rattle.msr_words.specs.Lemmas.KindLaws.{int24_by_bits}
 use Rattle.msr_packer.specs.declared.step.Step.{Step}
 use Rattle.msr_packer.specs.Steps.{longer_kinds}

@@ -2,7 +2,7 @@
 use Rattle.std.proofs.Common.{rules, arith, ◌≡◌, ◌+◌, ◌-◌, ℕ, List, ◌++◌, length, take, replicate, ap, sym, ◌∙◌, FitsSigned, w64, to_z-of_z}
 use Rattle.std.proofs.lemmas.Result.{on_ok_weaker}
 use Rattle.std.proofs.lemmas.List.{take_all, length-replicate}
-use Rattle.msr_words.specs.Lengths.{bytes_of}
+use Rattle.msr_kinds.specs.Lengths.{bytes_of}
 use Rattle.msr_record.proofs.WritingLemmas.{appended_behind, new_part}
 use Rattle.msr_record.proofs.writing.encode_record.Goals as goal
 

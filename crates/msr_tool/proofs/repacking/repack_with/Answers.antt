@@ -1,7 +1,7 @@
 use Rattle.std.proofs.Common.{◌≡◌, inl, inr, ◌++◌, [], None, map, refl, ap, arith, rules}
 use Rattle.std.proofs.lemmas.Result.{err_from_is_err_and}
 use Rattle.std.specs.Option.{option_to_list}
-use Rattle.msr_words.specs.Lengths.{bytes_of}
+use Rattle.msr_kinds.specs.Lengths.{bytes_of}
 use Rattle.msr_segments.specs.Spans.{Following}
 use Rattle.msr_certificate.specs.Form.{IsFirst}
 use Rattle.msr_certificate.proofs.Forms.{is_length}

@@ -1,5 +1,5 @@
 use Rattle.std.proofs.Common.{◌∙◌, ap, refl, sym}
-use Rattle.msr_words.specs.Lengths.{bytes_of}
+use Rattle.msr_kinds.specs.Lengths.{bytes_of}
 use Rattle.msr_walk.proofs.repacking.counts_kept.Goals.{else-is_strict-via-then-is_strict+else-report-ne0, else-is_strict-via-else-is_strict}
 use Rattle.msr_walk.proofs.repacking.counts_kept.Goals as goal
 

@@ -1,6 +1,6 @@
 use Rattle.std.proofs.Common.{◌≡◌}
 use Rattle.std.proofs.lemmas.Result.{err_from_is_err_and}
-use Rattle.msr_record.specs.Records.{IsRecordOf}
+use Rattle.msr_rows.specs.Records.{IsRecordOf}
 use Rattle.msr_input.specs.Input.{Agrees}
 use Rattle.msr_input.specs.Steps.{IsNext}
 use Rattle.msr_input.specs.declared.fault.ReadFault.TheVariants.{Memory, Read}

@@ -1,7 +1,7 @@
 -- One record more has come.
 use Rattle.std.proofs.Common.{◌≡◌, ap, arith, length, length-drop, refl}
-use Rattle.msr_record.specs.Records.{IsRecordOf}
-use Rattle.msr_record.proofs.UnseenBytes.{record_fits}
+use Rattle.msr_rows.specs.Records.{IsRecordOf}
+use Rattle.msr_rows.proofs.UnseenBytes.{record_fits}
 use Rattle.msr_devices.specs.ReadBuffer.{Window}
 use Rattle.msr_input.specs.Records.{CountsOneMore, HaveCome}
 use Rattle.msr_input.specs.Steps.{IsNext}

@@ -1,5 +1,5 @@
 use Rattle.std.proofs.Common.{◌∷◌, ◌++◌, []}
-use Rattle.msr_words.specs.Lengths.{bytes_of}
+use Rattle.msr_kinds.specs.Lengths.{bytes_of}
 use Rattle.msr_output.specs.Opened.{opened_of}
 use Rattle.msr_output.proofs.OpenSegments.{can_encode}
 use Rattle.msr_output.proofs.opened.OpenSegment.encode_next.Goals as goal

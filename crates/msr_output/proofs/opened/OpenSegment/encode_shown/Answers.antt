@@ -3,7 +3,7 @@ use Rattle.std.specs.Prelude.{slice_range}
 use Rattle.msr_record.specs.Written.{AppendsRecord}
 use Rattle.msr_output.specs.Output.{sample_before}
 use Rattle.msr_time.specs.Instant.{IsInstant}
-use Rattle.msr_words.specs.Lengths.{bytes_of}
+use Rattle.msr_kinds.specs.Lengths.{bytes_of}
 use Rattle.msr_output.proofs.OpenSegments.{before_same}
 use Rattle.msr_output.proofs.Times.{nominal_between, nominal_found, some_where}
 use Rattle.msr_output.proofs.Runs.{record_of_run, on_ok}

@@ -1,4 +1,4 @@
-use Rattle.msr_words.specs.Lengths.{bytes_of}
+use Rattle.msr_kinds.specs.Lengths.{bytes_of}
 use Rattle.msr_output.proofs.OpenSegments.{match_as}
 use Rattle.msr_output.proofs.opened.OpenSegment.push.Goals as goal
 

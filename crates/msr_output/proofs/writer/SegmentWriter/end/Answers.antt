@@ -1,6 +1,6 @@
 use Rattle.std.proofs.Common.{◌∙◌, ◌++◌, refl, sym}
 use Rattle.std.proofs.lemmas.Result.{err_from_is_err_and}
-use Rattle.msr_words.specs.Lengths.{bytes_of}
+use Rattle.msr_kinds.specs.Lengths.{bytes_of}
 use Rattle.msr_output.specs.Writing.{Writing}
 use Rattle.msr_output.proofs.OpenSegments.{begun_failed, begun_whole, open_end, packs_count, refused_now, writable_now}
 use Rattle.msr_output.proofs.Existing.{enough_bytes, is_packed_by}

@@ -1,6 +1,6 @@
 use Rattle.std.proofs.Common.{refl, false}
 use Rattle.std.proofs.lemmas.Result.{err_from_is_err_and}
-use Rattle.msr_words.specs.Lengths.{bytes_of}
+use Rattle.msr_kinds.specs.Lengths.{bytes_of}
 use Rattle.msr_output.specs.Writing.{Writing}
 use Rattle.msr_output.proofs.OpenSegments.{appends_none, begun_failed, begun_more, writable_now}
 use Rattle.msr_output.proofs.BetweenSegments.{stopped_all, written_some}

@@ -1,6 +1,6 @@
 use Rattle.std.proofs.Common.{◌∙◌}
 use Rattle.std.proofs.lemmas.Result.{err_from_is_err_and}
-use Rattle.msr_words.specs.Lengths.{bytes_of}
+use Rattle.msr_kinds.specs.Lengths.{bytes_of}
 use Rattle.msr_output.specs.Opened.{longer_by}
 use Rattle.msr_output.specs.Writing.{Writing}
 use Rattle.msr_output.proofs.OpenSegments.{begun_failed, begun_longer, begun_more, can_longer, refused_longer, refused_now, writable_longer}

@@ -1,0 +1,3 @@
+pub mod RecordLength
+pub mod Lengths
+pub mod Codes

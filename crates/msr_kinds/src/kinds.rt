@@ -1,0 +1,44 @@
+//! The kinds of records.
+ghost use Rattle.std.specs.Prelude.{◌≡◌, ◌↔◌, Some};
+ghost use Rattle.msr_kinds.specs.Codes.{code_of};
+
+/// How a record stores its samples (SEED 2.4, blockette 1000: encoding format).
+#[derive(Clone, Copy, Debug, PartialEq, Eq)]
+pub enum Kind {
+    Int16,
+    Int24,
+    Int32,
+    Steim1,
+    Steim2,
+}
+
+impl Kind {
+    ghost use Rattle.msr_kinds.specs.declared.kinds.Kind.{Kind};
+
+    /// The number of its encoding.
+    pub fn code(self) -> u8
+        ensures { result ≡ code_of self }
+    {
+        match self {
+            Kind::Int16 => 1,
+            Kind::Int24 => 2,
+            Kind::Int32 => 3,
+            Kind::Steim1 => 10,
+            Kind::Steim2 => 11,
+        }
+    }
+
+    /// The kind with that encoding.
+    pub fn of_code(code: u8) -> Option<Kind>
+        ensures { (kind : Kind) → (result ≡ Some kind ↔ code_of kind ≡ code) }
+    {
+        match code {
+            1 => Some(Kind::Int16),
+            2 => Some(Kind::Int24),
+            3 => Some(Kind::Int32),
+            10 => Some(Kind::Steim1),
+            11 => Some(Kind::Steim2),
+            _ => None,
+        }
+    }
+}

@@ -1,5 +1,0 @@
-use Rattle.msr_record.proofs.WritableRows.{row_is_writable}
-use Rattle.msr_record.proofs.laws.rows_are_writable.Goals as goal
-
-pub returns : goal.returns
-returns c = record { row = row_is_writable; start = λ row in_time. in_time.first_in }

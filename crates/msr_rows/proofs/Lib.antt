@@ -1,0 +1,9 @@
+pub mod HeaderFacts
+pub mod KeyLemmas
+pub mod FieldLemmas
+pub mod TimeLemmas
+pub mod RowLemmas
+pub mod OneAnswer
+pub mod FirstBytes
+pub mod UnseenBytes
+pub mod WritableRows

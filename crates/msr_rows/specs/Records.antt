@@ -1,0 +1,128 @@
+-- The record that bytes begin with: its row of samples, or why it is refused.
+use Rattle.std.specs.Prelude.{◌≡◌, ◌↔◌, ℕ, ◌-◌, ◌^◌, ◌≤◌, Bool, not, ◌&&◌, nat_le, ℤ, pos, List, [], ◌∷◌, length, take, slice_range, Option, Some, None, Ok, Err, is_some, IsTrue, IfNone, IfSome}
+use Rattle.std.specs.Ordering.{int_eq}
+use Rattle.msr_time.specs.Instant.{IsInstant}
+use Rattle.msr_time.specs.SampleRate.{SampleRate, IsRoundedNominal}
+use Rattle.msr_base.specs.Faults.{first_fault, unless}
+use Rattle.msr_header.specs.Reading.{header_of}
+use Rattle.msr_header.specs.declared.header.Header.{Header}
+use Rattle.msr_rows.specs.Kinds.{kind_of_code}
+use Rattle.msr_rows.specs.Correction.{key_of, start_of}
+use Rattle.msr_rows.specs.Area.{Carries, AreaHasFault, ReverseAgrees}
+use Rattle.msr_kinds.specs.declared.kinds.Kind.{Kind}
+use Rattle.msr_rows.specs.declared.row.Row.{Row}
+use Rattle.msr_rows.specs.declared.row.Record.{Record}
+use Rattle.msr_rows.specs.declared.fault.FaultKind.{FaultKind}
+use Rattle.msr_rows.specs.declared.fault.FaultKind.TheVariants.{Header as HeaderRefused, NoRate, OtherEncoding, BadDataOffset, DataShort, BadCode, TimeRange, ReverseMismatch, Memory}
+
+-- neither part of the sample rate is 0
+abbrev pub has_rate : Header → Bool
+has_rate h = not (int_eq h.factor (pos 0)) && not (int_eq h.multiplier (pos 0))
+
+-- the data area begins after the blockettes and within the record
+abbrev pub has_area : Header → Bool
+has_area h = nat_le h.chain_end h.data_at && nat_le h.data_at (2 ^ h.exponent)
+
+-- the faults of the fields that samples need, in their order, each if its test fails
+unfoldable pub field_faults : Header → List (Option FaultKind)
+field_faults h =
+    unless (has_rate h) NoRate
+    ∷ unless (is_some (kind_of_code h.encoding)) (OtherEncoding h.encoding)
+    ∷ unless (has_area h) BadDataOffset
+    ∷ []
+
+-- the data area: from the beginning of data to the record's end
+abbrev pub data_area : Header → List ℕ → List ℕ
+data_area h bytes = slice_range bytes h.data_at (2 ^ h.exponent)
+
+-- the bytes that a reader looks at: as many as the longest record that is read has
+unfoldable pub first_bytes : List ℕ → List ℕ
+first_bytes bytes = take 1_048_576 bytes
+
+-- the bytes begin with a record of this header that has samples
+pub record HasSamples (bytes : List ℕ) (header : Header) : Type 0 where
+  pub read : header_of bytes ≡ Ok header
+  pub some : 1 ≤ header.samples
+
+-- and the fields that they need have no fault
+pub record HasArea (bytes : List ℕ) (header : Header) (kind : Kind) : Type 0 where
+  pub has_samples : HasSamples bytes header
+  pub fields : first_fault (field_faults header) ≡ None
+  pub kind_is : kind_of_code header.encoding ≡ Some kind
+
+-- memory is taken for samples: no field that they need has a fault
+pub record TakesMemory (bytes : List ℕ) : Type 0 where
+  pub header : Header
+  pub kind : Kind
+  pub has_area : HasArea bytes header kind
+
+-- The row of a record: key, instant, kind and samples are those of its fields and of its data area.
+pub record IsRowOf (bytes : List ℕ) (row : Row) : Type 0 where
+  pub header : Header
+  pub has_area : HasArea bytes header row.kind
+  pub key_is : row.key ≡ key_of header
+  pub start_is : row.start ≡ start_of header
+  pub count : length row.samples ≡ header.samples
+  pub carried : Carries row.kind header.data_order (data_area header bytes) row.samples
+
+-- the instant of the row's first sample, and the rounded one of its last, counted from the first, are of
+-- the supported years
+pub record IsInTime (rate : SampleRate) (start : ℤ) (count : ℕ) : Type 0 where
+  pub last : ℤ
+  pub nominal : IsRoundedNominal rate start (count - 1) last
+  pub first_in : IsInstant start
+  pub last_in : IsInstant last
+
+abbrev pub RowIsInTime : Row → Type 0
+RowIsInTime row = IsInTime row.key.rate row.start (length row.samples)
+
+-- the fields that samples need have this first fault
+pub record FieldsAreRefused (bytes : List ℕ) (fault : FaultKind) : Type 0 where
+  pub header : Header
+  pub has_samples : HasSamples bytes header
+  pub first : first_fault (field_faults header) ≡ Some fault
+
+-- the fields that samples need have no fault, and the data area has this one
+pub record AreaIsRefused (bytes : List ℕ) (fault : FaultKind) : Type 0 where
+  pub header : Header
+  pub kind : Kind
+  pub has_area : HasArea bytes header kind
+  pub first : AreaHasFault kind header.data_order (data_area header bytes) header.samples fault
+
+-- the record has a row, and its first or last sample is not of the supported years
+pub record IsOutOfTime (bytes : List ℕ) : Type 0 where
+  pub the_row : Row
+  pub is_row : IsRowOf bytes the_row
+  pub out : RowIsInTime the_row → ⊥
+
+-- The record that the bytes begin with is refused so, by itself. Each needs that those before it do not
+-- apply: first the header's, then those of the fields that samples need, then those of the data area, then
+-- the time's. A reverse constant that does not agree refuses no record by itself, and running out of memory is
+-- no fault of the bytes.
+abbrev pub IsRefused : List ℕ → FaultKind → Type 0
+IsRefused bytes (HeaderRefused fault) = header_of bytes ≡ Err fault
+IsRefused bytes NoRate = FieldsAreRefused bytes NoRate
+IsRefused bytes (OtherEncoding code) = FieldsAreRefused bytes (OtherEncoding code)
+IsRefused bytes BadDataOffset = FieldsAreRefused bytes BadDataOffset
+IsRefused bytes DataShort = AreaIsRefused bytes DataShort
+IsRefused bytes (BadCode word) = AreaIsRefused bytes (BadCode word)
+IsRefused bytes TimeRange = IsOutOfTime bytes
+IsRefused bytes ReverseMismatch = ⊥
+IsRefused bytes Memory = ⊥
+
+-- the last sample is the reverse constant of the record that the bytes begin with, if it has one
+pub record AgreesAtEnd (bytes : List ℕ) (row : Row) : Type 0 where
+  pub header : Header
+  pub read : header_of bytes ≡ Ok header
+  pub reverse : ReverseAgrees row.kind header.data_order (data_area header bytes) row.samples
+
+-- the bytes begin with a record without a fault: its length, its row, and whether the reverse constant agrees
+pub record IsRecordOf (bytes : List ℕ) (found : Record) : Type 0 where
+  pub header : Header
+  pub read : header_of bytes ≡ Ok header
+  pub length_is : found.length ≡ 2 ^ header.exponent
+  pub empty : IfNone found.row (header.samples ≡ 0)
+  pub row : IfSome found.row (IsRowOf bytes)
+  pub in_time : IfSome found.row RowIsInTime
+  pub agrees : IfSome found.row (λ row. IsTrue found.reverse_agrees ↔ AgreesAtEnd bytes row)
+  pub no_reverse : IfNone found.row (IsTrue found.reverse_agrees)

@@ -1,0 +1,27 @@
+-- What a record shows that is read where it stands.
+use Rattle.std.specs.Prelude.{◌==◌, ℕ, if◌then◌else◌, ℤ, List, [], Option, Some, None}
+use Rattle.msr_header.specs.declared.header.Header.{Header}
+use Rattle.msr_rows.specs.Records.{data_area}
+use Rattle.msr_rows.specs.declared.row.Key.{Key}
+use Rattle.msr_rows.specs.declared.row.Row.{Row}
+use Rattle.msr_rows.specs.declared.row.Record.{Record}
+
+-- what a view shows: the header, the data area, and the record
+pub record Viewed : Type 0 where
+  pub header : Header
+  pub area : List ℕ
+  pub found : Record
+
+-- the area of a record; one without samples has none
+abbrev pub viewed_area : Header → List ℕ → List ℕ
+viewed_area header bytes = if header.samples == 0 then [] else data_area header bytes
+
+-- the key and the start of a row
+abbrev pub place_of : Option Row → Option (Key × ℤ)
+place_of None = None
+place_of (Some row) = Some (row.key, row.start)
+
+-- the samples of a row, if there is one
+abbrev pub samples_of : Option Row → List ℤ
+samples_of None = []
+samples_of (Some row) = row.samples

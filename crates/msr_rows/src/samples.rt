@@ -1,0 +1,168 @@
+//! The samples of a data area, one after the other, read from its bytes.
+ghost use Rattle.std.specs.Prelude.{◌≡◌, ◌≤◌, ◌↔◌, ℤ, ⊤, [], length, IfOk, IfErr, IsTrue};
+ghost use Rattle.std.specs.Iterator.{item_count};
+ghost use Rattle.msr_steim.specs.Left.{GivesFirst};
+ghost use Rattle.msr_plain.specs.Plain.{CarriesPlain};
+ghost use Rattle.msr_steim.specs.Area.{CarriesSteim, ReverseAgrees as FramesAgree};
+ghost use Rattle.msr_rows.specs.Area.{Carries, AreaHasFault, IntegersHaveFault, FramesHaveFault, ReverseAgrees};
+
+use crate::fault::FaultKind;
+use msr_header::Order;
+use msr_kinds::Kind;
+use msr_plain::{PlainSamples, Width, plain_samples};
+use msr_steim::{SteimFault, SteimSamples, Version, steim_samples};
+use std::alloc::AllocError;
+use std::marker::Model;
+
+/// The samples that are left, by how they are stored.
+#[derive(Debug, Drop)]
+enum Numbers<'a> {
+    Plain(PlainSamples<'a>),
+    Steim(SteimSamples<'a>),
+    Empty,
+}
+
+/// The samples of a record, read from its bytes one by one. Contracts see those that are left, and whether
+/// the last of all is the reverse constant.
+#[derive(Debug, Drop)]
+pub struct Samples<'a> {
+    numbers: Numbers<'a>,
+}
+
+impl<'a> Model for Samples<'a> {
+    ghost use Rattle.msr_steim.specs.Left.{SamplesLeft};
+
+    ghost Value = { SamplesLeft };
+
+    ghost use Rattle.msr_rows.specs.NumbersLeft.{left_of};
+
+    ghost view = { λ samples. left_of samples.numbers };
+}
+
+impl<'a> Samples<'a> {
+    /// The samples of a record that has none.
+    pub(crate) fn none() -> Samples<'a>
+        ensures samples { result.samples ≡ [] }
+        ensures agrees { IsTrue result.agrees }
+    {
+        Samples {
+            numbers: Numbers::Empty,
+        }
+    }
+
+    /// The same samples again.
+    pub(crate) fn copy(&self) -> Samples<'a>
+        ensures { result ≡ self.now }
+    {
+        let numbers = match &self.numbers {
+            Numbers::Plain(samples) => Numbers::Plain(samples.clone().unwrap()),
+            Numbers::Steim(samples) => Numbers::Steim(samples.clone().unwrap()),
+            Numbers::Empty => Numbers::Empty,
+        };
+        Samples { numbers }
+    }
+
+    /// Whether the last sample is the reverse constant; true for integers, which have none.
+    pub(crate) fn reverse_agrees(&self) -> bool
+        ensures { result ≡ self.now.agrees }
+    {
+        match &self.numbers {
+            Numbers::Steim(samples) => samples.reverse_agrees(),
+            _ => true,
+        }
+    }
+}
+
+impl<'a> Iterator for Samples<'a> {
+    type Item = i32;
+
+    ghost next_gives = { GivesFirst };
+
+    ghost remaining = { item_count {A = ℤ} (λ left. left.samples) };
+
+    fn next(&mut self) -> Option<i32> {
+        match &mut self.numbers {
+            Numbers::Plain(samples) => samples.next(),
+            Numbers::Steim(samples) => samples.next(),
+            Numbers::Empty => None,
+        }
+    }
+}
+
+/// A copy takes no memory.
+impl<'a> Clone for Samples<'a> {
+    ghost is_clone = { λ samples copy. copy ≡ samples };
+
+    ghost is_infallible = { λ _. ⊤ };
+
+    fn clone(&self) -> Result<Samples<'a>, AllocError> {
+        Ok(self.copy())
+    }
+}
+
+/// The samples of an area of integers.
+fn view_integers<'a>(
+    width: Width,
+    order: Order,
+    area: &'a [u8],
+    count: u16,
+) -> Result<Samples<'a>, FaultKind>
+    ensures samples { IfOk result (λ s. CarriesPlain width order area.now s.samples) }
+    ensures count { IfOk result (λ s. length s.samples ≡ count) }
+    ensures reverse { IfOk result (λ s. IsTrue s.agrees) }
+    ensures fault { IfErr result (IntegersHaveFault width area.now count) }
+{
+    match plain_samples(width, order, area, count) {
+        Some(samples) => Ok(Samples {
+            numbers: Numbers::Plain(samples),
+        }),
+        None => Err(FaultKind::DataShort),
+    }
+}
+
+/// The samples of an area of Steim frames.
+fn view_frames<'a>(
+    version: Version,
+    order: Order,
+    area: &'a [u8],
+    count: u16,
+) -> Result<Samples<'a>, FaultKind>
+    requires some { 1 ≤ count }
+    requires small { length area.now ≤ 1048576 }
+    ensures samples { IfOk result (λ s. CarriesSteim version order area.now s.samples) }
+    ensures count { IfOk result (λ s. length s.samples ≡ count) }
+    ensures reverse { IfOk result (λ s. IsTrue s.agrees ↔ FramesAgree order area.now s.samples) }
+    ensures fault { IfErr result (FramesHaveFault version order area.now count) }
+{
+    match steim_samples(version, order, area, count) {
+        Ok(samples) => Ok(Samples {
+            numbers: Numbers::Steim(samples),
+        }),
+        Err(SteimFault::DataShort) => Err(FaultKind::DataShort),
+        Err(SteimFault::BadCode(word)) => Err(FaultKind::BadCode(word)),
+        Err(SteimFault::Memory) => Err(FaultKind::Memory),
+    }
+}
+
+/// The samples of an area of that kind.
+pub(crate) fn view_area<'a>(
+    kind: Kind,
+    order: Order,
+    area: &'a [u8],
+    count: u16,
+) -> Result<Samples<'a>, FaultKind>
+    requires some { 1 ≤ count }
+    requires small { length area.now ≤ 1048576 }
+    ensures samples { IfOk result (λ s. Carries kind order area.now s.samples) }
+    ensures count { IfOk result (λ s. length s.samples ≡ count) }
+    ensures reverse { IfOk result (λ s. IsTrue s.agrees ↔ ReverseAgrees kind order area.now s.samples) }
+    ensures fault { IfErr result (AreaHasFault kind order area.now count) }
+{
+    match kind {
+        Kind::Int16 => view_integers(Width::Two, order, area, count),
+        Kind::Int24 => view_integers(Width::Three, order, area, count),
+        Kind::Int32 => view_integers(Width::Four, order, area, count),
+        Kind::Steim1 => view_frames(Version::One, order, area, count),
+        Kind::Steim2 => view_frames(Version::Two, order, area, count),
+    }
+}
