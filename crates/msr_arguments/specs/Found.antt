@@ -16,8 +16,8 @@ use Rattle.msr_arguments.specs.declared.task.Task.{Task}
 use Rattle.msr_arguments.specs.declared.task.Task.TheVariants.{Repack, List as Listing, Check, Archive, Feed}
 use Rattle.msr_arguments.specs.declared.task.Walking.{Walking}
 
--- the number of 32 bits that a text is in decimal digits, after a plus or none; none if there is no text, or it is no
--- such number
+-- the number of 32 bits that a text is in decimal digits, with or without a plus before them; `None` if there is no
+-- text, or it is no such number
 abbrev pub IsNumberOf : (text : Option (List ℕ)) → (number : Option ℕ) → Type 0
 IsNumberOf None number = number ≡ None
 IsNumberOf (Some text) number = ParsesUnsigned 32 10 text (ok_or number text)

@@ -23,7 +23,7 @@ pub struct Feeding<'a> {
 /// A file whose segments are to be listed.
 #[derive(Clone, Copy, Debug, PartialEq, Eq)]
 pub struct Listing<'a> {
-    /// Of these no length, since no record is written.
+    /// The length is not used, since no record is written.
     pub options: Options,
     /// The name of a file, or `-` for standard input.
     pub input: &'a str,

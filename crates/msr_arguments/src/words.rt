@@ -98,7 +98,7 @@ fn flag_in(found: &ArgMatches<'_>, name: &str) -> bool
     found.get_flag(name)
 }
 
-/// What clap found of them. A list has no length, and any serves.
+/// The options that clap found. The command `list` takes no length, and does not use the one that is given here.
 fn options_in(alloc: Global, found: &ArgMatches<'_>) -> Result<Options, NoTask>
     ensures asked { IfOk result (AsksOptions (found_of found.now)) }
     ensures given { HoldsOptions (found_of found.now) → IsOk result }

@@ -1,6 +1,6 @@
 //! What is counted of an input.
 
-/// How many records an input has.
+/// How many records an input has, in all and of two sorts.
 #[derive(Clone, Copy, Debug, PartialEq, Eq)]
 pub struct Counts {
     /// All records, those without samples included.

@@ -20,7 +20,7 @@ impl Model for Samples {
 }
 
 impl Samples {
-    /// No samples. Takes no memory.
+    /// An empty list. It takes no memory.
     pub fn new(alloc: Global) -> Samples
         ensures { result ≡ [] }
     {

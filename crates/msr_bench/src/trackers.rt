@@ -41,7 +41,7 @@ impl Rounds<'_> {
         println!(rt; "{name}: {rate} million samples a second, {filled} records")
     }
 
-    /// The same for the tracker of one kind of record, with the number of its encoding.
+    /// Runs the tracker of one kind of record, and prints its line after the number of its encoding.
     fn measure_kind<C: Codec + Drop>(self, rt: &HostRuntime, name: &str) -> io::Result<()> {
         let code = C::start(self.record_length).code();
         print!(rt; "encoding {code}, ")?;

@@ -19,7 +19,7 @@ use Rattle.msr_certificate.specs.declared.draft.Draft.{Draft}
 use Rattle.msr_certificate.specs.declared.draft.Progress.{Progress}
 use Rattle.msr_certificate.specs.declared.draft.Progress.TheVariants.{Taken, Cut, Whole}
 
--- no line but that of the separators has so many bytes
+-- each line but that of the separators has fewer bytes
 abbrev pub line_limit : ℕ
 line_limit = 4096
 
@@ -28,7 +28,7 @@ line_limit = 4096
 abbrev pub IsSettled : Bool → List ℕ → Type 0
 IsSettled begins text = begins ≡ true → IsOneLine text → line_limit ≤ length text
 
--- the same, or the text does not go on
+-- the line that the text begins with is settled so, or the text does not go on
 pub record IsEnough (begins : Bool) (text more : List ℕ) : Type 0 where
   pub enough : IsSettled begins text ⊎ (more ≡ [])
 
@@ -36,7 +36,7 @@ pub record IsEnough (begins : Bool) (text more : List ℕ) : Type 0 where
 abbrev pub stop_byte : Bool → ℕ
 stop_byte last = cond last 10 32
 
--- that line up to these separators and the byte after them
+-- the separators' line up to these separators and the byte after them
 abbrev pub numbers_then : List ℕ → Bool → List ℕ
 numbers_then numbers last = codes "separators" ++ (flat_map (λ n. 32 ∷ decimal n) numbers ++ (stop_byte last ∷ []))
 
@@ -48,7 +48,7 @@ pub record ReadSegments (first : FirstLines) (segments : List SegmentLine) (past
   pub are : AreFormLineTexts (map form_line segments) lines
   pub is : past ≡ first_then (bytes_of first.length) first.tolerance first.counts lines
 
--- after them the first line of a segment
+-- the first four lines, the lines of these segments, and the first line of another segment
 pub record ReadOpening (first : FirstLines) (segments : List SegmentLine) (line : FirstLine)
     (past : List ℕ) : Type 0 where
   pub before : List ℕ
@@ -61,7 +61,7 @@ pub record ReadOpening (first : FirstLines) (segments : List SegmentLine) (line 
   pub opens : IsOpening line.key line.start line.samples line.records [] opening
   pub is : past ≡ before ++ opening
 
--- after it its separators up to these, and the space before the next
+-- these lines, the other segment's separators up to these, and the space before the next
 pub record ReadNumbers (first : FirstLines) (segments : List SegmentLine) (line : FirstLine)
     (numbers past : List ℕ) : Type 0 where
   pub before : List ℕ
@@ -69,7 +69,7 @@ pub record ReadNumbers (first : FirstLines) (segments : List SegmentLine) (line 
   pub each : All (λ n. n < 2 ^ 64) numbers
   pub is : past ≡ before ++ numbers_then numbers false
 
--- after the segments the last line
+-- the first four lines, the lines of these segments, and the last line
 pub record ReadEnd (first : FirstLines) (segments : List SegmentLine) (past : List ℕ) : Type 0 where
   pub before : List ℕ
   pub read : ReadSegments first segments before

@@ -24,7 +24,7 @@ pub record InFirst (tail : Form → List ℕ → List ℕ) (w : List ℕ) (P : T
   pub is : w ≡ tail form (segments ++ end_line (length form.segments) (form_records form.segments))
   pub sum : P → form_records form.segments < 2 ^ 64
 
--- the four lines
+-- each of the first four lines without its line feed, and with all that stands after it
 abbrev pub body_1 : Form → List ℕ
 body_1 form = codes "msrepack 1"
 

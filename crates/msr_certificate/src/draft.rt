@@ -47,7 +47,7 @@ pub(crate) struct Draft {
 /// What a step does.
 #[derive(Clone, Copy)]
 pub(crate) enum Progress {
-    /// So many bytes were read.
+    /// This number of bytes was read.
     Taken(usize),
     /// This line is at fault, unless more bytes come.
     Cut(u64),
@@ -55,8 +55,8 @@ pub(crate) enum Progress {
     Whole(FirstLines),
 }
 
-/// That the line is at fault, or that it may be whole once more bytes come: `begins` says whether these may make the
-/// text begin with its word.
+/// Answers that the line is at fault, or that it may be whole once more bytes come: `begins` says whether these may
+/// make the text begin with its word.
 fn refuse(text: &[u8], begins: bool, line: u64) -> Result<Progress, ReportFault>
     ensures { IsRefused begins text.now line result }
 {
@@ -135,7 +135,7 @@ fn line_after(segments: &[SegmentLine]) -> u64
 }
 
 impl Draft {
-    /// Before the first byte.
+    /// A draft before the first byte.
     pub(crate) fn new(alloc: Global) -> Draft
         ensures { Follows result [] }
     {
@@ -160,7 +160,7 @@ impl Draft {
         }
     }
 
-    /// The first four lines.
+    /// Reads the first four lines.
     fn read_first(&mut self, text: &[u8]) -> Result<Progress, ReportFault>
         ensures { self.old.place ≡ Start → IsStep self.old self.new text.now result }
     {
@@ -173,7 +173,7 @@ impl Draft {
         }
     }
 
-    /// The first line of a segment, or the last line.
+    /// Reads the first line of a segment, or the last line.
     fn read_segment(&mut self, first: FirstLines, text: &[u8]) -> Result<Progress, ReportFault>
         ensures { self.old.place ≡ Segment first → IsStep self.old self.new text.now result }
     {
@@ -189,7 +189,7 @@ impl Draft {
         refuse(text, begins, line_after(self.segments.as_slice()))
     }
 
-    /// The word before the separators.
+    /// Reads the word before the separators.
     fn read_word(
         &mut self,
         first: FirstLines,
@@ -206,7 +206,7 @@ impl Draft {
         Ok(Progress::Taken(text.len() - rest.len()))
     }
 
-    /// A separator.
+    /// Reads a separator.
     fn read_number(
         &mut self,
         first: FirstLines,
@@ -249,7 +249,7 @@ impl Draft {
         Ok(())
     }
 
-    /// Nothing, after the last line.
+    /// Reads nothing after the last line: more text is a line at fault.
     fn read_nothing(&mut self, first: FirstLines, text: &[u8]) -> Result<Progress, ReportFault>
         ensures { self.old.place ≡ End first → IsStep self.old self.new text.now result }
     {

@@ -201,7 +201,7 @@ pub(crate) fn signed(text: &[u8]) -> Option<(i32, &[u8])>
     Some((z, rest))
 }
 
-/// The same of a number in 16 bits.
+/// A number of 16 bits in decimal, with a `-` before a negative one.
 pub(crate) fn signed_16(text: &[u8]) -> Option<(i16, &[u8])>
     ensures found { IfSome result (λ x. text.now ≡ signed_decimal x.0 ++ x.1.now) }
     ensures only { (z : ℤ) (rest : List ℕ) → FitsSigned w16 z → EndsNumber rest → text.now ≡ signed_decimal z ++ rest

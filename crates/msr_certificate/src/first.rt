@@ -24,7 +24,7 @@ pub(crate) struct FaultAt<'a> {
     pub line: u64,
     /// The text from it on.
     pub text: &'a [u8],
-    /// Whether more bytes may make that begin with the line's word.
+    /// Whether more bytes may make this text begin with the line's word.
     pub begins: bool,
 }
 

@@ -1,4 +1,4 @@
-//! What holds of reports and their texts, each as the contract of a function that does nothing.
+//! Laws of reports and their texts, each the contract of a function that does nothing.
 ghost use Rattle.std.specs.Prelude.{◌<◌, ◌^◌, All, IsTrue};
 ghost use Rattle.msr_header.specs.Reading.{is_quality};
 ghost use Rattle.msr_report.specs.Proper.{IsProper, IsProperLine};
@@ -31,7 +31,7 @@ pub fn report_has_form(report: &Report)
     }
 }
 
-/// The same of a line.
+/// Each field of a segment's lines is in the range of its type.
 pub fn line_has_form(line: &SegmentLine)
     ensures { IsProperLine line.now → IsFormLine (form_line line.now) }
 {

@@ -39,7 +39,7 @@ fn samples(text: &[u8]) -> Option<(u64, &[u8])>
     number(text)
 }
 
-/// A word, a number and the end of the line.
+/// The number that stands after the word and ends the line.
 fn numbered<'a>(text: &'a [u8], word: &[u8]) -> Option<(u64, &'a [u8])>
     ensures found { IfSome result (λ x. text.now ≡ word.now ++ (decimal x.0 ++ (10 ∷ x.1.now))) }
     ensures only { (n : ℕ) (rest : List ℕ) → n < 2 ^ 64 → text.now ≡ word.now ++ (decimal n ++ (10 ∷ rest))
@@ -90,7 +90,7 @@ pub(crate) fn tolerance(text: &[u8]) -> Option<(u32, &[u8])>
     Some((n as u32, text))
 }
 
-/// A word and a number.
+/// The number that stands after the word.
 pub(crate) fn counted<'a>(text: &'a [u8], word: &[u8]) -> Option<(u64, &'a [u8])>
     ensures found { IfSome result (λ x. text.now ≡ word.now ++ (decimal x.0 ++ x.1.now)) }
     ensures only { (n : ℕ) (rest : List ℕ) → n < 2 ^ 64 → EndsNumber rest → text.now ≡ word.now ++ (decimal n ++ rest)

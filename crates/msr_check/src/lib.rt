@@ -10,7 +10,7 @@ ghost use Rattle.msr_words.specs.Packing.{NoneHolds, IsPacking, IsSeparating, Is
 use msr_kinds::{Kind, Length};
 use msr_words::{Fitting, Run, run_fits};
 
-/// Some run of that kind that fits holds both samples. It is enough to try the starts that the kind needs,
+/// Whether some run of that kind that fits holds both samples. It is enough to try the starts that the kind needs,
 /// at and before the first sample, and the end after the second.
 fn holds_both(
     kind: Kind,
@@ -32,7 +32,7 @@ fn holds_both(
     false
 }
 
-/// Some run of some kind that fits holds both samples.
+/// Whether some run of some kind that fits holds both samples.
 fn some_holds_both(samples: &[i32], record_length: Length, first: usize, second: usize) -> bool
     requires order { first < second }
     requires within { second < length samples.now }
@@ -45,7 +45,7 @@ fn some_holds_both(samples: &[i32], record_length: Length, first: usize, second:
         | holds_both(Kind::Int32, samples, record_length, first, second)
 }
 
-/// The first sample stands before the second, and no run that fits holds both.
+/// Whether the first sample stands before the second, and no run that fits holds both.
 fn none_between(samples: &[i32], record_length: Length, first: u64, second: u64) -> bool
     requires { second < length samples.now }
     ensures { IsTrue result ↔ (first < second) × NoneHolds (bytes_of record_length) samples.now first second }
@@ -53,7 +53,7 @@ fn none_between(samples: &[i32], record_length: Length, first: u64, second: u64)
     first < second && !some_holds_both(samples, record_length, first as usize, second as usize)
 }
 
-/// The list is strictly rising, of sample numbers of the segment, and no run that fits holds two of them.
+/// Whether the list is of sample numbers of the segment, strictly rising, and no run that fits holds two of them.
 pub fn separates(samples: &[i32], record_length: Length, separators: &[u64]) -> bool
     ensures { IsTrue result ↔ IsSeparating (bytes_of record_length) samples.now separators.now }
 {
@@ -68,7 +68,7 @@ pub fn separates(samples: &[i32], record_length: Length, separators: &[u64]) -> 
     true
 }
 
-/// The runs join to the whole segment, none is empty, and each fits a record of the kind that it names.
+/// Whether the runs join to the whole segment, none is empty, and each fits a record of the kind that it names.
 fn is_packing(samples: &[i32], record_length: Length, runs: &[Run]) -> bool
     ensures { IsTrue result ↔ IsPacking (bytes_of record_length) samples.now runs.now }
 {
@@ -82,7 +82,7 @@ fn is_packing(samples: &[i32], record_length: Length, runs: &[Run]) -> bool
     at == samples.len() as u64
 }
 
-/// The run is not empty, lies in the segment, and fits a record of its kind.
+/// Whether the run is not empty, lies in the segment, and fits a record of its kind.
 fn is_run(samples: &[i32], record_length: Length, run: &Run) -> bool
     ensures { IsTrue result ↔ (run.now.start < run.now.end)
         × IsRun (Fits run.now.kind (bytes_of record_length)) samples.now run.now.start run.now.end }
@@ -98,7 +98,7 @@ fn is_run(samples: &[i32], record_length: Length, run: &Run) -> bool
         )
 }
 
-/// The runs are a packing, the list is separating, and both have the same size; so the packing is least.
+/// Whether the runs are a packing, the list is separating, and both have the same size; if so, the packing is least.
 pub fn shows_least(samples: &[i32], record_length: Length, runs: &[Run], separators: &[u64]) -> bool
     ensures exact { IsTrue result ↔ IsPacking (bytes_of record_length) samples.now runs.now
         × IsSeparating (bytes_of record_length) samples.now separators.now × (length runs.now ≡ length separators.now) }

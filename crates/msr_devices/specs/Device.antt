@@ -92,7 +92,7 @@ pub record IsSteady (old new : Device) : Type 0 where
   pub still : new.moved ≡ old.moved → new.interruptions ≤ old.interruptions
   pub moved : old.moved < new.moved → new.interruptions ≡ 0
 
--- The same, and a call that moved nothing was not made.
+-- Between two states the device was steady, and if no bytes moved, it was not interrupted.
 pub record IsCalm (old new : Device) : Type 0 where
   pub steady : IsSteady old new
   pub same : new.moved ≡ old.moved → new.interruptions ≡ old.interruptions

@@ -36,7 +36,7 @@ pub fn read_some<R: Source>(source: &mut R, buf: &mut [u8]) -> Result<usize, Sou
     Err(SourceFault)
 }
 
-/// Reads after the first `filled` bytes of `room` until `want` are filled, or no bytes are left: then true.
+/// Reads after the first `filled` bytes of `room` until `want` are filled, or no bytes are left: then it gives `true`.
 pub(crate) fn read_until<R: Source>(
     source: &mut R,
     room: &mut [u8],

@@ -143,7 +143,7 @@ impl TestSink {
         TestSink::with(bytes, behavior, false)
     }
 
-    /// The same, but at the call that fails it accepts 0 bytes.
+    /// A sink that holds these bytes, with all counts 0. At the call that fails it accepts 0 bytes.
     pub fn accepting_nothing(bytes: Vec<u8>, behavior: Behavior) -> TestSink
         ensures { ⟦<TestSink as Sink>⟧.device result ≡ unused (Some bytes.items) }
     {

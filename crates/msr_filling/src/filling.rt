@@ -91,10 +91,10 @@ fn form_of(size: usize) -> Form
     Form { code, top, width }
 }
 
-/// Gives the fields of `size` differences from a place of the window on, side by side: their sum,
-/// each moved to its place, in which a negative one borrows from those before it. Half of each
-/// field's range added to all takes the loans back, and is taken off without a carry. If it is
-/// inlined with literals as size and width, no loop is left.
+/// Gives the fields of `size` differences from a place of the window on, side by side. Each difference is shifted to
+/// its field and added; a negative one so takes 1 from the field above it. Adding the highest bit of each field gives
+/// that 1 back, and the exclusive or removes these bits again without a carry. If it is inlined with literals as size
+/// and width, no loop is left.
 #[inline(always)]
 pub(crate) fn fields_seen(window: &Window, place: usize, size: usize, width: u32) -> u32
     requires positive { 0 < width }

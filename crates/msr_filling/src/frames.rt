@@ -20,11 +20,11 @@ use msr_words::Window;
 /// How the size of the next group is found.
 #[derive(Clone, Copy, Debug)]
 pub(crate) enum Sizing {
-    /// A group of Steim-2 is the longest.
+    /// A Steim-2 group is the longest that fits a word.
     Longest,
-    /// Of Steim-1, by the next differences, if they tell it.
+    /// The size of a Steim-1 group is told by the next differences, unless they do not tell it.
     Ahead,
-    /// Of Steim-1, it is given.
+    /// The sizes of all Steim-1 groups are given.
     Given,
 }
 
@@ -112,7 +112,7 @@ pub(crate) fn fill_frames(
         let mut codes: u32 = 0;
         put_word(area, 16 * frame, 0);
         let from = put_constants(area, frame, first, last);
-        // All words of the frame, but for those that will be found empty.
+        // As many words as the frame has room for; those that turn out to be empty are taken off.
         used += 15 - from;
         for slot in from..15 {
             let Some(next) = next_word(sizing, before, run, sizes, &mut window, at) else {

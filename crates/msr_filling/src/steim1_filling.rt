@@ -160,8 +160,8 @@ fn size_ahead(before: Option<i32>, run: &[i32], at: usize, ahead: usize) -> u64
     magnitude(difference_after(before, run, place))
 }
 
-/// What `Window::first_steim1_group` tells, of differences taken one after another; three can be
-/// left alone here.
+/// As `Window::first_steim1_group`, but from single differences; here the run may end, so a last group of three is
+/// possible.
 fn first_group_outside(before: Option<i32>, run: &[i32], at: usize) -> Option<usize>
     requires within { at < length run.now }
     requires fits { AllByRecursion (FitsBits 32) (differences before run.now) }
@@ -207,7 +207,7 @@ fn word_outside_ahead(before: Option<i32>, run: &[i32], at: usize) -> Option<Nex
     Some(word_outside(before, run, at, size))
 }
 
-/// The word of the group that begins with that difference, or 0 if none is left; none if the
+/// The word of the group that begins with that difference, or an empty word if no difference is left; `None` if the
 /// next differences do not tell its size.
 #[inline(always)]
 pub(crate) fn steim1_word_ahead(

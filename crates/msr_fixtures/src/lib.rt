@@ -1,7 +1,7 @@
 //! Records for the tests of all crates: one header, edits of it by the names of its fields, records made of it, and the
 //! key of their rows; numbers that look like chance; and the failure of a test that names its row. Only tests and
 //! programs that measure call it. Its functions promise no more than that they end, and that the key can be written:
-//! whether the rest is right, the values say that the tests expect.
+//! whether the rest is right is shown by the values that the tests expect.
 #![tactic(auto)]
 
 mod edit;

@@ -197,7 +197,7 @@ fn read_in_the_other_order() -> Result<(), Fail> {
     expect(is_read(&edited, &micros), "50 microseconds earlier")
 }
 
-/// Of a year whose bytes are the same in either order, and with bytes that are written otherwise.
+/// Reads headers of a year whose bytes are the same in either order, and with bytes that are written otherwise.
 #[test]
 fn read() -> Result<(), Fail> {
     let later = Header {
@@ -225,7 +225,7 @@ fn read() -> Result<(), Fail> {
     )
 }
 
-/// Without blockette 1001, and with the blockettes in another place.
+/// Headers without blockette 1001, and with the blockettes in another place.
 fn chains() -> [Row; 3] {
     let untimed = Header {
         timing: None,

@@ -25,7 +25,7 @@ pub fn room(alloc: Global) -> Result<Vec<u8>, AllocError> {
     Vec::with_capacity(alloc, ROOM)
 }
 
-/// Records of so many bytes, if there are such records, and a tolerance of 1000 microseconds.
+/// Options for records of this number of bytes, if records have it, and a tolerance of 1000 microseconds.
 pub fn options(bytes: u32) -> Option<Options>
     ensures { IfSome result (λ options. size_of options ≡ bytes) }
 {

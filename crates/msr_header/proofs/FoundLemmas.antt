@@ -55,7 +55,7 @@ start_passed bytes e =
     let c = passed (is_time (time_at (order_of bytes) bytes)) BadTime [] b.1 in
     record { record_start = b.0; time = is_time_parts _ c.0 }
 
--- and so did blockette 1000, the record's length and the chain's end
+-- blockette 1000, the record's length and the chain's end passed their tests
 record PassesData (bytes : List ℕ) : Type 0 where
   low : 7 ≤ data_blockette_byte bytes 6
   high : data_blockette_byte bytes 6 ≤ 20

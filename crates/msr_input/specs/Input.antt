@@ -131,7 +131,7 @@ OneFirstFault =
     → IsFirstFault settings input others other
     → (records ≡ others) × (fault ≡ other)
 
--- and a readable input has none
+-- a readable input has no first fault
 abbrev pub ReadableHasNoFault : Type 0
 ReadableHasNoFault =
     (settings : Settings) (input : List ℕ) (records others : List Record) (segments : List Segment) (fault : Fault)

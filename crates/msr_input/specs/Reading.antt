@@ -41,7 +41,7 @@ position_of reading = record {
   offset = reading.offset;
 }
 
--- how it reads
+-- how a reader reads: its tolerance, and whether strictly
 abbrev pub settings_of : Reading → Settings
 settings_of reading = record { tolerance = reading.joining.tolerance; strict = reading.strict }
 
@@ -121,7 +121,7 @@ pub record GaveReadable (start : Device) (settings : Settings) (segments : List 
   pub readable : IsReadable settings input records segments
   pub counted : counts ≡ counts_of records
 
--- and each of the segments can be written
+-- the source's bytes are a readable input with these segments and counts, and each of the segments can be written
 pub record GaveInput (start : Device) (settings : Settings) (segments : List Segment) (counts : Counts) : Type 0 where
   pub gave : GaveReadable start settings segments counts
   pub writable : All IsWritable segments

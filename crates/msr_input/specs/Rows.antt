@@ -25,7 +25,7 @@ pub record RowReading : Type 0 where
   pub position : Position
   pub following : Following
 
--- how it reads
+-- how a reader of rows reads: its tolerance, and whether strictly
 abbrev pub row_settings : RowReading → Settings
 row_settings reading = record { tolerance = reading.following.tolerance; strict = reading.position.strict }
 
@@ -44,7 +44,8 @@ pub record ReadsRow (start now : Device) (reading : RowReading) (records : List 
   pub rows : rows_of_records after ≡ rows_of_records records ++ next.row ∷ []
   pub read : HasReadRows start now reading after (answers ++ next.step ∷ [])
 
--- The same, when the row's samples were not read into memory: this is its outline. It can be written.
+-- Further records came, and with them one row, whose samples were not read into memory: this is its outline. The row
+-- can be written.
 pub record ReadsOutline (start now : Device) (reading : RowReading) (records : List Record) (answers : List Step)
     (next : NextOutline) : Type 0 where
   pub row : Row
@@ -69,7 +70,7 @@ abbrev pub next_row : Option Step → Option Row → Option NextRow
 next_row (Some answer) (Some row) = Some (record { step = answer; row = row })
 next_row _ _ = None
 
--- the same, without its samples
+-- what is told of a record whose samples were not read into memory: the answer for its row, if it has one
 abbrev pub next_outline : Option Step → Option RowOutline → Option NextOutline
 next_outline (Some answer) (Some row) = Some (record { step = answer; row = row })
 next_outline _ _ = None
@@ -79,7 +80,7 @@ abbrev pub StepsTo : Following → Option NextRow → Following → Type 0
 StepsTo old None new = new ≡ old
 StepsTo old (Some next) new = IsStep old (row_span next.row) next.step new
 
--- The same, and no record is left: the input has ended.
+-- Further records came, and no row with them, and no record is left: the input has ended.
 pub record ReadsToEnd (start now : Device) (reading : RowReading) (records : List Record)
     (answers : List Step) : Type 0 where
   pub none : ReadsNoRow start now reading records answers

@@ -65,7 +65,7 @@ pub record CanJoin (row : Row) : Type 0 where
   pub few : length row.samples ≤ 65_535
   pub start : IsInstant row.start
 
--- a follower takes it
+-- a follower takes such rows
 pub record CanFollow (row : RowOutline) : Type 0 where
   pub some : 1 ≤ row.count
   pub start : IsInstant row.start
@@ -78,7 +78,7 @@ pub record IsJudged (stands : Record → Type 0) (strict : Bool) (bytes : List �
   pub can_join : IfSome found.row CanJoin
   pub agrees : Agrees strict found
 
--- There is no more room for bytes than it needs, or than there was before.
+-- The bytes begin with such a record, and there is no more room for bytes than it needs, or than there was before.
 pub record IsGiven (stands : Record → Type 0) (strict : Bool) (bytes : List ℕ) (room before : ℕ) : Type 0 where
   pub judged : IsJudged stands strict bytes
   pub room_is : room ≤ room_with judged.found.length before
@@ -102,7 +102,7 @@ abbrev pub JoinsRecord : Joining → Option Row → Option Segment → Joining �
 JoinsRecord old None ended new = (ended ≡ None) × (new ≡ old)
 JoinsRecord old (Some row) ended new = IsPush old row ended new × (Overruns (following_of old) (row_span row) → ⊥)
 
--- and what it does with a follower
+-- what a record's row does with a follower: nothing, if there is none
 abbrev pub Follows : Following → Option RowOutline → Option Step → Following → Type 0
 Follows old None step new = (step ≡ None) × (new ≡ old)
 Follows old (Some row) step new = FollowsRow old row step new
@@ -125,7 +125,7 @@ StopsJoining old row offset (fault.Input f) =
 StopsJoining old row offset fault.Read = ⊥
 StopsJoining old row offset fault.Memory = IsSome row
 
--- and why it was not followed, which takes no memory
+-- why a row was not followed, which takes no memory: it ends its segment out of range
 abbrev pub StopsFollowing : Following → Option RowOutline → ℕ → ReadFault → Type 0
 StopsFollowing old row offset (fault.Input f) = (f.offset ≡ offset) × (f.kind ≡ refusal.TimeRange) × OverrunsAt old row
 StopsFollowing old row offset fault.Read = ⊥

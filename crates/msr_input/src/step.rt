@@ -173,7 +173,7 @@ pub(crate) fn next_row(step: Option<Step>, row: Option<Row>) -> Option<NextRow>
     }
 }
 
-/// The same, without its samples.
+/// What is told of a record whose samples were not read into memory: the answer for its row, if it has one.
 pub(crate) fn next_outline(step: Option<Step>, row: Option<RowOutline>) -> Option<NextOutline>
     ensures { result ≡ next_outline step row }
 {
@@ -183,7 +183,7 @@ pub(crate) fn next_outline(step: Option<Step>, row: Option<RowOutline>) -> Optio
     }
 }
 
-/// One to count if that does not hold.
+/// 0 if that holds, else 1.
 fn one_unless(holds: bool) -> u64
     ensures { result ≡ (if holds then 0 else 1) }
 {

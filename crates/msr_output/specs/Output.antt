@@ -66,7 +66,7 @@ pub record Cut : Type 0 where
   pub segment : Segment
   pub run : Run
 
--- a segment at its runs
+-- the cuts of a segment at its runs
 abbrev pub cuts_at : Segment → List Run → List Cut
 cuts_at segment runs = map (λ run. record { segment = segment; run = run }) runs
 
@@ -100,7 +100,7 @@ pub record IsOutput (size : ℕ) (packed : List Packed) (rows : List Row) (bytes
   pub packings : All (IsPacked size) packed
   pub records : AreWritten size 1 (flat_map cuts_of packed) rows bytes
 
--- the prefix of the output of some first ones of these segments
+-- the bytes are a prefix of the output of some first ones of these segments
 pub record IsPrefixOfOutput (size : ℕ) (segments : List Segment) (bytes : List ℕ) : Type 0 where
   pub packed : List Packed
   pub others : List Segment

@@ -51,7 +51,7 @@ pub record HasWritten (start now : Device) (writing : Writing) (packed : List Pa
   pub short : 0 < length taken → now.moved < 2 ^ 64
   pub calm : IsCalm start now
 
--- all of it was written, and fewer bytes than a sink accepts at most
+-- all of the output of these segments was written, and it has fewer than 2^64 bytes
 pub record HasWrittenAll (start now : Device) (writing : Writing) (packed : List Packed)
     (rows : List Row) : Type 0 where
   pub bytes : List ℕ

@@ -147,7 +147,7 @@ impl SegmentWriter {
             (λ _. HasWritten start (W.device sink.new) self.new packed rows)
             (StopsWriting self.old.size start (W.device sink.new) (map segment_of_packed packed)) }
 
-        // The same when a segment is open.
+        // What is written, if a segment is open.
         ensures begun { (start : Device) (packed : List Packed) (before : Whole) (opened : Opened)
             → CanGoOn false opened
             → HasBegun start (W.device sink.old) self.old packed before opened

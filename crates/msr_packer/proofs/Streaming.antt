@@ -154,7 +154,7 @@ decided_sooner bytes front more g n found inside is = record {
   past = is.past;
 }
 
--- and need not be held
+-- a step that is decided is decided by the samples up to the one after its end
 pub decided_there : (bytes : ℕ) (held : List ℤ) (g n : ℕ) (found : Found) → IsDecided bytes held g n found
     → IsDecided bytes (take (found.step.end + 1) held) g n found
 decided_there bytes held g n found is =

@@ -87,7 +87,7 @@ near_by_one fits law samples g h a order step =
     let near = back.3 in
     omega arith
 
--- and at most one sample before it
+-- runs that end at most one sample before their frontier begin at most one sample before theirs
 start_of : (bytes : ℕ) → 256 ≤ bytes → (samples : List ℤ) (runs : List Run) (separators : List ℕ) (from g e b : ℕ)
     → CanonicalTo bytes samples from runs separators g → Joins e runs b → g ≤ b + 1 → from ≤ e + 1
 start_of bytes enough samples [] [] from g e b chosen joined near = let same : e ≡ b = joined in

@@ -80,7 +80,7 @@ abbrev pub BlocksLeaveFew : Type 0
 BlocksLeaveFew = (bytes : ℕ) (samples : List ℤ) (runs : List Run) (separators : List ℕ) (packer : Holding)
     → Packs bytes samples runs separators packer → HoldsFew packer → LeavesFew bytes samples runs
 
--- if no sample follows, the last pieces may be given
+-- what holds of a packer while samples may follow holds of it if none follows
 abbrev pub BlocksEnd : Type 0
 BlocksEnd = (bytes : ℕ) (samples : List ℤ) (runs : List Run) (separators : List ℕ) (packer : Holding)
     → Packs bytes samples runs separators packer → PacksLast bytes samples runs separators packer

@@ -21,7 +21,7 @@ pub record IsCurrent (bytes : ℕ) (samples : List ℤ) (runs : List Run) (separ
   pub whole : IsFirstKind bytes (run_points samples (offset + current.start) (offset + current.end)) current.whole
   pub short : IsFirstKind bytes (run_points samples (offset + current.start) (offset + current.end - 1)) current.short
 
--- at first there is no step
+-- what is known of the step after these runs; before the first step no run was given
 abbrev pub StandsAt : ℕ → List ℤ → List Run → List ℕ → ℕ → Option Current → Type 0
 StandsAt bytes samples runs separators offset None = (runs ≡ []) × (separators ≡ []) × (offset ≡ 0)
 StandsAt bytes samples runs separators offset (Some current) = IsCurrent bytes samples runs separators offset current
@@ -132,7 +132,8 @@ shown_by held = slice_range held.samples.items held.from held.to
 abbrev pub before_shown : Held → Option ℤ
 before_shown held = before_place held.samples.items held.from
 
--- The piece was given, if there is one, and is shown. The same samples are held.
+-- What giving a piece does: the piece, if there is one, was given and is shown, and the samples that are held are the
+-- same.
 pub record GivesPiece (old new : Held) (piece : Option Piece) : Type 0 where
   pub sound : IsSound new
   pub size : new.record_length ≡ old.record_length

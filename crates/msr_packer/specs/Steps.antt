@@ -33,7 +33,7 @@ pub record NotLess (step other : Step) : Type 0 where
 abbrev pub AreNarrow : List ℤ → ℕ → ℕ → Type 0
 AreNarrow samples a b = All (λ p. IsNarrow p.1) (run_points samples a b)
 
--- and that of the sample b, if there is one
+-- the differences of the samples a to b-1 are narrow, and that of the sample b, if there is one
 abbrev pub AreNarrowThrough : List ℤ → ℕ → ℕ → Type 0
 AreNarrowThrough samples a b = AreNarrow samples a (min (b + 1) (length samples))
 

@@ -14,8 +14,8 @@ use msr_words::{AnyKind, Tracker};
 use std::alloc::{AllocError, Global};
 use std::marker::Model;
 
-/// Takes the samples of a segment in blocks, and gives the runs of the packing one after another:
-/// each when enough samples are there that its step ends before the last, whatever their kind. Each
+/// Takes the samples of a segment in blocks, and gives the runs of the packing one after another: each when so many
+/// samples stand after its frontier that its step ends before the last of them, whatever the kinds of runs. Each
 /// step is found once, over all that is held.
 #[derive(Drop)]
 pub struct BlockPacker {
@@ -146,7 +146,8 @@ pub fn blocks_leave_few()
     ensures { BlocksLeaveFew }
 {}
 
-/// If no sample follows, the last pieces may be given.
+/// What holds of a packer while samples may follow (`Packs`) holds of it if none follows (`PacksLast`), so
+/// `last_piece` may be called.
 pub fn blocks_end()
     ensures { BlocksEnd }
 {}

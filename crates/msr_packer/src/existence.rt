@@ -1,4 +1,5 @@
-//! What there is whatever the samples: laws, so that a packing can be spoken of before all samples are there.
+//! Laws: each list of samples has a packing, so that clauses can speak of it before all samples have come; and a step
+//! can be found in the last samples.
 
 ghost use Rattle.msr_packer.specs.Existence.{PackingExists, StepOfWindow};
 

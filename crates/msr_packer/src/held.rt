@@ -22,7 +22,7 @@ pub struct Piece {
     pub separator: u64,
 }
 
-/// What stands in a place of `Last` that holds no piece.
+/// Fills the places of a `Last` that have no piece; it means nothing.
 impl Default for Piece {
     fn default() -> Piece {
         Piece {
@@ -36,8 +36,8 @@ impl Default for Piece {
     }
 }
 
-/// A step whose run is cut where the next one starts: at its end, in the first of these kinds, or at the sample
-/// before, in the other.
+/// A step with the kinds of its run. The run is cut where the next one starts: at `end`, and then its kind is `whole`,
+/// or one sample before, and then it is `short`.
 #[derive(Clone, Copy, Debug)]
 pub(crate) struct Current {
     pub frontier: usize,
@@ -138,7 +138,7 @@ impl Current {
     }
 }
 
-/// Takes the first samples away.
+/// Removes the first `count` samples.
 pub(crate) fn remove_front(held: &mut Vec<i32>, count: usize)
     requires { count ≤ length held.old.items }
     ensures { held.new.items ≡ drop count held.old.items }
@@ -164,7 +164,7 @@ pub(crate) struct Held {
 }
 
 impl Held {
-    /// Of no samples. It takes no memory yet.
+    /// Holds no samples yet. It takes no memory.
     pub(crate) fn empty(alloc: Global, record_length: Length) -> Held
         ensures size { result.record_length ≡ record_length }
         ensures none { Holds [] [] [] result }
@@ -199,8 +199,8 @@ impl Held {
         piece
     }
 
-    /// If more than `beyond` samples stand beyond the frontier, the piece before the next step, which has none if it is
-    /// the first.
+    /// If more than `beyond` samples stand beyond the frontier, goes on to the next step, and gives the piece of the
+    /// step before it; the first step has none before it.
     pub(crate) fn step_past(&mut self, beyond: usize) -> Option<Piece>
         requires { IsSound self.old }
         ensures given { GivesPiece self.old self.new result }
@@ -238,7 +238,7 @@ impl Held {
         if let Some(piece) = self.step_past(beyond) {
             return Some(piece);
         }
-        // no piece stands before the first step
+        // at the first step there is no piece yet
         self.step_past(beyond)
     }
 
@@ -272,7 +272,7 @@ impl Held {
         start_of(self.current).saturating_sub(1)
     }
 
-    /// Takes the samples away that no step needs any more. None is shown then.
+    /// Removes the samples that no step needs any more. No samples are shown afterwards.
     pub(crate) fn forget(&mut self)
         requires { IsSound self.old }
         ensures sound { IsSound self.new }
@@ -311,8 +311,8 @@ impl Held {
         });
     }
 
-    /// Takes the samples away that no step needs any more, if they are at least as many as the others: then each
-    /// sample that is moved is paid for by one that goes.
+    /// Removes the samples that no step needs any more, if they are at least as many as the others: then for each
+    /// sample that is moved at least one is removed.
     pub(crate) fn make_room(&mut self)
         requires { IsSound self.old }
         ensures sound { IsSound self.new }

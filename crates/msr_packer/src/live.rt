@@ -1,5 +1,5 @@
-//! One tracker that has taken all samples so far from the start of a run on, so that the step from a frontier is not
-//! decided before it refuses.
+//! A run that all samples so far fit, with its tracker: while the tracker does not refuse, the step from the frontier
+//! is not decided, and need not be looked for.
 
 ghost use Rattle.std.specs.Prelude.{◌≡◌, ℕ, ◌+◌, ◌<◌, ◌≤◌, ◌-ℤ◌, [], length, pos, slice_index_or, IfSome, IsNone};
 ghost use Rattle.msr_kinds.specs.Lengths.{bytes_of};
@@ -113,7 +113,7 @@ pub(crate) struct Live {
 }
 
 impl Live {
-    /// Of the run to the last sample, of a kind that it fits.
+    /// The run from `start` to the last sample, with a tracker of a kind that it fits.
     fn of(samples: &[i32], record_length: Length, start: usize, kind: Kind) -> Live
         requires { IsRun (Fits kind (bytes_of record_length)) samples.now start (length samples.now) }
         ensures start { result.start ≡ start }
@@ -129,7 +129,7 @@ impl Live {
         }
     }
 
-    /// Of the one sample after a frontier, Steim-2 if that takes it.
+    /// The run of the one sample after a frontier: of Steim-2 if the sample fits that, else of Int32.
     pub(crate) fn first(samples: &[i32], record_length: Length, frontier: usize) -> Live
         requires { length samples.now ≡ frontier + 1 }
         ensures { IsLive (bytes_of record_length) samples.now frontier (length samples.now) result }
@@ -144,7 +144,7 @@ impl Live {
         }
     }
 
-    /// Of no samples.
+    /// An empty run at the start of a segment.
     pub(crate) fn empty(record_length: Length) -> Live
         ensures { IsLive (bytes_of record_length) [] 0 0 result }
     {

@@ -10,8 +10,8 @@ ghost use Rattle.msr_words.specs.Steim1Reach.{IsSteim1Word};
 use msr_kinds::Length;
 use msr_words::{FourSizes, Window, steim1_word_by_word};
 
-/// How many differences the next word reaches further, and whether the last of them is spare: of 8 bits, and the words
-/// hold those before it too.
+/// How many differences the next word adds. `spare` says that the last of them is of 8 bits and that the words can end
+/// before it, so that it may stand in the word after them.
 #[derive(Clone, Copy, Debug)]
 struct NextWord {
     size: usize,

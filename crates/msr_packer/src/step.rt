@@ -58,7 +58,7 @@ pub(crate) struct Found {
     pub ends: Ends,
 }
 
-/// The greatest end of a run; and, if it is set, all differences of the run and the one after it are narrow.
+/// The greatest end of a run. If `narrow` is set, all differences of the run and the one after it are narrow.
 #[derive(Clone, Copy, Debug)]
 struct Reach {
     end: usize,
@@ -105,7 +105,8 @@ fn steim2_reach(samples: &[i32], record_length: Length, start: usize) -> Reach
     reach_to(samples, at, least)
 }
 
-/// How far a sample is from 0, or from -1 if it is negative, in 32 bits, of which a vector holds most.
+/// How far a sample is from 0, or from -1 if it is negative, in 32 bits: a vector register holds more numbers of 32
+/// bits than of 64.
 fn size_of(sample: i32) -> u32
     ensures { IsSize sample result }
 {
@@ -116,7 +117,8 @@ fn size_of(sample: i32) -> u32
     }
 }
 
-/// Whether the bits of the samples from `start` to `end - 1` tell together that each of them is of that many bits.
+/// Whether each of the samples from `start` to `end - 1` is of that many bits, tested on all of their bits at once.
+/// The contract promises nothing if the answer is `false`.
 fn all_of_bits(samples: &[i32], start: usize, end: usize, bits: u32) -> bool
     requires order { start ≤ end }
     requires within { end ≤ length samples.now }
@@ -305,8 +307,8 @@ fn has_more_wide(samples: &[i32], start: usize, end: usize, most: usize) -> bool
     wide > most
 }
 
-/// The better of a step and those with records of 24-bit and 32-bit integers, if the ends of the kinds of which records
-/// are longer are known.
+/// The best of `step`, which is the step with the other kinds, and of those with 24-bit and 32-bit integers, given the
+/// ends of the other kinds.
 fn with_wide_integers(
     samples: &[i32],
     record_length: Length,

@@ -16,7 +16,7 @@ use msr_words::{AnyKind, Tracker};
 use std::alloc::{AllocError, Global};
 use std::marker::Model;
 
-/// The first samples of some that were pushed, and the piece that the last of them decided.
+/// How many of the pushed samples were taken, and the piece that the last of them decided, if it did.
 #[derive(Clone, Copy, Debug, PartialEq, Eq)]
 pub struct Taken {
     pub count: usize,
@@ -30,7 +30,7 @@ pub struct Last {
     pub samples: Vec<i32>,
 }
 
-/// The pieces that there are.
+/// Those of two pieces that there are, in order.
 fn both(first: Option<Piece>, last: Option<Piece>) -> ArrayVec<Piece, 2>
     ensures { result.items ≡ pieces_of first ++ pieces_of last }
 {
@@ -44,7 +44,7 @@ fn both(first: Option<Piece>, last: Option<Piece>) -> ArrayVec<Piece, 2>
     pieces
 }
 
-/// Takes the samples away that no step needs any more. None is shown then.
+/// Removes the samples that no step needs any more. No samples are shown afterwards.
 fn forget(held: &mut Held, live: &mut Live)
     requires { IsStreaming held.old live.old }
     ensures streaming { IsStreaming held.new live.new }
@@ -68,7 +68,7 @@ fn forget(held: &mut Held, live: &mut Live)
 #[derive(Drop)]
 pub struct StreamPacker {
     held: Held,
-    /// What takes the samples after the frontier.
+    /// A run that all samples so far fit.
     live: Live,
 }
 
@@ -138,7 +138,7 @@ impl StreamPacker {
         ensures within { IfOk result (λ taken. taken.count ≤ length samples.now) }
         ensures some { IfOk result (λ taken. 0 < length samples.now → 0 < taken.count) }
 
-        // No piece stands before the first step.
+        // At the first step there is no piece yet.
         ensures all { IfOk result (λ taken. IsNone taken.piece
             → (taken.count ≡ length samples.now) ⊎ IsNone self.old.current) }
         ensures count { MatchResult result (λ taken. pushed self.new ≡ pushed self.old + taken.count)

@@ -121,7 +121,7 @@ fn is_read(
     )
 }
 
-/// Of the two records that join.
+/// What reading the two records that join gives.
 const JOINED: Read = Read {
     given: [None, None],
     last: Some((START, 96)),

@@ -49,7 +49,7 @@ struct WrittenRun<'a> {
     kind: Kind,
 }
 
-/// What a header tells of the record's time and data, beside what is the run's own.
+/// What a written header has beside what the run says: time, number of samples, length, frames.
 #[derive(Drop)]
 struct DataTold {
     time: BTime,

@@ -17,7 +17,7 @@ use msr_plain::{Width, fill_plain};
 use msr_steim::Version;
 use std::alloc::{AllocError, Global};
 
-/// Each sample has 32 bits, which is known of it once it is read.
+/// Each sample has 32 bits. A proof knows the range of a number in a slice only once it was read, so this reads each.
 pub fn are_32_bit(run: &[i32])
     ensures { All (FitsSigned w32) run.now }
 {

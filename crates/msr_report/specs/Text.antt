@@ -91,7 +91,7 @@ abbrev pub segment_line : SegmentLine → List ℕ → List ℕ
 segment_line line start =
     segment_words line.key start line.samples (codes " records " ++ (decimal line.records ++ 10 ∷ []))
 
--- a number for each separator
+-- the line of the separators, with a number for each
 abbrev pub separators_line : List ℕ → List ℕ
 separators_line separators = codes "separators" ++ (flat_map (λ n. 32 ∷ decimal n) separators ++ 10 ∷ [])
 

@@ -15,7 +15,7 @@ fn hex_string(alloc: Global, n: u8) -> Result<String, AllocError>
     format!(in alloc; "{n:02x}")
 }
 
-/// A byte of a name.
+/// Appends the text of a byte of a name.
 fn push_byte(alloc: Global, text: &mut String, byte: u8) -> Result<(), AllocError>
     ensures { OnOk result (string_bytes text.new ≡ string_bytes text.old ++ byte_text byte) }
 {

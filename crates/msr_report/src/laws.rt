@@ -1,4 +1,4 @@
-//! What holds of the texts of reports.
+//! Laws of the texts of reports, each the contract of a function that does nothing.
 ghost use Rattle.std.specs.Prelude.{◌≡◌, ℕ, ℤ, List};
 ghost use Rattle.msr_rows.specs.declared.row.Key.{Key};
 ghost use Rattle.msr_report.specs.Proper.{IsProper};

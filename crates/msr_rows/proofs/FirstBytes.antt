@@ -167,7 +167,7 @@ pub refusal_same : {T : Type 0} → (r : Result T FaultKind) (xs ys : List ℕ) 
 refusal_same (Ok x) xs ys s h = h
 refusal_same (Err fault) xs ys s h = λ other. refused_same xs ys fault s (h other)
 
--- the same for a record, a row and a refusal after the header
+-- the bytes of a record decide its record, its row and a refusal after the header
 pub own_record : (bytes others : List ℕ) (found : Record) → IsRecordOf bytes found
     → take found.length others ≡ take found.length bytes → IsRecordOf others found
 own_record bytes others found p e =

@@ -239,7 +239,7 @@ only_time bytes row fault p (by_fields q) = absurd (fields_not bytes p.header ro
 only_time bytes row fault p (by_area q) = absurd (row_not bytes row fault p q)
 only_time bytes row fault p (by_time e q) = (e, q)
 
--- and not if that is in range
+-- a record with a row that is in time is not refused
 row_passes : (bytes : List ℕ) (row : Row) (fault : FaultKind) → IsRowOf bytes row → RowIsInTime row
     → Stage bytes fault → ⊥
 row_passes bytes row fault p t s =

@@ -44,7 +44,7 @@ pub record HasSamples (bytes : List ℕ) (header : Header) : Type 0 where
   pub read : header_of bytes ≡ Ok header
   pub some : 1 ≤ header.samples
 
--- and the fields that they need have no fault
+-- the bytes begin with a record of this header that has samples, and the fields that these need have no fault
 pub record HasArea (bytes : List ℕ) (header : Header) (kind : Kind) : Type 0 where
   pub has_samples : HasSamples bytes header
   pub fields : first_fault (field_faults header) ≡ None

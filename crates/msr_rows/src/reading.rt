@@ -16,7 +16,7 @@ use msr_kinds::Kind;
 use msr_time::{Rate, is_instant};
 use std::alloc::Global;
 
-/// Activity bit 1: the time correction was applied.
+/// The value of activity bit 1: the time correction was applied.
 const CORRECTED: u8 = 2;
 
 /// Whether a time correction is still to be applied.

@@ -50,7 +50,7 @@ impl<'a> Samples<'a> {
         }
     }
 
-    /// The same samples again.
+    /// A copy, with the same samples left.
     pub(crate) fn copy(&self) -> Samples<'a>
         ensures { result ≡ self.now }
     {

@@ -5,7 +5,7 @@ ghost use Rattle.msr_sds.specs.Folders.{IsDepthBelow, IsName, is_slash, names_of
 /// How many folders a path of a day file has: year, network, station, and channel with the type of its data.
 pub const FOLDERS: u8 = 4;
 
-/// `.` and `..` are other names of folders that have names of their own.
+/// Whether a file or folder has such a name: `.` and `..` are other names of folders that have names of their own.
 fn is_name(name: &str) -> bool
     ensures { IsTrue result ↔ IsName name.now }
 {

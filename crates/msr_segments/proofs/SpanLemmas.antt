@@ -20,7 +20,7 @@ not_out span found v only e out =
     (only out.instant out.nominal) in
     out.out some.0
 
--- and the span lies in the supported years
+-- if it was found, and the first sample is of the supported years, the span lies in them
 pub found_in_time : (span : Span) (found : Option ℤ) (v : ℤ)
     → ((r : ℤ) × IsRoundedNominal span.key.rate span.start (span.count - 1) r × SomeIff found (IsInstant r) r)
     → found ≡ Some v → IsInstant span.start → SpanIsInTime span

@@ -67,12 +67,12 @@ pub record BeginsRow (old : Joining) (row : Row) (last : Option Segment) (new : 
 abbrev pub IsPush : Joining → Row → Option Segment → Joining → Type 0
 IsPush old row ended new = JoinsRow old row ended new ⊎ BeginsRow old row ended new
 
--- the same, by what a follower answers for the row
+-- what taking a row does, if a follower answers so for it
 abbrev pub IsPushTold : Step → Joining → Row → Option Segment → Joining → Type 0
 IsPushTold Begins old row ended new = BeginsRow old row ended new
 IsPushTold Joins old row ended new = JoinsRow old row ended new
 
--- so the segments of all rows grow
+-- a push makes the segments of all rows grow
 abbrev pub PushesGrowSegments : Type 0
 PushesGrowSegments =
     (old new : Joining) (rows : List Row) (given : List Segment) (row : Row) (ended : Option Segment)

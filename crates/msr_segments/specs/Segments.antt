@@ -84,14 +84,14 @@ pub record LastEndsOutOfRange (tolerance : ℕ) (rows : List Row) : Type 0 where
 abbrev pub HasDivision : Type 0
 HasDivision = (tolerance : ℕ) (rows : List Row) → (parts : List Part) × IsDivision tolerance rows parts
 
--- and only one
+-- a list of rows has only one division
 abbrev pub HasOneDivision : Type 0
 HasOneDivision =
     (tolerance : ℕ) (rows : List Row) (parts others : List Part) → IsDivision tolerance rows parts
     → IsDivision tolerance rows others
     → parts ≡ others
 
--- so it has one list of segments
+-- a list of rows has one list of segments
 abbrev pub HasOneListOfSegments : Type 0
 HasOneListOfSegments =
     (tolerance : ℕ) (rows : List Row) (segments others : List Segment) → AreSegments tolerance rows segments

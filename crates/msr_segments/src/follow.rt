@@ -1,4 +1,4 @@
-//! Following rows from span to span, without their samples.
+//! Says which rows begin a segment, without their samples.
 use crate::span::Span;
 use msr_rows::Key;
 use std::marker::Model;

@@ -25,7 +25,7 @@ pub fn cuts_grow_by_rows()
     ensures goes_on { CutsGoOn }
 {}
 
-/// What a follower says of a row is what a joiner at its place does with it, and how the segments
+/// What a follower says of a row is what a joiner at its place does with it; and a joiner's push makes the segments
 /// of all rows grow.
 pub fn steps_are_pushes()
     ensures steps { StepsArePushes }

@@ -17,7 +17,7 @@ pub(crate) struct Span {
 }
 
 impl Span {
-    /// Whether a row at `row` continues the segment at this span.
+    /// Whether a row whose samples lie at `row` continues a segment whose samples lie at this span.
     pub(crate) fn is_continued_by(&self, row: &Span, tolerance: u32) -> bool
         ensures { IsTrue result ↔ Continues tolerance self.now row.now }
     {

@@ -112,7 +112,7 @@ starts_here version order area number code word at out reached begins within cod
       (held_so version order area number code word group code_is word_is holds);
 }
 
--- and so on, until there are samples
+-- as long as no sample was written, the next word begins after the same number
 pub begins_on : (version : Version) (order : Order) (area : List ℕ) (at next : Place)
     → (next ≡ at) ⊎ (at.place < next.place)
     → (at.place ≡ 0 → BeginsAfter version order area at.last)

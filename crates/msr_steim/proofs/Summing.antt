@@ -115,7 +115,7 @@ group_written version code word at old new next count width layout positive with
   last = λ before some. last;
 }
 
--- the same for a word of Steim-2, by its code and its top two bits as one number
+-- how a word of Steim-2 is laid out, by its code and its top two bits as one number
 pub divided_by : (version : Version) (code word key : ℕ) → version ≡ Two → word < 4294967296
     → 4 * code + word / 1073741824 ≡ key
     → layout_of version code (word / 1073741824) ≡ layout_of Two (key / 4) (key % 4)

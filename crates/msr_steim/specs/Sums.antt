@@ -5,8 +5,8 @@ use Rattle.msr_steim.specs.declared.word.Version.{Version}
 use Rattle.msr_steim.specs.Area.{sums_after}
 use Rattle.msr_steim.specs.Word.{Holds, numbers_in}
 
--- The word holds a group, and its sums were written after the samples before `at`, as far as there are
--- places: from the old list to the new one, whose samples then stand before `next`.
+-- The word holds a group, whose sums were written into the places from `at` on, as far as there are places. The
+-- samples before `at` are those of the old list, and `next` is the place after the last one written.
 pub record IsWritten (version : Version) (code word : ℕ) (at : Place) (old new : List ℤ) (next : Place) : Type 0 where
   pub group : List ℤ
   pub holds : Holds version code word group

@@ -75,7 +75,7 @@ abbrev pub HasNoOtherBits : Version → ℕ → ℕ → Type 0
 HasNoOtherBits version code word =
     IfSome (layout_of version code (word / 2 ^ 30)) (λ d. word % 2 ^ 30 < 2 ^ (d.count * d.width))
 
--- of how many bits the differences of a group are, by their number
+-- how many bits each difference of a group of n differences has
 abbrev pub group_width : Version → ℕ → Option ℕ
 group_width One n =
     if n == 1 then Some 32 else if n == 2 then Some 16 else if n == 3 then Some 8

@@ -47,7 +47,7 @@ impl From<AllocError> for SteimFault {
     }
 }
 
-/// The number of a word, read as one 32-bit number.
+/// The word with this number, read as one 32-bit number.
 pub(crate) fn whole_word_at(order: Order, area: &[u8], number: usize) -> u32
     requires { 4 * number + 4 ≤ length area.now }
     ensures { result ≡ whole_word order area.now number }
@@ -97,7 +97,7 @@ pub(crate) fn constant_at(order: Order, area: &[u8], number: usize) -> i32
     whole_word_at(order, area, number).cast_signed()
 }
 
-/// Whether this is the last sample.
+/// Whether the last of these samples is this one.
 pub(crate) fn is_last(samples: &[i32], sample: i32) -> bool
     ensures { IsTrue result ↔ (slice_get samples.now (length samples.now - 1) ≡ Some sample) }
 {

@@ -14,7 +14,7 @@ use msr_base::Order;
 use std::alloc::AllocError;
 use std::marker::Model;
 
-/// `count` fields of `word` are left, of `width` bits each: they stand in its lowest bits.
+/// The fields of `word` that are left: `count` fields of `width` bits each, in its lowest bits.
 #[derive(Clone, Copy, Debug, PartialEq, Eq)]
 struct Fields {
     word: u32,
@@ -72,7 +72,7 @@ impl<'a> Model for SteimSamples<'a> {
     ghost view = { samples_left };
 }
 
-/// The code of a word of a frame with these codes.
+/// The code of the word at this place of a frame whose first word is `codes`.
 #[inline(always)]
 fn code_in(codes: u32, slot: usize) -> u8
     requires { slot < 16 }

@@ -10,7 +10,7 @@ use crate::sums::{Place, write_inner_word};
 use crate::word::Version;
 use msr_base::Order;
 
-/// Reads word after word until `count` samples were there, and holds those of one word. Inlined with
+/// Reads word after word until it has seen `count` samples; it keeps the samples of one word at a time. Inlined with
 /// literals for version and order, each word is read without a test of them.
 #[inline(always)]
 fn check_words(version: Version, order: Order, area: &[u8], count: u16) -> Result<bool, SteimFault>

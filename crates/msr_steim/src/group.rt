@@ -6,7 +6,7 @@ ghost use Rattle.msr_steim.specs.Word.{FitsBits, IsGroupAt, group_width};
 
 use crate::word::{Version, layout_of_group};
 
-/// Of how many bits the differences of a group are, by their number.
+/// How many bits each difference of a group of `count` differences has; `None` if there is no such group.
 pub fn group_width(version: Version, count: usize) -> Option<u32>
     ensures { result ≡ group_width version count }
 {

@@ -1,4 +1,4 @@
-//! The samples that words give, written to places that are there.
+//! Writes the samples of words into a slice that the caller has.
 
 ghost use Rattle.std.specs.Prelude.{◌≡◌, ◌<◌, ◌≤◌, ◌+◌, ◌-◌, ◌*◌, pos, IfSome, IsNone, length, slice_index_or, take};
 ghost use Rattle.msr_steim.specs.Area.{sums_after};

@@ -1,4 +1,4 @@
-//! What holds of times alone.
+//! Laws of times and rates, each the contract of a function that does nothing.
 ghost use Rattle.std.specs.Prelude.{ℕ, ℤ};
 ghost use Rattle.msr_time.specs.Instant.{IsInstant, IsSplit};
 ghost use Rattle.msr_time.specs.SampleRate.{OneNominalInstant};

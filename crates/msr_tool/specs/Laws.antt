@@ -26,7 +26,7 @@ ReadableIsRepacked =
     → result ≢ Err Read → result ≢ Err Write
     → IfErr result (λ fault. fault ≡ Memory)
 
--- and so is it listed
+-- if no device failed, a readable input is listed, or there is no memory
 abbrev pub ReadableIsListed : Type 0
 ReadableIsListed =
     (settings : Settings) (input written : List ℕ) (records : List Record) (segments : List Segment)
@@ -45,7 +45,7 @@ OneRepacking =
     → (written ≡ other) × (report.counts ≡ another.counts)
     × ((packed : List Packed) × AreLinesOf packed report.segments.items × AreLinesOf packed another.segments.items)
 
--- and one refusal
+-- an input has one refusal
 abbrev pub OneRefusal : Type 0
 OneRefusal =
     (choice : Choice) (input written other : List ℕ) (fault another : Fault)

@@ -25,7 +25,7 @@ open_of segment = record { key = segment.key; start = segment.start; count = len
 abbrev pub open_row : RowOutline → OpenSegment
 open_row row = record { key = row.key; start = row.start; count = row.count }
 
--- with the samples of a row that joins it
+-- the open segment, with the samples of a row that joins it
 abbrev pub open_longer : Option OpenSegment → RowOutline → Option OpenSegment
 open_longer None row = None
 open_longer (Some before) row = Some (record
@@ -81,7 +81,7 @@ abbrev pub StopsListing : Device → Device → List Segment → ToolFault → T
 StopsListing start now segments fault =
     StopsSink (HasListedPrefix start now segments) (HasListedPrefix start now segments) start now fault
 
--- the same after the last segment, when a prefix of the line of the counts may follow
+-- a prefix of the lines of all segments was written, or of these and the line of the counts
 abbrev pub StopsListingAll : Device → Device → List Segment → Counts → ToolFault → Type 0
 StopsListingAll start now segments counts fault =
     StopsSink (HasListedCut start now segments counts) (HasListedPrefix start now segments) start now fault

@@ -24,7 +24,7 @@ AreListLines [] text = text ≡ []
 AreListLines (segment ∷ segments) text = (others : List ℕ) × ListsFirst segment text others
     × AreListLines segments others
 
--- the prefix of the lines of some first ones of these segments
+-- the text is a prefix of the lines of some first ones of these segments
 pub record IsPrefixOfList (segments : List Segment) (text : List ℕ) : Type 0 where
   pub first : List Segment
   pub others : List Segment

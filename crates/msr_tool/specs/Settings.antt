@@ -2,6 +2,6 @@
 use Rattle.msr_options.specs.Choice.{Choice}
 use Rattle.msr_input.specs.declared.settings.Settings.{Settings}
 
--- with the tolerance of the options, and strictly if they are
+-- an input is read with the tolerance of the options, and strictly if they are strict
 abbrev pub settings_of : Choice → Settings
 settings_of choice = record { tolerance = choice.tolerance; strict = choice.strict }

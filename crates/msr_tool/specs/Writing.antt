@@ -43,7 +43,7 @@ abbrev pub segments_with : Step → Option Segment → Row → List Segment
 segments_with step current row = option_to_list (ended_by step current)
     ++ option_to_list (current_after step current row)
 
--- the same for a record, which may have no row
+-- the segment that a record ends, the one that has not ended after it, and both: it may have no row
 abbrev pub ended_with : Option NextRow → Option Segment → Option Segment
 ended_with None current = None
 ended_with (Some next) current = ended_by next.step current
@@ -98,7 +98,7 @@ pub record CanGrow (more : ℕ) (opened : Opened) : Type 0 where
   pub number : count_of opened + more < 2 ^ 64
   pub in_time : SpanIsInTime (span_of opened.key opened.start (count_of opened + more))
 
--- so it is with the row's, if it joins
+-- with the row's samples, if it joins, the segment's times are of the supported years
 pub record CanTake (step : Step) (last : Option Opened) (row : Row) : Type 0 where
   pub joins : step ≡ Joins → IfSome last (CanGrow (length row.samples))
 

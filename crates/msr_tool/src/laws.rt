@@ -29,7 +29,7 @@ pub fn one_repacking()
     one_output();
 }
 
-/// And so is the fault when it refuses the input.
+/// The fault that `repack` answers when it refuses the input is determined by the input and the options.
 pub fn one_refusal()
     ensures { OneRefusal }
 {

@@ -50,7 +50,8 @@ pub fn repack_and_report<R: Source, W: Sink, T: Sink>(
     Ok(report)
 }
 
-/// The same as `feed` repacks: whenever it reads, all records but those of the last samples were written.
+/// Repacks as `feed` does, and then writes the text of the report: whenever it reads, all records but those of the
+/// last samples were written.
 pub fn feed_and_report<R: Source, W: Sink, T: Sink>(
     alloc: Global,
     source: &mut R,

@@ -58,20 +58,20 @@ fn text(rt: &HostRuntime, path: &str, text: &str) -> io::Result<()> {
     write(rt, path, lined(rt, text)?.as_str().as_bytes())
 }
 
-/// The first `count` bytes of a file stay.
+/// Cuts a file to its first `count` bytes.
 fn cut(rt: &HostRuntime, path: &str, size: &str) -> io::Result<()> {
     let mut bytes = fs::read(rt, path)?;
     bytes.truncate(count(size)?);
     fs::write(rt, path, bytes.as_slice())
 }
 
-/// The first byte of a file goes.
+/// Removes the first byte of a file.
 fn behead(rt: &HostRuntime, path: &str) -> io::Result<()> {
     let bytes = fs::read(rt, path)?;
     fs::write(rt, path, bytes.as_slice().get(1..).unwrap_or(&[]))
 }
 
-/// A text of a file is replaced at each of its places, of which there is one, `OLD/NEW`.
+/// Replaces a text in a file wherever it stands, which is somewhere, `OLD/NEW`.
 fn edit(rt: &HostRuntime, path: &str, change: &str) -> io::Result<()> {
     let change = lined(rt, change)?;
     let Some((old, new)) = change.split_once('/') else {
@@ -85,7 +85,7 @@ fn edit(rt: &HostRuntime, path: &str, change: &str) -> io::Result<()> {
     fs::write(rt, path, edited.as_str())
 }
 
-/// The bytes of another file come after those of a file.
+/// Appends the bytes of another file to a file.
 fn append(rt: &HostRuntime, path: &str, other: &str) -> io::Result<()> {
     let mut bytes = fs::read(rt, path)?;
     let more = fs::read(rt, other)?;
@@ -93,7 +93,7 @@ fn append(rt: &HostRuntime, path: &str, other: &str) -> io::Result<()> {
     fs::write(rt, path, bytes.as_slice())
 }
 
-/// So many empty files with numbers for names.
+/// Makes this number of empty files, with numbers for names.
 fn many(rt: &HostRuntime, folder: &str, size: &str) -> io::Result<()> {
     for number in 0..count(size)? {
         let path = format!(in rt.alloc(); "{folder}/{number}")?;
@@ -102,7 +102,7 @@ fn many(rt: &HostRuntime, folder: &str, size: &str) -> io::Result<()> {
     Ok(())
 }
 
-/// A link to that file, in a folder that is made for it.
+/// Makes a link to that file, and the folder of the link.
 fn link(rt: &HostRuntime, to: &str, path: &str) -> io::Result<()> {
     make_room(rt, path)?;
     symlink(rt, to, path)

@@ -35,7 +35,7 @@ pub struct OddFiles<'a> {
 }
 
 impl<'a> OddFiles<'a> {
-    /// Nothing odd.
+    /// Files of which nothing is odd.
     pub fn new(rt: &'a HostRuntime) -> OddFiles<'a> {
         OddFiles {
             rt,
@@ -54,7 +54,7 @@ impl<'a> OddFiles<'a> {
         }
     }
 
-    /// With this one odd.
+    /// The files with one thing more that is odd, by its name and value.
     pub fn with(mut self, name: &str, value: &'a str) -> io::Result<OddFiles<'a>> {
         match name {
             "folder" => self.path = value,

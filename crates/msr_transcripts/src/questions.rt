@@ -123,7 +123,7 @@ fn shapes(rt: &HostRuntime, path: &str, length: &str) -> io::Result<()> {
 #[derive(Clone, Copy)]
 struct Rise {
     first: i64,
-    /// How far, or 0 of a single number.
+    /// How far they are apart, or 0 for a single number.
     by: i64,
     last: i64,
 }
@@ -138,7 +138,7 @@ impl Rise {
         }
     }
 
-    /// With one more number, if it is as far from the last one.
+    /// The numbers with one more, if it is as far from the last one.
     fn with(self, number: i64) -> Option<Rise> {
         let by = number.wrapping_sub(self.last);
         let goes_on = by != 0 && (self.by == 0 || self.by == by);

@@ -35,7 +35,7 @@ fn numbers(alloc: Global, text: &str) -> io::Result<Vec<i32>> {
     Ok(numbers)
 }
 
-/// Adds numbers so many times, `NUMBER,NUMBER*COUNT`, or those of a range, `FROM..TO`.
+/// Adds numbers, repeated COUNT times, `NUMBER,NUMBER*COUNT`, or those of a range, `FROM..TO`.
 fn add(alloc: Global, samples: &mut Vec<i32>, word: &str) -> io::Result<()> {
     if let Some((from, to)) = word.split_once("..") {
         return add_range(samples, from, to);

@@ -26,8 +26,8 @@ pub struct Settings<'a> {
     pub odd: OddFiles<'a>,
 }
 
-/// The device moves at most so many bytes in a call, and fails at that call: `100@3`. Without the first part, `3`, it
-/// moves all.
+/// How a device behaves: with `100@3` it moves at most 100 bytes in a call, and fails at call 3, counted from 0. With
+/// `3` it moves all bytes.
 fn behavior(text: &str) -> io::Result<Behavior> {
     let (most, at) = match text.split_once('@') {
         Some((most, at)) => (count(most)?, at),
@@ -46,7 +46,7 @@ fn behavior(text: &str) -> io::Result<Behavior> {
 }
 
 impl<'a> Settings<'a> {
-    /// Nothing odd.
+    /// Settings of which nothing is odd.
     pub fn new(rt: &'a HostRuntime) -> Settings<'a> {
         Settings {
             from: "",
@@ -59,7 +59,7 @@ impl<'a> Settings<'a> {
         }
     }
 
-    /// With one more, written `NAME=VALUE`.
+    /// The settings with one more, written `NAME=VALUE`.
     pub fn with(mut self, setting: &'a str) -> io::Result<Settings<'a>> {
         let (name, value) = setting.split_once('=').unwrap_or((setting, ""));
         match name {

@@ -113,7 +113,7 @@ ShownIsFewest =
     → IsDivision report.tolerance (rows_of_records records) parts
     → AllStandInFewest (bytes_of report.length) parts report.segments.items
 
--- and the input is readable
+-- if the report shows it, the input is readable
 abbrev pub ShownIsReadable : Type 0
 ShownIsReadable =
     (report : Report) (input : List ℕ) → ShowsLeast report input

@@ -45,7 +45,7 @@ impl Comparing {
     ghost use Rattle.msr_kinds.specs.Lengths.{bytes_of};
     ghost use Rattle.msr_verdict.specs.Compared.{ComparesEnded, AddsPiece, IsShownAt};
 
-    /// Before the first segment.
+    /// The state before the first segment.
     pub(crate) fn new(alloc: Global) -> Comparing
         ensures { result ≡ record { place = 0; runs = []; samples = 0; agrees = true } }
     {
@@ -57,7 +57,7 @@ impl Comparing {
         }
     }
 
-    /// The segment, in the runs so far, is shown by the line at its place.
+    /// Whether the segment, in the runs so far, is shown by the line at its place.
     fn is_shown(&self, report: &Report, segment: &Segment) -> bool
         ensures shown { IsTrue result
             ↔ IsShownAt (bytes_of report.now.length) report.now.segments.items self.now.place

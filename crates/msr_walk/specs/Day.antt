@@ -88,7 +88,7 @@ abbrev pub IsShown : Result (Unit {0}) DayFault → Type 0
 IsShown (Ok done) = WasShown
 IsShown (Err refusal) = IsUnkept refusal
 
--- the same if it is asked for
+-- what holding records against their report answers, if it is asked for
 abbrev pub IsShownIfAsked : Bool → Result (Unit {0}) DayFault → Type 0
 IsShownIfAsked check (Ok done) = IsTrue check → WasShown
 IsShownIfAsked check (Err refusal) = IsTrue check × IsUnkept refusal

@@ -53,7 +53,7 @@ pub record TellsInPart (asked : Asked) (out0 out : Device) : Type 0 where
   pub are_lines : AreLines entries (printed ++ rest)
   pub prints : Takes out0 out printed
 
--- the same when the walk stops
+-- a prefix of the lines of some more entries was printed when the walk stopped
 abbrev pub StopsTelling : Asked → Device → Device → ToolFault → Type 0
 StopsTelling asked out0 out fault = StopsSink (TellsInPart asked out0 out) (TellsInPart asked out0 out) out0 out fault
 

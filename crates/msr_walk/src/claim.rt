@@ -50,8 +50,9 @@ impl From<AllocError> for ClaimFault {
     }
 }
 
-/// A day that this walk has. Its file stands under the name of the day's claim, open and locked; whoever ends, by
-/// whatever, has it no more. While it has that name nobody else has the day, since only who locked it removes it.
+/// A day that this walk has. Its file stands under the name of the day's claim, open and locked; a process that ends,
+/// however it ends, has it no longer. While it has that name nobody else has the day, since only who locked it removes
+/// it.
 #[derive(Drop)]
 pub(crate) struct Claim<F> {
     file: F,

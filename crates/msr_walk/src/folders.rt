@@ -58,7 +58,7 @@ fn tell<O: Sink>(
     tally: &mut Tally,
 ) -> Result<(), ToolFault>
     requires { CanCountCall (O.device out.old) }
-    // Whatever is asked for, if the entry has this outcome.
+    // This holds whatever is asked for, if the entry has this outcome.
     ensures told { (asked : Asked) → IsOutcomeOf asked path.now channel.now outcome →
         OnOk result (Tells asked (O.device out.old) (O.device out.new) tally.old tally.new) }
     ensures stops { (asked : Asked) → IsOutcomeOf asked path.now channel.now outcome →
@@ -110,7 +110,7 @@ where
     tell(walker.alloc, path, channel.as_str(), outcome, out, tally)
 }
 
-/// What is no folder of the walk.
+/// Handles an entry that is no folder of the walk.
 fn tell_file<R: Files, O: Sink>(
     walker: &Walker<'_, R>,
     path: &str,
@@ -164,7 +164,7 @@ fn kind_of<R: Files>(rt: &R, path: &str) -> Kind {
     }
 }
 
-/// An entry that is not walked.
+/// Handles an entry that is not walked.
 fn tell_entry<R: Files, O: Sink>(
     walker: &Walker<'_, R>,
     path: &str,
@@ -188,7 +188,7 @@ where
     tell_file(walker, path, apart, out, tally)
 }
 
-/// A folder that has no list.
+/// Tells that a folder has no list.
 fn tell_unlisted<R: Files, O: Sink>(
     walker: &Walker<'_, R>,
     folder: &str,

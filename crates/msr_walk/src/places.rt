@@ -16,7 +16,7 @@ enum Place {
     Unknown,
 }
 
-/// How many folders one goes up from a folder: more names no path has.
+/// How many folders one goes up from a folder at most: no path has more names.
 const MOST_LEVELS: u16 = 4096;
 
 /// Goes up from a folder by `..`, to the top of all, which is its own parent.

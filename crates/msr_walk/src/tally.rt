@@ -17,7 +17,7 @@ pub(crate) struct Tally {
 }
 
 impl Tally {
-    /// Nothing told yet.
+    /// The tally before anything was told.
     pub(crate) fn new(alloc: Global) -> Tally
         ensures { IsTally [] result }
     {

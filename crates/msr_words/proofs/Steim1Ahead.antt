@@ -110,7 +110,7 @@ without_one n d ds can = by_first (CanDivide One (suc n) ds) n (d ∷ ds) (omega
         one_before n 2 (e ∷ g ∷ h ∷ ds) (omega arith)
         (all_more 8 16 (e ∷ g ∷ []) (lit≤ tt) (f.group.1.0, (f.group.1.1.0, tt))) (λ h'. omega arith) rest
 
--- without the first two no word more is wanted
+-- without the first two differences no word more is needed
 without_two : (n : ℕ) (c d : ℤ) (ds : List ℤ) → CanDivide One n (c ∷ d ∷ ds) → CanDivide One n ds
 without_two n c d ds can = by_first (CanDivide One n ds) n (c ∷ d ∷ ds) (omega arith) can
     (λ f. let some = f.some in let same : suc (n - 1) ≡ n = omega arith in

@@ -24,7 +24,7 @@ use Rattle.msr_words.proofs.Runs.{length-run_points, points_at, prefix_run}
 
 -- ---- sums over groups
 
--- what each group has at most, as many groups have that many times at most
+-- if no group has more than `most`, n groups have at most n times as many
 sum_of_groups : (version : Version) (f : ℤ → ℕ) (most : ℕ)
     → ((group : List ℤ) → IsGroup version group → sum_by f group ≤ most) →
     (groups : List (List ℤ)) → AreGroups version groups

@@ -47,7 +47,7 @@ pub record IsEnd (kind : Kind) (bytes : ℕ) (samples : List ℤ) (a end : ℕ) 
   pub fits : IsRun (Fits kind bytes) samples a end
   pub furthest : (b : ℕ) → IsRun (Fits kind bytes) samples a b → b ≤ end
 
--- each shorter run fits too, and no other does
+-- from the same start each shorter run fits too, and no longer one does
 abbrev pub EndLaw : Type 0
 EndLaw = (kind : Kind) (bytes : ℕ) (samples : List ℤ) (a end : ℕ) → IsEnd kind bytes samples a end → (c : ℕ)
     → a ≤ c → (IsRun (Fits kind bytes) samples a c ↔ c ≤ end)
@@ -59,7 +59,7 @@ IsGreedyReach zero ds reach = reach ≡ 0
 IsGreedyReach (suc words) ds reach = (count : ℕ) × (rest : ℕ) × IsLongestGroup ds count
     × IsGreedyReach words (drop count ds) rest × (reach ≡ count + rest)
 
--- where a record ends at the latest that starts at g
+-- no record of that kind that starts at g ends later
 abbrev pub latest_end : Kind → ℕ → List ℤ → ℕ → ℕ
 latest_end kind bytes samples g = min (length samples) (g + most_of kind bytes)
 

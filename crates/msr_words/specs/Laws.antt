@@ -44,7 +44,7 @@ pub record TrackerLaws (look_back : ℕ) (most : ℕ → ℕ) (fits : ℕ → Li
   pub empty : EmptyLaw fits
   pub size : (bytes : ℕ) → SizeLaw (most bytes) (fits bytes)
 
--- a few samples fit
+-- each run of at most four samples fits
 abbrev pub FitsShort : (List (ℤ × ℤ) → Type 0) → Type 0
 FitsShort fits = (run : List (ℤ × ℤ)) → length run ≤ 4 → fits run
 
@@ -70,7 +70,7 @@ room_of Steim2 bytes = 7 * words_of bytes
 abbrev pub most_of : Kind → ℕ → ℕ
 most_of kind bytes = min (room_of kind bytes) most_counted
 
--- as many as a record of some kind has at most
+-- how many samples a record of any kind has at most: the length of a longest run
 abbrev pub most_any : ℕ → ℕ
 most_any bytes = max (max (most_of Steim2 bytes) (most_of Steim1 bytes))
     (max (most_of Int16 bytes) (max (most_of Int24 bytes) (most_of Int32 bytes)))

@@ -24,8 +24,8 @@ pub fn steim2_greedy_reach()
     ensures { GreedyLaw }
 {}
 
-/// With one word more, a Steim-1 record reaches by the longest group further. Three differences of 8 bits are one with
-/// a spare difference before them.
+/// Steim-1 reaches furthest if each word in turn takes as many differences as it can. Three of 8 bits fill a word only
+/// if a spare difference stands before them, or if the word is the last.
 pub fn steim1_word_by_word()
     ensures word { Steim1WordLaw }
     ensures last { Steim1LastLaw }

@@ -92,7 +92,7 @@ fn integers_of(bits: u32) -> Kind
     }
 }
 
-/// Whether a sample is an integer of 16 bits, of 24, or else of 32, as each is.
+/// Whether a sample is an integer of 16 bits, or of 24; of any other width each sample is one.
 fn is_integer(sample: i32, bits: u32) -> bool
     ensures { IsTrue result ↔ IsInteger (integers_of bits) sample }
 {
@@ -161,14 +161,14 @@ pub struct Steim2 {
     left: u32,
     /// Differences in the open word.
     count: u8,
-    /// As many have room in a word with the greatest of them.
+    /// How many differences as large as the greatest of them a word has room for.
     most: u8,
     /// How many samples more a record has at most.
     more: usize,
     fits: bool,
 }
 
-/// No word if one difference more stays in the open one, of which `most` have room there, else one.
+/// How many words one difference more opens: 0 if it stays in the open word, which has room for `most`, else 1.
 fn words_opened(count: u8, most: u8) -> u32
     ensures stays { count < most → result ≡ 0 }
     ensures opens { most ≤ count → result ≡ 1 }
@@ -176,7 +176,7 @@ fn words_opened(count: u8, most: u8) -> u32
     u32::from(count >= most)
 }
 
-/// How many differences the open word has with one more.
+/// How many differences the open word has after one more was pushed.
 fn count_after(count: u8, most: u8) -> u8
     ensures stays { count < most → result ≡ count + 1 }
     ensures opens { most ≤ count → result ≡ 1 }
@@ -184,7 +184,7 @@ fn count_after(count: u8, most: u8) -> u8
     if count < most { count + 1 } else { 1 }
 }
 
-/// How many have room in the open word with one more.
+/// How many differences the open word has room for after one more was pushed.
 fn most_after(count: u8, most: u8, capacity: u8) -> u8
     ensures stays { count < most → result ≡ most }
     ensures opens { most ≤ count → result ≡ capacity }

@@ -1,4 +1,4 @@
-//! How many differences share a word, and the least number of Steim-1 groups, as differences come.
+//! How many differences share a word, and the least number of Steim-1 groups of a run to which differences are added.
 
 ghost use Rattle.std.specs.Prelude.{◌≡◌, ◌<◌, ◌≤◌, ◌↔◌, ◌∷◌, [], ℕ, ℤ, List, ◌-◌, ◌^◌, bit_or, IsTrue, cond, true, length};
 ghost use Rattle.msr_steim.specs.declared.word.Version.TheVariants.{One};
@@ -28,18 +28,18 @@ fn has_word_left(count: u32, words: u32) -> bool
     count < words
 }
 
-/// What is left of a run that grows: the least numbers of groups that others may follow, each exact up to
-/// the number of words and greater if there is none so small, and how large its newest differences are, or
+/// What is kept of a run that grows: the least numbers of groups, none of them a last group of three, each exact up to
+/// the number of words and greater if there is none so small; and how large its newest differences are, or
 /// `u64::MAX` if there are fewer.
 #[derive(Clone, Copy, Debug, PartialEq, Eq)]
 pub(crate) struct LeastCounts {
-    /// Of all differences.
+    /// The least number of groups of all differences.
     now: u32,
-    /// Of all but the newest.
+    /// The least number of groups of all but the newest difference.
     one: u32,
-    /// Of all but the newest two.
+    /// The least number of groups of all but the newest two.
     two: u32,
-    /// Of all but the newest three.
+    /// The least number of groups of all but the newest three.
     three: u32,
     first: u64,
     second: u64,
@@ -49,7 +49,7 @@ pub(crate) struct LeastCounts {
 impl LeastCounts {
     ghost use Rattle.msr_words.specs.AreCounts.{AreCounts};
 
-    /// Of no differences.
+    /// The counts of an empty run.
     pub(crate) fn none() -> LeastCounts
         ensures { (words : ℕ) → AreCounts words [] result }
     {
@@ -87,7 +87,7 @@ impl LeastCounts {
         }
     }
 
-    /// With one difference more.
+    /// The counts of the run with one difference more.
     pub(crate) fn with(self, difference: i64, words: u32) -> LeastCounts
         requires { words < 2 ^ 31 }
         ensures { (past : List ℤ) → AreCounts words past self → AreCounts words (difference ∷ past) result }
@@ -138,7 +138,7 @@ pub fn magnitude(number: i64) -> u64
     }
 }
 
-/// One if the size is below the limit, else none.
+/// 1 if the size is below the limit, else 0.
 fn one_below(size: u64, limit: u64) -> u8
     ensures { IsOneBelow size limit result }
 {
@@ -146,7 +146,7 @@ fn one_below(size: u64, limit: u64) -> u8
 }
 
 /// The greatest number of differences, each of the size of this one, that one Steim-2 word holds.
-/// It counts the widths that are enough, from 30 bits for one to 4 bits for seven, with no branch.
+/// It adds 1 for each width that suffices, from 30 bits for one difference to 4 bits for seven, without a branch.
 pub(crate) fn steim2_capacity(diff: i64) -> u8
     ensures { IsCapacity diff result }
 {
@@ -167,7 +167,7 @@ pub fn is_narrow(diff: i64) -> bool
     size < 536_870_912
 }
 
-/// One if a difference is of more than 10 bits, else none.
+/// 1 if a difference is of more than 10 bits, else 0.
 pub fn wide_one(diff: i64) -> u8
     ensures { result ≡ cond (is_wide diff) 1 0 }
 {

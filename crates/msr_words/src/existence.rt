@@ -1,4 +1,4 @@
-//! What there is whatever the samples: laws, so that an output can be spoken of before it is written.
+//! Laws of what there is for any samples, so that clauses can speak of an output before it is written.
 
 ghost use Rattle.msr_words.specs.Existence.{DivisionExists, FirstKindExists, FittingIsDecided};
 

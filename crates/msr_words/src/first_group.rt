@@ -20,13 +20,13 @@ struct FirstGroup {
 pub(crate) struct Following {
     /// How many differences the first group has.
     pub group: u8,
-    /// The least number of groups of all.
+    /// The least number of groups of all differences.
     pub all: usize,
-    /// Of all but the first.
+    /// The least number of groups of all but the first difference.
     one: usize,
-    /// Of all but the first two.
+    /// The least number of groups of all but the first two.
     two: usize,
-    /// Of all but the first three.
+    /// The least number of groups of all but the first three.
     three: usize,
     first: u64,
     second: u64,
@@ -36,7 +36,7 @@ pub(crate) struct Following {
 impl Following {
     ghost use Rattle.msr_words.specs.Following.{IsFollowing};
 
-    /// Nothing follows.
+    /// What is known if no difference follows.
     #[inline]
     pub(crate) fn nothing() -> Following
         ensures few { result.all ≡ 0 }
@@ -54,8 +54,8 @@ impl Following {
         }
     }
 
-    /// The first group of a difference and these, if that one and the next, the next two, and the next three are
-    /// so large.
+    /// The first group if one difference more stands before these; `pair`, `triple` and `four` are the sizes of that
+    /// one together with the next one, two and three.
     #[inline]
     fn first_group(self, pair: u64, triple: u64, four: u64) -> FirstGroup
         requires pair { pair ≤ triple }
@@ -85,7 +85,7 @@ impl Following {
         FirstGroup { size, after }
     }
 
-    /// With one difference more before them.
+    /// What is known if one difference more stands before these.
     #[inline]
     pub(crate) fn preceded_by(self, difference: i64) -> Following
         requires fits { FitsBits 32 difference }

@@ -17,7 +17,7 @@ use crate::window::Window;
 use msr_kinds::{Kind, Length};
 use msr_steim::fits_bits;
 
-/// As many samples as the header of a record counts, in 16 bits.
+/// The greatest number of samples that the header of a record can count, in 16 bits.
 pub(crate) const MOST_COUNTED: usize = 65_535;
 
 /// What fits a record of a kind.
@@ -39,7 +39,7 @@ pub trait Fitting {
     fn most(self, record_length: Length) -> usize
         ensures { result ≡ most self (bytes_of record_length) };
 
-    /// The run fits one record of this kind; `before` is the sample before it, none at a segment's start.
+    /// Whether the run fits one record of this kind; `before` is the sample before it, `None` at a segment's start.
     fn fits(self, before: Option<i32>, run: &[i32], record_length: Length) -> bool
         ensures { IsTrue result ↔ fits self (bytes_of record_length) (points before run.now) };
 }
@@ -99,7 +99,7 @@ fn fits_steim1(before: Option<i32>, run: &[i32], words: u32) -> bool
     true
 }
 
-/// The capacity of a Steim-2 word as `steim2_capacity` has it, by a few tests: few differences come here.
+/// What `steim2_capacity` gives, by comparisons that branch: this is called for few differences.
 fn tested_capacity(diff: i64) -> u8
     ensures { IsCapacity diff result }
 {
@@ -163,7 +163,7 @@ pub fn difference_after(before: Option<i32>, run: &[i32], at: usize) -> i64
     }
 }
 
-/// Each sample is of that many bits.
+/// Whether each sample is of that many bits.
 fn all_of_bits(run: &[i32], bits: u32) -> bool
     requires positive { 0 < bits }
     requires small { bits ≤ 32 }
@@ -172,7 +172,7 @@ fn all_of_bits(run: &[i32], bits: u32) -> bool
     run.iter().all(|sample| fits_bits(i64::from(*sample), bits))
 }
 
-/// The samples `start` to `end - 1` of a segment fit one record of that kind.
+/// Whether the samples `start` to `end - 1` of a segment fit one record of that kind.
 pub fn run_fits(
     kind: Kind,
     samples: &[i32],

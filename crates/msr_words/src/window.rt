@@ -1,5 +1,5 @@
-//! Differences with their sizes, taken a stretch at a time: a loop over places that are there takes a fraction of the
-//! instructions of one difference after another.
+//! Differences with their sizes, taken 64 at a time: a loop over a fixed number of places takes a fraction of the
+//! instructions that taking one difference after another does.
 
 ghost use Rattle.std.specs.Prelude.{◌≡◌, ◌<◌, ◌≤◌, ◌+◌, ◌-ℤ◌, ◌↔◌, ℕ, ℤ, pos, List, Option, None, IfSome, IsNone, IsSome, drop, get_or, length};
 ghost use Rattle.std.specs.Int.{int_wrap, w32};
@@ -16,20 +16,21 @@ use crate::kinds::longest_group;
 /// How many differences a window has.
 const PLACES: usize = 64;
 
-/// The differences of the samples from `first` to `end - 1`, with their sizes; at first of none.
+/// The differences of the samples from `first` to `end - 1`, with their sizes. A new window has none.
 #[derive(Debug, Drop)]
 pub struct Window {
     first: usize,
     end: usize,
-    /// Before this sample the window has the difference of each and those of the next six.
+    /// For each sample before this one the window has its difference and those of the next six.
     until: usize,
-    /// How far each is from 0, or from -1 if it is negative.
+    /// How far each difference is from 0, or from -1 if it is negative.
     sizes: [u32; 64],
-    /// Each itself, cut to 32 bits.
+    /// Each difference itself, cut to 32 bits.
     kept: [i32; 64],
 }
 
-/// The size of the difference of a sample from the one before it, by a test of 32 bits, of which a vector holds more.
+/// The size of the difference of a sample from the one before it. The test compares numbers of 32 bits, of which a
+/// vector register holds more than of 64.
 fn size_after(before: i32, sample: i32) -> u32
     ensures { IsSize (sample -ℤ before) result }
 {
@@ -41,7 +42,7 @@ fn size_after(before: i32, sample: i32) -> u32
     }
 }
 
-/// The size of the difference of a sample of the segment; one that is not there has the greatest.
+/// The size of the difference of a sample of the segment, or the greatest size if there is no such sample.
 fn size_at(samples: &[i32], at: usize) -> u32
     ensures { IsSizeAt (drop at (differences None samples.now)) 0 result }
 {
@@ -54,7 +55,7 @@ fn size_at(samples: &[i32], at: usize) -> u32
     size_after(samples[at - 1], samples[at])
 }
 
-/// The sizes of four differences that follow one another; one that is not there has the greatest.
+/// The sizes of four differences that follow one another; the greatest size stands for one that is missing.
 #[derive(Clone, Copy, Debug)]
 pub struct FourSizes {
     pub first: u32,
@@ -78,7 +79,7 @@ impl Window {
     }
 
     /// Takes the differences of the samples from `first` on, always `PLACES` of them, so that the
-    /// loop is laid out whole.
+    /// loop is unrolled.
     #[inline(always)]
     fn take(&mut self, samples: &[i32], first: usize)
         requires some { 0 < first }
@@ -131,8 +132,8 @@ impl Window {
         self.kept[place + ahead]
     }
 
-    /// How many differences from a place on stand together in a word, as many as can: by the bits that are set in the
-    /// size of any of them.
+    /// How many differences from a place on stand together in a Steim-2 word, as many as can: by the bits that are set
+    /// in the size of any of them.
     #[inline(always)]
     pub fn longest_from(&self, place: usize) -> usize
         requires { place + 7 ≤ 64 }

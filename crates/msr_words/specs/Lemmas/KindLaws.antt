@@ -223,7 +223,7 @@ few_places Int32 = omega arith
 few_places Steim1 = omega arith
 few_places Steim2 = omega arith
 
--- and so for a record of any kind
+-- the law holds for a record of any kind
 pub prefix_any : (bytes : ℕ) → PrefixLaw (FitsAny bytes)
 prefix_any bytes front back h = (h.0, prefix_kind h.0 bytes front back h.1)
 
