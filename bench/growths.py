@@ -36,7 +36,7 @@ def usual_blocks(text):
 
 
 CALLS = (
-    "Samples::push Samples::extend_from_slice decode_plain decode_steim groups pack StreamPacker::push decode_record"
+    "SampleVec::push SampleVec::extend_from_slice decode_plain decode_steim groups pack StreamPacker::push decode_record"
     " encode_record Joiner::push repack list_segments write_text read_report check_packed path_text Totals::add"
 ).split()
 

@@ -7,4 +7,4 @@ mod samples;
 
 pub use counts::Counts;
 pub use order::Order;
-pub use samples::Samples;
+pub use samples::SampleVec;

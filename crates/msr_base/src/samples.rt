@@ -7,11 +7,11 @@ use std::marker::Model;
 
 /// The samples of an area, a row or a segment, in order. Contracts see the list of their values.
 #[derive(Debug, Drop)]
-pub struct Samples {
+pub struct SampleVec {
     values: Vec<i32>,
 }
 
-impl Model for Samples {
+impl Model for SampleVec {
     ghost use Rattle.std.specs.Prelude.{List, ℤ};
 
     ghost Value = { List ℤ };
@@ -19,28 +19,28 @@ impl Model for Samples {
     ghost view = { λ samples. samples.values.items };
 }
 
-impl Samples {
+impl SampleVec {
     /// An empty list. It takes no memory.
-    pub fn new(alloc: Global) -> Samples
+    pub fn new(alloc: Global) -> SampleVec
         ensures { result ≡ [] }
     {
-        Samples {
+        SampleVec {
             values: Vec::new(alloc),
         }
     }
 
     /// The samples of a vector, in the vector's memory.
-    pub fn from_vec(values: Vec<i32>) -> Samples
+    pub fn from_vec(values: Vec<i32>) -> SampleVec
         ensures { result ≡ values.items }
     {
-        Samples { values }
+        SampleVec { values }
     }
 
     /// The vector of these samples, in their memory.
     pub fn into_vec(self) -> Vec<i32>
         ensures { result.items ≡ self }
     {
-        let Samples { values } = self;
+        let SampleVec { values } = self;
         values
     }
 
@@ -83,7 +83,7 @@ impl Samples {
     }
 }
 
-impl PartialEq for Samples {
+impl PartialEq for SampleVec {
     ghost use Rattle.std.specs.Cmp.Lexicographic.{pointwise};
     ghost use Rattle.std.specs.Cmp.Rules.{comparing};
     ghost use Rattle.std.specs.Ordering.{int_eq};
@@ -93,12 +93,12 @@ impl PartialEq for Samples {
 
     ghost laws = { Prim.search (comparing, rules) };
 
-    fn eq(&self, other: &Samples) -> bool {
+    fn eq(&self, other: &SampleVec) -> bool {
         self.as_slice() == other.as_slice()
     }
 }
 
-impl Eq for Samples {
+impl Eq for SampleVec {
     ghost use Rattle.std.specs.Cmp.Rules.{comparing};
     ghost use Rattle.std.proofs.Common.{rules};
 

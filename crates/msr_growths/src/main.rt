@@ -16,8 +16,8 @@ use std::{env, io};
 
 /// What is called, in the order of the crates, and with which samples or input if there are several.
 const NAMES: [&str; 24] = [
-    "Samples::push",
-    "Samples::extend_from_slice",
+    "SampleVec::push",
+    "SampleVec::extend_from_slice",
     "decode_plain",
     "decode_steim",
     "groups",
@@ -60,8 +60,8 @@ fn call_tool(rt: &HostRuntime, name: &str, row: &str) -> io::Result<()> {
 fn call(rt: &HostRuntime, wanted: &str) -> io::Result<()> {
     let (name, row) = wanted.split_once(' ').unwrap_or((wanted, ""));
     match name {
-        "Samples::push" => samples::push(rt, name),
-        "Samples::extend_from_slice" => samples::extend(rt, name),
+        "SampleVec::push" => samples::push(rt, name),
+        "SampleVec::extend_from_slice" => samples::extend(rt, name),
         "decode_plain" => samples::plain(rt, name),
         "decode_steim" => samples::steim(rt, name),
         "groups" => samples::divide(rt, name),

@@ -2,15 +2,15 @@
 
 use crate::inputs::swings;
 use msr_header::Order::{self, Big, Little};
-use msr_plain::{Samples, Width, decode_plain};
+use msr_plain::{SampleVec, Width, decode_plain};
 use msr_steim::Version::{self, One, Two};
 use msr_steim::decode_steim;
 use msr_words::{Length, difference, groups};
 use std::io;
 
-/// `Samples::push` of forty samples, each once more if memory is refused.
+/// `SampleVec::push` of forty samples, each once more if memory is refused.
 pub fn push(rt: &HostRuntime, name: &str) -> io::Result<()> {
-    let mut samples = Samples::new(rt.alloc());
+    let mut samples = SampleVec::new(rt.alloc());
     let mut refused = false;
     println!(rt; "{name}")?;
     for sample in 0..40 {
@@ -25,9 +25,9 @@ pub fn push(rt: &HostRuntime, name: &str) -> io::Result<()> {
     println!(rt; "left {:?}", samples.as_slice())
 }
 
-/// `Samples::extend_from_slice` of five samples twice, each time once more if memory is refused.
+/// `SampleVec::extend_from_slice` of five samples twice, each time once more if memory is refused.
 pub fn extend(rt: &HostRuntime, name: &str) -> io::Result<()> {
-    let mut samples = Samples::new(rt.alloc());
+    let mut samples = SampleVec::new(rt.alloc());
     let mut refused = false;
     println!(rt; "{name}")?;
     for more in [[1, 2, 3, 4, 5], [6, 7, 8, 9, 10]] {

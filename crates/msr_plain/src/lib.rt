@@ -11,7 +11,7 @@ pub use borrowed::{PlainSamples, plain_samples};
 use byteorder::{BigEndian, ByteOrder, LittleEndian};
 pub use laws::{filled_area_carries, one_outcome};
 use msr_base::Order;
-pub use msr_base::Samples;
+pub use msr_base::SampleVec;
 use std::alloc::{AllocError, Global};
 use thiserror::Error;
 
@@ -120,7 +120,7 @@ pub fn decode_plain(
     order: Order,
     area: &[u8],
     count: u16,
-) -> Result<Samples, PlainFault>
+) -> Result<SampleVec, PlainFault>
     ensures samples { IfOk result (λ samples. CarriesPlain width order area.now samples) }
     ensures count { IfOk result (λ samples. length samples ≡ count) }
 
@@ -133,7 +133,7 @@ pub fn decode_plain(
     }
     let mut values = vec![in alloc; 0; count]?;
     decode_plain_into(width, order, area, values.as_mut_slice())?;
-    Ok(Samples::from_vec(values))
+    Ok(SampleVec::from_vec(values))
 }
 
 /// Writes a sample into the first bytes, big-endian.

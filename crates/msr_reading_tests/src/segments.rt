@@ -2,7 +2,7 @@
 //! each call with ample memory.
 ghost use Rattle.std.specs.Prelude.{◌≡◌, IfOk, length};
 
-use msr_base::Samples;
+use msr_base::SampleVec;
 use msr_fixtures::{START, expect, key_at};
 use msr_record::{Key, Kind, Row};
 use msr_segments::{
@@ -147,7 +147,7 @@ fn row(alloc: Global, key: Key, start: i64, count: u16) -> Result<Row, AllocErro
         key,
         start,
         kind: Kind::Steim2,
-        samples: Samples::from_vec(values),
+        samples: SampleVec::from_vec(values),
     })
 }
 
@@ -239,7 +239,7 @@ fn rising(alloc: Global, key: Key, start: i64, first: i32) -> Result<Row, AllocE
         key,
         start,
         kind: Kind::Int32,
-        samples: Samples::from_vec([first, first.wrapping_add(1)].to_vec(alloc)?),
+        samples: SampleVec::from_vec([first, first.wrapping_add(1)].to_vec(alloc)?),
     })
 }
 

@@ -4,7 +4,7 @@ ghost use Rattle.msr_header.specs.Reading.{is_quality};
 ghost use Rattle.msr_rows.specs.Correction.{is_pending};
 ghost use Rattle.msr_segments.specs.Segments.{SegmentIsInTime};
 
-use msr_base::Samples;
+use msr_base::SampleVec;
 use msr_devices::{Behavior, Sink, TestSink, WriteFault};
 use msr_fixtures::{Edit, START, key_at};
 use msr_output::{SegmentWriter, one_output, output_has_size, output_keeps_segments};
@@ -21,7 +21,7 @@ use std::test::Fail;
 pub const SECOND: &[Edit<'static>] = &[
     Edit::Sequence(*b"000002"),
     Edit::Clock(0, 0, 15, 500),
-    Edit::Samples(1),
+    Edit::SampleVec(1),
     Edit::Frames(1),
     Edit::Bytes(64, &[0x02, 0x00, 0x00, 0x00]),
     Edit::Bytes(76, &[0x40, 0x00, 0x00, 0x00]),
@@ -32,7 +32,7 @@ fn zeros(rt: &impl Abort, alloc: Global, count: usize) -> Result<Segment, AllocE
     let Some(rate) = Rate::new(20, 1) else {
         panic!(rt; "no rate")
     };
-    let mut samples = Samples::new(alloc);
+    let mut samples = SampleVec::new(alloc);
     for _ in 0..count {
         samples.push(0)?;
     }

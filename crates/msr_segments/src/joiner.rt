@@ -4,7 +4,7 @@ ghost use Rattle.msr_segments.specs.Joining.{segment_at};
 
 use crate::follow::{Follow, Step};
 use crate::span::Span;
-use msr_base::Samples;
+use msr_base::SampleVec;
 use msr_rows::{Key, Row};
 use std::alloc::Global;
 use std::marker::Model;
@@ -19,7 +19,7 @@ pub struct Segment {
     /// The instant of the first sample, in microseconds from 1970-01-01 00:00:00.
     pub start: i64,
     /// The samples of all rows, in order.
-    pub samples: Samples,
+    pub samples: SampleVec,
 }
 
 /// Why a row was refused.
@@ -42,7 +42,7 @@ pub struct JoinFault {
 }
 
 /// The samples at a span, as a segment.
-fn segment_of_samples(span: Option<Span>, samples: Samples) -> Option<Segment>
+fn segment_of_samples(span: Option<Span>, samples: SampleVec) -> Option<Segment>
     ensures { result ≡ option_map (segment_at samples) span }
 {
     let span = span?;
@@ -57,7 +57,7 @@ fn segment_of_samples(span: Option<Span>, samples: Samples) -> Option<Segment>
 #[derive(Debug, Drop)]
 pub struct Joiner {
     follow: Follow,
-    samples: Samples,
+    samples: SampleVec,
 }
 
 impl Model for Joiner {
@@ -88,7 +88,7 @@ impl Joiner {
     {
         Joiner {
             follow: Follow::new(tolerance),
-            samples: Samples::new(alloc),
+            samples: SampleVec::new(alloc),
         }
     }
 

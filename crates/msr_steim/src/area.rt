@@ -9,7 +9,7 @@ use crate::borrowed::before_first;
 use crate::sums::{Place, write_inner_word, write_last_word};
 use crate::word::Version;
 use byteorder::{BigEndian, ByteOrder, LittleEndian};
-use msr_base::{Order, Samples};
+use msr_base::{Order, SampleVec};
 use std::alloc::{AllocError, Global};
 use thiserror::Error;
 
@@ -17,7 +17,7 @@ use thiserror::Error;
 #[derive(Debug, Drop, PartialEq, Eq)]
 pub struct Decoded {
     /// The samples, in order.
-    pub samples: Samples,
+    pub samples: SampleVec,
     /// Whether the last sample is the reverse constant.
     pub reverse_agrees: bool,
 }
@@ -199,7 +199,7 @@ pub fn decode_steim(
     let mut values = vec![in alloc; 0; usize::from(count)]?;
     let reverse_agrees = decode_steim_into(version, order, area, values.as_mut_slice())?;
     Ok(Decoded {
-        samples: Samples::from_vec(values),
+        samples: SampleVec::from_vec(values),
         reverse_agrees,
     })
 }

@@ -28,7 +28,7 @@ use Rattle.msr_tool.specs.ListWriting.{Lister, HasListed, HasListedAll, HasListe
 use Rattle.msr_tool.specs.Writing.{current_after, ended_by, longer_current}
 use Rattle.msr_tool.specs.declared.fault.ToolFault.{ToolFault}
 use Rattle.msr_tool.specs.declared.fault.ToolFault.TheVariants as fault
-use Rattle.msr_tool.specs.declared.open_segment.OpenSegment.{OpenSegment}
+use Rattle.msr_tool.specs.declared.listed_segment.ListedSegment.{ListedSegment}
 use Rattle.msr_tool.proofs.Listed.{prefix_wider}
 use Rattle.msr_tool.proofs.RowsSoFar.{RowsSoFar, RowMore, no_rows, row_more}
 
@@ -57,7 +57,7 @@ under_none settings source0 sink0 reading lister has follows strict listed last 
   few_wait = few_wait;
 }
 
-bounds_of : (at : Option Span) (current : Option Segment) (last : Option OpenSegment) → IsInBounds at
+bounds_of : (at : Option Span) (current : Option Segment) (last : Option ListedSegment) → IsInBounds at
     → at ≡ option_map segment_span current → last ≡ option_map open_of current → IfSome last IsOpenInBounds
 bounds_of at None last bounds e is = rw is tt
 bounds_of at (Some segment) last bounds e is = rw is (bounds (segment_span segment) e)
@@ -112,7 +112,7 @@ under_more settings source0 source' sink0 sink' reading' lister lister' given jo
       joining = m.new;
       rows = m.rows;
       listed = listed;
-      last = last ∙ ap (λ (before : Option OpenSegment). open_after next.step before next.row) was
+      last = last ∙ ap (λ (before : Option ListedSegment). open_after next.step before next.row) was
           ∙ ap (open_after next.step (option_map open_of joining.current)) outline
           ∙ open_told next.step joining.current row
           ∙ ap (option_map open_of) (sym m.current);

@@ -11,37 +11,37 @@ use Rattle.msr_base.specs.declared.counts.Counts.{Counts}
 use Rattle.msr_tool.specs.Writing.{StopsSink}
 use Rattle.msr_tool.specs.Listing.{AreListLines, IsPrefixOfList}
 use Rattle.msr_tool.specs.declared.fault.ToolFault.{ToolFault}
-use Rattle.msr_tool.specs.declared.open_segment.OpenSegment.{OpenSegment}
+use Rattle.msr_tool.specs.declared.listed_segment.ListedSegment.{ListedSegment}
 
 -- what a writer of lines shows: the bytes that wait, and the segment that was begun last, without its samples
 pub record Lister : Type 0 where
   pub waiting : List ℕ
-  pub last : Option OpenSegment
+  pub last : Option ListedSegment
 
 -- a segment without its samples, and the one that a row begins
-abbrev pub open_of : Segment → OpenSegment
+abbrev pub open_of : Segment → ListedSegment
 open_of segment = record { key = segment.key; start = segment.start; count = length segment.samples }
 
-abbrev pub open_row : RowOutline → OpenSegment
+abbrev pub open_row : RowOutline → ListedSegment
 open_row row = record { key = row.key; start = row.start; count = row.count }
 
 -- the open segment, with the samples of a row that joins it
-abbrev pub open_longer : Option OpenSegment → RowOutline → Option OpenSegment
+abbrev pub open_longer : Option ListedSegment → RowOutline → Option ListedSegment
 open_longer None row = None
 open_longer (Some before) row = Some (record
     { key = before.key; start = before.start; count = before.count + row.count })
 
 -- the segment that was begun last, after a row
-abbrev pub open_after : Step → Option OpenSegment → RowOutline → Option OpenSegment
+abbrev pub open_after : Step → Option ListedSegment → RowOutline → Option ListedSegment
 open_after Begins last row = Some (open_row row)
 open_after Joins last row = open_longer last row
 
 -- the segment begins in the supported years, and its number of samples is bounded
-abbrev pub IsOpenInBounds : OpenSegment → Type 0
+abbrev pub IsOpenInBounds : ListedSegment → Type 0
 IsOpenInBounds segment = IsInstant segment.start × (segment.count ≤ 2 ^ 63)
 
 -- the text is the line of the segment that was begun last, if one was
-abbrev pub IsLastLine : Option OpenSegment → List ℕ → Type 0
+abbrev pub IsLastLine : Option ListedSegment → List ℕ → Type 0
 IsLastLine None text = text ≡ []
 IsLastLine (Some last) text = IsListLine last.key last.start last.count text
 

@@ -8,7 +8,7 @@ mod laws;
 mod lined_writer;
 mod list;
 mod list_writer;
-mod open_segment;
+mod listed_segment;
 mod repacking;
 mod settings;
 mod tasks;

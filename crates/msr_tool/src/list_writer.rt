@@ -4,7 +4,7 @@ ghost use Rattle.msr_time.specs.Instant.{IsInstant};
 ghost use Rattle.msr_tool.specs.ListWriting.{IsLastLine};
 
 use crate::fault::ToolFault;
-use crate::open_segment::{OpenSegment, begun, longer};
+use crate::listed_segment::{ListedSegment, begun, longer};
 use msr_devices::{Sink, WriteBuffer};
 use msr_input::NextOutline;
 use msr_report::{Counts, push_counts, push_list_line};
@@ -18,7 +18,7 @@ use std::marker::Model;
 pub(crate) struct ListWriter {
     alloc: Global,
     buffer: WriteBuffer,
-    last: Option<OpenSegment>,
+    last: Option<ListedSegment>,
 }
 
 impl Model for ListWriter {
@@ -30,7 +30,11 @@ impl Model for ListWriter {
 }
 
 /// Appends the line of the segment that was begun last, if one was.
-fn push_last(alloc: Global, out: &mut Vec<u8>, last: Option<OpenSegment>) -> Result<(), AllocError>
+fn push_last(
+    alloc: Global,
+    out: &mut Vec<u8>,
+    last: Option<ListedSegment>,
+) -> Result<(), AllocError>
     requires { IfSome last (λ segment. IsInstant segment.start) }
     ensures pushed { OnOk result ((line : List ℕ)
         × (IsLastLine last line × (out.new.items ≡ out.old.items ++ line))) }

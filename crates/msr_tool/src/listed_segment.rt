@@ -7,7 +7,7 @@ use msr_rows::Key;
 
 /// The segment that was begun last, as its line tells it: without its samples.
 #[derive(Clone, Copy, Debug)]
-pub(crate) struct OpenSegment {
+pub(crate) struct ListedSegment {
     /// The segment's key.
     pub key: Key,
     /// The instant of the first sample, in microseconds from 1970-01-01 00:00:00.
@@ -17,10 +17,10 @@ pub(crate) struct OpenSegment {
 }
 
 /// The segment that the row begins.
-pub(crate) fn begun(row: &RowOutline) -> OpenSegment
+pub(crate) fn begun(row: &RowOutline) -> ListedSegment
     ensures { result ≡ open_row row.now }
 {
-    OpenSegment {
+    ListedSegment {
         key: row.key,
         start: row.start,
         count: row.count as u64,
@@ -28,12 +28,12 @@ pub(crate) fn begun(row: &RowOutline) -> OpenSegment
 }
 
 /// The segment that was begun last, with the samples of the row that joins it.
-pub(crate) fn longer(last: Option<OpenSegment>, row: &RowOutline) -> Option<OpenSegment>
+pub(crate) fn longer(last: Option<ListedSegment>, row: &RowOutline) -> Option<ListedSegment>
     requires count { IfSome last (λ before. before.count ≤ 2 ^ 63) }
     ensures { result ≡ open_longer last row.now }
 {
     let before = last?;
-    Some(OpenSegment {
+    Some(ListedSegment {
         key: before.key,
         start: before.start,
         count: before.count + row.count as u64,
