@@ -11,6 +11,7 @@ ghost use Rattle.msr_record.specs.Written.{sequence_digits, header_for, AppendsR
 use crate::written_area::fill_area;
 use msr_header::{Header, Order, Timing, write_header};
 use msr_kinds::{Kind, Length};
+use msr_rows::Key;
 use msr_time::{BTime, split};
 use std::alloc::{AllocError, Global};
 
