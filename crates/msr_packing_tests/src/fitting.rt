@@ -362,10 +362,10 @@ fn zigzag(alloc: Global) -> Result<Vec<i32>, AllocError> {
 }
 
 /// The kind of a run, its start, its end, and whether it fits.
-type Fitting = (Kind, usize, usize, bool);
+type KindRun = (Kind, usize, usize, bool);
 
 /// What is said of a run of these samples is true.
-fn run_is_right(samples: &[i32], record_length: Length, row: Fitting) -> bool {
+fn run_is_right(samples: &[i32], record_length: Length, row: KindRun) -> bool {
     let (kind, start, end, expected) = row;
     start <= end
         && end <= samples.len()
@@ -388,7 +388,7 @@ fn differences_of_a_segment(rt: HostRuntime) -> Result<(), Fail> {
     Ok(())
 }
 
-fn zigzag_runs() -> [(&'static str, Fitting); 13] {
+fn zigzag_runs() -> [(&'static str, KindRun); 13] {
     [
         ("Steim-1 of 87", (Kind::Steim1, 0, 87, true)),
         ("Steim-1 of 88", (Kind::Steim1, 0, 88, false)),
@@ -428,7 +428,7 @@ fn the_first_kind_of_a_run() -> Result<(), Fail> {
 fn a_swing_of_24_bits(rt: HostRuntime) -> Result<(), Fail> {
     let record_length = shortest()?;
     let swing = Bounds(65).samples(rt.alloc())?;
-    let rows: [(&str, Fitting); 6] = [
+    let rows: [(&str, KindRun); 6] = [
         ("Steim-2 of 43", (Kind::Steim2, 0, 43, true)),
         ("Steim-2 of 44", (Kind::Steim2, 0, 44, false)),
         ("Steim-1 of 44", (Kind::Steim1, 0, 44, false)),
