@@ -5,17 +5,20 @@
 
 For each of the five encodings and each length msrepack packs samples for which that encoding is the smallest, and the
 first full record of it is given to each reader, alone in a file. A reader can read it if it finds the samples that were
-packed. The table is markdown, as README.md has it; below it stands what a reader said of what it does not read.
+packed, which model.py finds in each. The table is markdown, as README.md has it; below it stands what a reader said of
+what it does not read.
 """
 import argparse
 import array
 import os
+import re
 import struct
 import sys
 import tempfile
 
 sys.dont_write_bytecode = True
 import inputs
+import model
 import readers
 
 # The samples of each encoding.
@@ -39,7 +42,10 @@ def full_record(bench, encoding, length):
     for place in range(0, len(packed) - length, length):
         count = struct.unpack_from(">H", packed, place + 30)[0]
         if packed[place + 52] == encoding:
-            return packed[place : place + length], samples[at : at + count]
+            record, samples = packed[place : place + length], samples[at : at + count]
+            if list(model.read_all(record, 1000).segments[0].samples) != samples:
+                sys.exit(f"the record of encoding {encoding} at {length} has other samples than were packed")
+            return record, samples
         at += count
     sys.exit(f"no full record of encoding {encoding} at {length}")
 
@@ -64,7 +70,7 @@ def cells(bench, reads, full):
         same, complaint = reads(bench, f"{bench.folder}/record", samples)
         answers.append("yes" if same else "no")
         said += [] if same else readers.telling(complaint)[:1] or ["nothing"]
-    return answers, sorted(set(said))
+    return answers, sorted({re.sub(r"^XX_\w+: ", "", it) for it in said})
 
 
 def print_table(bench):
