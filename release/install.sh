@@ -2,14 +2,14 @@
 # install.sh PREFIX               installs msrepack below the folder PREFIX, as /usr/local or ~/.local
 # install.sh --uninstall PREFIX   removes the files of this folder from there, and the folders that were made for them
 #
-# Status 0: done; 1: a file is not what SHA256SUMS says, or cannot be written; 2: bad call.
+# Status 0: done; 1: a file is not what SHA256SUMS says, nothing was installed there, or a file cannot be written; 2: bad
+# call.
 set -eu
+usage() { echo "usage: install.sh [--uninstall] PREFIX" >&2; exit 2; }
 what=install
 if [ "${1-}" = --uninstall ]; then what=uninstall; shift; fi
-if [ $# != 1 ] || [ -z "$1" ]; then
-    echo "usage: install.sh [--uninstall] PREFIX" >&2
-    exit 2
-fi
+[ $# = 1 ] || usage
+case $1 in '' | -*) usage ;; esac
 umask 022
 prefix=$(realpath -m -- "$1")
 cd "$(dirname "$0")"
@@ -29,6 +29,7 @@ install_all() {
 }
 
 uninstall_all() {
+    [ -f "$prefix/$made" ] || { echo "install.sh: nothing was installed below $prefix" >&2; exit 1; }
     folders=$(LC_ALL=C sort -r "$prefix/$made")
     find bin share -type f | while read -r file; do rm -f "$prefix/$file" || exit 1; done
     rm "$prefix/$made"
