@@ -1,0 +1,25 @@
+# Completions of msrepack for bash: commands, options, lengths, files and folders.
+_msrepack() {
+    local word=$2 before=$3 words='' commands='repack feed list check archive help'
+    COMPREPLY=()
+    case ${COMP_WORDS[1]} in
+        repack | feed) words='--length --tolerance --strict --help' ;;
+        list) words='--tolerance --strict --help' ;;
+        check) words='--help' ;;
+        archive) words='--length --tolerance --strict --below --resume --check --help' ;;
+    esac
+    if [ "$COMP_CWORD" -eq 1 ]; then
+        words="$commands --help --version"
+    elif [ "${COMP_WORDS[1]}" = help ]; then
+        words=$commands
+    elif [ "$before" = --length ]; then
+        words='256 512 1024 2048 4096 8192 16384 32768 65536'
+    elif [ "$before" = --tolerance ] || [ "$before" = --below ]; then
+        return # a number, or a path that is counted from ROOT
+    elif [[ $word != -* ]]; then
+        if [ "${COMP_WORDS[1]}" = archive ]; then compopt -o dirnames; else compopt -o default; fi
+        return
+    fi
+    COMPREPLY=($(compgen -W "$words" -- "$word"))
+}
+complete -F _msrepack msrepack
