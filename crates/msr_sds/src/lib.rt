@@ -10,7 +10,6 @@ ghost use Rattle.std.specs.String.{string_bytes};
 ghost use Rattle.msr_sds.specs.SdsPath.{SdsPath, ReadsAs, ReadsAsDay, IsWaveform, HasDate, OneReading, text_of};
 
 pub use folders::{FOLDERS, levels_below};
-
 use parts::Parts;
 use std::alloc::{AllocError, Global};
 use std::marker::Model;

@@ -15,7 +15,7 @@ use crate::places::stands_apart;
 use crate::summary::write_summary;
 use crate::tally::Tally;
 use msr_devices::write_all;
-use msr_sds::SdsName;
+use msr_sds::{FOLDERS, SdsName, levels_below};
 use msr_tool::{Options, Sink, ToolFault};
 use std::alloc::{AllocError, Global};
 use std::fs;
