@@ -12,9 +12,11 @@ import sys
 import time
 
 ROOT = os.path.dirname(os.path.dirname(os.path.abspath(__file__)))
-# a check takes 3 GB at the most, and keeps about two processors busy
+# What a check takes at the most, and what each job of it beyond the first adds.
 MEMORY_OF_A_CHECK = 3 << 30
-PROCESSORS_OF_A_CHECK = 2
+MEMORY_OF_A_JOB = 1 << 30
+# As many as rt itself takes for a crate at the most.
+MOST_JOBS = 4
 
 
 def crates_below(program):
@@ -44,34 +46,45 @@ def chain_above(crates):
     return above
 
 
-def side_by_side():
-    """How many checks the processors and the memory hold."""
+def free_memory():
     with open("/proc/meminfo", encoding="utf-8") as lines:
-        memory = next(int(it.split()[1]) << 10 for it in lines if it.startswith("MemAvailable"))
-    processors = len(os.sched_getaffinity(0))
-    return max(1, min(-(-processors // PROCESSORS_OF_A_CHECK), memory // MEMORY_OF_A_CHECK))
+        return next(int(it.split()[1]) << 10 for it in lines if it.startswith("MemAvailable"))
 
 
-def started(name, program, out):
+def jobs_for(waiting, running, processors, memory):
+    """How many jobs the next check gets: its share of the idle processors, as far as memory holds; 0 if it has to wait.
+
+    `running` has the jobs of the checks that run."""
+    idle = processors - sum(running)
+    taken = sum(MEMORY_OF_A_CHECK + (jobs - 1) * MEMORY_OF_A_JOB for jobs in running)
+    if idle < 1 or running and taken + MEMORY_OF_A_CHECK > memory:
+        return 0
+    more = max(0, (memory - taken - MEMORY_OF_A_CHECK) // MEMORY_OF_A_JOB)
+    return max(1, min(MOST_JOBS, idle // waiting, 1 + more))
+
+
+def started(name, program, jobs, out):
     """The check of a crate, which also builds it."""
-    words = ["rt", "run", "--", "--version"] if name == program else ["rt", "lib"]
+    words = ["rt", "run", "--jobs", str(jobs), "--", "--version"] if name == program else ["rt", "lib", "--jobs", str(jobs)]
     return subprocess.Popen(words, cwd=f"{ROOT}/crates/{name}", stdin=subprocess.DEVNULL, stdout=out, stderr=out)
 
 
 def prove(program, log):
     crates = crates_below(program)
-    above, most = chain_above(crates), side_by_side()
+    above = chain_above(crates)
+    processors, memory = len(os.sched_getaffinity(0)), free_memory()
     ready, running, begun = set(), {}, 0
     while len(ready) < len(crates):
         waiting = [it for it in crates if it not in ready and it not in running and ready.issuperset(crates[it])]
-        for name in sorted(waiting, key=lambda it: -above[it])[: most - len(running)]:
-            begun += 1
+        waiting.sort(key=lambda it: -above[it])
+        while waiting and (jobs := jobs_for(len(waiting), [it for _, it in running.values()], processors, memory)):
+            name, begun = waiting.pop(0), begun + 1
             print(f"msrepack: proves {name} ({begun} of {len(crates)})", file=sys.stderr, flush=True)
-            running[name] = started(name, program, log)
+            running[name] = started(name, program, jobs, log), jobs
         time.sleep(0.1)
-        for name in [it for it in running if running[it].poll() is not None]:
-            if running.pop(name).returncode != 0:
-                for it in running.values():
+        for name in [it for it in running if running[it][0].poll() is not None]:
+            if running.pop(name)[0].returncode != 0:
+                for it, _ in running.values():
                     it.terminate()
                 return f"{name} is not proved"
             ready.add(name)
