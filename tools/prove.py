@@ -1,5 +1,5 @@
 #!/usr/bin/env python3
-"""Proves a program and the crates below it, and builds it: those side by side that do not stand on one another.
+"""Proves a program and the crates below it, and builds it: those side by side that have nothing below them in common.
 
 usage: prove.py PROGRAM LOG
 
@@ -51,6 +51,22 @@ def free_memory():
         return next(int(it.split()[1]) << 10 for it in lines if it.startswith("MemAvailable"))
 
 
+def all_below(name, crates):
+    """The crate with all that it stands on: a run of rt works in these, and another waits until it ends."""
+    return {name}.union(*(all_below(it, crates) for it in crates[name]))
+
+
+def apart(names, running, crates):
+    """Of these crates, in their order, those that stand on nothing that a run works in, or a crate before them."""
+    found, taken = [], set().union(*(all_below(it, crates) for it in running))
+    for name in names:
+        below = all_below(name, crates)
+        if taken.isdisjoint(below):
+            found.append(name)
+            taken |= below
+    return found
+
+
 def jobs_for(waiting, running, processors, memory):
     """How many jobs the next check gets: its share of the idle processors, as far as memory holds; 0 if it has to wait.
 
@@ -76,7 +92,7 @@ def prove(program, log):
     ready, running, begun = set(), {}, 0
     while len(ready) < len(crates):
         waiting = [it for it in crates if it not in ready and it not in running and ready.issuperset(crates[it])]
-        waiting.sort(key=lambda it: -above[it])
+        waiting = apart(sorted(waiting, key=lambda it: -above[it]), running, crates)
         while waiting and (jobs := jobs_for(len(waiting), [it for _, it in running.values()], processors, memory)):
             name, begun = waiting.pop(0), begun + 1
             print(f"msrepack: proves {name} ({begun} of {len(crates)})", file=sys.stderr, flush=True)
