@@ -1,5 +1,5 @@
 -- The names between the slashes of a path.
-use Rattle.std.proofs.Common.{◌≡◌, ℕ, ◌<◌, arith, Bool, true, false, List, [], length, refl, All}
+use Rattle.std.proofs.Common.{ℕ, ◌<◌, arith, Bool, true, false, List, [], length, refl, All}
 use Rattle.std.specs.Bool.{Decides, MatchBool}
 use Rattle.std.specs.List.{AllWithin, HoldsAt}
 use Rattle.msr_sds.specs.Folders.{IsName, names_of}

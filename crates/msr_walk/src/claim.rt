@@ -45,6 +45,11 @@ pub(crate) enum ClaimFault {
 }
 
 impl From<AllocError> for ClaimFault {
+    ghost use Rattle.std.specs.Prelude.{◌≡◌};
+    ghost use Rattle.msr_walk.specs.declared.claim.ClaimFault.TheVariants.{Memory};
+
+    ghost from_gives = { λ _ why. why ≡ Memory };
+
     fn from(_: AllocError) -> ClaimFault {
         ClaimFault::Memory
     }
