@@ -1,5 +1,5 @@
 -- The folder of a path, from where its last slash stands.
-use Rattle.std.proofs.Common.{◌≡◌, ◌≢◌, ℕ, ◌+◌, ◌-◌, ◌<◌, ◌≤◌, arith, Bool, true, false, not, List, [], length, length-drop, take, drop, get_or, get_or-drop, reverse, ap, sym, ◌∙◌, lit<, Option, None, Some}
+use Rattle.std.proofs.Common.{◌≡◌, ◌≢◌, ℕ, ◌+◌, ◌-◌, ◌<◌, ◌≤◌, arith, true, false, not, List, [], length, length-drop, take, drop, get_or, get_or-drop, reverse, ap, sym, ◌∙◌, lit<, Option, None, Some}
 use Rattle.std.proofs.lemmas.Bool.Decides.{nat_tests}
 use Rattle.std.proofs.lemmas.List.{get_or-reverse, length-reverse}
 use Rattle.std.proofs.lemmas.List.Sums.{prefix_len_is}

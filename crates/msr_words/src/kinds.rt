@@ -10,7 +10,6 @@ ghost use Rattle.msr_words.specs.Division.{CanDivide};
 ghost use Rattle.msr_words.specs.Groups.{IsCapacity, IsLongestGroup};
 ghost use Rattle.msr_words.specs.Laws.{DominanceLaw, look_back_of, most_of};
 ghost use Rattle.msr_words.specs.Fit.{Fits, FitsAny, IsRun, IsFirstKind};
-ghost use Rattle.msr_kinds.specs.Codes.{code_of};
 
 use crate::counts::{LeastCounts, magnitude};
 use crate::window::Window;
