@@ -5,7 +5,7 @@
 
 The readers are those that Debian has: libmseed, through libmseed_reads.c, and mseed2sac. Each input is repacked to each
 length; then it is shown what the readers make of files that msrepack refuses. --install fetches what is missing
-with apt-get. The tables are markdown, as README.md has them; the status is 1 if a reader found a difference.
+with apt-get. The tables are markdown; README.md sums them up. The status is 1 if a reader found a difference.
 """
 import argparse
 import array

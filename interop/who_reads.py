@@ -5,8 +5,8 @@
 
 For each of the five encodings and each length msrepack packs samples for which that encoding is the smallest, and the
 first full record of it is given to each reader, alone in a file. A reader can read it if it finds the samples that were
-packed, which model.py finds in each. The table is markdown, as README.md has it; below it stands what a reader said of
-what it does not read.
+packed, which model.py finds in each. The table is markdown, and README.md sums it up; below it stands what a reader
+said of what it does not read.
 """
 import argparse
 import array
