@@ -1,5 +1,5 @@
 //! A report that is read as its text comes.
-ghost use Rattle.std.specs.Prelude.{◌≡◌, ◌<◌, ◌≤◌, ◌+◌, ◌*◌, ◌^◌, ◌++◌, ◌∷◌, [], ℕ, List, Bool, All, IfOk, IfErr, IfSome, IsSomeAnd, SomeIff, OnOk, length, codes};
+ghost use Rattle.std.specs.Prelude.{◌≡◌, ◌<◌, ◌+◌, ◌*◌, ◌^◌, ◌++◌, ◌∷◌, [], ℕ, List, Bool, All, IfOk, IfErr, IfSome, IsSomeAnd, SomeIff, OnOk, length, codes};
 ghost use Rattle.std.specs.Fmt.{decimal};
 ghost use Rattle.msr_report.specs.Proper.{records_of};
 ghost use Rattle.msr_certificate.specs.Draft.{Follows, IsRefused, IsStep, ReadOpening, numbers_then, stop_byte};
