@@ -1,5 +1,5 @@
 -- What a reader of rows has read, step by step, and why it stops.
-use Rattle.std.proofs.Common.{◌≡◌, ℕ, ◌∷◌, ◌++◌, [], List, map, refl, sym, ap, subst, ◌∙◌, Option, Some, None, IfSome, MatchOption}
+use Rattle.std.proofs.Common.{◌≡◌, ℕ, ◌≤◌, ◌∷◌, ◌++◌, [], List, map, refl, sym, ap, subst, ◌∙◌, Option, Some, None, IfSome, MatchOption}
 use Rattle.std.specs.Prelude.{option_map}
 use Rattle.std.specs.Option.{option_to_list}
 use Rattle.std.proofs.lemmas.List.{append-nil, map-append}
@@ -17,19 +17,19 @@ use Rattle.msr_segments.specs.Joining.{Joining, HasJoined, HasFollowed, followin
 use Rattle.msr_segments.proofs.Histories.{followed_none, followed_step}
 use Rattle.msr_input.specs.Input.{Agrees, NoneOverruns, HaveBegun, rows_of_records}
 use Rattle.msr_input.specs.Records.{Position, HaveCome, StopsRecords}
-use Rattle.msr_input.specs.Reading.{GaveReadable, IsWritable, StopsReading}
+use Rattle.msr_input.specs.Reading.{GaveReadable, IsWritable, StopsReading, room_with}
 use Rattle.msr_input.specs.Outlines.{outline_of, row_outline, outline_span}
-use Rattle.msr_input.specs.Rows.{RowReading, HasReadRows, ReadsOutline, ReadsRow, ReadsNoRow, ReadsToEnd, StepsTo, StopsRows, AllRowsAreReadable, next_outline, next_row, row_settings}
-use Rattle.msr_input.specs.Steps.{CanJoin, Follows, IsJudged, IsNext, OverrunsAt, OverrunsWith, StopsFollowing}
+use Rattle.msr_input.specs.Rows.{RowReading, HasReadRows, ReadsNoRow, ReadsOne, ReadsOutline, ReadsRecord, ReadsRow, ReadsToEnd, StepsTo, StopsRows, AllRowsAreReadable, answer_told, next_outline, next_row, row_settings, row_told}
+use Rattle.msr_input.specs.Steps.{CanJoin, Follows, IsGiven, IsJudged, IsNext, OverrunsAt, OverrunsWith, StopsFollowing}
 use Rattle.msr_input.specs.declared.outline.Outline.{Outline}
 use Rattle.msr_input.specs.declared.outline.RowOutline.{RowOutline}
 use Rattle.msr_input.specs.declared.settings.Settings.{Settings}
 use Rattle.msr_input.specs.declared.fault.ReadFault.{ReadFault}
 use Rattle.msr_input.specs.declared.fault.ReadFault.TheVariants as fault
 use Rattle.msr_input.specs.declared.row_reader.NextOutline.{NextOutline}
+use Rattle.msr_input.specs.declared.row_reader.NextRecord.{NextRecord}
 use Rattle.msr_input.specs.declared.row_reader.NextRow.{NextRow}
-use Rattle.msr_input.proofs.Records.{rows_snoc}
-use Rattle.msr_input.proofs.Histories.{in_range_more, none_overrun, overrun_stops, readable_at_end, row_writable, rows_with, stops_reading}
+use Rattle.msr_input.proofs.Histories.{in_range_more, none_overrun, overrun_stops, readable_at_end, row_writable, rows_with, rows_without, stops_reading}
 
 -- a joiner of the same rows, at the follower's place
 record Stands (following : Following) (rows : List Row) : Type 0 where
@@ -157,21 +157,14 @@ passed_none : (s a : Device) (old new : Position) (before : Following) (records 
     (answers : List Step) (found : Record) → HasReadRows s a
     (record { position = old; following = before }) records answers → IsRecordOf old.waiting found
     → found.row ≡ None → HaveCome s a new (records ++ found ∷ [])
-    → ReadsNoRow s a (record { position = new; following = before }) records answers
-passed_none s a old new before records answers found has is none come =
-    let rows : rows_of_records (records ++ found ∷ []) ≡ rows_of_records records = rows_snoc records found
-    ∙ ap (λ (row : Option Row). rows_of_records records ++ option_to_list row) none
-    ∙ append-nil (rows_of_records records) in
-    record {
-      after = records ++ found ∷ [];
-      rows = rows;
-      read = record {
-        came = come;
-        in_range = in_range_followed before records answers found has.in_range has.followed is.in_time
-            (λ row e over. let no : ◌≡◌ {A = Option Row} None (Some row) = sym none ∙ e in cc);
-        followed = subst (λ (all : List Row). HasFollowed before all answers) (sym rows) has.followed;
-      };
-    }
+    → HasReadRows s a (record { position = new; following = before }) (records ++ found ∷ []) answers
+passed_none s a old new before records answers found has is none come = record {
+  came = come;
+  in_range = in_range_followed before records answers found has.in_range has.followed is.in_time
+      (λ row e over. let no : ◌≡◌ {A = Option Row} None (Some row) = sym none ∙ e in cc);
+  followed = subst (λ (all : List Row). HasFollowed before all answers) (sym (rows_without records found none))
+      has.followed;
+}
 
 -- after one with a row
 passed_row : (s a : Device) (old new : Position) (before after : Following) (records : List Record)
@@ -179,22 +172,69 @@ passed_row : (s a : Device) (old new : Position) (before after : Following) (rec
     → HasReadRows s a (record { position = old; following = before }) records answers
     → IsRecordOf old.waiting found → found.row ≡ Some row → IsStep before (row_span row) answer after
     → (Overruns before (row_span row) → ⊥) → HaveCome s a new (records ++ found ∷ [])
-    → ReadsRow s a (record { position = new; following = after }) records answers (record { step = answer; row = row })
+    → HasReadRows s a (record { position = new; following = after }) (records ++ found ∷ []) (answers ++ answer ∷ [])
 passed_row s a old new before after records answers found row answer has is some step within come =
-    let rows = rows_with records found row some in
     let none = in_range_followed before records answers found has.in_range has.followed is.in_time (λ other e over.
     (let same : other ≡ row = (let both : ◌≡◌ {A = Option Row} (Some other) (Some row) = sym e ∙ some in cc) in
     within (subst (λ (r : Row). Overruns before (row_span r)) same over))) in
     record {
-      after = records ++ found ∷ [];
-      rows = rows;
-      read = record {
-        came = come;
-        in_range = subst (λ (t : ℕ). NoneOverruns t (records ++ found ∷ []))
-            (sym (step_tolerance before after (row_span row) answer step)) none;
-        followed = subst (λ (all : List Row). HasFollowed after all (answers ++ answer ∷ [])) (sym rows)
-            (followed_step before after (rows_of_records records) answers row answer has.followed step);
-      };
+      came = come;
+      in_range = subst (λ (t : ℕ). NoneOverruns t (records ++ found ∷ []))
+          (sym (step_tolerance before after (row_span row) answer step)) none;
+      followed = subst (λ (all : List Row). HasFollowed after all (answers ++ answer ∷ []))
+          (sym (rows_with records found row some))
+          (followed_step before after (rows_of_records records) answers row answer has.followed step);
+    }
+
+passed_so : (s a : Device) (old new : Position) (before after : Following) (records : List Record)
+    (answers : List Step) (found : Record) (row : Option Row) (step : Option Step)
+    → HasReadRows s a (record { position = old; following = before }) records answers
+    → IsRecordOf old.waiting found → found.row ≡ row → Follows before (option_map row_outline row) step after
+    → HaveCome s a new (records ++ found ∷ []) → HasReadRows s a
+    (record { position = new; following = after }) (records ++ found ∷ []) (answers ++ option_to_list step)
+passed_so s a old new before after records answers found None step has is none follows come =
+    rw (follows.0, follows.1, append-nil answers) (passed_none s a old new before records answers found has is none come)
+passed_so s a old new before after records answers found (Some row) step has is some follows come =
+    subst (λ (told : Option Step). HasReadRows s a (record { position = new; following = after })
+    (records ++ found ∷ []) (answers ++ option_to_list told)) (sym follows.told) (passed_row s a old new before after
+    records answers found row follows.answer has is some follows.is_step follows.in_range come)
+
+-- after a record was passed
+pub rows_passed : (s a : Device) (old new : Position) (before after : Following) (records : List Record)
+    (answers : List Step) (found : Record) (step : Option Step)
+    → HasReadRows s a (record { position = old; following = before }) records answers
+    → IsRecordOf old.waiting found → Follows before (option_map row_outline found.row) step after
+    → HaveCome s a new (records ++ found ∷ []) → HasReadRows s a
+    (record { position = new; following = after }) (records ++ found ∷ []) (answers ++ option_to_list step)
+rows_passed s a old new before after records answers found step has is follows come =
+    passed_so s a old new before after records answers found found.row step has is refl follows come
+
+-- what is told of the record's row
+told_row : (old new : Following) (row : Option Row) (step : Option Step)
+    → Follows old (option_map row_outline row) step new → row_told (next_row step row) ≡ row
+told_row old new None step follows = rw follows.0 refl
+told_row old new (Some row) step follows = rw follows.told refl
+
+told_answer : (old new : Following) (row : Option Row) (step : Option Step)
+    → Follows old (option_map row_outline row) step new → option_to_list step ≡ answer_told (next_row step row)
+told_answer old new None step follows = rw follows.0 refl
+told_answer old new (Some row) step follows = rw follows.told refl
+
+-- exactly that record was read
+pub reads_one : (s a : Device) (position : Position) (before : Following) (reading : RowReading)
+    (records : List Record) (answers : List Step) (outline : Outline) (found : Record) (step : Option Step)
+    → IsNext position outline found → Follows before outline.row step reading.following
+    → HasReadRows s a reading (records ++ found ∷ []) (answers ++ option_to_list step)
+    → ReadsOne s a reading records answers (record { length = outline.length; row = next_row step found.row })
+reads_one s a position before reading records answers outline found step given follows has =
+    let row = ap (λ (o : Outline). o.row) given.outline_is in
+    let at = subst (λ (r : Option RowOutline). Follows before r step reading.following) row follows in
+    record {
+      found = found;
+      length_is = ap (λ (o : Outline). o.length) given.outline_is;
+      row_is = told_row before reading.following found.row step at;
+      read = subst (λ (told : List Step). HasReadRows s a reading (records ++ found ∷ []) (answers ++ told))
+          (told_answer before reading.following found.row step at) has;
     }
 
 -- what a reader of rows shows after a record, by what its row did
@@ -202,28 +242,25 @@ abbrev pub ReadsOn : Device → Device → RowReading → List Record → List S
 ReadsOn s a reading records answers next = MatchOption next (ReadsNoRow s a reading records answers)
     (ReadsRow s a reading records answers)
 
-passed_so : (s a : Device) (old new : Position) (before after : Following) (records : List Record)
-    (answers : List Step) (found : Record) (row : Option Row) (step : Option Step)
-    → HasReadRows s a (record { position = old; following = before }) records answers
-    → IsRecordOf old.waiting found → found.row ≡ row → Follows before (option_map row_outline row) step after
-    → HaveCome s a new (records ++ found ∷ []) → ReadsOn s a
-    (record { position = new; following = after }) records answers (next_row step row)
-passed_so s a old new before after records answers found None step has is none follows come =
-    rw (follows.0, follows.1) (passed_none s a old new before records answers found has is none come)
-passed_so s a old new before after records answers found (Some row) step has is some follows come =
-    subst (λ (told : Option Step). ReadsOn s a (record { position = new; following = after }) records answers
-    (next_row told (Some row))) (sym follows.told) (passed_row s a old new before after records answers found
-    row follows.answer has is some follows.is_step follows.in_range come)
+reads_on_so : (s a : Device) (reading : RowReading) (records : List Record) (answers : List Step) (found : Record)
+    (next : Option NextRow) → row_told next ≡ found.row
+    → HasReadRows s a reading (records ++ found ∷ []) (answers ++ answer_told next)
+    → ReadsOn s a reading records answers next
+reads_on_so s a reading records answers found None row has = record {
+  after = records ++ found ∷ [];
+  rows = rows_without records found (sym row);
+  read = rw (append-nil answers) at has;
+}
+reads_on_so s a reading records answers found (Some next) row has = record {
+  after = records ++ found ∷ [];
+  rows = rows_with records found next.row (sym row);
+  read = has;
+}
 
--- after a record was passed
-pub rows_passed : (s a : Device) (old new : Position) (before after : Following) (records : List Record)
-    (answers : List Step) (found : Record) (step : Option Step)
-    → HasReadRows s a (record { position = old; following = before }) records answers
-    → IsRecordOf old.waiting found → Follows before (option_map row_outline found.row) step after
-    → HaveCome s a new (records ++ found ∷ []) → ReadsOn s a
-    (record { position = new; following = after }) records answers (next_row step found.row)
-rows_passed s a old new before after records answers found step has is follows come =
-    passed_so s a old new before after records answers found found.row step has is refl follows come
+pub reads_on : (s a : Device) (reading : RowReading) (records : List Record) (answers : List Step)
+    (next : NextRecord) → ReadsOne s a reading records answers next → ReadsRecord s a reading records answers next
+reads_on s a reading records answers next one =
+    reads_on_so s a reading records answers one.found next.row one.row_is one.read
 
 -- a record's row can be joined and written
 abbrev pub CanBeTaken : NextRow → Type 0
@@ -263,6 +300,15 @@ next_read position found outline judged same = record {
   can_join = subst (λ (it : Record). IfSome it.row CanJoin) (sym judged.stands_for) judged.can_join;
   agrees = subst (λ (it : Record). Agrees position.strict it) (sym judged.stands_for) judged.agrees;
 }
+
+-- and the room is that for it
+pub room_told : (position : Position) (found : Record) (outline : Outline) (before : ℕ)
+    → IsGiven (λ other. found ≡ other) position.strict position.waiting position.room before
+    → outline ≡ outline_of found → position.room ≤ room_with outline.length before
+room_told position found outline before given same =
+    let size : outline.length ≡ given.judged.found.length = ap (λ (o : Outline). o.length) same
+    ∙ ap (λ (it : Record). it.length) given.judged.stands_for in
+    subst (λ (n : ℕ). position.room ≤ room_with n before) (sym size) given.room_is
 
 -- a row was told, by its outline
 outline_told_so : (s a : Device) (bytes : List ℕ) (reading : RowReading) (records : List Record)

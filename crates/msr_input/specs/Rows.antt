@@ -60,6 +60,30 @@ pub record ReadsNoRow (start now : Device) (reading : RowReading) (records : Lis
   pub rows : rows_of_records after ≡ rows_of_records records
   pub read : HasReadRows start now reading after answers
 
+-- the row that is told of a record, and what it does
+abbrev pub row_told : Option NextRow → Option Row
+row_told None = None
+row_told (Some next) = Some next.row
+
+abbrev pub answer_told : Option NextRow → List Step
+answer_told None = []
+answer_told (Some next) = next.step ∷ []
+
+-- Exactly one record more came: it has that many bytes, and that row, which does what is told, or none.
+pub record ReadsOne (start now : Device) (reading : RowReading) (records : List Record) (answers : List Step)
+    (next : NextRecord) : Type 0 where
+  pub found : Record
+  pub length_is : next.length ≡ found.length
+  pub row_is : row_told next.row ≡ found.row
+  pub read : HasReadRows start now reading (records ++ found ∷ []) (answers ++ answer_told next.row)
+
+-- No record came, and none is left: the input has ended.
+pub record ReadsNone (start now : Device) (reading : RowReading) (records : List Record)
+    (answers : List Step) : Type 0 where
+  pub read : HasReadRows start now reading records answers
+  pub none_wait : reading.position.waiting ≡ []
+  pub ended : reading.position.ended ≡ true
+
 -- One record more came: without a row, or with this one, which does what is told.
 abbrev pub ReadsRecord : Device → Device → RowReading → List Record → List Step → NextRecord → Type 0
 ReadsRecord start now reading records answers next =
@@ -87,8 +111,7 @@ pub record ReadsToEnd (start now : Device) (reading : RowReading) (records : Lis
   pub none_wait : reading.position.waiting ≡ []
   pub ended : reading.position.ended ≡ true
 
--- Why no row was given, of the segments that the rows before it began: what stops a reader of segments that gave
--- some first ones of these.
+-- Why no row was given, of the segments that the rows before it began, and of each list of some first ones of these.
 abbrev pub StopsRows : Settings → Device → Device → List Record → ReadFault → Type 0
 StopsRows settings start now records why =
     (given : List Segment) → HaveBegun settings.tolerance records given → StopsReading settings start now given why

@@ -1,5 +1,5 @@
--- What the steps of reading do: bytes are read ahead, a record is read, and its row is joined.
-use Rattle.std.specs.Prelude.{◌≡◌, ◌⊎◌, ℕ, ◌<◌, ◌≤◌, Bool, false, nat_lt, List, ◌++◌, length, Option, None, Some, IsSome, IfSome}
+-- What the steps of reading do: bytes are read ahead, a record is read, and its row is followed.
+use Rattle.std.specs.Prelude.{◌≡◌, ◌⊎◌, ℕ, ◌<◌, ◌≤◌, Bool, false, nat_lt, List, ◌++◌, length, Option, None, Some, IfSome}
 use Rattle.msr_time.specs.Instant.{IsInstant}
 use Rattle.msr_rows.specs.Records.{IsRecordOf}
 use Rattle.msr_rows.specs.declared.row.Record.{Record}
@@ -12,9 +12,7 @@ use Rattle.msr_devices.specs.declared.read_buffer.FillFault.{FillFault}
 use Rattle.msr_devices.specs.declared.read_buffer.FillFault.TheVariants as filling
 use Rattle.msr_segments.specs.Spans.{Following, Overruns, IsStep}
 use Rattle.msr_segments.specs.Segments.{row_span}
-use Rattle.msr_segments.specs.Joining.{Joining, following_of, IsPush}
 use Rattle.msr_segments.specs.declared.follow.Step.{Step}
-use Rattle.msr_segments.specs.declared.joiner.Segment.{Segment}
 use Rattle.msr_input.specs.Input.{Agrees, IsRefusedAlone}
 use Rattle.msr_input.specs.Outlines.{outline_of, outline_span}
 use Rattle.msr_input.specs.Reading.{HoldsRecord, room_with}
@@ -97,11 +95,6 @@ pub record FollowsRow (old : Following) (row : RowOutline) (step : Option Step) 
   pub is_step : IsStep old (outline_span row) answer new
   pub in_range : Overruns old (outline_span row) → ⊥
 
--- what a record's row does with a joiner: nothing, if there is none
-abbrev pub JoinsRecord : Joining → Option Row → Option Segment → Joining → Type 0
-JoinsRecord old None ended new = (ended ≡ None) × (new ≡ old)
-JoinsRecord old (Some row) ended new = IsPush old row ended new × (Overruns (following_of old) (row_span row) → ⊥)
-
 -- what a record's row does with a follower: nothing, if there is none
 abbrev pub Follows : Following → Option RowOutline → Option Step → Following → Type 0
 Follows old None step new = (step ≡ None) × (new ≡ old)
@@ -117,13 +110,6 @@ pub record OverrunsAt (old : Following) (row : Option RowOutline) : Type 0 where
   pub the_row : RowOutline
   pub has_row : row ≡ Some the_row
   pub overruns : Overruns old (outline_span the_row)
-
--- why a row was not joined: it ends its segment out of range, or there was no memory for it
-abbrev pub StopsJoining : Joining → Option Row → ℕ → ReadFault → Type 0
-StopsJoining old row offset (fault.Input f) =
-    (f.offset ≡ offset) × (f.kind ≡ refusal.TimeRange) × OverrunsWith (following_of old) row
-StopsJoining old row offset fault.Read = ⊥
-StopsJoining old row offset fault.Memory = IsSome row
 
 -- why a row was not followed, which takes no memory: it ends its segment out of range
 abbrev pub StopsFollowing : Following → Option RowOutline → ℕ → ReadFault → Type 0

@@ -1,6 +1,5 @@
 //! Laws of inputs, each the contract of a function that does nothing.
 ghost use Rattle.msr_input.specs.Input.{OneListOfRecords, OneFirstFault, ReadableHasNoFault, MemoryIsNoFault};
-ghost use Rattle.msr_input.specs.Reading.{AllReadIsReadable};
 ghost use Rattle.msr_input.specs.Rows.{AllRowsAreReadable};
 
 /// A readable input has one list of records, and one list of segments.
@@ -23,14 +22,8 @@ pub fn memory_is_no_fault()
     ensures { MemoryIsNoFault }
 {}
 
-/// Once a reader has answered `None` the input is readable: its segments are those that were given,
-/// and the one that `finish` gives, and its counts are the reader's.
-pub fn all_read_is_readable()
-    ensures { AllReadIsReadable }
-{}
-
-/// Once a reader of rows has answered `None` the input is readable: its segments are those of the rows
-/// that were given, and its counts are the reader's.
+/// Once a reader has answered `None` the input is readable: its segments are those of the rows that were given, and its
+/// counts are the reader's.
 pub fn all_rows_are_readable()
     ensures { AllRowsAreReadable }
 {}

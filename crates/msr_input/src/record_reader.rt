@@ -121,6 +121,7 @@ impl RecordReader {
             → HaveCome start now self.old records → IsNext self.old outline.now found
             → HaveCome start now self.new (records ++ found ∷ []) }
         ensures strict { self.new.strict ≡ self.old.strict }
+        ensures room { self.new.room ≡ self.old.room }
         ensures fewer { length self.new.waiting < length self.old.waiting }
     {
         self.buffer.consume(outline.length as usize);

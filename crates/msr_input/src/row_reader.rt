@@ -33,6 +33,8 @@ pub struct NextOutline {
 /// The next record.
 #[derive(Debug, Drop)]
 pub struct NextRecord {
+    /// How many bytes it has.
+    pub length: u32,
     /// `None` if it has no samples.
     pub row: Option<NextRow>,
 }
@@ -54,7 +56,8 @@ impl Model for RowReader {
 }
 
 impl RowReader {
-    ghost use Rattle.std.specs.Prelude.{◌≡◌, ◌≢◌, ◌↔◌, ◌≤◌, ◌<◌, List, [], length, None, IsTrue, OnOk, OnErr, IfOk, IfErr, IsErrOf, IfSome, MatchResult, MatchOption};
+    ghost use Rattle.std.specs.Prelude.{◌≡◌, ◌≢◌, ◌↔◌, ◌≤◌, ◌<◌, List, [], ◌∷◌, ◌++◌, length, None, IsTrue, OnOk, OnErr, IfOk, IfErr, IsErrOf, IfSome, MatchResult, MatchOption};
+    ghost use Rattle.std.specs.Option.{option_to_list};
     ghost use Rattle.msr_devices.specs.Device.{Device, CanCountCall, CountsFew, IsSteady};
     ghost use Rattle.msr_rows.specs.declared.row.Record.{Record as Found};
     ghost use Rattle.msr_segments.specs.Spans.{IsInBounds, IsStep};
@@ -62,8 +65,8 @@ impl RowReader {
     ghost use Rattle.msr_segments.specs.declared.follow.Step.{Step as Answer};
     ghost use Rattle.msr_input.specs.Outlines.{outline_span};
     ghost use Rattle.msr_input.specs.Records.{HaveComeShort, left_with};
-    ghost use Rattle.msr_input.specs.Reading.{HoldsRecord, IsWritable, TakesMemoryFor};
-    ghost use Rattle.msr_input.specs.Rows.{HasReadRows, ReadsNoRow, ReadsOutline, ReadsRecord, ReadsRow, ReadsToEnd, StepsTo, StopsRows, next_row, row_settings};
+    ghost use Rattle.msr_input.specs.Reading.{HoldsRecord, IsWritable, TakesMemoryFor, room_with};
+    ghost use Rattle.msr_input.specs.Rows.{HasReadRows, ReadsNoRow, ReadsNone, ReadsOne, ReadsOutline, ReadsRecord, ReadsToEnd, StepsTo, StopsRows, row_settings};
     ghost use Rattle.msr_input.specs.Steps.{CanFollow, CanJoin, Follows, IsNext};
 
     /// A reader before the first record, with a tolerance in its range. It takes no memory yet.
@@ -143,6 +146,13 @@ impl RowReader {
             (ReadsToEnd start (R.device source.new) self.new records answers)
             (ReadsRecord start (R.device source.new) self.new records answers))
             (StopsRows (row_settings self.old) start (R.device source.new) records) }
+
+        // Which records came: this one and no other.
+        ensures exact { (start : Device) (records : List Found) (answers : List Answer)
+            → HasReadRows start (R.device source.old) self.old records answers
+            → IfOk result (λ next. MatchOption next
+            (ReadsNone start (R.device source.new) self.new records answers)
+            (ReadsOne start (R.device source.new) self.new records answers)) }
         ensures kept { (start : Device) (records : List Found) (answers : List Answer)
             → HasReadRows start (R.device source.old) self.old records answers
             → IfErr result (λ fault. fault ≢ ReadFault.Read
@@ -158,6 +168,10 @@ impl RowReader {
         ensures settings { row_settings self.new ≡ row_settings self.old }
         ensures memory { IsErrOf result ReadFault.Memory
             → TakesMemoryFor self.new.position.waiting self.new.position.room }
+
+        // Room is taken for 64 KiB, and for more only if a record needs it.
+        ensures room { IfOk result (λ next. IfSome next (λ given.
+            self.new.position.room ≤ room_with given.length self.old.position.room)) }
 
         // Which reads are made, and what had come when one failed.
         ensures unread { HoldsRecord self.old.position.waiting → R.device source.new ≡ R.device source.old }
@@ -175,9 +189,13 @@ impl RowReader {
         let Some(found) = self.records.next::<R, Record>(source)? else {
             return Ok(None);
         };
-        let step = self.take(&outline_of(&found))?;
+        let outline = outline_of(&found);
+        let step = self.take(&outline)?;
         let row = next_row(step, found.row);
-        Ok(Some(NextRecord { row }))
+        Ok(Some(NextRecord {
+            length: outline.length,
+            row,
+        }))
     }
 
     /// Whether the bytes of the next record have come, by its header.
@@ -195,11 +213,10 @@ impl RowReader {
             → HasReadRows start now self.old records answers
             → IsNext self.old.position outline.now found
             → MatchResult result
-            (λ step. MatchOption (next_row step found.row)
-            (ReadsNoRow start now self.new records answers)
-            (ReadsRow start now self.new records answers))
+            (λ step. HasReadRows start now self.new (records ++ found ∷ []) (answers ++ option_to_list step))
             (StopsRows (row_settings self.old) start now records) }
         ensures strict { self.new.position.strict ≡ self.old.position.strict }
+        ensures room { self.new.position.room ≡ self.old.position.room }
         ensures step { IfOk result (λ step. Follows self.old.following outline.now.row step self.new.following) }
         ensures in_bounds { IfOk result (λ step. IfSome step (λ _. IsInBounds self.new.following.current)) }
         ensures no_memory { IsErrOf result ReadFault.Memory → ⊥ }

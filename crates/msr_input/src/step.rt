@@ -9,7 +9,7 @@ ghost use Rattle.msr_input.specs.Input.{IsRefusedAlone, counts_of};
 ghost use Rattle.msr_input.specs.Outlines.{outline_of};
 ghost use Rattle.msr_input.specs.Reading.{HoldsRecord};
 ghost use Rattle.msr_input.specs.Rows.{next_outline, next_row};
-ghost use Rattle.msr_input.specs.Steps.{CanFollow, CanJoin, CameBefore, Follows, IsGiven, IsJudged, JoinsRecord, StopsDecoding, StopsFollowing, StopsJoining, may_change};
+ghost use Rattle.msr_input.specs.Steps.{CanFollow, CameBefore, Follows, IsGiven, IsJudged, StopsDecoding, StopsFollowing, may_change};
 
 use crate::fault::{Fault, ReadFault, fault_at};
 use crate::from_record::FromRecord;
@@ -18,7 +18,7 @@ use crate::row_reader::{NextOutline, NextRow};
 use msr_base::Counts;
 use msr_devices::{ReadBuffer, Source};
 use msr_rows::{FaultKind, Row, reverse_in};
-use msr_segments::{Follow, JoinFault, JoinKind, Joiner, OutOfRange, Segment, Step};
+use msr_segments::{Follow, OutOfRange, Step};
 use std::alloc::Global;
 
 /// As many bytes as the longest record has.
@@ -108,32 +108,6 @@ pub(crate) fn read_record<R: Source, F: FromRecord>(
         }
         let want = bytes.len() + 1;
         buffer.fill(source, want)?;
-    }
-}
-
-/// Joins the row of the record at the offset, if it has one, and gives the segment that it ended.
-pub(crate) fn join(
-    joiner: &mut Joiner,
-    row: Option<Row>,
-    offset: u64,
-) -> Result<Option<Segment>, ReadFault>
-    requires { IfSome row CanJoin }
-    ensures joined { IfOk result (λ ended. JoinsRecord joiner.old row ended joiner.new) }
-    ensures refused { IfErr result (StopsJoining joiner.old row offset) }
-    ensures unchanged { OnErr result (joiner.new ≡ joiner.old) }
-{
-    let Some(row) = row else {
-        return Ok(None);
-    };
-    match joiner.push(row) {
-        Ok(ended) => Ok(ended),
-        Err(JoinFault { kind, row: _ }) => match kind {
-            JoinKind::TimeRange => Err(ReadFault::Input(Fault {
-                offset,
-                kind: FaultKind::TimeRange,
-            })),
-            JoinKind::Memory => Err(ReadFault::Memory),
-        },
     }
 }
 

@@ -4,9 +4,9 @@ use crate::devices::expect_at;
 use msr_devices::{Behavior, FillFault, TestSource};
 use msr_fixtures::{Edit, START, expect, int32_record};
 use msr_header::HeaderFault;
-use msr_input::{Fault, NextOutline, NextRecord, ReadFault, RowReader, SegmentReader, Settings};
+use msr_input::{Fault, NextOutline, NextRecord, ReadFault, RowReader, Settings};
 use msr_record::FaultKind;
-use msr_segments::{Segment, Step};
+use msr_segments::Step;
 use std::alloc::{AllocError, Global};
 use std::test::Fail;
 
@@ -86,18 +86,47 @@ fn joining() -> [u8; 768] {
 /// Where a segment begins, and how many samples it has.
 type Place = (i64, usize);
 
-/// The place of a segment, if there is one.
-fn place(segment: Option<Segment>) -> Option<Place> {
-    let segment = segment?;
-    Some((segment.start, segment.samples.len()))
+/// Where the last three segments lie, with those of the next record, if there is one and it has a row.
+fn places_with(places: [Option<Place>; 3], next: Option<NextRecord>) -> [Option<Place>; 3] {
+    let Some(NextRecord { row, .. }) = next else {
+        return places;
+    };
+    let Some(next) = row else {
+        return places;
+    };
+    let [first, second, third] = places;
+    let more = next.row.samples.len();
+    match (next.step, third) {
+        (Step::Joins, Some((start, count))) => {
+            [first, second, Some((start, count.saturating_add(more)))]
+        }
+        _ => [second, third, Some((next.row.start, more))],
+    }
 }
 
-/// What is read of an input: the first two segments that end before its end, the last one, and the counts.
-#[derive(Clone, Copy)]
+/// What is read of an input of up to three records: where its segments lie, and the counts.
+#[derive(Clone, Copy, PartialEq)]
 struct Read {
-    given: [Option<Place>; 2],
-    last: Option<Place>,
+    places: [Option<Place>; 3],
     counts: [u64; 3],
+}
+
+/// What is read of an input of up to three records, and whether the input ends after them, as it says twice.
+fn read_of(alloc: Global, bytes: &[u8], behavior: Behavior) -> Result<(Read, bool), ReadFault> {
+    let mut source = TestSource::new(bytes, behavior);
+    let mut reader = RowReader::new(alloc, LENIENT);
+    let first = reader.next_record(&mut source)?;
+    let second = reader.next_record(&mut source)?;
+    let third = reader.next_record(&mut source)?;
+    let end = reader.next_record(&mut source)?;
+    let again = reader.next_record(&mut source)?;
+    let places = places_with(places_with(places_with([None; 3], first), second), third);
+    let counts = reader.counts();
+    let read = Read {
+        places,
+        counts: [counts.read, counts.empty, counts.mismatched],
+    };
+    Ok((read, end.is_none() && again.is_none()))
 }
 
 /// The bytes are read so when they come so.
@@ -107,36 +136,27 @@ fn is_read(
     behavior: Behavior,
     want: &Read,
 ) -> Result<bool, ReadFault> {
-    let mut source = TestSource::new(bytes, behavior);
-    let mut reader = SegmentReader::new(alloc, LENIENT);
-    let first = place(reader.next_segment(&mut source)?);
-    let second = place(reader.next_segment(&mut source)?);
-    let third = place(reader.next_segment(&mut source)?);
-    let counts = reader.counts();
-    Ok(
-        [first, second] == want.given
-            && third.is_none()
-            && place(reader.finish()) == want.last
-            && [counts.read, counts.empty, counts.mismatched] == want.counts,
-    )
+    let (read, ends) = read_of(alloc, bytes, behavior)?;
+    Ok(read == *want && ends)
 }
 
 /// What reading the two records that join gives.
 const JOINED: Read = Read {
-    given: [None, None],
-    last: Some((START, 96)),
+    places: [None, None, Some((START, 96))],
     counts: [3, 1, 0],
 };
 
 const WITH_GAPS: Read = Read {
-    given: [Some((START, 48)), Some((START + 3_400_000, 48))],
-    last: Some((START + 10_000_000, 1)),
+    places: [
+        Some((START, 48)),
+        Some((START + 3_400_000, 48)),
+        Some((START + 10_000_000, 1)),
+    ],
     counts: [3, 0, 1],
 };
 
 const NOTHING: Read = Read {
-    given: [None, None],
-    last: None,
+    places: [None, None, None],
     counts: [0, 0, 0],
 };
 
@@ -179,24 +199,42 @@ fn is_text(alloc: Global, fault: ReadFault, text: &str) -> Result<bool, AllocErr
     Ok(format!(in alloc; "{fault}")?.as_str() == text)
 }
 
-/// How many segments are given before the bytes are refused, and why they are; the second call tells it again.
+/// 1 for a record whose row begins a segment, else 0.
+fn begun(next: &Result<Option<NextRecord>, ReadFault>) -> u32 {
+    let Ok(Some(record)) = next else {
+        return 0;
+    };
+    match &record.row {
+        Some(row) if row.step == Step::Begins => 1,
+        _ => 0,
+    }
+}
+
+/// The record is given, or refused with this fault.
+fn is_given_or(next: &Result<Option<NextRecord>, ReadFault>, fault: ReadFault) -> bool {
+    match next {
+        Ok(found) => found.is_some(),
+        Err(other) => *other == fault,
+    }
+}
+
+/// How many segments end before the bytes are refused, after at most two records, and why they are; each further call
+/// tells it again.
 fn fault_of(alloc: Global, bytes: &[u8], strict: bool) -> Option<(u32, ReadFault)> {
     let mut source = TestSource::new(bytes, WHOLE);
     let settings = Settings { strict, ..LENIENT };
-    let mut reader = SegmentReader::new(alloc, settings);
-    let first = reader.next_segment(&mut source);
-    let second = reader.next_segment(&mut source);
-    match (first, second) {
-        (Err(fault), Err(again)) => {
-            if fault == again {
-                Some((0, fault))
-            } else {
-                None
-            }
-        }
-        (Ok(Some(_)), Err(fault)) => Some((1, fault)),
-        _ => None,
-    }
+    let mut reader = RowReader::new(alloc, settings);
+    let first = reader.next_record(&mut source);
+    let second = reader.next_record(&mut source);
+    let third = reader.next_record(&mut source);
+    let fault = reader.next_record(&mut source).err()?;
+    let ended = begun(&first)
+        .saturating_add(begun(&second))
+        .saturating_sub(1);
+    let is_told = is_given_or(&first, fault)
+        && is_given_or(&second, fault)
+        && third.err() == Some(fault);
+    if is_told { Some((ended, fault)) } else { None }
 }
 
 /// The input is refused with this text, after that many segments.
@@ -360,11 +398,9 @@ fn records_at_hand_need_no_read(rt: HostRuntime) -> Result<(), Fail> {
     expect(!after && failed, "the read after them")
 }
 
-/// What the first call answers when the source plays so.
+/// Why reading the input of three records stops when the source plays so, if it does.
 fn failure_of(alloc: Global, bytes: &[u8], behavior: Behavior) -> Option<ReadFault> {
-    let mut source = TestSource::new(bytes, behavior);
-    let mut reader = SegmentReader::new(alloc, LENIENT);
-    reader.next_segment(&mut source).err()
+    read_of(alloc, bytes, behavior).err()
 }
 
 /// A source that fails is neither taken for one that has ended, nor for one with a fault.
@@ -403,8 +439,8 @@ fn first_of(
         fails_at: Some(fails_at),
     };
     let mut source = TestSource::new(bytes, behavior);
-    match SegmentReader::new(alloc, LENIENT).next_record(&mut source)? {
-        Some(found) => Ok(Some(found.length)),
+    match RowReader::new(alloc, LENIENT).next_record(&mut source)? {
+        Some(next) => Ok(Some(next.length)),
         None => Ok(None),
     }
 }

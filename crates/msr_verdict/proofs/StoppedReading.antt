@@ -1,6 +1,5 @@
 -- What is answered when reading stops, and at the end of the input.
-use Rattle.std.proofs.Common.{◌≡◌, ◌↔◌, inl, inr, ℕ, ◌^◌, ◌<◌, true, List, [], ◌∷◌, ◌++◌, length, map, refl, sym, ap, subst, ◌∙◌, arith, length-append, Option, Result, Ok, Err, IsErrOf, All}
-use Rattle.std.specs.Prelude.{IfSome}
+use Rattle.std.proofs.Common.{◌≡◌, ◌↔◌, inl, inr, true, false, List, [], ◌∷◌, ◌++◌, length, map, refl, sym, ap, subst, ◌∙◌, arith, length-append, ℕ, None, Result, Ok, Err, IsErrOf, All}
 use Rattle.std.specs.Option.{option_to_list}
 use Rattle.std.proofs.lemmas.Bool.{cases_Bool}
 use Rattle.std.proofs.lemmas.List.{append-nil}
@@ -10,12 +9,14 @@ use Rattle.msr_rows.specs.declared.row.Record.{Record}
 use Rattle.msr_devices.specs.Device.{Device, HasLeft, HasFailed}
 use Rattle.msr_devices.proofs.Chaining.{left_of, steady_sound}
 use Rattle.msr_segments.specs.Segments.{Part, rows_of, segment_of, IsDivision}
+use Rattle.msr_segments.specs.declared.follow.Step.{Step}
 use Rattle.msr_segments.specs.declared.joiner.Segment.{Segment}
 use Rattle.msr_segments.proofs.DivisionLaws.{one_division}
 use Rattle.msr_report.specs.declared.report.Report.{Report}
 use Rattle.msr_report.specs.declared.report.SegmentLine.{SegmentLine}
-use Rattle.msr_input.specs.Input.{AreRead, IsReadable, rows_of_records}
-use Rattle.msr_input.specs.Reading.{Reading, HasRead, StopsReading, settings_of}
+use Rattle.msr_input.specs.Input.{AreRead, HaveBegun, IsReadable, rows_of_records}
+use Rattle.msr_input.specs.Reading.{StopsReading}
+use Rattle.msr_input.specs.Rows.{RowReading, HasReadRows, ReadsNone, StopsRows, row_settings}
 use Rattle.msr_input.specs.declared.settings.Settings.{Settings}
 use Rattle.msr_input.specs.declared.fault.ReadFault.{ReadFault}
 use Rattle.msr_input.specs.declared.fault.ReadFault.TheVariants as fault
@@ -29,12 +30,17 @@ use Rattle.msr_verdict.proofs.Runs.{runs_length}
 use Rattle.msr_verdict.proofs.ComparingStates.{IsCompared, Follows, compare_last}
 
 -- The state of reading between two records.
-pub record UnderWay (report : Report) (start now : Device) (reading : Reading) (c : Compared) : Type 0 where
+pub record UnderWay (report : Report) (start now : Device) (reading : RowReading) (c : Compared) : Type 0 where
   pub records : List Record
-  pub given : List Segment
-  pub read : HasRead start now reading records given
-  pub settings : settings_of reading ≡ settings_by report
-  pub follows : Follows (bytes_of report.length) report.segments.items reading.joining records c
+  pub answers : List Step
+  pub read : HasReadRows start now reading records answers
+  pub settings : row_settings reading ≡ settings_by report
+  pub follows : Follows (bytes_of report.length) report.segments.items reading.following records c
+
+pub settings_none : (report : Report) (reading : RowReading)
+    → reading.following ≡ record { tolerance = report.tolerance; current = None } → reading.position.strict ≡ false
+    → row_settings reading ≡ settings_by report
+settings_none report reading following strict = rw (following, strict) refl
 
 -- what is answered, for some input
 pub record IsAnswered (report : Report) (start : Device) (result : Result Verdict ReadFault) : Type 0 where
@@ -46,23 +52,46 @@ pub as_answer : (report : Report) (start : Device) (result : Result Verdict Read
     → IsAnswered report start result → (input : List ℕ) × HasLeft start input × VerifyAnswers report input result
 as_answer report start result a = (a.input, a.left, a.answers)
 
--- a record is not read, or not taken
-pub read_fails : (report : Report) (start now : Device) (given : List Segment) (why : ReadFault)
+-- no record is read: what is answered if reading stops so
+stop_answers : (report : Report) (start now : Device) (given : List Segment) (why : ReadFault)
     → StopsReading (settings_by report) start now given why → IsAnswered report start (Err why)
-read_fails report start now given (fault.Input f) h =
+stop_answers report start now given (fault.Input f) h =
     record { input = h.0.input; left = h.0.left; answers = record { records = h.0.records; first = h.0.first } }
-read_fails report start now given fault.Read h =
+stop_answers report start now given fault.Read h =
     record {
       input = h.0.input;
       left = h.0.left;
       answers = record { records = h.0.records; rest = h.0.rest; are_read = h.0.are_read };
     }
-read_fails report start now given fault.Memory h =
+stop_answers report start now given fault.Memory h =
     record {
       input = h.0.input;
       left = h.0.left;
       answers = record { records = h.0.records; rest = h.0.rest; are_read = h.0.are_read };
     }
+
+-- the records so far are read, with no segment given
+begun_none : (report : Report) (start now : Device) (reading : RowReading) (c : Compared)
+    (u : UnderWay report start now reading c) → HaveBegun reading.following.tolerance u.records []
+begun_none report start now reading c u =
+    let parts = u.follows.parts ++ option_to_list u.follows.last in
+    record {
+      others = map segment_of parts;
+      are_segments = record { parts = parts; division = u.follows.has_parts.division; each = refl };
+    }
+
+pub stops_so : (report : Report) (start now new : Device) (reading : RowReading) (c : Compared) (why : ReadFault)
+    (u : UnderWay report start now reading c) → StopsRows (row_settings reading) start new u.records why
+    → StopsReading (settings_by report) start new [] why
+stops_so report start now new reading c why u stops =
+    subst (λ (s : Settings). StopsReading s start new [] why) u.settings
+    (stops [] (begun_none report start now reading c u))
+
+pub read_fails : (report : Report) (start now new : Device) (reading : RowReading) (c : Compared) (why : ReadFault)
+    (u : UnderWay report start now reading c) → StopsRows (row_settings reading) start new u.records why
+    → IsAnswered report start (Err why)
+read_fails report start now new reading c why u stops =
+    stop_answers report start new [] why (stops_so report start now new reading c why u stops)
 
 pub read_tells : (settings : Settings) (start now : Device) (given : List Segment) (why : ReadFault)
     → StopsReading settings start now given why → IsErrOf {T = Verdict} (Err why) fault.Read ↔ HasFailed start now
@@ -72,11 +101,11 @@ read_tells settings start now given fault.Read h = ((λ e. h.1), (λ failed. ref
 read_tells settings start now given fault.Memory h =
     ((λ e. absurd cc), (λ failed. absurd (steady_sound start now h.1 failed)))
 
--- there is no memory for a run
-pub memory_fails : (report : Report) (start now : Device) (reading : Reading) (records : List Record)
-    (given : List Segment) (why : ReadFault) → HasRead start now reading records given
-    → settings_of reading ≡ settings_by report → why ≡ fault.Memory → IsAnswered report start (Err why)
-memory_fails report start now reading records given why h settings memory =
+-- there is no memory for the open segment
+pub memory_fails : (report : Report) (start now : Device) (reading : RowReading) (records : List Record)
+    (answers : List Step) (why : ReadFault) → HasReadRows start now reading records answers
+    → row_settings reading ≡ settings_by report → why ≡ fault.Memory → IsAnswered report start (Err why)
+memory_fails report start now reading records answers why h settings memory =
     let tolerance = ap (λ (s : Settings). s.tolerance) settings in
     let p = h.came.begins (left_of now).0 (left_of now).1 in
     rw memory (record {
@@ -84,7 +113,7 @@ memory_fails report start now reading records given why h settings memory =
       left = p.1;
       answers = record {
         records = records;
-        rest = reading.waiting ++ (left_of now).0;
+        rest = reading.position.waiting ++ (left_of now).0;
         are_read = record { begins = p.2; in_range = rw tolerance at h.in_range; agree = λ t. absurd cc };
       };
     })
@@ -126,7 +155,7 @@ none_left (x ∷ left) e = absurd (omega arith)
 verdict_answers : (report : Report) (input : List ℕ) (records : List Record) (parts : List Part) (c : Compared)
     (verdict : Verdict) → AreRead (settings_by report) input records []
     → IsDivision report.tolerance (rows_of_records records) parts
-    → IsCompared (bytes_of report.length) report.segments.items records parts [] c → (verdict ≡ Least)
+    → IsCompared (bytes_of report.length) report.segments.items records parts None c → (verdict ≡ Least)
     ↔ ((c.agrees ≡ true) × (c.place ≡ length report.segments.items)) → VerifyAnswers report input (Ok verdict)
 verdict_answers report input records parts c Least are d compared exact =
     let both = exact.0 refl in
@@ -162,28 +191,25 @@ verdict_answers report input records parts c NotShown are d compared exact = rec
 }
 
 -- all was read
-pub done : (report : Report) (start now : Device) (reading : Reading) (records : List Record)
-    (given : List Segment) (old new : Compared) (last : Option Segment) (verdict : Verdict)
-    → HasRead start now reading records given → settings_of reading ≡ settings_by report
-    → Follows (bytes_of report.length) report.segments.items reading.joining records old → reading.waiting ≡ []
-    → reading.ended ≡ true → last ≡ reading.joining.current
-    → ComparesEnded (bytes_of report.length) report.segments.items old last new
-    → IfSome last (λ segment. length segment.samples < 2 ^ 64) → (verdict ≡ Least)
+pub done : (report : Report) (start at now : Device) (before reading : RowReading) (old new : Compared)
+    (verdict : Verdict) (u : UnderWay report start at before old) → ReadsNone start now reading u.records u.answers
+    → row_settings reading ≡ row_settings before
+    → ComparesEnded (bytes_of report.length) report.segments.items old old.current new → (verdict ≡ Least)
     ↔ ((new.agrees ≡ true) × (new.place ≡ length report.segments.items)) → IsAnswered report start (Ok verdict)
-done report start now reading records given old new last verdict read settings f none ended last_is k few exact =
-    let tolerance = ap (λ (s : Settings). s.tolerance) settings in
-    let came = read.came.begins [] (read.came.end ended) in
-    let are : AreRead (settings_by report) came.0 records [] =
-    record { begins = rw none at came.2; in_range = rw tolerance at read.in_range; agree = λ t. absurd cc } in
-    let d : IsDivision report.tolerance (rows_of_records records) (f.parts ++ option_to_list f.last) =
-    rw tolerance at f.has_parts.division in
+done report start at now before reading old new verdict u all still k exact =
+    let f = u.follows in
+    let tolerance = ap (λ (s : Settings). s.tolerance) (still ∙ u.settings) in
+    let came = all.read.came.begins [] (all.read.came.end all.ended) in
+    let are : AreRead (settings_by report) came.0 u.records [] =
+    record { begins = rw all.none_wait at came.2; in_range = rw tolerance at all.read.in_range; agree = λ t. absurd cc } in
+    let d : IsDivision report.tolerance (rows_of_records u.records) (f.parts ++ option_to_list f.last) =
+    rw (ap (λ (s : Settings). s.tolerance) u.settings) at f.has_parts.division in
     let compared = compare_last
-    (bytes_of report.length) report.segments.items records f.parts f.last last old new f.compared
-    (last_is ∙ f.has_parts.current) k few in
+    (bytes_of report.length) report.segments.items u.records f.parts f.last old new f.compared k in
     record {
       input = came.0;
       left = came.1;
-      answers = verdict_answers report came.0 records
+      answers = verdict_answers report came.0 u.records
           (f.parts ++ option_to_list f.last) new verdict are d compared exact;
     }
 

@@ -1,27 +1,27 @@
--- How far segments were compared with the lines of a report, and how a segment or a record more changes it.
-use Rattle.std.specs.Prelude.{◌≡◌, ◌↔◌, ℕ, ◌+◌, ◌-◌, ◌^◌, min, Bool, true, false, List, [], ◌∷◌, ◌++◌, length, Option, None, Some, slice_get}
+-- How far segments were compared with the lines of a report, and how a record more changes it.
+use Rattle.std.specs.Prelude.{◌≡◌, ◌↔◌, ℕ, ◌+◌, Bool, true, false, List, [], ◌∷◌, ◌++◌, length, Option, None, Some, slice_get}
 use Rattle.msr_words.specs.declared.kinds.Run.{Run}
 use Rattle.msr_rows.specs.declared.row.Row.{Row}
-use Rattle.msr_rows.specs.declared.row.Record.{Record}
+use Rattle.msr_segments.specs.Segments.{row_segment, with_row}
+use Rattle.msr_segments.specs.declared.follow.Step.{Step}
+use Rattle.msr_segments.specs.declared.follow.Step.TheVariants.{Begins, Joins}
 use Rattle.msr_segments.specs.declared.joiner.Segment.{Segment}
 use Rattle.msr_report.specs.declared.report.SegmentLine.{SegmentLine}
-use Rattle.msr_verdict.specs.declared.piece.Piece.{Piece}
-use Rattle.msr_verdict.specs.Packed.{IsFull, IsShownAs}
+use Rattle.msr_input.specs.declared.row_reader.NextRecord.{NextRecord}
+use Rattle.msr_input.specs.declared.row_reader.NextRow.{NextRow}
+use Rattle.msr_verdict.specs.Packed.{IsShownAs}
 
--- at which line the open segment is, its runs with the number of their samples, and whether all so far agree
+-- at which line the open segment is, that segment with its runs, and whether all so far agree
 pub record Compared : Type 0 where
   pub place : ℕ
+  pub current : Option Segment
   pub runs : List Run
-  pub samples : ℕ
   pub agrees : Bool
 
--- the record is full, and this is what a run of its samples says
-pub record IsPieceOf (size : ℕ) (found : Record) (piece : Piece) : Type 0 where
-  pub full : IsFull size found
-  pub row : Row
-  pub has_row : found.row ≡ Some row
-  pub kind : piece.kind ≡ row.kind
-  pub count : piece.count ≡ length row.samples
+-- the record that was read has that length, and this row
+pub record HasFullRow (size : ℕ) (next : NextRecord) (row : NextRow) : Type 0 where
+  pub length_is : next.length ≡ size
+  pub row_is : next.row ≡ Some row
 
 -- the line at that place is there, and is the segment's, in these runs
 pub record IsShownAt (size : ℕ) (lines : List SegmentLine) (place : ℕ) (segment : Segment)
@@ -36,26 +36,47 @@ pub record ComparesSegment (size : ℕ) (lines : List SegmentLine) (old : Compar
   pub differs : old.agrees ≡ false → new.agrees ≡ false
   pub agrees : old.agrees ≡ true → (new.agrees ≡ true) ↔ IsShownAt size lines old.place segment old.runs
   pub place : new.agrees ≡ true → new.place ≡ old.place + 1
+  pub current : new.current ≡ None
   pub runs : new.runs ≡ []
-  pub samples : new.samples ≡ 0
 
 abbrev pub ComparesEnded : ℕ → List SegmentLine → Compared → Option Segment → Compared → Type 0
 ComparesEnded size lines old None new = new ≡ old
 ComparesEnded size lines old (Some segment) new = ComparesSegment size lines old segment new
 
--- where the next run ends, as far as 64 bits count
-abbrev pub end_of_next : Compared → Piece → ℕ
-end_of_next compared piece = min (compared.samples + piece.count) (2 ^ 64 - 1)
+-- a row that begins a segment ends the open one
+abbrev pub EndsBy : ℕ → List SegmentLine → Step → Compared → Compared → Type 0
+EndsBy size lines Begins old new = ComparesEnded size lines old old.current new
+EndsBy size lines Joins old new = new ≡ old
 
--- a run more belongs to the open segment
-pub record AddsRun (old : Compared) (piece : Piece) (new : Compared) : Type 0 where
+-- the open segment with one row more, or the row as the open segment
+abbrev pub grown : Option Segment → Row → Segment
+grown None row = row_segment row
+grown (Some segment) row = with_row segment row
+
+-- how many samples it has so far
+abbrev pub count_in : Option Segment → ℕ
+count_in None = 0
+count_in (Some segment) = length segment.samples
+
+-- a row more belongs to the open segment
+pub record AddsRow (old : Compared) (row : Row) (new : Compared) : Type 0 where
   pub agrees : new.agrees ≡ old.agrees
   pub place : new.place ≡ old.place
-  pub runs : old.agrees ≡ true → new.runs ≡ old.runs
-      ++ (record { start = old.samples; end = end_of_next old piece; kind = piece.kind }) ∷ []
-  pub samples : old.agrees ≡ true → new.samples ≡ end_of_next old piece
+  pub current : old.agrees ≡ true → new.current ≡ Some (grown old.current row)
+  pub runs : old.agrees ≡ true → new.runs ≡ old.runs ++ (record {
+    start = count_in old.current;
+    end = length (grown old.current row).samples;
+    kind = row.kind;
+  }) ∷ []
+
+-- a full record: its row ends the open segment if it begins one, and belongs to the one that is open then
+pub record TakesNext (size : ℕ) (lines : List SegmentLine) (old : Compared) (next : NextRow)
+    (new : Compared) : Type 0 where
+  pub ended : Compared
+  pub ends : EndsBy size lines next.step old ended
+  pub adds : AddsRow ended next.row new
 
 -- a record that is not full agrees with no report
-abbrev pub AddsPiece : Compared → Option Piece → Compared → Type 0
-AddsPiece old None new = new.agrees ≡ false
-AddsPiece old (Some piece) new = AddsRun old piece new
+abbrev pub TakesRow : ℕ → List SegmentLine → Compared → Option NextRow → Compared → Type 0
+TakesRow size lines old None new = new.agrees ≡ false
+TakesRow size lines old (Some next) new = TakesNext size lines old next new

@@ -1,12 +1,13 @@
 //! Comparing segments with the lines of a report, one after another.
-ghost use Rattle.std.specs.Prelude.{◌≡◌, ◌↔◌, IsTrue};
+ghost use Rattle.std.specs.Prelude.{◌≡◌, ◌↔◌, IsTrue, IfErr, IfOk};
+ghost use Rattle.msr_verdict.specs.Compared.{count_in, grown};
 
-use crate::piece::Piece;
 use crate::verdict::Verdict;
 use msr_check::shows_least;
-use msr_input::ReadFault;
+use msr_input::{NextRow, ReadFault};
 use msr_report::{Report, SegmentLine};
-use msr_segments::Segment;
+use msr_rows::Row;
+use msr_segments::{Segment, Step};
 use msr_words::Run;
 use std::alloc::Global;
 use std::marker::Model;
@@ -22,13 +23,41 @@ fn is_line_of(line: &SegmentLine, segment: &Segment, samples: u64, records: usiz
         && line.records == records as u64
 }
 
-/// How far the segments agree with the lines of one report. It keeps the runs of the open segment, and none
-/// once a segment or a record disagreed.
+/// The open segment with the row's samples after its own, or the row as a segment.
+fn grown(current: Option<Segment>, row: Row) -> Result<Segment, ReadFault>
+    ensures grown { IfOk result (λ segment. segment ≡ grown current row) }
+    ensures memory { IfErr result (λ fault. fault ≡ ReadFault.Memory) }
+{
+    let Some(mut segment) = current else {
+        return Ok(Segment {
+            key: row.key,
+            start: row.start,
+            samples: row.samples,
+        });
+    };
+    let Ok(()) = segment.samples.extend_from_slice(row.samples.as_slice()) else {
+        return Err(ReadFault::Memory);
+    };
+    Ok(segment)
+}
+
+/// How many samples the open segment has.
+fn count_in(current: &Option<Segment>) -> u64
+    ensures { result ≡ count_in current.now }
+{
+    match current {
+        Some(segment) => segment.samples.len() as u64,
+        None => 0,
+    }
+}
+
+/// How far the segments agree with the lines of one report. It keeps the open segment and its runs, and neither once a
+/// segment or a record disagreed.
 #[derive(Drop)]
 pub(crate) struct Comparing {
     place: usize,
+    current: Option<Segment>,
     runs: Vec<Run>,
-    samples: u64,
     agrees: bool,
 }
 
@@ -37,32 +66,31 @@ impl Model for Comparing {
 
     ghost Value = { Compared };
 
-    ghost view = { λ c. record { place = c.place; runs = c.runs.items; samples = c.samples; agrees = c.agrees } };
+    ghost view = { λ c. record { place = c.place; current = c.current; runs = c.runs.items; agrees = c.agrees } };
 }
 
 impl Comparing {
-    ghost use Rattle.std.specs.Prelude.{◌≡◌, ◌↔◌, ◌<◌, ◌^◌, [], length, true, OnOk, IfErr, IfSome, IsTrue};
+    ghost use Rattle.std.specs.Prelude.{◌≡◌, ◌↔◌, [], length, true, None, OnOk, IfErr, IsTrue};
     ghost use Rattle.msr_kinds.specs.Lengths.{bytes_of};
-    ghost use Rattle.msr_verdict.specs.Compared.{ComparesEnded, AddsPiece, IsShownAt};
+    ghost use Rattle.msr_verdict.specs.Compared.{AddsRow, ComparesEnded, EndsBy, IsShownAt, TakesRow};
 
-    /// The state before the first segment.
+    /// The state before the first record.
     pub(crate) fn new(alloc: Global) -> Comparing
-        ensures { result ≡ record { place = 0; runs = []; samples = 0; agrees = true } }
+        ensures { result ≡ record { place = 0; current = None; runs = []; agrees = true } }
     {
         Comparing {
             place: 0,
+            current: None,
             runs: Vec::new(alloc),
-            samples: 0,
             agrees: true,
         }
     }
 
     /// Whether the segment, in the runs so far, is shown by the line at its place.
     fn is_shown(&self, report: &Report, segment: &Segment) -> bool
-        ensures shown { IsTrue result
+        ensures { IsTrue result
             ↔ IsShownAt (bytes_of report.now.length) report.now.segments.items self.now.place
             segment.now self.now.runs }
-        ensures few { length segment.now.samples < 2 ^ 64 }
     {
         let samples = segment.samples.len() as u64;
         let Some(line) = report.segments.get(self.place) else {
@@ -77,44 +105,66 @@ impl Comparing {
             )
     }
 
-    /// Compares the segment that ended, if one did, with its line.
-    pub(crate) fn compare(&mut self, report: &Report, ended: Option<Segment>)
-        ensures compared { ComparesEnded
-            (bytes_of report.now.length) report.now.segments.items self.old ended self.new }
-        ensures few { IfSome ended (λ segment. length segment.samples < 2 ^ 64) }
+    /// Compares the open segment, if there is one, with its line: it has ended.
+    pub(crate) fn end(&mut self, report: &Report)
+        ensures { ComparesEnded
+            (bytes_of report.now.length) report.now.segments.items self.old self.old.current self.new }
     {
-        let Some(segment) = ended else {
+        let Some(segment) = self.current.take() else {
             return;
         };
         self.agrees = self.is_shown(report, &segment) && self.agrees;
         self.place = self.place.saturating_add(1);
         self.runs.clear();
-        self.samples = 0;
     }
 
-    /// Adds the run of a record to the open segment; `None` for a record that agrees with no report.
-    pub(crate) fn add(&mut self, piece: Option<Piece>) -> Result<(), ReadFault>
-        ensures added { OnOk result (AddsPiece self.old piece self.new) }
+    /// Compares the open segment if a row that does so ends it.
+    fn end_by(&mut self, report: &Report, step: Step)
+        ensures { EndsBy (bytes_of report.now.length) report.now.segments.items step self.old self.new }
+    {
+        match step {
+            Step::Begins => self.end(report),
+            Step::Joins => {}
+        }
+    }
+
+    /// Adds a row to the open segment, or opens one with it.
+    fn add(&mut self, row: Row) -> Result<(), ReadFault>
+        ensures added { OnOk result (AddsRow self.old row self.new) }
         ensures memory { IfErr result (λ fault. fault ≡ ReadFault.Memory) }
     {
-        let Some(piece) = piece else {
-            self.agrees = false;
-            return Ok(());
-        };
         if !self.agrees {
             return Ok(());
         }
-        let end = self.samples.saturating_add(piece.count);
+        let start = count_in(&self.current);
+        let kind = row.kind;
+        let segment = grown(self.current.take(), row)?;
         let run = Run {
-            start: self.samples,
-            end,
-            kind: piece.kind,
+            start,
+            end: segment.samples.len() as u64,
+            kind,
         };
+        self.current = Some(segment);
         let Ok(()) = self.runs.push(run) else {
             return Err(ReadFault::Memory);
         };
-        self.samples = end;
         Ok(())
+    }
+
+    /// Takes the row of the next record, `None` for a record that agrees with no report.
+    pub(crate) fn take(&mut self, report: &Report, row: Option<NextRow>) -> Result<(), ReadFault>
+        ensures taken { OnOk result (TakesRow
+            (bytes_of report.now.length) report.now.segments.items self.old row self.new) }
+        ensures memory { IfErr result (λ fault. fault ≡ ReadFault.Memory) }
+    {
+        let Some(next) = row else {
+            self.agrees = false;
+            self.current = None;
+            self.runs.clear();
+            return Ok(());
+        };
+        self.end_by(report, next.step);
+        self.add(next.row)
     }
 
     /// The verdict, when the last segment was compared.

@@ -2,8 +2,8 @@
 #![tactic(auto)]
 
 mod comparing;
+mod full_row;
 mod laws;
-mod piece;
 mod verdict;
 mod verify;
 

@@ -4,10 +4,10 @@ ghost use Rattle.msr_devices.specs.Device.{CanCountCall, CountsFew, HasFailed, H
 ghost use Rattle.msr_verdict.specs.Packed.{VerifyAnswers};
 
 use crate::comparing::Comparing;
-use crate::piece::piece_of;
+use crate::full_row::full_row;
 use crate::verdict::Verdict;
 use msr_devices::Source;
-use msr_input::{ReadFault, SegmentReader, Settings};
+use msr_input::{ReadFault, RowReader, Settings};
 use msr_report::Report;
 use std::alloc::Global;
 
@@ -35,13 +35,11 @@ pub fn verify_packed<R: Source>(
         tolerance: report.tolerance,
         strict: false,
     };
-    let mut reader = SegmentReader::new(alloc, settings);
+    let mut reader = RowReader::new(alloc, settings);
     let mut comparing = Comparing::new(alloc);
-    'records: while let Some(found) = reader.next_record(source)? {
-        let piece = piece_of(&found, report.length);
-        comparing.compare(report, reader.take(found)?);
-        comparing.add(piece)?;
+    'records: while let Some(next) = reader.next_record(source)? {
+        comparing.take(report, full_row(next, report.length))?;
     }
-    comparing.compare(report, reader.finish());
+    comparing.end(report);
     Ok(comparing.verdict(report))
 }

@@ -1,4 +1,4 @@
-use Rattle.std.proofs.Common.{◌+◌, ◌-◌, ◌^◌, length}
+use Rattle.msr_input.specs.Records.{left_with}
 use Rattle.msr_verdict.proofs.StoppedReading.{UnderWay}
 use Rattle.msr_verdict.proofs.verify.verify_packed.Given as goal
 
@@ -7,4 +7,4 @@ invariant-records g l = UnderWay l.report (g.R.Source.device l.fn.source)
     (g.R.Source.device l.source) l.reader l.comparing
 
 abbrev pub decreases-records : goal.decreases-records
-decreases-records g l = (2 ^ 64 - (g.R.Source.device l.source).moved) + length l.reader.waiting
+decreases-records g l = left_with (g.R.Source.device l.source) l.reader.position.waiting

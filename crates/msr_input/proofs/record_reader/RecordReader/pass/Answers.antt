@@ -39,6 +39,9 @@ returns-clause-passed c start now records found has given =
     come_passed start now old new records found c.counted-self-inside.result come next.is_record next.agrees
     counted passes
 
+pub returns-clause-room : goal.returns-clause-room
+returns-clause-room c = rw (← c.self.view_is) (ap (λ (w : Window). w.room) c.consume.ensures)
+
 pub returns-clause-fewer : goal.returns-clause-fewer
 returns-clause-fewer c =
     let bytes = c.self.inside.buffer.bytes in

@@ -6,7 +6,7 @@ use Rattle.msr_segments.specs.Spans.{IsInBounds}
 use Rattle.msr_input.specs.Records.{left_with}
 use Rattle.msr_input.specs.Rows.{ReadsNoRow, RowReading, StopsRows, row_settings}
 use Rattle.msr_input.specs.declared.settings.Settings.{Settings}
-use Rattle.msr_input.proofs.Rows.{end_behind, next_of, none_behind, outline_behind, outline_bounds, outline_none, outline_stays, outline_told, rows_come, rows_stop, same_row_settings, stops_behind}
+use Rattle.msr_input.proofs.Rows.{end_behind, next_of, none_behind, outline_behind, outline_bounds, outline_none, outline_stays, outline_told, reads_one, reads_on, rows_come, rows_stop, same_row_settings, stops_behind}
 use Rattle.msr_input.proofs.row_reader.RowReader.next_outline.Goals as goal
 
 pub records-init : goal.records-init
@@ -99,7 +99,10 @@ returns-in-Some-next_outline-clause-read g c =
     rw (← c.self.view_is) at (c.records.invariant.read start records answers has) in
     let filled = rows_come start source new at c.next.new.self none.after answers none.read
     (c.in_ok-found.ensures.came start none.after none.read.came) in
-    let taken = c.in_ok-step.ensures.read start new none.after answers given.0 filled given.1 in
+    let taken = reads_on start new c.take.new.self none.after answers _
+    (reads_one start new c.next.new.self c.self.inside.follow c.take.new.self none.after answers c.in-Some.found given.0
+    c.in_ok-step.step given.1 c.in_ok-step.ensures.step
+    (c.in_ok-step.ensures.read start new none.after answers given.0 filled given.1)) in
     let told = outline_told start new c.next.new.self c.take.new.self none.after answers c.in-Some.found given.0
     c.in_ok-step.step c.in-Some-next_outline.next given.1
     (sym c.next_outline.ensures ∙ c.in-Some-next_outline.is) taken in
@@ -133,7 +136,10 @@ records-preserved g c =
           rw (← c.self.view_is) at (c.records.invariant.read start records answers has) in
           let filled = rows_come start source new at c.next.new.self none.after answers none.read
           (c.in_ok-found.ensures.came start none.after none.read.came) in
-          let taken = c.in_ok-step.ensures.read start new none.after answers given.0 filled given.1 in
+          let taken = reads_on start new c.take.new.self none.after answers _
+          (reads_one start new c.next.new.self c.self.inside.follow c.take.new.self none.after answers
+          c.in-Some.found given.0 c.in_ok-step.step given.1 c.in_ok-step.ensures.step
+          (c.in_ok-step.ensures.read start new none.after answers given.0 filled given.1)) in
           none_behind start source new at c.take.new.self records answers none
           (outline_none start new c.next.new.self c.take.new.self none.after answers c.in-Some.found given.0
           c.in_ok-step.step given.1 told taken);

@@ -7,8 +7,8 @@ use Rattle.msr_report.specs.declared.report.SegmentLine.{SegmentLine}
 use Rattle.msr_verdict.proofs.Lines.{IsLineOf, shown_at, other_line}
 use Rattle.msr_verdict.proofs.comparing.Comparing.is_shown.Goals as goal
 
-pub returns-then-is_line_of-clause-shown : goal.returns-then-is_line_of-clause-shown
-returns-then-is_line_of-clause-shown c =
+pub returns-then-is_line_of : goal.returns-then-is_line_of
+returns-then-is_line_of c =
     let look = c.in-Some.ensures.lookup in
     let at : slice_get c.args.report.now.segments.items c.self.inside.place ≡ Some c.in-Some.line.now =
     rw c.deref.ensures.value at
@@ -27,8 +27,8 @@ returns-then-is_line_of-clause-shown c =
     (bytes_of c.args.report.now.length) c.self.inside.place c.args.report.now.segments.items c.args.segment.now
     c.self.inside.runs.items c.in-Some.line.now c.shows_least.result at is exact)
 
-pub returns-else-is_line_of-clause-shown : goal.returns-else-is_line_of-clause-shown
-returns-else-is_line_of-clause-shown c =
+pub returns-else-is_line_of : goal.returns-else-is_line_of
+returns-else-is_line_of c =
     let look = c.in-Some.ensures.lookup in
     let at : slice_get c.args.report.now.segments.items c.self.inside.place ≡ Some c.in-Some.line.now =
     rw c.deref.ensures.value at
