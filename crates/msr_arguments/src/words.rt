@@ -1,5 +1,5 @@
 //! What the words of a command line ask for.
-ghost use Rattle.std.specs.Prelude.{◌≡◌, ◌≢◌, ◌<◌, ◌↔◌, length, codes, false, Some, IfOk, IfErr, IfSome, IsSome, IsOk, IsOkAnd, IsTrue, Any, map};
+ghost use Rattle.std.specs.Prelude.{◌≡◌, ◌≢◌, ◌<◌, ◌↔◌, length, codes, false, Some, IfOk, IfErr, IfSome, IsSome, IsOk, IsOkAnd, IsTrue, Any, map, option_map};
 ghost use Rattle.msr_kinds.specs.RecordLength.{IsRecordLength};
 ghost use Rattle.clap.specs.Words.{first_value, found_of, kind_of, one_text, subcommand_name_of};
 ghost use Rattle.msr_arguments.specs.Found.{AsksCheck, AsksFolders, AsksOptions, AsksTask, AsksWalking, EndsFor, HoldsOptions, IsFlagOf, IsNumberOf, command_of};
@@ -220,6 +220,14 @@ fn walking_in<'a>(alloc: Global, found: &ArgMatches<'a>) -> Result<Walking<'a>, 
     })
 }
 
+/// Whether no two of the folders overlap.
+fn stand_apart(folders: Folders<'_>) -> bool
+    ensures { IsTrue result ↔ StandApart folders.entry }
+{
+    let Folders { root, out, reports } = folders;
+    !(overlap(root, out) || overlap(root, reports) || overlap(out, reports))
+}
+
 /// An archive to be repacked, exactly if no two folders overlap.
 fn archiving_of<'a>(
     alloc: Global,
@@ -232,8 +240,7 @@ fn archiving_of<'a>(
         × (asked.walking ≡ walking.entry)) }
     ensures status { IfErr result IsBadLine }
 {
-    let Folders { root, out, reports } = folders;
-    if overlap(root, out) || overlap(root, reports) || overlap(out, reports) {
+    if !stand_apart(folders) {
         return Err(wrong(alloc, texts::OVERLAP));
     }
     Ok(Archiving {
@@ -241,6 +248,52 @@ fn archiving_of<'a>(
         folders,
         walking,
     })
+}
+
+/// The archive that clap found.
+fn archiving_in<'a>(
+    alloc: Global,
+    options: Options,
+    found: &ArgMatches<'a>,
+) -> Result<Archiving<'a>, NoTask>
+    ensures asked { IfOk result (λ asked. (asked.options ≡ options)
+        × AsksFolders (found_of found.now) asked.folders × AsksWalking (found_of found.now) asked.walking) }
+    ensures apart { IfOk result (λ asked. StandApart asked.folders) }
+    ensures status { IfErr result IsBadLine }
+{
+    let walking = walking_in(alloc, found)?;
+    match folders_in(found) {
+        Some(folders) => archiving_of(alloc, options, folders, walking),
+        None => Err(wrong(alloc, texts::NO_COMMAND)),
+    }
+}
+
+/// The value of this name.
+fn given<'a>(alloc: Global, found: &ArgMatches<'a>, name: &str) -> Result<&'a str, NoTask>
+    ensures asked { IfOk result (λ text. first_value (found_of found.now) name.now ≡ Some text.now) }
+    ensures given { IsSome (first_value (found_of found.now) name.now) → IsOk result }
+    ensures status { IfErr result IsBadLine }
+{
+    match found.get_str(name) {
+        Some(text) => Ok(text),
+        None => Err(wrong(alloc, texts::NO_COMMAND)),
+    }
+}
+
+/// The file to be repacked that clap found.
+fn repacking_in<'a>(
+    alloc: Global,
+    options: Options,
+    found: &ArgMatches<'a>,
+) -> Result<Repacking<'a>, NoTask>
+    ensures asked { IfOk result (λ asked. (asked.options ≡ options)
+        × (first_value (found_of found.now) (codes "IN") ≡ Some asked.input.now)
+        × (first_value (found_of found.now) (codes "OUT") ≡ option_map (λ name. name.now) asked.output)) }
+    ensures keeps_input { IfOk result (λ asked. IfSome asked.output (λ name. name.now ≢ asked.input.now)) }
+    ensures status { IfErr result IsBadLine }
+{
+    let input = given(alloc, found, "IN")?;
+    repacking_of(alloc, options, input, found.get_str("OUT"))
 }
 
 /// What clap found. It lets no line through without a command, its inputs and numbers in their ranges.
@@ -272,27 +325,18 @@ fn task_in<'a>(alloc: Global, name: &str, found: &ArgMatches<'a>) -> Result<Task
     }
     let options = options_in(alloc, found)?;
     if name == "archive" {
-        let walking = walking_in(alloc, found)?;
-        return match folders_in(found) {
-            Some(folders) => Ok(Task::Archive(archiving_of(alloc, options, folders, walking)?)),
-            None => Err(wrong(alloc, texts::NO_COMMAND)),
-        };
+        return Ok(Task::Archive(archiving_in(alloc, options, found)?));
     }
     if name == "feed" {
-        return match found.get_str("REPORT") {
-            Some(report) => Ok(Task::Feed(Feeding { options, report })),
-            None => Err(wrong(alloc, texts::NO_COMMAND)),
-        };
+        let report = given(alloc, found, "REPORT")?;
+        return Ok(Task::Feed(Feeding { options, report }));
     }
-    let Some(input) = found.get_str("IN") else {
-        return Err(wrong(alloc, texts::NO_COMMAND));
-    };
     if name == "list" {
+        let input = given(alloc, found, "IN")?;
         return Ok(Task::List(Listing { options, input }));
     }
     if name == "repack" {
-        let output = found.get_str("OUT");
-        return Ok(Task::Repack(repacking_of(alloc, options, input, output)?));
+        return Ok(Task::Repack(repacking_in(alloc, options, found)?));
     }
     Err(wrong(alloc, texts::NO_COMMAND))
 }
