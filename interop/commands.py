@@ -58,13 +58,13 @@ def told(text):
 
 
 def value_of(option, text):
-    """The value of an option; what is out of range is the parser's matter, but not which lengths there are."""
+    """The value of an option; a wrong tolerance is the parser's matter, but not which lengths there are."""
     if option == "--below":
-        return text
-    most = 1_000_000 if option == "--tolerance" else 2**32 - 1
-    if not re.fullmatch("[0-9]+", text) or not int(option == "--tolerance") <= int(text) <= most:
+        return text.removesuffix("/")
+    number = int(text) if re.fullmatch("[0-9]+", text) else -1
+    if option == "--tolerance" and not 1 <= number <= 1_000_000:
         raise Ends(2, None)
-    return int(text)
+    return number
 
 
 def told_apart(words, options):
@@ -116,7 +116,8 @@ def read_words(words):
         raise Ends(2, None)
     length, below = chosen.get("--length", 512), chosen["--below"]
     if length not in LENGTHS:
-        raise Ends(2, told("not a record length"))
+        *most, last = LENGTHS
+        raise Ends(2, told(f"not a record length: {', '.join(map(str, most))} or {last} bytes"))
     if command == "repack" and len(names) == 2 and names[0] == names[1]:
         raise Ends(2, told("the output is the input"))
     if command == "archive" and (overlap(names) or overlap(below)):

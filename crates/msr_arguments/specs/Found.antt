@@ -1,5 +1,5 @@
 -- What a task asks for, by what clap found under the names of its arguments.
-use Rattle.std.specs.Prelude.{◌≡◌, ◌≢◌, ◌⊎◌, ℕ, ⊤, Bool, false, true, List, [], codes, map, Option, None, Some, option_map, unwrap_or, ok_or}
+use Rattle.std.specs.Prelude.{◌≡◌, ◌≢◌, ◌⊎◌, ◌==◌, ℕ, ⊤, Bool, false, true, cond, List, [], ◌∷◌, codes, map, Option, None, Some, option_map, unwrap_or, ok_or}
 use Rattle.std.specs.Str.Parse.{ParsesUnsigned}
 use Rattle.clap.specs.Words.{first_value, matched_of, one_text, raw_values}
 use Rattle.clap.specs.declared.error.kind.ErrorKind.{ErrorKind}
@@ -31,15 +31,24 @@ IsFlagOf (Some text) flag = (text ≡ codes "true" → flag ≡ true) × (text �
 abbrev pub texts_under : Found → (name : List ℕ) → List (List ℕ)
 texts_under found name = unwrap_or (option_map raw_values (matched_of found name)) []
 
+-- a folder's path without the slash at its end with which a shell completes it
+abbrev pub without_slash : List ℕ → List ℕ
+without_slash [] = []
+without_slash (byte ∷ []) = cond (byte == 47) [] (byte ∷ [])
+without_slash (byte ∷ next ∷ path) = byte ∷ without_slash (next ∷ path)
+
 -- the tolerance that was found
 abbrev pub IsToleranceIn : Found → (tolerance : ℕ) → Type 0
 IsToleranceIn found tolerance = IsNumberOf (one_text found (codes "tolerance")) (Some tolerance)
 
+-- a length by its text: the number of bytes in decimal digits, with or without a plus before them; 512 without a text
+abbrev pub IsLengthOf : (text : Option (List ℕ)) → (bytes : ℕ) → Type 0
+IsLengthOf None bytes = bytes ≡ 512
+IsLengthOf (Some text) bytes = IsNumberOf (Some text) (Some bytes)
+
 -- the length that was found, or 512 bytes
-pub record IsLengthIn (found : Found) (bytes : ℕ) : Type 0 where
-  pub number : Option ℕ
-  pub is : IsNumberOf (one_text found (codes "length")) number
-  pub bytes_are : bytes ≡ unwrap_or number 512
+abbrev pub IsLengthIn : Found → (bytes : ℕ) → Type 0
+IsLengthIn found bytes = IsLengthOf (first_value found (codes "length")) bytes
 
 -- the options are those that were found
 pub record AsksOptions (found : Found) (options : Choice) : Type 0 where
@@ -62,9 +71,13 @@ pub record AsksFolders (found : Found) (folders : Folders) : Type 0 where
   pub out : first_value found (codes "OUT") ≡ Some folders.out.now
   pub reports : first_value found (codes "REPORTS") ≡ Some folders.reports.now
 
+-- the folders of an archive that were found, each without a slash at its end
+abbrev pub AsksBelow : Found → (below : List (List ℕ)) → Type 0
+AsksBelow found below = below ≡ map without_slash (texts_under found (codes "below"))
+
 -- an archive is to be walked as was found
 pub record AsksWalking (found : Found) (walking : Walking) : Type 0 where
-  pub below : map (λ folder. folder.now) walking.below.items ≡ texts_under found (codes "below")
+  pub below : AsksBelow found (map (λ folder. folder.now) walking.below.items)
   pub resume : IsFlagOf (one_text found (codes "resume")) walking.resume
   pub check : IsFlagOf (one_text found (codes "check")) walking.check
 

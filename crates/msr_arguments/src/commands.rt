@@ -20,7 +20,6 @@ fn length<'a>(alloc: Global) -> Arg<'a> {
     Arg::new(alloc, "length")
         .long("length")
         .value_name("L")
-        .value_parser(value_parser!(u32))
         .default_value("512")
         .help(texts::LENGTH)
 }

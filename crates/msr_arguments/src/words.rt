@@ -1,8 +1,8 @@
 //! What the words of a command line ask for.
-ghost use Rattle.std.specs.Prelude.{◌≡◌, ◌≢◌, ◌<◌, ◌↔◌, length, codes, false, Some, IfOk, IfErr, IfSome, IsSome, IsOk, IsOkAnd, IsTrue, Any, map, option_map};
+ghost use Rattle.std.specs.Prelude.{◌≡◌, ◌≢◌, ◌<◌, ◌↔◌, ℕ, length, codes, false, Some, IfOk, IfErr, IfSome, IsSome, IsOk, IsOkAnd, IsTrue, Any, map, option_map};
 ghost use Rattle.msr_kinds.specs.RecordLength.{IsRecordLength};
 ghost use Rattle.clap.specs.Words.{first_value, found_of, kind_of, one_text, subcommand_name_of};
-ghost use Rattle.msr_arguments.specs.Found.{AsksCheck, AsksFolders, AsksOptions, AsksTask, AsksWalking, EndsFor, HoldsOptions, IsFlagOf, IsNumberOf, command_of};
+ghost use Rattle.msr_arguments.specs.Found.{AsksBelow, AsksCheck, AsksFolders, AsksOptions, AsksTask, AsksWalking, EndsFor, HoldsOptions, IsFlagOf, IsLengthIn, IsNumberOf, command_of, without_slash};
 ghost use Rattle.msr_arguments.specs.Tasks.{AreApart, AreOptions, HasStatus, HasTolerance, IsBadLine, IsBelow, IsDefault, IsTolerance, IsWrong, KeepsInput, Overlap, StandApart};
 
 use crate::commands::command;
@@ -92,6 +92,17 @@ fn number_in(found: &ArgMatches<'_>, name: &str) -> Option<u32>
     found.get_one::<u32>(name)
 }
 
+/// The length that clap found; `None` if it is no number.
+fn length_in(found: &ArgMatches<'_>) -> Option<u32>
+    ensures asked { IfSome result (IsLengthIn (found_of found.now)) }
+    ensures given { (bytes : ℕ) → IsLengthIn (found_of found.now) bytes → result ≡ Some bytes }
+{
+    match found.get_str("length") {
+        Some(text) => text.parse().ok(),
+        None => Some(LENGTH),
+    }
+}
+
 fn flag_in(found: &ArgMatches<'_>, name: &str) -> bool
     ensures { IsFlagOf (one_text (found_of found.now) name.now) result }
 {
@@ -108,7 +119,9 @@ fn options_in(alloc: Global, found: &ArgMatches<'_>) -> Result<Options, NoTask>
     let Some(tolerance) = number_in(found, "tolerance") else {
         return Err(wrong(alloc, texts::NO_COMMAND));
     };
-    let bytes = number_in(found, "length").unwrap_or(LENGTH);
+    let Some(bytes) = length_in(found) else {
+        return Err(wrong(alloc, texts::NOT_A_LENGTH));
+    };
     options_of(alloc, bytes, tolerance, flag_in(found, "strict"))
 }
 
@@ -183,25 +196,54 @@ fn overlaps_one(folders: &[&str], folder: &str) -> bool
     folders.iter().any(|other| overlap(other, folder))
 }
 
+/// The folder's path without the slash at its end with which a shell completes it.
+fn without_slash<'a>(folder: &'a str) -> &'a str
+    ensures { result.now ≡ without_slash folder.now }
+{
+    folder.strip_suffix('/').unwrap_or(folder)
+}
+
+/// The folders of an archive as they were given, each without the slash at its end.
+fn folders_named<'a>(alloc: Global, given: &[&'a str]) -> Result<Vec<&'a str>, AllocError>
+    ensures { IfOk result (λ folders. map (λ folder. folder.now) folders.items
+        ≡ map (λ folder. without_slash folder.now) given.now) }
+{
+    given
+        .iter()
+        .map(|folder| without_slash(*folder))
+        .collect(alloc)
+}
+
 /// The folders of an archive that are to be walked: paths of names, of which no two overlap.
 fn below_of<'a>(alloc: Global, given: &[&'a str]) -> Result<Vec<&'a str>, NoTask>
     ensures asked { IfOk result (λ below. map (λ folder. folder.now) below.items
-        ≡ map (λ folder. folder.now) given.now) }
+        ≡ map (λ folder. without_slash folder.now) given.now) }
     ensures apart { IfOk result (λ below. AreApart (map (λ folder. folder.now) below.items)) }
     ensures status { IfErr result IsBadLine }
 {
-    for place in 0..given.len() {
-        if levels_below(given[place]).is_none() {
+    let folders = folders_named(alloc, given)?;
+    let below = folders.as_slice();
+    for place in 0..below.len() {
+        if levels_below(below[place]).is_none() {
             return Err(wrong(alloc, texts::NOT_BELOW));
         }
-        if overlaps_one(&given[..place], given[place]) {
+        if overlaps_one(&below[..place], below[place]) {
             return Err(wrong(alloc, texts::OVERLAP));
         }
     }
-    match given.to_vec(alloc) {
-        Ok(below) => Ok(below),
-        Err(AllocError) => Err(NoTask::Memory),
-    }
+    Ok(folders)
+}
+
+fn below_in<'a>(alloc: Global, found: &ArgMatches<'a>) -> Result<Vec<&'a str>, NoTask>
+    ensures asked { IfOk result (λ below. AsksBelow (found_of found.now) (map (λ folder. folder.now) below.items)) }
+    ensures apart { IfOk result (λ below. AreApart (map (λ folder. folder.now) below.items)) }
+    ensures status { IfErr result IsBadLine }
+{
+    let Some(given) = found.get_strs("below") else {
+        return Ok(Vec::new(alloc));
+    };
+    let below = below_of(alloc, given)?;
+    Ok(below)
 }
 
 fn walking_in<'a>(alloc: Global, found: &ArgMatches<'a>) -> Result<Walking<'a>, NoTask>
@@ -209,10 +251,7 @@ fn walking_in<'a>(alloc: Global, found: &ArgMatches<'a>) -> Result<Walking<'a>, 
     ensures apart { IfOk result (λ walking. AreApart (map (λ folder. folder.now) walking.below.items)) }
     ensures status { IfErr result IsBadLine }
 {
-    let below = match found.get_strs("below") {
-        Some(given) => below_of(alloc, given)?,
-        None => Vec::new(alloc),
-    };
+    let below = below_in(alloc, found)?;
     Ok(Walking {
         below,
         resume: flag_in(found, "resume"),
