@@ -77,6 +77,14 @@ fn packing<'a>(alloc: Global, command: Command<'a>) -> Result<Command<'a>, Alloc
     reading(alloc, command.arg(length(alloc))?)
 }
 
+/// Adds those of packing days, which may have each a length of its own.
+fn packing_days<'a>(alloc: Global, command: Command<'a>) -> Result<Command<'a>, AllocError> {
+    let length = length(alloc)
+        .help(texts::DAY_LENGTH)
+        .long_help(texts::LONG_DAY_LENGTH);
+    reading(alloc, command.arg(length)?)
+}
+
 /// A command without arguments, with its help.
 fn described<'a>(
     alloc: Global,
@@ -152,6 +160,12 @@ fn walking<'a>(alloc: Global, command: Command<'a>) -> Result<Command<'a>, Alloc
         &[
             ("resume", texts::RESUME, texts::LONG_RESUME),
             ("check", texts::CHECKED, texts::LONG_CHECKED),
+            (
+                "only-smaller",
+                texts::ONLY_SMALLER,
+                texts::LONG_ONLY_SMALLER,
+            ),
+            ("bytes", texts::BYTES, texts::LONG_BYTES),
         ],
     )
 }
@@ -166,7 +180,7 @@ fn archive<'a>(alloc: Global) -> Result<Command<'a>, AllocError> {
     );
     files(
         alloc,
-        walking(alloc, packing(alloc, command)?)?,
+        walking(alloc, packing_days(alloc, command)?)?,
         &[
             ("ROOT", texts::ROOT),
             ("OUT", texts::OUT_FOLDER),

@@ -2,16 +2,17 @@
 ghost use Rattle.std.specs.Prelude.{◌≡◌, ◌≢◌, ◌<◌, ◌↔◌, ℕ, length, codes, false, Some, IfOk, IfErr, IfSome, IsSome, IsOk, IsOkAnd, IsTrue, Any, map, option_map};
 ghost use Rattle.msr_kinds.specs.RecordLength.{IsRecordLength};
 ghost use Rattle.clap.specs.Words.{first_value, found_of, kind_of, one_text, subcommand_name_of};
-ghost use Rattle.msr_arguments.specs.Found.{AsksBelow, AsksCheck, AsksFolders, AsksOptions, AsksTask, AsksWalking, EndsFor, HoldsOptions, IsFlagOf, IsLengthIn, IsNumberOf, command_of, without_slash};
+ghost use Rattle.msr_arguments.specs.Found.{AsksArchive, AsksBelow, AsksCheck, AsksDays, AsksFlags, AsksFolders, AsksOptions, AsksTask, EndsFor, HoldsOptions, IsFlagOf, IsLengthOf, IsNumberOf, command_of, without_slash};
 ghost use Rattle.msr_arguments.specs.Tasks.{AreApart, AreOptions, HasStatus, HasTolerance, IsBadLine, IsBelow, IsDefault, IsTolerance, IsWrong, KeepsInput, Overlap, StandApart};
 
 use crate::commands::command;
 use crate::task::{
-    Archiving, Checking, Ending, Feeding, Folders, Listing, NoTask, Repacking, Task, Walking,
+    Archiving, Checking, Ending, Feeding, Folders, Listing, NoTask, Repacking, Task,
 };
 use crate::texts;
 use clap::ArgMatches;
 use clap::error::ErrorKind;
+use msr_days::DayOptions;
 use msr_kinds::Length;
 use msr_options::Options;
 use msr_sds::levels_below;
@@ -92,14 +93,24 @@ fn number_in(found: &ArgMatches<'_>, name: &str) -> Option<u32>
     found.get_one::<u32>(name)
 }
 
-/// The length that clap found; `None` if it is no number.
-fn length_in(found: &ArgMatches<'_>) -> Option<u32>
-    ensures asked { IfSome result (IsLengthIn (found_of found.now)) }
-    ensures given { (bytes : ℕ) → IsLengthIn (found_of found.now) bytes → result ≡ Some bytes }
+/// The bytes of a length, 512 without a text; `None` if the text is no number.
+fn bytes_of(length: Option<&str>) -> Option<u32>
+    ensures asked { IfSome result (IsLengthOf (option_map (λ text. text.now) length.entry)) }
+    ensures given { (bytes : ℕ) → IsLengthOf (option_map (λ text. text.now) length.entry) bytes → result ≡ Some bytes }
 {
-    match found.get_str("length") {
+    match length {
         Some(text) => text.parse().ok(),
         None => Some(LENGTH),
+    }
+}
+
+/// Whether the length is that of each day's first record.
+fn is_same(length: Option<&str>) -> bool
+    ensures { IsTrue result ↔ (option_map (λ text. text.now) length.entry ≡ Some (codes "same")) }
+{
+    match length {
+        Some(text) => text == "same",
+        None => false,
     }
 }
 
@@ -109,17 +120,22 @@ fn flag_in(found: &ArgMatches<'_>, name: &str) -> bool
     found.get_flag(name)
 }
 
-/// The options that clap found. The command `list` takes no length, and does not use the one that is given here.
-fn options_in(alloc: Global, found: &ArgMatches<'_>) -> Result<Options, NoTask>
-    ensures asked { IfOk result (AsksOptions (found_of found.now)) }
-    ensures given { HoldsOptions (found_of found.now) → IsOk result }
+/// The options that clap found, with that length. The command `list` takes none, and does not use the one that is given
+/// here.
+fn options_in(
+    alloc: Global,
+    found: &ArgMatches<'_>,
+    length: Option<&str>,
+) -> Result<Options, NoTask>
+    ensures asked { IfOk result (AsksOptions (found_of found.now) (option_map (λ text. text.now) length.entry)) }
+    ensures given { HoldsOptions (found_of found.now) (option_map (λ text. text.now) length.entry) → IsOk result }
     ensures tolerance { IfOk result (λ options. IsTolerance options.tolerance) }
     ensures status { IfErr result IsBadLine }
 {
     let Some(tolerance) = number_in(found, "tolerance") else {
         return Err(wrong(alloc, texts::NO_COMMAND));
     };
-    let Some(bytes) = length_in(found) else {
+    let Some(bytes) = bytes_of(length) else {
         return Err(wrong(alloc, texts::NOT_A_LENGTH));
     };
     options_of(alloc, bytes, tolerance, flag_in(found, "strict"))
@@ -246,17 +262,35 @@ fn below_in<'a>(alloc: Global, found: &ArgMatches<'a>) -> Result<Vec<&'a str>, N
     Ok(below)
 }
 
-fn walking_in<'a>(alloc: Global, found: &ArgMatches<'a>) -> Result<Walking<'a>, NoTask>
-    ensures asked { IfOk result (AsksWalking (found_of found.now)) }
-    ensures apart { IfOk result (λ walking. AreApart (map (λ folder. folder.now) walking.below.items)) }
-    ensures status { IfErr result IsBadLine }
+/// What is asked of the days of an archive, with these options.
+fn days_with(found: &ArgMatches<'_>, options: Options, same_length: bool) -> DayOptions
+    ensures asked { AsksFlags (found_of found.now) result }
+    ensures options { (result.options ≡ options) × (result.same_length ≡ same_length) }
 {
-    let below = below_in(alloc, found)?;
-    Ok(Walking {
-        below,
+    DayOptions {
+        options,
+        same_length,
         resume: flag_in(found, "resume"),
         check: flag_in(found, "check"),
-    })
+        only_smaller: flag_in(found, "only-smaller"),
+        bytes: flag_in(found, "bytes"),
+    }
+}
+
+/// What is asked of the days of an archive. If each is to have the length of its first record, that of the options is
+/// the one without a text.
+fn days_in(alloc: Global, found: &ArgMatches<'_>) -> Result<DayOptions, NoTask>
+    ensures asked { IfOk result (AsksDays (found_of found.now)) }
+    ensures tolerance { IfOk result (λ days. IsTolerance days.options.tolerance) }
+    ensures status { IfErr result IsBadLine }
+{
+    let length = found.get_str("length");
+    if is_same(length) {
+        let options = options_in(alloc, found, None)?;
+        return Ok(days_with(found, options, true));
+    }
+    let options = options_in(alloc, found, length)?;
+    Ok(days_with(found, options, false))
 }
 
 /// Whether no two of the folders overlap.
@@ -270,39 +304,36 @@ fn stand_apart(folders: Folders<'_>) -> bool
 /// An archive to be repacked, exactly if no two folders overlap.
 fn archiving_of<'a>(
     alloc: Global,
-    options: Options,
     folders: Folders<'a>,
-    walking: Walking<'a>,
+    below: Vec<&'a str>,
+    days: DayOptions,
 ) -> Result<Archiving<'a>, NoTask>
     ensures ok { IsOk result ↔ StandApart folders.entry }
-    ensures asked { IfOk result (λ asked. (asked.options ≡ options) × (asked.folders ≡ folders.entry)
-        × (asked.walking ≡ walking.entry)) }
+    ensures asked { IfOk result (λ asked. (asked.folders ≡ folders.entry)
+        × (asked.below ≡ below.entry) × (asked.days ≡ days)) }
     ensures status { IfErr result IsBadLine }
 {
     if !stand_apart(folders) {
         return Err(wrong(alloc, texts::OVERLAP));
     }
     Ok(Archiving {
-        options,
         folders,
-        walking,
+        below,
+        days,
     })
 }
 
 /// The archive that clap found.
-fn archiving_in<'a>(
-    alloc: Global,
-    options: Options,
-    found: &ArgMatches<'a>,
-) -> Result<Archiving<'a>, NoTask>
-    ensures asked { IfOk result (λ asked. (asked.options ≡ options)
-        × AsksFolders (found_of found.now) asked.folders × AsksWalking (found_of found.now) asked.walking) }
+fn archiving_in<'a>(alloc: Global, found: &ArgMatches<'a>) -> Result<Archiving<'a>, NoTask>
+    ensures asked { IfOk result (AsksArchive (found_of found.now)) }
+    ensures tolerance { IfOk result (λ asked. IsTolerance asked.days.options.tolerance) }
     ensures apart { IfOk result (λ asked. StandApart asked.folders) }
     ensures status { IfErr result IsBadLine }
 {
-    let walking = walking_in(alloc, found)?;
+    let days = days_in(alloc, found)?;
+    let below = below_in(alloc, found)?;
     match folders_in(found) {
-        Some(folders) => archiving_of(alloc, options, folders, walking),
+        Some(folders) => archiving_of(alloc, folders, below, days),
         None => Err(wrong(alloc, texts::NO_COMMAND)),
     }
 }
@@ -362,10 +393,10 @@ fn task_in<'a>(alloc: Global, name: &str, found: &ArgMatches<'a>) -> Result<Task
             None => Err(wrong(alloc, texts::NO_COMMAND)),
         };
     }
-    let options = options_in(alloc, found)?;
     if name == "archive" {
-        return Ok(Task::Archive(archiving_in(alloc, options, found)?));
+        return Ok(Task::Archive(archiving_in(alloc, found)?));
     }
+    let options = options_in(alloc, found, found.get_str("length"))?;
     if name == "feed" {
         let report = given(alloc, found, "REPORT")?;
         return Ok(Task::Feed(Feeding { options, report }));
