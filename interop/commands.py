@@ -18,12 +18,12 @@ COMMANDS = {
     "feed": (("--length", "--tolerance", "--strict"), (1, 1)),
     "list": (("--tolerance", "--strict"), (1, 1)),
     "check": ((), (2, 2)),
-    "archive": (("--length", "--tolerance", "--strict", "--below", "--resume", "--check"), (3, 3)),
+    "archive": (("--length", "--tolerance", "--strict", "--below", "--resume", "--check", "--only-smaller", "--bytes"), (3, 3)),
 }
 VALUED = ("--length", "--tolerance", "--below")
 LENGTHS = [2**exponent for exponent in range(8, 17)]
 
-Task = namedtuple("Task", "command names length tolerance strict below resume check")
+Task = namedtuple("Task", "command names length tolerance strict below resume check only_smaller bytes")
 Device = namedtuple("Device", "most fails")
 # What a run is given beside its words.
 Given = namedtuple("Given", "content reading writing redirected redirecting odd unsaid")
@@ -58,13 +58,15 @@ def told(text):
 
 
 def value_of(option, text):
-    """The value of an option; what is out of range is the parser's matter, but not which lengths there are."""
+    """The value of an option; a wrong tolerance is the parser's matter, but not which lengths there are."""
     if option == "--below":
+        return text.removesuffix("/")
+    if (option, text) == ("--length", "same"):
         return text
-    most = 1_000_000 if option == "--tolerance" else 2**32 - 1
-    if not re.fullmatch("[0-9]+", text) or not int(option == "--tolerance") <= int(text) <= most:
+    number = int(text) if re.fullmatch("[0-9]+", text) else -1
+    if option == "--tolerance" and not 1 <= number <= 1_000_000:
         raise Ends(2, None)
-    return int(text)
+    return number
 
 
 def told_apart(words, options):
@@ -115,15 +117,16 @@ def read_words(words):
     if not fewest <= len(names) <= most:
         raise Ends(2, None)
     length, below = chosen.get("--length", 512), chosen["--below"]
-    if length not in LENGTHS:
-        raise Ends(2, told("not a record length"))
+    if length not in LENGTHS and (command, length) != ("archive", "same"):
+        *most, last = LENGTHS
+        raise Ends(2, told(f"not a record length: {', '.join(map(str, most))} or {last} bytes"))
     if command == "repack" and len(names) == 2 and names[0] == names[1]:
         raise Ends(2, told("the output is the input"))
     if command == "archive" and (overlap(names) or overlap(below)):
         raise Ends(2, told("the folders overlap"))
     if not all(map(is_place, below)):
         raise Ends(2, told("not a folder of an archive"))
-    flags = [option in chosen for option in ("--resume", "--check")]
+    flags = [option in chosen for option in ("--resume", "--check", "--only-smaller", "--bytes")]
     return Task(command, names, length, chosen.get("--tolerance", 1000), "--strict" in chosen, below, *flags)
 
 

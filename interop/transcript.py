@@ -382,7 +382,7 @@ STATUSES = ["0", "1", "2"]
 LENGTH = ["--length", "256, 512, 1024", "65536", "[default: 512]"]
 TOLERANCE = ["--tolerance", "1 to 1000000", "[default: 1000]"]
 REFUSES = ["--strict", "18 ReverseMismatch"]
-LINES = ["done PATH", "same PATH", "skipped PATH: not an SDS path", "not waveform data", "bad day", "notshown PATH"]
+LINES = ["done PATH", "same PATH", "skipped PATH: not an SDS path", "not waveform data", "bad day", "notshown PATH", "larger PATH"]
 LINES += ["refused PATH: TEXT", "cannot open", "another walk is at work", "refused PATH: listing"]
 LINES += ["channel NET.STA.LOC.CHAN files N read N written N", "files N skipped N refused N"]
 HELP = {
@@ -391,7 +391,7 @@ HELP = {
     "feed": [*STATUSES, *LENGTH, *TOLERANCE, *REFUSES, "REPORT"],
     "list": [*STATUSES, *TOLERANCE, *REFUSES, "IN"],
     "check": [*STATUSES, "3", "PACKED", "REPORT", "least", "not shown"],
-    "archive": [*STATUSES, *LENGTH, *TOLERANCE, *REFUSES, *LINES, "--below", "--resume", "--check"],
+    "archive": [*STATUSES, *LENGTH, *TOLERANCE, *REFUSES, *LINES, "--below", "--resume", "--check", "--only-smaller", "--bytes", "same"],
 }
 HELP["archive"] += ["ROOT", "OUT", "REPORTS"]
 

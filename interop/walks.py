@@ -37,6 +37,10 @@ class NotDone(Exception):
     """Why a day is not done, as its line tells it."""
 
 
+class Larger(NotDone):
+    """A day that did not get smaller, with its counts."""
+
+
 def is_like(pattern, path):
     """Whether the path is that one, or begins and ends as the pattern does around its `*`."""
     if pattern is None or "*" not in pattern:
@@ -134,14 +138,20 @@ class Walk:
     def __init__(self, task, odd):
         self.task, self.odd = task, odd
         self.root, self.out, self.reports = task.names
-        self.done, self.skips, self.refused, self.channels = 0, 0, 0, {}
+        self.done, self.skips, self.refused, self.larger, self.channels = 0, 0, 0, 0, {}
 
     def lines(self):
         for top in self.task.below or [""]:
             yield from self.folder(top)
-        for name, sums in self.channels.items():
-            yield "channel {} files {} read {} written {}".format(name, *sums)
-        yield f"files {self.done} skipped {self.skips} refused {self.refused}"
+        for name, (files, *sums) in self.channels.items():
+            yield f"channel {name} files {files}{self.told(*sums)}"
+        bytes_read, bytes_written = (sum(sums[place] for sums in self.channels.values()) for place in (3, 4))
+        larger = f" larger {self.larger}" if self.task.only_smaller else ""
+        size = f" bytes {bytes_read} {bytes_written}" if self.task.bytes else ""
+        yield f"files {self.done} skipped {self.skips} refused {self.refused}{larger}{size}"
+
+    def told(self, read, written, bytes_read, bytes_written):
+        return f" read {read} written {written}" + (f" bytes {bytes_read} {bytes_written}" if self.task.bytes else "")
 
     def names(self, path):
         """The names in a folder, in the order of their bytes; an odd one cannot be listed, or has odd names."""
@@ -191,14 +201,17 @@ class Walk:
             self.skips += 1
             return f"skipped {in_one_line(path)}: {why}"
         try:
-            word, read, written = self.day(path)
+            word, *counts = self.day(path)
+        except Larger as why:
+            self.larger += 1
+            return f"larger {path}{self.told(*why.args)}"
         except NotDone as why:
             return self.refuse(path, str(why))
         self.done += 1
         name = channel_of(path)
-        sums = self.channels.get(name, (0, 0, 0))
-        self.channels[name] = (sums[0] + 1, sums[1] + read, sums[2] + written)
-        return f"{word} {path} read {read} written {written}"
+        sums = self.channels.get(name, (0, 0, 0, 0, 0))
+        self.channels[name] = tuple(sum(pair) for pair in zip(sums, (1, *counts)))
+        return f"{word} {path}{self.told(*counts)}"
 
     def day(self, path):
         """What was done with a day, and its counts."""
@@ -299,17 +312,29 @@ class Walk:
     # What is done.
 
     def counts_before(self, source, places):
-        """How many records an earlier walk read and wrote, if all is as that one left it."""
+        """How many records and bytes an earlier walk read and wrote, if all is as that one left it."""
         try:
             report = parsed(read_regular(places.report))
             is_as_it_was = read_regular(places.stamp) == stamp_of(source).encode()
+            length, size = self.length_for(read_regular(source)), os.path.getsize(source)
         except (OSError, NotAReport):
             return None
         written = sum(line.records for line in report.lines)
-        is_asked = (report.length, report.tolerance) == (self.task.length, self.task.tolerance)
+        is_asked = (report.length, report.tolerance) == (length, self.task.tolerance)
+        is_small = not self.task.only_smaller or written * length < size
         is_whole = os.path.isfile(places.records) and os.path.getsize(places.records) == written * report.length
         is_strict = not self.task.strict or report.counts[2] == 0
-        return (report.counts[0], written) if is_asked and is_whole and is_strict and is_as_it_was else None
+        is_kept = is_asked and is_small and is_whole and is_strict and is_as_it_was
+        return (report.counts[0], written, size, written * length) if is_kept else None
+
+    def length_for(self, content):
+        """The length in which a day is written: if each is to have that of its first record, this one, if it is one."""
+        if self.task.length != "same":
+            return self.task.length
+        with contextlib.suppress(model.Refused):
+            length = model.read_record(memoryview(content), False)[0]
+            return length if 256 <= length <= 65536 else 512
+        return 512
 
     def repack(self, source, places, claim):
         """Repacks a day: all is written beside its names, and then the report gets its name first."""
@@ -321,12 +346,17 @@ class Walk:
             raise NotDone("cannot open") from None
         stamp, parts = stamp_of(source), self.parts(places, claim.number)
         content = read_to_end(file)
-        records, report, fault = model.repacked(content or b"", self.task.length, self.task.tolerance, self.task.strict)
+        length = self.length_for(content or b"")
+        records, report, fault = model.repacked(content or b"", length, self.task.tolerance, self.task.strict)
         fault = "read fault" if content is None else fault
         for path, text in zip(parts, (records, report.encode() if report else b"")):
             self.write(path, text)
         if fault:
             raise NotDone(fault)
+        read = parsed(report.encode())
+        counts = read.counts[0], sum(line.records for line in read.lines), len(content), len(records)
+        if self.task.only_smaller and len(content) <= len(records):
+            raise Larger(*counts)
         if self.task.check and not self.is_shown(parts):
             raise NotDone("")
         if not self.has(claim):
@@ -335,8 +365,7 @@ class Walk:
         if self.task.resume:
             self.write(parts[2], stamp.encode())
             os.rename(parts[2], places.stamp)
-        read = parsed(report.encode())
-        return read.counts[0], sum(line.records for line in read.lines)
+        return counts
 
     def write(self, path, content):
         """Makes a file with its folder, in the place of one that stands there; nothing is written to that one."""

@@ -6,7 +6,7 @@ _msrepack() {
         repack | feed) words='--length --tolerance --strict --help' ;;
         list) words='--tolerance --strict --help' ;;
         check) words='--help' ;;
-        archive) words='--length --tolerance --strict --below --resume --check --help' ;;
+        archive) words='--length --tolerance --strict --below --resume --check --only-smaller --bytes --help' ;;
     esac
     if [ "$COMP_CWORD" -eq 1 ]; then
         words="$commands --help --version"
@@ -14,6 +14,7 @@ _msrepack() {
         words=$commands
     elif [ "$before" = --length ]; then
         words='256 512 1024 2048 4096 8192 16384 32768 65536'
+        if [ "${COMP_WORDS[1]}" = archive ]; then words="$words same"; fi
     elif [ "$before" = --tolerance ] || [ "$before" = --below ]; then
         return # a number, or a path that is counted from ROOT
     elif [[ $word != -* ]]; then

@@ -16,6 +16,7 @@ complete -c msrepack -n '__fish_seen_subcommand_from repack feed list check' -F
 complete -c msrepack -n '__fish_seen_subcommand_from archive' -a '(__fish_complete_directories)'
 complete -c msrepack -n '__fish_seen_subcommand_from repack feed archive' -x -l length \
     -a '256 512 1024 2048 4096 8192 16384 32768 65536' -d 'Bytes of each record'
+complete -c msrepack -n '__fish_seen_subcommand_from archive' -x -l length -a same -d 'That of each first record'
 complete -c msrepack -n '__fish_seen_subcommand_from repack feed list archive' -x -l tolerance \
     -d 'Microseconds by which a record may be early or late'
 complete -c msrepack -n '__fish_seen_subcommand_from repack feed list archive' -l strict \
@@ -23,3 +24,5 @@ complete -c msrepack -n '__fish_seen_subcommand_from repack feed list archive' -
 complete -c msrepack -n '__fish_seen_subcommand_from archive' -x -l below -d 'Walk only this folder, by its path from ROOT'
 complete -c msrepack -n '__fish_seen_subcommand_from archive' -l resume -d 'Leave files alone that an earlier walk did'
 complete -c msrepack -n '__fish_seen_subcommand_from archive' -l check -d 'Hold records against their report'
+complete -c msrepack -n '__fish_seen_subcommand_from archive' -l only-smaller -d 'Keep only what gets smaller in bytes'
+complete -c msrepack -n '__fish_seen_subcommand_from archive' -l bytes -d 'Tell bytes read and written too'

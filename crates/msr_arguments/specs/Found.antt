@@ -1,20 +1,21 @@
 -- What a task asks for, by what clap found under the names of its arguments.
-use Rattle.std.specs.Prelude.{◌≡◌, ◌≢◌, ◌⊎◌, ℕ, ⊤, Bool, false, true, List, [], codes, map, Option, None, Some, option_map, unwrap_or, ok_or}
+use Rattle.std.specs.Prelude.{◌≡◌, ◌≢◌, ◌⊎◌, ◌↔◌, ◌==◌, IsTrue, ℕ, ⊤, Bool, false, true, cond, List, [], ◌∷◌, codes, map, Option, None, Some, option_map, unwrap_or, ok_or}
 use Rattle.std.specs.Str.Parse.{ParsesUnsigned}
 use Rattle.clap.specs.Words.{first_value, matched_of, one_text, raw_values}
 use Rattle.clap.specs.declared.error.kind.ErrorKind.{ErrorKind}
 use Rattle.clap.specs.declared.error.kind.ErrorKind.TheVariants.{DisplayHelp, DisplayVersion, OutOfMemory}
 use Rattle.clap.specs.declared.parser.matches.Found.{Found}
 use Rattle.msr_options.specs.Choice.{Choice, size_of}
+use Rattle.msr_days.specs.declared.DayOptions.{DayOptions}
 use Rattle.msr_kinds.specs.RecordLength.{IsRecordLength}
 use Rattle.msr_arguments.specs.Tasks.{IsTolerance}
+use Rattle.msr_arguments.specs.declared.task.Archiving.{Archiving}
 use Rattle.msr_arguments.specs.declared.task.Checking.{Checking}
 use Rattle.msr_arguments.specs.declared.task.Folders.{Folders}
 use Rattle.msr_arguments.specs.declared.task.NoTask.{NoTask}
 use Rattle.msr_arguments.specs.declared.task.NoTask.TheVariants.{Ending, Memory}
 use Rattle.msr_arguments.specs.declared.task.Task.{Task}
 use Rattle.msr_arguments.specs.declared.task.Task.TheVariants.{Repack, List as Listing, Check, Archive, Feed}
-use Rattle.msr_arguments.specs.declared.task.Walking.{Walking}
 
 -- the number of 32 bits that a text is in decimal digits, with or without a plus before them; `None` if there is no
 -- text, or it is no such number
@@ -31,29 +32,34 @@ IsFlagOf (Some text) flag = (text ≡ codes "true" → flag ≡ true) × (text �
 abbrev pub texts_under : Found → (name : List ℕ) → List (List ℕ)
 texts_under found name = unwrap_or (option_map raw_values (matched_of found name)) []
 
+-- a folder's path without the slash at its end with which a shell completes it
+abbrev pub without_slash : List ℕ → List ℕ
+without_slash [] = []
+without_slash (byte ∷ []) = cond (byte == 47) [] (byte ∷ [])
+without_slash (byte ∷ next ∷ path) = byte ∷ without_slash (next ∷ path)
+
 -- the tolerance that was found
 abbrev pub IsToleranceIn : Found → (tolerance : ℕ) → Type 0
 IsToleranceIn found tolerance = IsNumberOf (one_text found (codes "tolerance")) (Some tolerance)
 
--- the length that was found, or 512 bytes
-pub record IsLengthIn (found : Found) (bytes : ℕ) : Type 0 where
-  pub number : Option ℕ
-  pub is : IsNumberOf (one_text found (codes "length")) number
-  pub bytes_are : bytes ≡ unwrap_or number 512
+-- a length by its text: the number of bytes in decimal digits, with or without a plus before them; 512 without a text
+abbrev pub IsLengthOf : (text : Option (List ℕ)) → (bytes : ℕ) → Type 0
+IsLengthOf None bytes = bytes ≡ 512
+IsLengthOf (Some text) bytes = IsNumberOf (Some text) (Some bytes)
 
--- the options are those that were found
-pub record AsksOptions (found : Found) (options : Choice) : Type 0 where
+-- the options are those that were found, with the length of that text
+pub record AsksOptions (found : Found) (text : Option (List ℕ)) (options : Choice) : Type 0 where
   pub tolerance : IsToleranceIn found options.tolerance
-  pub length : IsLengthIn found (size_of options)
+  pub length_is : IsLengthOf text (size_of options)
   pub strict : IsFlagOf (one_text found (codes "strict")) options.strict
 
--- the numbers that were found are those of options
-pub record HoldsOptions (found : Found) : Type 0 where
+-- the numbers that were found, and that of the text, are those of options
+pub record HoldsOptions (found : Found) (text : Option (List ℕ)) : Type 0 where
   pub tolerance : ℕ
   pub tolerance_in : IsToleranceIn found tolerance
   pub is_tolerance : IsTolerance tolerance
   pub bytes : ℕ
-  pub length_in : IsLengthIn found bytes
+  pub length_in : IsLengthOf text bytes
   pub is_length : IsRecordLength bytes
 
 -- each folder is the one of its name
@@ -62,11 +68,34 @@ pub record AsksFolders (found : Found) (folders : Folders) : Type 0 where
   pub out : first_value found (codes "OUT") ≡ Some folders.out.now
   pub reports : first_value found (codes "REPORTS") ≡ Some folders.reports.now
 
--- an archive is to be walked as was found
-pub record AsksWalking (found : Found) (walking : Walking) : Type 0 where
-  pub below : map (λ folder. folder.now) walking.below.items ≡ texts_under found (codes "below")
-  pub resume : IsFlagOf (one_text found (codes "resume")) walking.resume
-  pub check : IsFlagOf (one_text found (codes "check")) walking.check
+-- the folders of an archive that were found, each without a slash at its end
+abbrev pub AsksBelow : Found → (below : List (List ℕ)) → Type 0
+AsksBelow found below = below ≡ map without_slash (texts_under found (codes "below"))
+
+-- the length that was found
+abbrev pub length_in : Found → Option (List ℕ)
+length_in found = first_value found (codes "length")
+
+-- the flags for days are those that were found
+pub record AsksFlags (found : Found) (days : DayOptions) : Type 0 where
+  pub resume : IsFlagOf (one_text found (codes "resume")) days.resume
+  pub check : IsFlagOf (one_text found (codes "check")) days.check
+  pub only_smaller : IsFlagOf (one_text found (codes "only-smaller")) days.only_smaller
+  pub bytes : IsFlagOf (one_text found (codes "bytes")) days.bytes
+
+-- days are to be repacked as was found; if each is to have the length of its first record, that of the options is the
+-- one without a text
+pub record AsksDays (found : Found) (days : DayOptions) : Type 0 where
+  pub flags : AsksFlags found days
+  pub same_length : IsTrue days.same_length ↔ (length_in found ≡ Some (codes "same"))
+  pub own : IsTrue days.same_length → AsksOptions found None days.options
+  pub one : ¬ (IsTrue days.same_length) → AsksOptions found (length_in found) days.options
+
+-- an archive is to be repacked as was found
+pub record AsksArchive (found : Found) (asked : Archiving) : Type 0 where
+  pub folders : AsksFolders found asked.folders
+  pub below : AsksBelow found (map (λ folder. folder.now) asked.below.items)
+  pub days : AsksDays found asked.days
 
 -- the names of a check are those of its words
 pub record AsksCheck (found : Found) (checking : Checking) : Type 0 where
@@ -75,16 +104,15 @@ pub record AsksCheck (found : Found) (checking : Checking) : Type 0 where
 
 -- the options and the names of a task are those that were found
 abbrev pub AsksTask : Found → Task → Type 0
-AsksTask found (Repack asked) = AsksOptions found asked.options ×
+AsksTask found (Repack asked) = AsksOptions found (length_in found) asked.options ×
     (first_value found (codes "IN") ≡ Some asked.input.now)
     × (first_value found (codes "OUT") ≡ option_map (λ name. name.now) asked.output)
 AsksTask found (Listing asked) =
-    AsksOptions found asked.options × (first_value found (codes "IN") ≡ Some asked.input.now)
+    AsksOptions found (length_in found) asked.options × (first_value found (codes "IN") ≡ Some asked.input.now)
 AsksTask found (Check asked) = AsksCheck found asked
-AsksTask found (Archive asked) =
-    AsksOptions found asked.options × AsksFolders found asked.folders × AsksWalking found asked.walking
+AsksTask found (Archive asked) = AsksArchive found asked
 AsksTask found (Feed asked) =
-    AsksOptions found asked.options × (first_value found (codes "REPORT") ≡ Some asked.report.now)
+    AsksOptions found (length_in found) asked.options × (first_value found (codes "REPORT") ≡ Some asked.report.now)
 
 -- the command that asks for a task
 abbrev pub command_of : Task → List ℕ

@@ -17,7 +17,7 @@ abbrev pub HasTolerance : Task → Type 0
 HasTolerance (Repack asked) = IsTolerance asked.options.tolerance
 HasTolerance (Listing asked) = IsTolerance asked.options.tolerance
 HasTolerance (Check asked) = ⊤
-HasTolerance (Archive asked) = IsTolerance asked.options.tolerance
+HasTolerance (Archive asked) = IsTolerance asked.days.options.tolerance
 HasTolerance (Feed asked) = IsTolerance asked.options.tolerance
 
 -- the path begins with the folder's name and a slash

@@ -1,4 +1,7 @@
 //! The commands and options that the program knows.
+//!
+//! What several commands take is added in loops and by functions of few steps: each step at a
+//! `Command` that may fail costs the check of its function seconds.
 use crate::texts;
 use clap::{Arg, ArgAction, Command, value_parser};
 use std::alloc::{AllocError, Global};
@@ -17,65 +20,8 @@ fn length<'a>(alloc: Global) -> Arg<'a> {
     Arg::new(alloc, "length")
         .long("length")
         .value_name("L")
-        .value_parser(value_parser!(u32))
         .default_value("512")
         .help(texts::LENGTH)
-}
-
-fn strict<'a>(alloc: Global) -> Arg<'a> {
-    flag(alloc, "strict")
-        .help(texts::STRICT)
-        .long_help(texts::LONG_STRICT)
-}
-
-fn input<'a>(alloc: Global) -> Arg<'a> {
-    file(alloc, "IN").help(texts::IN)
-}
-
-fn file<'a>(alloc: Global, name: &'a str) -> Arg<'a> {
-    Arg::new(alloc, name).required(true)
-}
-
-fn repack<'a>(alloc: Global) -> Result<Command<'a>, AllocError> {
-    Command::new(alloc, "repack")
-        .about(texts::REPACK_ABOUT)
-        .long_about(texts::REPACK_LONG_ABOUT)
-        .after_long_help(texts::REPACK_AFTER)
-        .arg(length(alloc))?
-        .arg(tolerance(alloc))?
-        .arg(strict(alloc))?
-        .arg(input(alloc))?
-        .arg(Arg::new(alloc, "OUT").help(texts::OUT))
-}
-
-fn list<'a>(alloc: Global) -> Result<Command<'a>, AllocError> {
-    Command::new(alloc, "list")
-        .about(texts::LIST_ABOUT)
-        .long_about(texts::LIST_LONG_ABOUT)
-        .after_long_help(texts::LIST_AFTER)
-        .arg(tolerance(alloc))?
-        .arg(strict(alloc))?
-        .arg(input(alloc))
-}
-
-fn check<'a>(alloc: Global) -> Result<Command<'a>, AllocError> {
-    Command::new(alloc, "check")
-        .about(texts::CHECK_ABOUT)
-        .long_about(texts::CHECK_LONG_ABOUT)
-        .after_long_help(texts::CHECK_AFTER)
-        .arg(file(alloc, "PACKED").help(texts::PACKED))?
-        .arg(file(alloc, "REPORT").help(texts::REPORT))
-}
-
-fn feed<'a>(alloc: Global) -> Result<Command<'a>, AllocError> {
-    Command::new(alloc, "feed")
-        .about(texts::FEED_ABOUT)
-        .long_about(texts::FEED_LONG_ABOUT)
-        .after_long_help(texts::FEED_AFTER)
-        .arg(length(alloc))?
-        .arg(tolerance(alloc))?
-        .arg(strict(alloc))?
-        .arg(file(alloc, "REPORT").help(texts::FEED_REPORT))
 }
 
 fn below<'a>(alloc: Global) -> Arg<'a> {
@@ -87,46 +33,207 @@ fn below<'a>(alloc: Global) -> Arg<'a> {
         .long_help(texts::LONG_BELOW)
 }
 
-fn flag<'a>(alloc: Global, name: &'a str) -> Arg<'a> {
-    Arg::new(alloc, name).long(name).action(ArgAction::SetTrue)
+/// Adds options without a value, each by its name, its help and its long help.
+fn flags<'a>(
+    alloc: Global,
+    mut command: Command<'a>,
+    named: &[(&'a str, &'a str, &'a str)],
+) -> Result<Command<'a>, AllocError> {
+    for (name, help, long_help) in named {
+        command = command.arg(
+            Arg::new(alloc, name)
+                .long(name)
+                .action(ArgAction::SetTrue)
+                .help(help)
+                .long_help(long_help),
+        )?;
+    }
+    Ok(command)
+}
+
+/// Adds files or folders that have to be given, each by its name and its help.
+fn files<'a>(
+    alloc: Global,
+    mut command: Command<'a>,
+    named: &[(&'a str, &'a str)],
+) -> Result<Command<'a>, AllocError> {
+    for (name, help) in named {
+        command = command.arg(Arg::new(alloc, name).required(true).help(help))?;
+    }
+    Ok(command)
+}
+
+/// Adds the options of reading.
+fn reading<'a>(alloc: Global, command: Command<'a>) -> Result<Command<'a>, AllocError> {
+    flags(
+        alloc,
+        command.arg(tolerance(alloc))?,
+        &[("strict", texts::STRICT, texts::LONG_STRICT)],
+    )
+}
+
+/// Adds the options of packing: those of reading, and before them the length.
+fn packing<'a>(alloc: Global, command: Command<'a>) -> Result<Command<'a>, AllocError> {
+    reading(alloc, command.arg(length(alloc))?)
+}
+
+/// Adds those of packing days, which may have each a length of its own.
+fn packing_days<'a>(alloc: Global, command: Command<'a>) -> Result<Command<'a>, AllocError> {
+    let length = length(alloc)
+        .help(texts::DAY_LENGTH)
+        .long_help(texts::LONG_DAY_LENGTH);
+    reading(alloc, command.arg(length)?)
+}
+
+/// A command without arguments, with its help.
+fn described<'a>(
+    alloc: Global,
+    name: &'a str,
+    about: &'a str,
+    long_about: &'a str,
+    after: &'a str,
+) -> Command<'a> {
+    Command::new(alloc, name)
+        .about(about)
+        .long_about(long_about)
+        .after_long_help(after)
+}
+
+fn repack<'a>(alloc: Global) -> Result<Command<'a>, AllocError> {
+    let command = described(
+        alloc,
+        "repack",
+        texts::REPACK_ABOUT,
+        texts::REPACK_LONG_ABOUT,
+        texts::REPACK_AFTER,
+    );
+    let command = files(alloc, packing(alloc, command)?, &[("IN", texts::IN)])?;
+    command.arg(Arg::new(alloc, "OUT").help(texts::OUT))
+}
+
+fn list<'a>(alloc: Global) -> Result<Command<'a>, AllocError> {
+    let command = described(
+        alloc,
+        "list",
+        texts::LIST_ABOUT,
+        texts::LIST_LONG_ABOUT,
+        texts::LIST_AFTER,
+    );
+    files(alloc, reading(alloc, command)?, &[("IN", texts::IN)])
+}
+
+fn check<'a>(alloc: Global) -> Result<Command<'a>, AllocError> {
+    let command = described(
+        alloc,
+        "check",
+        texts::CHECK_ABOUT,
+        texts::CHECK_LONG_ABOUT,
+        texts::CHECK_AFTER,
+    );
+    files(
+        alloc,
+        command,
+        &[("PACKED", texts::PACKED), ("REPORT", texts::REPORT)],
+    )
+}
+
+fn feed<'a>(alloc: Global) -> Result<Command<'a>, AllocError> {
+    let command = described(
+        alloc,
+        "feed",
+        texts::FEED_ABOUT,
+        texts::FEED_LONG_ABOUT,
+        texts::FEED_AFTER,
+    );
+    files(
+        alloc,
+        packing(alloc, command)?,
+        &[("REPORT", texts::FEED_REPORT)],
+    )
+}
+
+/// Adds the options of a walk through an archive.
+fn walking<'a>(alloc: Global, command: Command<'a>) -> Result<Command<'a>, AllocError> {
+    flags(
+        alloc,
+        command.arg(below(alloc))?,
+        &[
+            ("resume", texts::RESUME, texts::LONG_RESUME),
+            ("check", texts::CHECKED, texts::LONG_CHECKED),
+            (
+                "only-smaller",
+                texts::ONLY_SMALLER,
+                texts::LONG_ONLY_SMALLER,
+            ),
+            ("bytes", texts::BYTES, texts::LONG_BYTES),
+        ],
+    )
 }
 
 fn archive<'a>(alloc: Global) -> Result<Command<'a>, AllocError> {
-    Command::new(alloc, "archive")
-        .about(texts::ARCHIVE_ABOUT)
-        .long_about(texts::ARCHIVE_LONG_ABOUT)
-        .after_long_help(texts::ARCHIVE_AFTER)
-        .arg(length(alloc))?
-        .arg(tolerance(alloc))?
-        .arg(strict(alloc))?
-        .arg(below(alloc))?
-        .arg(
-            flag(alloc, "resume")
-                .help(texts::RESUME)
-                .long_help(texts::LONG_RESUME),
-        )?
-        .arg(
-            flag(alloc, "check")
-                .help(texts::CHECKED)
-                .long_help(texts::LONG_CHECKED),
-        )?
-        .arg(file(alloc, "ROOT").help(texts::ROOT))?
-        .arg(file(alloc, "OUT").help(texts::OUT_FOLDER))?
-        .arg(file(alloc, "REPORTS").help(texts::REPORTS))
+    let command = described(
+        alloc,
+        "archive",
+        texts::ARCHIVE_ABOUT,
+        texts::ARCHIVE_LONG_ABOUT,
+        texts::ARCHIVE_AFTER,
+    );
+    files(
+        alloc,
+        walking(alloc, packing_days(alloc, command)?)?,
+        &[
+            ("ROOT", texts::ROOT),
+            ("OUT", texts::OUT_FOLDER),
+            ("REPORTS", texts::REPORTS),
+        ],
+    )
+}
+
+/// The commands.
+#[derive(Clone, Copy)]
+enum Verb {
+    Repack,
+    List,
+    Check,
+    Archive,
+    Feed,
+}
+
+fn command_for<'a>(alloc: Global, verb: Verb) -> Result<Command<'a>, AllocError> {
+    match verb {
+        Verb::Repack => repack(alloc),
+        Verb::List => list(alloc),
+        Verb::Check => check(alloc),
+        Verb::Archive => archive(alloc),
+        Verb::Feed => feed(alloc),
+    }
+}
+
+/// The program without its commands.
+fn program<'a>(alloc: Global) -> Result<Command<'a>, AllocError> {
+    let command = described(
+        alloc,
+        "msrepack",
+        texts::ABOUT,
+        texts::LONG_ABOUT,
+        texts::AFTER,
+    )
+    .version("1.0.0")
+    .subcommand_required(true);
+    command.bin_name("msrepack")
 }
 
 /// The command line of the program.
 pub(crate) fn command<'a>(alloc: Global) -> Result<Command<'a>, AllocError> {
-    Command::new(alloc, "msrepack")
-        .bin_name("msrepack")?
-        .version("0.1.0")
-        .about(texts::ABOUT)
-        .long_about(texts::LONG_ABOUT)
-        .after_long_help(texts::AFTER)
-        .subcommand_required(true)
-        .subcommand(repack(alloc)?)?
-        .subcommand(list(alloc)?)?
-        .subcommand(check(alloc)?)?
-        .subcommand(archive(alloc)?)?
-        .subcommand(feed(alloc)?)
+    let mut command = program(alloc)?;
+    for verb in [
+        Verb::Repack,
+        Verb::List,
+        Verb::Check,
+        Verb::Archive,
+        Verb::Feed,
+    ] {
+        command = command.subcommand(command_for(alloc, verb)?)?;
+    }
+    Ok(command)
 }

@@ -1,4 +1,5 @@
 //! What the program can be asked to do.
+use msr_days::DayOptions;
 use msr_options::Options;
 use std::alloc::AllocError;
 
@@ -46,23 +47,13 @@ pub struct Folders<'a> {
     pub reports: &'a str,
 }
 
-/// Which folders of an archive are walked, and what is asked of its days.
-#[derive(Debug, Drop, PartialEq, Eq)]
-pub struct Walking<'a> {
-    /// The paths, from the archive's folder, of the folders that are walked; none for the whole archive.
-    pub below: Vec<&'a str>,
-    /// Whether days are left alone that an earlier walk did.
-    pub resume: bool,
-    /// Whether the records of a day are held against their report before they get their name.
-    pub check: bool,
-}
-
 /// An archive whose day files are to be repacked.
 #[derive(Debug, Drop, PartialEq, Eq)]
 pub struct Archiving<'a> {
-    pub options: Options,
     pub folders: Folders<'a>,
-    pub walking: Walking<'a>,
+    /// The paths, from the archive's folder, of the folders that are walked; none for the whole archive.
+    pub below: Vec<&'a str>,
+    pub days: DayOptions,
 }
 
 /// What the program is asked to do.

@@ -132,11 +132,12 @@ refused PATH: TEXT                    a fault, as repack tells it, or `cannot op
 refused PATH: listing                 a folder that cannot be listed, or has a name that
                                       is not UTF-8: nothing in it is handled
 notshown PATH                         its report did not show it, with --check: not kept
+larger PATH read N written M          it did not get smaller, with --only-smaller: not kept
 
 and at the end, of the files that are done, one line for each channel, and the counts:
 
 channel NET.STA.LOC.CHAN files N read N written N
-files N skipped N refused N
+files N skipped N refused N [larger N]
 
 Records and report appear under their names whole or not at all: they are written beside
 them, as PATH.N.part, and then renamed, the report first. Those of a refused file are
@@ -204,6 +205,24 @@ pub(crate) const LONG_CHECKED: &str =
 report does not show that they are the fewest, neither is kept, and `notshown PATH` is
 printed, which counts as one of those refused";
 
+/// `--only-smaller`, in a line.
+pub(crate) const ONLY_SMALLER: &str = "Keep only what gets smaller in bytes";
+
+/// `--only-smaller`.
+pub(crate) const LONG_ONLY_SMALLER: &str =
+    "Keep only what gets smaller: if the records of a file are not fewer bytes than the file
+has, neither they nor the report are kept, nor what an earlier walk made of it, and
+`larger PATH read N written M` is printed. It is neither done nor refused, and the last
+line counts it: `files N skipped N refused N larger N`";
+
+/// `--bytes`, in a line.
+pub(crate) const BYTES: &str = "Tell bytes read and written too";
+
+/// `--bytes`.
+pub(crate) const LONG_BYTES: &str =
+    "Tell bytes too: the lines `done`, `same`, `larger`, `channel` and `files` go on with
+` bytes N M`, those read and those written; the last line sums up what is done or same";
+
 /// The first folder of `archive`.
 pub(crate) const ROOT: &str = "The folder of the archive";
 
@@ -222,6 +241,16 @@ pub(crate) const REPORT: &str = "The file with their report";
 /// `--length`.
 pub(crate) const LENGTH: &str =
     "Bytes of each record written: 256, 512, 1024, 2048, 4096, 8192, 16384, 32768 or 65536";
+
+/// `--length` of `archive`, in a line.
+pub(crate) const DAY_LENGTH: &str =
+    "Bytes of each record written: 256, 512, 1024, 2048, 4096, 8192, 16384, 32768 or 65536; or same";
+
+/// `--length` of `archive`.
+pub(crate) const LONG_DAY_LENGTH: &str =
+    "Bytes of each record written: 256, 512, 1024, 2048, 4096, 8192, 16384, 32768 or 65536;
+or `same`, for each file the length of its first record, if it is one of these, and
+else 512";
 
 /// `--tolerance`, in a line.
 pub(crate) const TOLERANCE: &str =
@@ -248,7 +277,8 @@ pub(crate) const IN: &str = "The file to read, or - for standard input";
 pub(crate) const OUT: &str = "The file to write the records to. Without it they are not kept";
 
 /// The length is not that of a record.
-pub(crate) const NOT_A_LENGTH: &str = "msrepack: not a record length\n";
+pub(crate) const NOT_A_LENGTH: &str = "msrepack: not a record length: \
+256, 512, 1024, 2048, 4096, 8192, 16384, 32768 or 65536 bytes\n";
 
 /// The output and the input have one name.
 pub(crate) const SAME_FILE: &str = "msrepack: the output is the input\n";

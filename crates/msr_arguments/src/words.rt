@@ -1,17 +1,18 @@
 //! What the words of a command line ask for.
-ghost use Rattle.std.specs.Prelude.{◌≡◌, ◌≢◌, ◌<◌, ◌↔◌, length, codes, false, Some, IfOk, IfErr, IfSome, IsSome, IsOk, IsOkAnd, IsTrue, Any, map};
+ghost use Rattle.std.specs.Prelude.{◌≡◌, ◌≢◌, ◌<◌, ◌↔◌, ℕ, length, codes, false, Some, IfOk, IfErr, IfSome, IsSome, IsOk, IsOkAnd, IsTrue, Any, map, option_map};
 ghost use Rattle.msr_kinds.specs.RecordLength.{IsRecordLength};
 ghost use Rattle.clap.specs.Words.{first_value, found_of, kind_of, one_text, subcommand_name_of};
-ghost use Rattle.msr_arguments.specs.Found.{AsksCheck, AsksFolders, AsksOptions, AsksTask, AsksWalking, EndsFor, HoldsOptions, IsFlagOf, IsNumberOf, command_of};
+ghost use Rattle.msr_arguments.specs.Found.{AsksArchive, AsksBelow, AsksCheck, AsksDays, AsksFlags, AsksFolders, AsksOptions, AsksTask, EndsFor, HoldsOptions, IsFlagOf, IsLengthOf, IsNumberOf, command_of, without_slash};
 ghost use Rattle.msr_arguments.specs.Tasks.{AreApart, AreOptions, HasStatus, HasTolerance, IsBadLine, IsBelow, IsDefault, IsTolerance, IsWrong, KeepsInput, Overlap, StandApart};
 
 use crate::commands::command;
 use crate::task::{
-    Archiving, Checking, Ending, Feeding, Folders, Listing, NoTask, Repacking, Task, Walking,
+    Archiving, Checking, Ending, Feeding, Folders, Listing, NoTask, Repacking, Task,
 };
 use crate::texts;
 use clap::ArgMatches;
 use clap::error::ErrorKind;
+use msr_days::DayOptions;
 use msr_kinds::Length;
 use msr_options::Options;
 use msr_sds::levels_below;
@@ -92,23 +93,51 @@ fn number_in(found: &ArgMatches<'_>, name: &str) -> Option<u32>
     found.get_one::<u32>(name)
 }
 
+/// The bytes of a length, 512 without a text; `None` if the text is no number.
+fn bytes_of(length: Option<&str>) -> Option<u32>
+    ensures asked { IfSome result (IsLengthOf (option_map (λ text. text.now) length.entry)) }
+    ensures given { (bytes : ℕ) → IsLengthOf (option_map (λ text. text.now) length.entry) bytes → result ≡ Some bytes }
+{
+    match length {
+        Some(text) => text.parse().ok(),
+        None => Some(LENGTH),
+    }
+}
+
+/// Whether the length is that of each day's first record.
+fn is_same(length: Option<&str>) -> bool
+    ensures { IsTrue result ↔ (option_map (λ text. text.now) length.entry ≡ Some (codes "same")) }
+{
+    match length {
+        Some(text) => text == "same",
+        None => false,
+    }
+}
+
 fn flag_in(found: &ArgMatches<'_>, name: &str) -> bool
     ensures { IsFlagOf (one_text (found_of found.now) name.now) result }
 {
     found.get_flag(name)
 }
 
-/// The options that clap found. The command `list` takes no length, and does not use the one that is given here.
-fn options_in(alloc: Global, found: &ArgMatches<'_>) -> Result<Options, NoTask>
-    ensures asked { IfOk result (AsksOptions (found_of found.now)) }
-    ensures given { HoldsOptions (found_of found.now) → IsOk result }
+/// The options that clap found, with that length. The command `list` takes none, and does not use the one that is given
+/// here.
+fn options_in(
+    alloc: Global,
+    found: &ArgMatches<'_>,
+    length: Option<&str>,
+) -> Result<Options, NoTask>
+    ensures asked { IfOk result (AsksOptions (found_of found.now) (option_map (λ text. text.now) length.entry)) }
+    ensures given { HoldsOptions (found_of found.now) (option_map (λ text. text.now) length.entry) → IsOk result }
     ensures tolerance { IfOk result (λ options. IsTolerance options.tolerance) }
     ensures status { IfErr result IsBadLine }
 {
     let Some(tolerance) = number_in(found, "tolerance") else {
         return Err(wrong(alloc, texts::NO_COMMAND));
     };
-    let bytes = number_in(found, "length").unwrap_or(LENGTH);
+    let Some(bytes) = bytes_of(length) else {
+        return Err(wrong(alloc, texts::NOT_A_LENGTH));
+    };
     options_of(alloc, bytes, tolerance, flag_in(found, "strict"))
 }
 
@@ -183,64 +212,158 @@ fn overlaps_one(folders: &[&str], folder: &str) -> bool
     folders.iter().any(|other| overlap(other, folder))
 }
 
+/// The folder's path without the slash at its end with which a shell completes it.
+fn without_slash<'a>(folder: &'a str) -> &'a str
+    ensures { result.now ≡ without_slash folder.now }
+{
+    folder.strip_suffix('/').unwrap_or(folder)
+}
+
+/// The folders of an archive as they were given, each without the slash at its end.
+fn folders_named<'a>(alloc: Global, given: &[&'a str]) -> Result<Vec<&'a str>, AllocError>
+    ensures { IfOk result (λ folders. map (λ folder. folder.now) folders.items
+        ≡ map (λ folder. without_slash folder.now) given.now) }
+{
+    given
+        .iter()
+        .map(|folder| without_slash(*folder))
+        .collect(alloc)
+}
+
 /// The folders of an archive that are to be walked: paths of names, of which no two overlap.
 fn below_of<'a>(alloc: Global, given: &[&'a str]) -> Result<Vec<&'a str>, NoTask>
     ensures asked { IfOk result (λ below. map (λ folder. folder.now) below.items
-        ≡ map (λ folder. folder.now) given.now) }
+        ≡ map (λ folder. without_slash folder.now) given.now) }
     ensures apart { IfOk result (λ below. AreApart (map (λ folder. folder.now) below.items)) }
     ensures status { IfErr result IsBadLine }
 {
-    for place in 0..given.len() {
-        if levels_below(given[place]).is_none() {
+    let folders = folders_named(alloc, given)?;
+    let below = folders.as_slice();
+    for place in 0..below.len() {
+        if levels_below(below[place]).is_none() {
             return Err(wrong(alloc, texts::NOT_BELOW));
         }
-        if overlaps_one(&given[..place], given[place]) {
+        if overlaps_one(&below[..place], below[place]) {
             return Err(wrong(alloc, texts::OVERLAP));
         }
     }
-    match given.to_vec(alloc) {
-        Ok(below) => Ok(below),
-        Err(AllocError) => Err(NoTask::Memory),
+    Ok(folders)
+}
+
+fn below_in<'a>(alloc: Global, found: &ArgMatches<'a>) -> Result<Vec<&'a str>, NoTask>
+    ensures asked { IfOk result (λ below. AsksBelow (found_of found.now) (map (λ folder. folder.now) below.items)) }
+    ensures apart { IfOk result (λ below. AreApart (map (λ folder. folder.now) below.items)) }
+    ensures status { IfErr result IsBadLine }
+{
+    let Some(given) = found.get_strs("below") else {
+        return Ok(Vec::new(alloc));
+    };
+    let below = below_of(alloc, given)?;
+    Ok(below)
+}
+
+/// What is asked of the days of an archive, with these options.
+fn days_with(found: &ArgMatches<'_>, options: Options, same_length: bool) -> DayOptions
+    ensures asked { AsksFlags (found_of found.now) result }
+    ensures options { (result.options ≡ options) × (result.same_length ≡ same_length) }
+{
+    DayOptions {
+        options,
+        same_length,
+        resume: flag_in(found, "resume"),
+        check: flag_in(found, "check"),
+        only_smaller: flag_in(found, "only-smaller"),
+        bytes: flag_in(found, "bytes"),
     }
 }
 
-fn walking_in<'a>(alloc: Global, found: &ArgMatches<'a>) -> Result<Walking<'a>, NoTask>
-    ensures asked { IfOk result (AsksWalking (found_of found.now)) }
-    ensures apart { IfOk result (λ walking. AreApart (map (λ folder. folder.now) walking.below.items)) }
+/// What is asked of the days of an archive. If each is to have the length of its first record, that of the options is
+/// the one without a text.
+fn days_in(alloc: Global, found: &ArgMatches<'_>) -> Result<DayOptions, NoTask>
+    ensures asked { IfOk result (AsksDays (found_of found.now)) }
+    ensures tolerance { IfOk result (λ days. IsTolerance days.options.tolerance) }
     ensures status { IfErr result IsBadLine }
 {
-    let below = match found.get_strs("below") {
-        Some(given) => below_of(alloc, given)?,
-        None => Vec::new(alloc),
-    };
-    Ok(Walking {
-        below,
-        resume: flag_in(found, "resume"),
-        check: flag_in(found, "check"),
-    })
+    let length = found.get_str("length");
+    if is_same(length) {
+        let options = options_in(alloc, found, None)?;
+        return Ok(days_with(found, options, true));
+    }
+    let options = options_in(alloc, found, length)?;
+    Ok(days_with(found, options, false))
+}
+
+/// Whether no two of the folders overlap.
+fn stand_apart(folders: Folders<'_>) -> bool
+    ensures { IsTrue result ↔ StandApart folders.entry }
+{
+    let Folders { root, out, reports } = folders;
+    !(overlap(root, out) || overlap(root, reports) || overlap(out, reports))
 }
 
 /// An archive to be repacked, exactly if no two folders overlap.
 fn archiving_of<'a>(
     alloc: Global,
-    options: Options,
     folders: Folders<'a>,
-    walking: Walking<'a>,
+    below: Vec<&'a str>,
+    days: DayOptions,
 ) -> Result<Archiving<'a>, NoTask>
     ensures ok { IsOk result ↔ StandApart folders.entry }
-    ensures asked { IfOk result (λ asked. (asked.options ≡ options) × (asked.folders ≡ folders.entry)
-        × (asked.walking ≡ walking.entry)) }
+    ensures asked { IfOk result (λ asked. (asked.folders ≡ folders.entry)
+        × (asked.below ≡ below.entry) × (asked.days ≡ days)) }
     ensures status { IfErr result IsBadLine }
 {
-    let Folders { root, out, reports } = folders;
-    if overlap(root, out) || overlap(root, reports) || overlap(out, reports) {
+    if !stand_apart(folders) {
         return Err(wrong(alloc, texts::OVERLAP));
     }
     Ok(Archiving {
-        options,
         folders,
-        walking,
+        below,
+        days,
     })
+}
+
+/// The archive that clap found.
+fn archiving_in<'a>(alloc: Global, found: &ArgMatches<'a>) -> Result<Archiving<'a>, NoTask>
+    ensures asked { IfOk result (AsksArchive (found_of found.now)) }
+    ensures tolerance { IfOk result (λ asked. IsTolerance asked.days.options.tolerance) }
+    ensures apart { IfOk result (λ asked. StandApart asked.folders) }
+    ensures status { IfErr result IsBadLine }
+{
+    let days = days_in(alloc, found)?;
+    let below = below_in(alloc, found)?;
+    match folders_in(found) {
+        Some(folders) => archiving_of(alloc, folders, below, days),
+        None => Err(wrong(alloc, texts::NO_COMMAND)),
+    }
+}
+
+/// The value of this name.
+fn given<'a>(alloc: Global, found: &ArgMatches<'a>, name: &str) -> Result<&'a str, NoTask>
+    ensures asked { IfOk result (λ text. first_value (found_of found.now) name.now ≡ Some text.now) }
+    ensures given { IsSome (first_value (found_of found.now) name.now) → IsOk result }
+    ensures status { IfErr result IsBadLine }
+{
+    match found.get_str(name) {
+        Some(text) => Ok(text),
+        None => Err(wrong(alloc, texts::NO_COMMAND)),
+    }
+}
+
+/// The file to be repacked that clap found.
+fn repacking_in<'a>(
+    alloc: Global,
+    options: Options,
+    found: &ArgMatches<'a>,
+) -> Result<Repacking<'a>, NoTask>
+    ensures asked { IfOk result (λ asked. (asked.options ≡ options)
+        × (first_value (found_of found.now) (codes "IN") ≡ Some asked.input.now)
+        × (first_value (found_of found.now) (codes "OUT") ≡ option_map (λ name. name.now) asked.output)) }
+    ensures keeps_input { IfOk result (λ asked. IfSome asked.output (λ name. name.now ≢ asked.input.now)) }
+    ensures status { IfErr result IsBadLine }
+{
+    let input = given(alloc, found, "IN")?;
+    repacking_of(alloc, options, input, found.get_str("OUT"))
 }
 
 /// What clap found. It lets no line through without a command, its inputs and numbers in their ranges.
@@ -270,29 +393,20 @@ fn task_in<'a>(alloc: Global, name: &str, found: &ArgMatches<'a>) -> Result<Task
             None => Err(wrong(alloc, texts::NO_COMMAND)),
         };
     }
-    let options = options_in(alloc, found)?;
     if name == "archive" {
-        let walking = walking_in(alloc, found)?;
-        return match folders_in(found) {
-            Some(folders) => Ok(Task::Archive(archiving_of(alloc, options, folders, walking)?)),
-            None => Err(wrong(alloc, texts::NO_COMMAND)),
-        };
+        return Ok(Task::Archive(archiving_in(alloc, found)?));
     }
+    let options = options_in(alloc, found, found.get_str("length"))?;
     if name == "feed" {
-        return match found.get_str("REPORT") {
-            Some(report) => Ok(Task::Feed(Feeding { options, report })),
-            None => Err(wrong(alloc, texts::NO_COMMAND)),
-        };
+        let report = given(alloc, found, "REPORT")?;
+        return Ok(Task::Feed(Feeding { options, report }));
     }
-    let Some(input) = found.get_str("IN") else {
-        return Err(wrong(alloc, texts::NO_COMMAND));
-    };
     if name == "list" {
+        let input = given(alloc, found, "IN")?;
         return Ok(Task::List(Listing { options, input }));
     }
     if name == "repack" {
-        let output = found.get_str("OUT");
-        return Ok(Task::Repack(repacking_of(alloc, options, input, output)?));
+        return Ok(Task::Repack(repacking_in(alloc, options, found)?));
     }
     Err(wrong(alloc, texts::NO_COMMAND))
 }

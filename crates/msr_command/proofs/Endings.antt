@@ -12,7 +12,7 @@ use Rattle.msr_tool.specs.Listing.{ListAnswers}
 use Rattle.msr_tool.specs.Tasks.{Reports, Tells, VerdictAnswers}
 use Rattle.msr_tool.specs.declared.fault.ToolFault.{ToolFault}
 use Rattle.msr_tool.specs.declared.fault.ToolFault.TheVariants as fault
-use Rattle.msr_walk.specs.Day.{Asked}
+use Rattle.msr_days.specs.declared.DayOptions.{DayOptions}
 use Rattle.msr_walk.specs.Walk.{IsWalk, Walks}
 use Rattle.msr_walk.proofs.EntriesTold.{part_none, stops_entries, walk_stops}
 use Rattle.msr_command.specs.declared.done.Done.{Done}
@@ -21,7 +21,7 @@ use Rattle.msr_command.specs.declared.task_fault.TaskFault.{TaskFault}
 use Rattle.msr_command.specs.declared.task_fault.TaskFault.TheVariants.{CannotOpen, SameFile, SameOutput, Overlap, Closed, Tool}
 use Rattle.msr_arguments.specs.declared.task.Task.{Task}
 use Rattle.msr_arguments.specs.declared.task.Task.TheVariants.{Repack, List as Listing, Check, Archive, Feed}
-use Rattle.msr_command.specs.Ends.{Checks, Does, Ends, EndsClosed, Feeds, FeedAnswers, FeedEnds, FeedsTo, IfChecked, IfWritten, IsUncreated, IsUnread, ListEnds, ListsNamed, Over, RepackEnds, Repacks, RepacksNamed, StopsRecords, StopsReport, WalksArchive, WritesList, WritesRecords, WritesReport, days_asked}
+use Rattle.msr_command.specs.Ends.{Checks, Does, Ends, EndsClosed, Feeds, FeedAnswers, FeedEnds, FeedsTo, IfChecked, IfWritten, IsUncreated, IsUnread, ListEnds, ListsNamed, Over, RepackEnds, Repacks, RepacksNamed, StopsRecords, StopsReport, WalksArchive, WritesList, WritesRecords, WritesReport}
 
 -- nothing was read or printed
 over_none : (known : Type 0) (says : (input printed : List ℕ) → Type 0) (source out0 out : Device) → Takes out0 out [] →
@@ -223,20 +223,20 @@ check_stops packed report out0 out why does = record {
   ends = does.answers;
 }
 
-pub archive_done : (asked : Asked) (out0 out : Device) (refused : Bool) → Walks asked out0 out (Ok refused) →
+pub archive_done : (asked : DayOptions) (out0 out : Device) (refused : Bool) → Walks asked out0 out (Ok refused) →
     WalksArchive asked out0 out (Ok (Walked refused))
 archive_done asked out0 out refused does = record { printed = does.printed; prints = does.prints; ends = does.ends }
 
-pub archive_stops : (asked : Asked) (out0 out : Device) (why : ToolFault) → Walks asked out0 out (Err why) →
+pub archive_stops : (asked : DayOptions) (out0 out : Device) (why : ToolFault) → Walks asked out0 out (Err why) →
     WalksArchive asked out0 out (Err (Tool why))
 archive_stops asked out0 out why does = record { printed = does.printed; prints = does.prints; ends = does.ends }
 
 -- folders overlap
-pub archive_overlaps : (asked : Asked) (out : Device) → WalksArchive asked out out (Err Overlap)
+pub archive_overlaps : (asked : DayOptions) (out : Device) → WalksArchive asked out out (Err Overlap)
 archive_overlaps asked out = record { printed = []; prints = takes_none out; ends = (tt, refl) }
 
 -- memory was refused before the walk began
-pub archive_unbegun : (asked : Asked) (out : Device) → WalksArchive asked out out (Err (Tool fault.Memory))
+pub archive_unbegun : (asked : DayOptions) (out : Device) → WalksArchive asked out out (Err (Tool fault.Memory))
 archive_unbegun asked out = archive_stops asked out out fault.Memory
     (walk_stops asked out out fault.Memory
     (stops_entries asked out out fault.Memory (part_none asked out, (calm_same out).steady)))
@@ -296,7 +296,7 @@ task_unsettled (Check asked) standard out0 out (Walked refused) does = absurd do
 task_unsettled (Archive asked) standard out0 out Written does = absurd does.ends
 task_unsettled (Archive asked) standard out0 out (Checked verdict) does = absurd does.ends
 task_unsettled (Archive asked) standard out0 out (Walked refused) does =
-    let P : List ℕ → Type 0 = λ text. IsWalk (days_asked asked) text does.ends.0 in
+    let P : List ℕ → Type 0 = λ text. IsWalk asked.days text does.ends.0 in
     record {
       printed = does.printed;
       prints = does.prints;

@@ -5,19 +5,18 @@ use Rattle.msr_devices.specs.Device.{Device, CountsError, HasFailed, HasLeft, Ta
 use Rattle.msr_base.specs.declared.counts.Counts.{Counts}
 use Rattle.msr_report.specs.declared.report.Report.{Report}
 use Rattle.msr_options.specs.Choice.{Choice}
+use Rattle.msr_days.specs.declared.DayOptions.{DayOptions}
 use Rattle.msr_tool.specs.Settings.{settings_of}
 use Rattle.msr_tool.specs.Listing.{IsListed, ListAnswers}
 use Rattle.msr_tool.specs.Tasks.{IsReported, ReportAnswers, VerdictAnswers}
 use Rattle.msr_verdict.specs.declared.verdict.Verdict.{Verdict}
 use Rattle.msr_verdict.specs.declared.verdict.Verdict.TheVariants.{Least, NotShown}
 use Rattle.msr_tool.specs.declared.fault.ToolFault.{ToolFault}
-use Rattle.msr_walk.specs.Day.{Asked}
 use Rattle.msr_walk.specs.Walk.{WalkEnds}
 use Rattle.msr_command.specs.declared.done.Done.{Done}
 use Rattle.msr_command.specs.declared.done.Done.TheVariants.{Written, Checked, Walked}
 use Rattle.msr_command.specs.declared.task_fault.TaskFault.{TaskFault}
 use Rattle.msr_command.specs.declared.task_fault.TaskFault.TheVariants.{CannotOpen, SameFile, SameOutput, Overlap, Closed, Tool}
-use Rattle.msr_arguments.specs.declared.task.Archiving.{Archiving}
 use Rattle.msr_arguments.specs.declared.task.NoTask.{NoTask}
 use Rattle.msr_arguments.specs.declared.task.NoTask.TheVariants.{Ending, Memory}
 use Rattle.msr_arguments.specs.declared.task.Task.{Task}
@@ -185,17 +184,13 @@ pub record Checks (out0 out : Device) (result : Result Done TaskFault) : Type 0 
   pub prints : Takes out0 out printed
   pub ends : CheckEnds input text printed result
 
--- what is asked of each day of an archive
-abbrev pub days_asked : Archiving → Asked
-days_asked asked = record { choice = asked.options; resume = asked.walking.resume; check = asked.walking.check }
-
-abbrev pub ArchiveEnds : Asked → (printed : List ℕ) → Result Done TaskFault → Type 0
+abbrev pub ArchiveEnds : DayOptions → (printed : List ℕ) → Result Done TaskFault → Type 0
 ArchiveEnds asked printed result =
     Ends (IfWalked (λ refused. WalkEnds asked printed (Ok refused))) IsOverlap
     (λ fault. WalkEnds asked printed (Err fault)) printed result
 
 -- Walking an archive, and what was printed.
-pub record WalksArchive (asked : Asked) (out0 out : Device) (result : Result Done TaskFault) : Type 0 where
+pub record WalksArchive (asked : DayOptions) (out0 out : Device) (result : Result Done TaskFault) : Type 0 where
   pub printed : List ℕ
   pub prints : Takes out0 out printed
   pub ends : ArchiveEnds asked printed result
@@ -224,7 +219,7 @@ abbrev pub Does : Task → (standard out0 out : Device) → Result Done TaskFaul
 Does (Repack asked) standard out0 out result = RepacksNamed asked.options asked.input.now standard out0 out result
 Does (Listing asked) standard out0 out result = ListsNamed asked.options asked.input.now standard out0 out result
 Does (Check asked) standard out0 out result = Checks out0 out result
-Does (Archive asked) standard out0 out result = WalksArchive (days_asked asked) out0 out result
+Does (Archive asked) standard out0 out result = WalksArchive asked.days out0 out result
 Does (Feed asked) standard out0 out result = Feeds asked.options standard out0 out result
 
 -- The words ask for a task, with none for the default, and it ended with this status.

@@ -1,7 +1,7 @@
 //! The tasks of the program, over the system's files, and over any source and sink in the place of standard input and
 //! output.
 ghost use Rattle.msr_devices.specs.Device.{CanCountCall};
-ghost use Rattle.msr_command.specs.Ends.{days_asked, Checks, Does, EndsClosed, Feeds, FeedsTo, ListsNamed, OpensOutput, Repacks, RepacksNamed, WalksArchive};
+ghost use Rattle.msr_command.specs.Ends.{Checks, Does, EndsClosed, Feeds, FeedsTo, ListsNamed, OpensOutput, Repacks, RepacksNamed, WalksArchive};
 
 use crate::done::Done;
 use crate::files::{
@@ -268,16 +268,19 @@ fn repack_archive<'a, R: Files, O: Sink>(
 where
     R::File: LockFile,
     requires output { CanCountCall (O.device output.old) }
-    ensures { WalksArchive (days_asked asked.entry) (O.device output.old) (O.device output.new) result }
+    ensures { WalksArchive asked.entry.days (O.device output.old) (O.device output.new) result }
 {
+    let Archiving {
+        folders,
+        below,
+        days,
+    } = asked;
     let archive = Archive {
-        root: asked.folders.root,
-        out: asked.folders.out,
-        reports: asked.folders.reports,
-        options: asked.options,
-        below: asked.walking.below.as_slice(),
-        resume: asked.walking.resume,
-        check: asked.walking.check,
+        root: folders.root,
+        out: folders.out,
+        reports: folders.reports,
+        below: below.as_slice(),
+        days,
     };
     match folders_overlap(rt, alloc, &archive) {
         Ok(true) => return Err(TaskFault::Overlap),

@@ -1,14 +1,18 @@
 -- The lines of the channels, one after another.
-use Rattle.std.proofs.Common.{◌≡◌, ℕ, ◌+◌, List, [], ◌∷◌, ◌++◌, ◌∙◌, refl, ap, sym, append_assoc, take, drop, Some}
-use Rattle.std.proofs.lemmas.List.{append-nil, take-append-drop, take_more}
-use Rattle.std.proofs.lemmas.Option.{slice_get_within, get_or_from_slice_get}
+use Rattle.std.proofs.Common.{◌≡◌, ◌⊎◌, ◌≤◌, inl, inr, ℕ, zero, suc, ◌+◌, arith, List, [], ◌∷◌, ◌++◌, ◌∙◌, refl, ap, sym, append_assoc, length, map, take, drop, None, Some}
+use Rattle.std.proofs.lemmas.List.{append-nil, length-map, take-append-drop, take_all, take_more}
+use Rattle.std.proofs.lemmas.Option.{slice_get_cases, slice_get_within, get_or_from_slice_get}
+use Rattle.std.proofs.lemmas.Slice.Zip.{length-zip}
 use Rattle.std.proofs.lemmas.Grind.{flat_map-append}
 use Rattle.std.specs.List.{flat_map, slice_get}
+use Rattle.std.specs.Option.{option_map}
 use Rattle.msr_devices.specs.Device.{Device, Takes}
 use Rattle.msr_devices.proofs.Chaining.{takes_append}
+use Rattle.msr_days.specs.declared.DayOptions.{DayOptions}
 use Rattle.msr_report.specs.Writing.{TakesPrefix}
 use Rattle.msr_walk.specs.Entries.{Entry, IsTally}
-use Rattle.msr_walk.specs.Walk.{channel_line, counts_line, summary}
+use Rattle.msr_totals.specs.declared.Total.{Total}
+use Rattle.msr_walk.specs.Walk.{summary, tally_lines, with_bytes}
 use Rattle.msr_walk.specs.declared.tally.Tally.{Tally}
 
 -- the lines up to a place, and the line at the place
@@ -83,6 +87,36 @@ pub front_all : (old new : Device) (first second : List ℕ) → Takes old new f
 front_all old new first second before = record { taken = first; rest = second; takes = before; whole = refl }
 
 -- the last lines, from the counts and totals of the entries
-pub summary_is : (entries : List Entry) (tally : Tally) → IsTally entries tally →
-    flat_map channel_line tally.channels ++ counts_line tally.done tally.skipped tally.refused ≡ summary entries
-summary_is entries tally h = rw (h.channels, h.done, h.skipped, h.refused) refl
+pub summary_is : (asked : DayOptions) (entries : List Entry) (tally : Tally) → IsTally entries tally →
+    tally_lines asked tally ≡ summary asked entries
+summary_is asked entries tally h =
+    rw (h.channels, h.bytes, h.done, h.skipped, h.refused, h.larger, h.bytes_read, h.bytes_written) refl
+
+-- a channel's totals with those of its bytes, which stand at the same place
+pub channel_at : (totals bytes : List (List ℕ × Total)) (place : ℕ) (one : List ℕ × Total) (size : Total) →
+    slice_get totals place ≡ Some one → option_map (λ total. total.1) (slice_get bytes place) ≡ Some size →
+    slice_get (with_bytes totals bytes) place ≡ Some (one, size)
+channel_at [] bytes place one size first second = absurd cc
+channel_at (t ∷ totals) [] place one size first second = absurd cc
+channel_at (t ∷ totals) (b ∷ bytes) zero one size first second = cc
+channel_at (t ∷ totals) (b ∷ bytes) (suc place) one size first second =
+    channel_at totals bytes place one size first second
+
+past_last : {X : Type 0} (xs : List X) (place : ℕ) → slice_get xs place ≡ None → length xs ≤ place
+past_last xs place none = elim (slice_get_cases xs place).1 [
+  | inl found ↦ absurd cc
+  | inr past ↦ past.0
+]
+
+-- past the last channel, or the last of bytes, there is none with both
+pub channels_end : (totals bytes : List (List ℕ × Total)) (place : ℕ) →
+    (slice_get totals place ≡ None) ⊎ (slice_get bytes place ≡ None) →
+    take place (with_bytes totals bytes) ≡ with_bytes totals bytes
+channels_end totals bytes place none =
+    let size : List ℕ × Total → Total = λ total. total.1 in
+    let count = length-zip totals (map size bytes) in
+    let sizes = length-map bytes size in
+    take_all place (with_bytes totals bytes) (elim none [
+      | inl first ↦ omega (arith, count, sizes, past_last totals place first)
+      | inr second ↦ omega (arith, count, sizes, past_last bytes place second)
+    ])

@@ -1,17 +1,20 @@
 -- Answers about days.
-use Rattle.std.proofs.Common.{ℕ, List, [], inr, Result, Ok, Err}
+use Rattle.std.proofs.Common.{◌≡◌, ℕ, refl, false, IfOk, List, [], inr, Result, Ok, Err}
 use Rattle.std.proofs.lemmas.List.{append-nil}
 use Rattle.msr_devices.specs.Device.{Device}
+use Rattle.msr_kinds.specs.declared.lengths.Length.{Length}
 use Rattle.msr_options.specs.Choice.{Choice}
+use Rattle.msr_days.specs.Days.{in_length}
 use Rattle.msr_tool.specs.Tasks.{Reports}
 use Rattle.msr_tool.specs.declared.fault.ToolFault.{ToolFault}
 use Rattle.msr_tool.specs.declared.fault.ToolFault.TheVariants as fault
-use Rattle.msr_walk.specs.Day.{Asked, RepacksDay, HasAnswer, IsDayOutcome, IsRepackedDay, IsShownIfAsked}
+use Rattle.msr_days.specs.declared.DayOptions.{DayOptions}
+use Rattle.msr_walk.specs.Day.{RepacksDay, HasAnswer, IsDayOutcome, IsOutcomeOfDay, IsRepackedDay, IsShownIfAsked}
 use Rattle.msr_walk.specs.Entries.{IsDayOf, IsOutcomeOf}
 use Rattle.msr_walk.specs.declared.outcome.Outcome.{Outcome}
-use Rattle.msr_walk.specs.declared.outcome.Outcome.TheVariants.{Done, Same, Skipped, Refused, NotShown as Unshown}
+use Rattle.msr_walk.specs.declared.outcome.Outcome.TheVariants.{Done, Same, Skipped, Refused, NotShown as Unshown, Larger as Grown}
 use Rattle.msr_walk.specs.declared.outcome.DayFault.{DayFault}
-use Rattle.msr_walk.specs.declared.outcome.DayFault.TheVariants.{CannotOpen, Gone, Listing, NotShown, Taken, Tool}
+use Rattle.msr_walk.specs.declared.outcome.DayFault.TheVariants.{CannotOpen, Gone, Listing, NotShown, Larger, Taken, Tool}
 use Rattle.msr_walk.specs.declared.outcome.Repacked.{Repacked}
 
 pub day_stops : (choice : Choice) (source records0 records text0 text : Device) (why : ToolFault) →
@@ -47,13 +50,14 @@ day_unsettled choice source records0 records text0 text repacked does = record {
 }
 
 -- what was written is not kept
-pub day_unkept : (asked : Asked) (source records0 records text0 text : Device) (repacked : Repacked) (why : DayFault) →
-    RepacksDay asked.choice source records0 records text0 text (Ok repacked) → IsShownIfAsked asked.check (Err why)
+pub day_unkept : (asked : DayOptions) (source records0 records text0 text : Device) (repacked : Repacked) (why : DayFault) →
+    RepacksDay asked.options source records0 records text0 text (Ok repacked) → IsShownIfAsked asked.check (Err why)
     → IsRepackedDay asked (Err why)
 day_unkept asked source records0 records text0 text repacked CannotOpen does is = tt
 day_unkept asked source records0 records text0 text repacked Gone does is = absurd is.1
 day_unkept asked source records0 records text0 text repacked Listing does is = absurd is.1
 day_unkept asked source records0 records text0 text repacked NotShown does is = record { check = is.0; unshown = is.1 }
+day_unkept asked source records0 records text0 text repacked (Larger counts) does is = absurd is.1
 day_unkept asked source records0 records text0 text repacked Taken does is = absurd is.1
 day_unkept asked source records0 records text0 text repacked (Tool why) does is = rw is.1 (record {
   input = does.input;
@@ -62,17 +66,38 @@ day_unkept asked source records0 records text0 text repacked (Tool why) does is 
   answers = inr (record { report = does.answers.report; rest = []; reported = rw append-nil does.answers.reported });
 })
 
+-- what becomes of a day for which this length is asked
+pub outcome_of_day : {E : Type 0} (days : DayOptions) (record_length : Length) (result : Result Outcome E) →
+    (days.same_length ≡ false → record_length ≡ days.options.record_length) →
+    IfOk result (IsDayOutcome (in_length record_length days)) → IfOk result (IsOutcomeOfDay days)
+outcome_of_day days record_length (Ok outcome) own is = record {
+  asked = in_length record_length days;
+  for_day = record { record_length = record_length; is = refl; own = own };
+  is = is;
+}
+outcome_of_day days record_length (Err e) own is = tt
+
+-- of a day of which nothing is touched
+pub untouched : (days : DayOptions) → IsOutcomeOfDay days (Refused CannotOpen)
+untouched days = record {
+  asked = in_length days.options.record_length days;
+  for_day = record { record_length = days.options.record_length; is = refl; own = λ same. refl };
+  is = tt;
+}
+
 -- what becomes of a day, told of an entry with its path
-pub outcome_of : (asked : Asked) (path channel : List ℕ) (outcome : Outcome) → IsDayOf path channel
-    → IsDayOutcome asked outcome →
+pub outcome_of : (asked : DayOptions) (path channel : List ℕ) (outcome : Outcome) → IsDayOf path channel
+    → IsOutcomeOfDay asked outcome →
     IsOutcomeOf asked path channel outcome
-outcome_of asked path channel (Done repacked) day is = (day, is)
-outcome_of asked path channel (Same repacked) day is = (day, is)
-outcome_of asked path channel (Skipped fault) day is = absurd is
+outcome_of asked path channel (Done repacked) day is = record { day = day; outcome_is = is }
+outcome_of asked path channel (Same repacked) day is = record { day = day; outcome_is = is }
+outcome_of asked path channel (Skipped fault) day is = absurd is.is
 outcome_of asked path channel (Refused CannotOpen) day is = day
-outcome_of asked path channel (Refused Gone) day is = absurd is
-outcome_of asked path channel (Refused Listing) day is = absurd is
-outcome_of asked path channel (Refused NotShown) day is = absurd is
+outcome_of asked path channel (Refused Gone) day is = absurd is.is
+outcome_of asked path channel (Refused Listing) day is = absurd is.is
+outcome_of asked path channel (Refused NotShown) day is = absurd is.is
+outcome_of asked path channel (Refused (Larger repacked)) day is = absurd is.is
 outcome_of asked path channel (Refused Taken) day is = day
-outcome_of asked path channel (Refused (Tool why)) day is = (day, is)
-outcome_of asked path channel Unshown day is = (day, is)
+outcome_of asked path channel (Refused (Tool why)) day is = record { day = day; outcome_is = is }
+outcome_of asked path channel Unshown day is = record { day = day; outcome_is = is }
+outcome_of asked path channel (Grown repacked) day is = record { day = day; outcome_is = is }

@@ -1,41 +1,46 @@
 -- What is said of a day file that was repacked, or refused.
-use Rattle.std.specs.Prelude.{◌≡◌, ◌≢◌, ℕ, ⊤, Bool, IsTrue, List, Result, Ok, Err}
+use Rattle.std.specs.Prelude.{◌≡◌, ◌≢◌, ◌<◌, ◌*◌, ℕ, ⊤, Bool, false, IsTrue, List, Result, Ok, Err}
 use Rattle.msr_devices.specs.Device.{Device, HasLeft, Takes}
 use Rattle.msr_certificate.specs.Reading.{IsReadFrom}
 use Rattle.msr_report.specs.Proper.{records_of}
 use Rattle.msr_report.specs.declared.report.Report.{Report}
 use Rattle.msr_tool.specs.Checking.{CheckAnswers, IsChecked}
 use Rattle.msr_options.specs.Choice.{Choice, size_of}
+use Rattle.msr_days.specs.Days.{in_length}
+use Rattle.msr_days.specs.declared.DayOptions.{DayOptions}
 use Rattle.msr_tool.specs.Tasks.{IsReported, ReportAnswers}
 use Rattle.msr_tool.specs.declared.fault.ToolFault.{ToolFault}
 use Rattle.msr_tool.specs.declared.fault.ToolFault.TheVariants.{Memory}
 use Rattle.msr_verdict.specs.declared.verdict.Verdict.{Verdict}
 use Rattle.msr_verdict.specs.declared.verdict.Verdict.TheVariants.{Least}
 use Rattle.msr_kinds.specs.Lengths.{bytes_of}
-use Rattle.msr_walk.specs.declared.folders.Archive.{Archive}
+use Rattle.msr_kinds.specs.declared.lengths.Length.{Length}
+use Rattle.msr_totals.specs.Totals.{saturated}
 use Rattle.msr_walk.specs.declared.outcome.Outcome.{Outcome}
-use Rattle.msr_walk.specs.declared.outcome.Outcome.TheVariants.{Done, Same, Skipped, Refused, NotShown as Unshown}
+use Rattle.msr_walk.specs.declared.outcome.Outcome.TheVariants.{Done, Same, Skipped, Refused, NotShown as Unshown, Larger as Grown}
 use Rattle.msr_walk.specs.declared.outcome.DayFault.{DayFault}
-use Rattle.msr_walk.specs.declared.outcome.DayFault.TheVariants.{CannotOpen, Gone, Listing, NotShown, Taken, Tool}
+use Rattle.msr_walk.specs.declared.outcome.DayFault.TheVariants.{CannotOpen, Gone, Listing, NotShown, Larger, Taken, Tool}
 use Rattle.msr_walk.specs.declared.outcome.Repacked.{Repacked}
 
--- What is asked of each day of an archive: the length and the tolerance; whether what an earlier walk did is left
--- alone; whether records are held against their report before they are kept.
-pub record Asked : Type 0 where
-  pub choice : Choice
-  pub resume : Bool
-  pub check : Bool
+-- What is asked of one day: what is of all, but for the length if each day's own is asked for.
+pub record IsForDay (days asked : DayOptions) : Type 0 where
+  pub record_length : Length
+  pub is : asked ≡ in_length record_length days
+  pub own : days.same_length ≡ false → record_length ≡ days.options.record_length
 
-abbrev pub asked_of : Archive → Asked
-asked_of archive = record { choice = archive.options; resume = archive.resume; check = archive.check }
+-- the bytes that were written are those of the records that were, or the greatest number of 64 bits if they are more
+abbrev pub HasBytesWritten : Choice → Repacked → Type 0
+HasBytesWritten choice repacked = repacked.bytes_written ≡ saturated (repacked.written * size_of choice)
 
 -- The input was repacked, what was told is the text of its report, and the counts are those of this report: the
--- records that were read, and those that were written.
+-- records that were read, and those that were written, and their bytes. How many bytes were read is what the source
+-- counted.
 pub record IsCounted (choice : Choice) (input records told : List ℕ) (repacked : Repacked) : Type 0 where
   pub report : Report
   pub reported : IsReported choice input records told report
   pub read : repacked.read ≡ report.counts.read
   pub written : repacked.written ≡ records_of report.segments.items
+  pub bytes : HasBytesWritten choice repacked
 
 -- what an answer says of the input, of the records that were written, and of the text of the report
 abbrev pub CountAnswers : Choice → (input written told : List ℕ) → Result Repacked ToolFault → Type 0
@@ -81,6 +86,7 @@ IsUnkept Gone = ⊥
 IsUnkept Listing = ⊥
 IsUnkept NotShown = IsUnshown
 IsUnkept Taken = ⊥
+IsUnkept (Larger repacked) = ⊥
 IsUnkept (Tool fault) = fault ≡ Memory
 
 -- what holding records against their report answers
@@ -93,29 +99,43 @@ abbrev pub IsShownIfAsked : Bool → Result (Unit {0}) DayFault → Type 0
 IsShownIfAsked check (Ok done) = IsTrue check → WasShown
 IsShownIfAsked check (Err refusal) = IsTrue check × IsUnkept refusal
 
--- Some input was repacked with these counts, and if that is asked for, what was written was shown to be the fewest.
-pub record IsDone (asked : Asked) (repacked : Repacked) : Type 0 where
-  pub answer : HasAnswer asked.choice (Ok repacked)
+-- the bytes that were written are fewer than those that were read
+abbrev pub GotSmaller : Repacked → Type 0
+GotSmaller repacked = repacked.bytes_written < repacked.bytes_read
+
+-- Some input was repacked with these counts, and if that is asked for, what was written was shown to be the fewest, and
+-- is smaller than what was read.
+pub record IsDone (asked : DayOptions) (repacked : Repacked) : Type 0 where
+  pub answer : HasAnswer asked.options (Ok repacked)
   pub shown : IsTrue asked.check → WasShown
+  pub smaller : IsTrue asked.only_smaller → GotSmaller repacked
+
+-- Some input was repacked with these counts, it was asked for that only what gets smaller is kept, and it did not.
+pub record IsLarger (asked : DayOptions) (repacked : Repacked) : Type 0 where
+  pub answer : HasAnswer asked.options (Ok repacked)
+  pub only_smaller : IsTrue asked.only_smaller
+  pub larger : ¬ (GotSmaller repacked)
 
 -- It was asked for that what is written is shown, and it was not.
-pub record IsNotShown (asked : Asked) : Type 0 where
+pub record IsNotShown (asked : DayOptions) : Type 0 where
   pub check : IsTrue asked.check
   pub unshown : IsUnshown
 
 -- what an answer says of a day file; nothing is known of the files of the system but that they have some bytes
-abbrev pub IsRepackedDay : Asked → Result Repacked DayFault → Type 0
+abbrev pub IsRepackedDay : DayOptions → Result Repacked DayFault → Type 0
 IsRepackedDay asked (Ok repacked) = IsDone asked repacked
 IsRepackedDay asked (Err CannotOpen) = ⊤
 IsRepackedDay asked (Err Gone) = ⊥
 IsRepackedDay asked (Err Listing) = ⊥
 IsRepackedDay asked (Err NotShown) = IsNotShown asked
+IsRepackedDay asked (Err (Larger repacked)) = IsLarger asked repacked
 IsRepackedDay asked (Err Taken) = ⊤
-IsRepackedDay asked (Err (Tool fault)) = HasAnswer asked.choice (Err fault)
+IsRepackedDay asked (Err (Tool fault)) = HasAnswer asked.options (Err fault)
 
--- Some text is that of a report of these options, and the counts are those of this report. A report says no strictness:
--- if reading is strict it counts no record whose reverse constant does not agree, as that of a strict repack does.
-pub record IsKept (choice : Choice) (repacked : Repacked) : Type 0 where
+-- Some text is that of a report of these options, and the counts are those of this report, with the bytes of the records
+-- that it counts. A report says no strictness: if reading is strict it counts no record whose reverse constant does not
+-- agree, as that of a strict repack does.
+pub record IsReportKept (choice : Choice) (repacked : Repacked) : Type 0 where
   pub text : List ℕ
   pub report : Report
   pub reads : IsReadFrom report text
@@ -124,14 +144,20 @@ pub record IsKept (choice : Choice) (repacked : Repacked) : Type 0 where
   pub agree : IsTrue choice.strict → report.counts.mismatched ≡ 0
   pub read : repacked.read ≡ report.counts.read
   pub written : repacked.written ≡ records_of report.segments.items
+  pub bytes : HasBytesWritten choice repacked
+
+-- What an earlier walk left is of these options, and smaller than what was read if that is asked for.
+pub record IsKept (asked : DayOptions) (repacked : Repacked) : Type 0 where
+  pub report : IsReportKept asked.options repacked
+  pub smaller : IsTrue asked.only_smaller → GotSmaller repacked
 
 -- It was asked for that days are left alone that an earlier walk did, and this one is kept.
-pub record IsSame (asked : Asked) (repacked : Repacked) : Type 0 where
+pub record IsSame (asked : DayOptions) (repacked : Repacked) : Type 0 where
   pub resume : IsTrue asked.resume
-  pub kept : IsKept asked.choice repacked
+  pub kept : IsKept asked repacked
 
--- what an outcome says of a day file
-abbrev pub IsDayOutcome : Asked → Outcome → Type 0
+-- what an outcome says of a day file of which this is asked
+abbrev pub IsDayOutcome : DayOptions → Outcome → Type 0
 IsDayOutcome asked (Done repacked) = IsDone asked repacked
 IsDayOutcome asked (Same repacked) = IsSame asked repacked
 IsDayOutcome asked (Skipped fault) = ⊥
@@ -139,6 +165,14 @@ IsDayOutcome asked (Refused CannotOpen) = ⊤
 IsDayOutcome asked (Refused Gone) = ⊥
 IsDayOutcome asked (Refused Listing) = ⊥
 IsDayOutcome asked (Refused NotShown) = ⊥
+IsDayOutcome asked (Refused (Larger repacked)) = ⊥
 IsDayOutcome asked (Refused Taken) = ⊤
-IsDayOutcome asked (Refused (Tool fault)) = HasAnswer asked.choice (Err fault)
+IsDayOutcome asked (Refused (Tool fault)) = HasAnswer asked.options (Err fault)
 IsDayOutcome asked Unshown = IsNotShown asked
+IsDayOutcome asked (Grown repacked) = IsLarger asked repacked
+
+-- What an outcome says of a day of an archive of whose days this is asked.
+pub record IsOutcomeOfDay (days : DayOptions) (outcome : Outcome) : Type 0 where
+  pub asked : DayOptions
+  pub for_day : IsForDay days asked
+  pub is : IsDayOutcome asked outcome

@@ -1,17 +1,19 @@
 -- The entries of a walk: what became of each, its line, and what they sum up to.
-use Rattle.std.specs.Prelude.{◌≡◌, ℕ, ⊤, Bool, true, false, List, [], ◌∷◌, ◌++◌, codes, Err}
+use Rattle.std.specs.Prelude.{◌≡◌, ◌+◌, ℕ, ⊤, Bool, true, false, List, [], ◌∷◌, ◌++◌, map, codes}
 use Rattle.std.specs.Fmt.{decimal}
-use Rattle.std.specs.List.{count_by, flat_map}
+use Rattle.std.specs.List.{count_by, flat_map, sum_by}
 use Rattle.msr_sds.specs.SdsPath.{SdsPath, ReadsAs, ReadsAsDay, IsWaveform, HasDate}
 use Rattle.msr_sds.specs.declared.SdsFault.{SdsFault}
 use Rattle.msr_sds.specs.declared.SdsFault.TheVariants.{NotSds, NotWaveform, BadDay}
 use Rattle.msr_totals.specs.Totals.{Add, saturated, totals_of}
 use Rattle.msr_totals.specs.declared.Total.{Total}
-use Rattle.msr_walk.specs.Day.{Asked, HasAnswer, IsDone, IsNotShown, IsSame}
+use Rattle.msr_days.specs.declared.DayOptions.{DayOptions}
+use Rattle.msr_walk.specs.Day.{IsOutcomeOfDay}
 use Rattle.msr_walk.specs.Paths.{channel_of, shown_path}
 use Rattle.msr_walk.specs.declared.outcome.Outcome.{Outcome}
-use Rattle.msr_walk.specs.declared.outcome.Outcome.TheVariants.{Done, Same, Skipped, Refused, NotShown as Unshown}
-use Rattle.msr_walk.specs.declared.outcome.DayFault.TheVariants.{CannotOpen, Gone, Listing, NotShown, Taken, Tool}
+use Rattle.msr_walk.specs.declared.outcome.Outcome.TheVariants.{Done, Same, Skipped, Refused, NotShown as Unshown, Larger as Grown}
+use Rattle.msr_walk.specs.declared.outcome.DayFault.TheVariants.{CannotOpen, Gone, Listing, NotShown, Larger, Taken, Tool}
+use Rattle.msr_walk.specs.declared.outcome.Repacked.{Repacked}
 use Rattle.msr_walk.specs.declared.tally.Tally.{Tally}
 
 -- an entry: its path from the archive's folder, and what became of it; of a day its channel too
@@ -32,41 +34,56 @@ IsNoDay path NotSds = (name : SdsPath) → ¬ (ReadsAs path name)
 IsNoDay path NotWaveform = (name : SdsPath) × ReadsAs path name × ¬ (IsWaveform name)
 IsNoDay path BadDay = (name : SdsPath) × ReadsAs path name × IsWaveform name × ¬ (HasDate name)
 
+-- the entry is a day, with this outcome
+pub record IsToldOfDay (asked : DayOptions) (path channel : List ℕ) (outcome : Outcome) : Type 0 where
+  pub day : IsDayOf path channel
+  pub outcome_is : IsOutcomeOfDay asked outcome
+
 -- what an outcome says of an entry
-abbrev pub IsOutcomeOf : Asked → (path channel : List ℕ) → Outcome → Type 0
-IsOutcomeOf asked path channel (Done repacked) = IsDayOf path channel × IsDone asked repacked
-IsOutcomeOf asked path channel (Same repacked) = IsDayOf path channel × IsSame asked repacked
+abbrev pub IsOutcomeOf : DayOptions → (path channel : List ℕ) → Outcome → Type 0
+IsOutcomeOf asked path channel (Done repacked) = IsToldOfDay asked path channel (Done repacked)
+IsOutcomeOf asked path channel (Same repacked) = IsToldOfDay asked path channel (Same repacked)
 IsOutcomeOf asked path channel (Skipped fault) = IsNoDay path fault
 IsOutcomeOf asked path channel (Refused CannotOpen) = IsDayOf path channel
 IsOutcomeOf asked path channel (Refused Gone) = ⊤
 IsOutcomeOf asked path channel (Refused Listing) = ⊤
 IsOutcomeOf asked path channel (Refused NotShown) = ⊥
+IsOutcomeOf asked path channel (Refused (Larger repacked)) = ⊥
 IsOutcomeOf asked path channel (Refused Taken) = IsDayOf path channel
-IsOutcomeOf asked path channel (Refused (Tool fault)) = IsDayOf path channel × HasAnswer asked.choice (Err fault)
-IsOutcomeOf asked path channel Unshown = IsDayOf path channel × IsNotShown asked
+IsOutcomeOf asked path channel (Refused (Tool fault)) = IsToldOfDay asked path channel (Refused (Tool fault))
+IsOutcomeOf asked path channel Unshown = IsToldOfDay asked path channel Unshown
+IsOutcomeOf asked path channel (Grown repacked) = IsToldOfDay asked path channel (Grown repacked)
 
-abbrev pub IsEntry : Asked → Entry → Type 0
+abbrev pub IsEntry : DayOptions → Entry → Type 0
 IsEntry asked entry = IsOutcomeOf asked entry.path entry.channel entry.outcome
 
--- The line of an entry. The texts of faults are shown by tests.
-abbrev pub IsLineOf : List ℕ → Outcome → List ℕ → Type 0
-IsLineOf path (Done repacked) line =
-    line ≡ codes "done " ++ (shown_path path ++ (codes " read "
-    ++ (decimal repacked.read ++ (codes " written " ++ (decimal repacked.written ++ codes "\n")))))
-IsLineOf path (Same repacked) line =
-    line ≡ codes "same " ++ (shown_path path ++ (codes " read "
-    ++ (decimal repacked.read ++ (codes " written " ++ (decimal repacked.written ++ codes "\n")))))
-IsLineOf path (Skipped fault) line = (why : List ℕ)
+-- what a line says of bytes that were read and written: nothing, unless that is asked for
+abbrev pub bytes_told : (told : Bool) → (read written : ℕ) → List ℕ
+bytes_told false read written = []
+bytes_told true read written = codes " bytes " ++ (decimal read ++ (codes " " ++ decimal written))
+
+-- the end of the line of a day with these counts
+abbrev pub counts_told : (bytes : Bool) → Repacked → List ℕ
+counts_told bytes repacked =
+    codes " read " ++ (decimal repacked.read ++ (codes " written " ++ (decimal repacked.written
+    ++ (bytes_told bytes repacked.bytes_read repacked.bytes_written ++ codes "\n"))))
+
+-- The line of an entry, with bytes or without. The texts of faults are shown by tests.
+abbrev pub IsLineOf : (bytes : Bool) → List ℕ → Outcome → List ℕ → Type 0
+IsLineOf bytes path (Done repacked) line = line ≡ codes "done " ++ (shown_path path ++ counts_told bytes repacked)
+IsLineOf bytes path (Same repacked) line = line ≡ codes "same " ++ (shown_path path ++ counts_told bytes repacked)
+IsLineOf bytes path (Skipped fault) line = (why : List ℕ)
     × (line ≡ codes "skipped " ++ (shown_path path ++ (codes ": " ++ (why ++ codes "\n"))))
-IsLineOf path (Refused refusal) line = (why : List ℕ)
+IsLineOf bytes path (Refused refusal) line = (why : List ℕ)
     × (line ≡ codes "refused " ++ (shown_path path ++ (codes ": " ++ (why ++ codes "\n"))))
-IsLineOf path Unshown line = line ≡ codes "notshown " ++ (shown_path path ++ codes "\n")
+IsLineOf bytes path Unshown line = line ≡ codes "notshown " ++ (shown_path path ++ codes "\n")
+IsLineOf bytes path (Grown repacked) line = line ≡ codes "larger " ++ (shown_path path ++ counts_told bytes repacked)
 
 -- a line for each entry, in order
-abbrev pub AreLines : List Entry → List ℕ → Type 0
-AreLines [] lines = lines ≡ []
-AreLines (entry ∷ entries) lines =
-    (line rest : List ℕ) × IsLineOf entry.path entry.outcome line × AreLines entries rest × (lines ≡ line ++ rest)
+abbrev pub AreLines : (bytes : Bool) → List Entry → List ℕ → Type 0
+AreLines bytes [] lines = lines ≡ []
+AreLines bytes (entry ∷ entries) lines = (line rest : List ℕ)
+    × IsLineOf bytes entry.path entry.outcome line × AreLines bytes entries rest × (lines ≡ line ++ rest)
 
 -- done in this walk or an earlier one
 abbrev pub is_done : Outcome → Bool
@@ -75,6 +92,7 @@ is_done (Same repacked) = true
 is_done (Skipped fault) = false
 is_done (Refused refusal) = false
 is_done Unshown = false
+is_done (Grown repacked) = false
 
 abbrev pub is_skipped : Outcome → Bool
 is_skipped (Done repacked) = false
@@ -82,6 +100,7 @@ is_skipped (Same repacked) = false
 is_skipped (Skipped fault) = true
 is_skipped (Refused refusal) = false
 is_skipped Unshown = false
+is_skipped (Grown repacked) = false
 
 -- refused, or not kept since it is not shown
 abbrev pub is_refused : Outcome → Bool
@@ -90,14 +109,40 @@ is_refused (Same repacked) = false
 is_refused (Skipped fault) = false
 is_refused (Refused refusal) = true
 is_refused Unshown = true
+is_refused (Grown repacked) = false
+
+-- not kept since it did not get smaller
+abbrev pub is_larger : Outcome → Bool
+is_larger (Done repacked) = false
+is_larger (Same repacked) = false
+is_larger (Skipped fault) = false
+is_larger (Refused refusal) = false
+is_larger Unshown = false
+is_larger (Grown repacked) = true
+
+-- the records of an entry that are counted: of what was done
+abbrev pub dones_of : Outcome → List Repacked
+dones_of (Done repacked) = repacked ∷ []
+dones_of (Same repacked) = repacked ∷ []
+dones_of (Skipped fault) = []
+dones_of (Refused refusal) = []
+dones_of Unshown = []
+dones_of (Grown repacked) = []
+
+-- what a day that was done adds to the totals of its channel, in records and in bytes
+abbrev pub add_of : (channel : List ℕ) → Repacked → Add
+add_of channel repacked = record { name = channel; read = repacked.read; written = repacked.written }
+
+abbrev pub add_of_bytes : (channel : List ℕ) → Repacked → Add
+add_of_bytes channel repacked =
+    record { name = channel; read = repacked.bytes_read; written = repacked.bytes_written }
 
 -- what an entry adds to the totals of the channels
-abbrev pub adds_of : (channel : List ℕ) → Outcome → List Add
-adds_of channel (Done repacked) = record { name = channel; read = repacked.read; written = repacked.written } ∷ []
-adds_of channel (Same repacked) = record { name = channel; read = repacked.read; written = repacked.written } ∷ []
-adds_of channel (Skipped fault) = []
-adds_of channel (Refused refusal) = []
-adds_of channel Unshown = []
+abbrev pub adds_of : Entry → List Add
+adds_of entry = map (add_of entry.channel) (dones_of entry.outcome)
+
+abbrev pub adds_of_bytes : Entry → List Add
+adds_of_bytes entry = map (add_of_bytes entry.channel) (dones_of entry.outcome)
 
 -- how many entries have such an outcome, or 2^64 - 1 if they are more
 abbrev pub counted : (Outcome → Bool) → List Entry → ℕ
@@ -105,11 +150,36 @@ counted of entries = saturated (count_by (λ entry. of entry.outcome) entries)
 
 -- the totals of the channels, in the order of their first files that were done
 abbrev pub channels_of : List Entry → List (List ℕ × Total)
-channels_of entries = totals_of (flat_map (λ entry. adds_of entry.channel entry.outcome) entries)
+channels_of entries = totals_of (flat_map adds_of entries)
+
+-- those of their bytes, in the same order
+abbrev pub bytes_of_channels : List Entry → List (List ℕ × Total)
+bytes_of_channels entries = totals_of (flat_map adds_of_bytes entries)
+
+-- the sum over all that was done, or 2^64 - 1 if it is more
+abbrev pub summed : (Add → ℕ) → List Entry → ℕ
+summed of entries = saturated (sum_by of (flat_map adds_of_bytes entries))
 
 -- The counts and totals of the entries.
 pub record IsTally (entries : List Entry) (tally : Tally) : Type 0 where
   pub done : tally.done ≡ counted is_done entries
   pub skipped : tally.skipped ≡ counted is_skipped entries
   pub refused : tally.refused ≡ counted is_refused entries
+  pub larger : tally.larger ≡ counted is_larger entries
   pub channels : tally.channels ≡ channels_of entries
+  pub bytes : tally.bytes ≡ bytes_of_channels entries
+  pub bytes_read : tally.bytes_read ≡ summed (λ add. add.read) entries
+  pub bytes_written : tally.bytes_written ≡ summed (λ add. add.written) entries
+
+-- What one day more that was done changes, whatever was counted before.
+pub record AddsDone (channel : List ℕ) (repacked : Repacked) (tally0 tally : Tally) : Type 0 where
+  pub done : tally.done ≡ saturated (tally0.done + 1)
+  pub skipped : tally.skipped ≡ tally0.skipped
+  pub refused : tally.refused ≡ tally0.refused
+  pub larger : tally.larger ≡ tally0.larger
+  pub channels : (adds : List Add) → tally0.channels ≡ totals_of adds
+      → tally.channels ≡ totals_of (adds ++ add_of channel repacked ∷ [])
+  pub bytes : (adds : List Add) → tally0.bytes ≡ totals_of adds
+      → tally.bytes ≡ totals_of (adds ++ add_of_bytes channel repacked ∷ [])
+  pub bytes_read : tally.bytes_read ≡ saturated (tally0.bytes_read + repacked.bytes_read)
+  pub bytes_written : tally.bytes_written ≡ saturated (tally0.bytes_written + repacked.bytes_written)

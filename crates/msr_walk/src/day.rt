@@ -1,6 +1,6 @@
 //! One day file: from its file to the files of its records and its report.
-ghost use Rattle.std.specs.Prelude.{◌≡◌, IfErr, IfOk, IfSome};
-ghost use Rattle.msr_walk.specs.Day.{Asked, IsDayOutcome, IsKept, IsRepackedDay, IsShownIfAsked, asked_of};
+ghost use Rattle.std.specs.Prelude.{◌≡◌, false, IfErr, IfOk, IfSome};
+ghost use Rattle.msr_walk.specs.Day.{IsDayOutcome, IsKept, IsOutcomeOfDay, IsRepackedDay, IsShownIfAsked};
 ghost use Rattle.msr_walk.specs.Files.{day_files, day_names};
 
 use crate::claim::{Claim, ClaimFault, LockFile, claim_day};
@@ -8,9 +8,10 @@ use crate::files::{NewFile, may_be_one, open_regular, settle};
 use crate::folders::Archive;
 use crate::outcome::{DayFault, Outcome, Repacked};
 use crate::paths::{ended, join};
-use crate::repacking::{counts_kept, repack_day_of, require_shown};
+use crate::repacking::{Counting, counts_kept, first_length, repack_day_of, require_shown};
 use crate::stamp::Stamp;
-use msr_tool::{FromRead, FromWrite, Options};
+use msr_days::DayOptions;
+use msr_tool::{FromRead, FromWrite, Length};
 use std::alloc::{AllocError, Global};
 use std::fs;
 use std::marker::Model;
@@ -154,25 +155,28 @@ impl Day {
         &self,
         rt: &R,
         alloc: Global,
-        archive: &Archive<'_>,
+        asked: &DayOptions,
         files: &DayFiles,
         claim: &Claim<R::File>,
     ) -> Result<Repacked, DayFault>
-        ensures { IsRepackedDay (asked_of archive.now) result }
+        ensures { IsRepackedDay asked.now result }
     {
         let input = open_regular(rt, self.input.as_str())?;
         let mut records = files.records.create(rt)?;
         let mut report = files.report.create(rt)?;
         let repacked = repack_day_of(
             alloc,
-            &mut FromRead::new(input),
+            &mut Counting::new(FromRead::new(input)),
             &mut FromWrite::new(&mut records),
             &mut FromWrite::new(&mut report),
-            archive.options,
+            asked.options,
         )?;
+        if asked.only_smaller && repacked.bytes_read <= repacked.bytes_written {
+            return Err(DayFault::Larger(repacked));
+        }
         settle(&records)?;
         settle(&report)?;
-        files.hold(rt, alloc, archive.check)?;
+        files.hold(rt, alloc, asked.check)?;
         if !claim.is_ours(rt, self.claim()) {
             return Err(DayFault::Taken);
         }
@@ -185,17 +189,17 @@ impl Day {
         &self,
         rt: &R,
         alloc: Global,
-        archive: &Archive<'_>,
+        asked: &DayOptions,
         files: &DayFiles,
         claim: &Claim<R::File>,
     ) -> Result<Repacked, DayFault>
-        ensures { IsRepackedDay (asked_of archive.now) result }
+        ensures { IsRepackedDay asked.now result }
     {
         let before = Stamp::of(rt, self.input.as_str());
-        let result = self.write(rt, alloc, archive, files, claim);
+        let result = self.write(rt, alloc, asked, files, claim);
         if result.is_err() {
             files.sweep(rt);
-        } else if archive.resume {
+        } else if asked.resume {
             files.put_stamp(rt, alloc, before, self.input.as_str());
         }
         result
@@ -208,9 +212,10 @@ impl Day {
         fs::remove_file(rt, self.report.as_str()).ok();
     }
 
-    /// What an earlier walk left of the day, if it is whole, was made with these options, and from the input as it is.
-    fn kept<R: Files>(&self, rt: &R, alloc: Global, options: Options) -> Option<Repacked>
-        ensures { IfSome result (IsKept options) }
+    /// What an earlier walk left of the day, if it is whole, was made with these options, and from the input as it is,
+    /// and is to be kept.
+    fn kept<R: Files>(&self, rt: &R, alloc: Global, asked: &DayOptions) -> Option<Repacked>
+        ensures { IfSome result (IsKept asked.now) }
     {
         let stamp = Stamp::of(rt, self.input.as_str())?;
         let Ok(true) = stamp.stands_in(rt, alloc, self.stamp.as_str()) else {
@@ -219,19 +224,20 @@ impl Day {
         let Ok(report) = open_regular(rt, self.report.as_str()) else {
             return None;
         };
-        let repacked = counts_kept(alloc, &mut FromRead::new(report), options)?;
-        if self.has_records(rt, repacked.written, options) {
+        let size = stamp.bytes();
+        let repacked = counts_kept(alloc, &mut FromRead::new(report), asked.options, size)?;
+        if asked.only_smaller && repacked.bytes_read <= repacked.bytes_written {
+            return None;
+        }
+        if self.has_records(rt, repacked.bytes_written) {
             Some(repacked)
         } else {
             None
         }
     }
 
-    /// Whether the file of the records is as long as `records` records are.
-    fn has_records<R: Files>(&self, rt: &R, records: u64, options: Options) -> bool {
-        let Some(bytes) = records.checked_mul(u64::from(options.length().bytes())) else {
-            return false;
-        };
+    /// Whether the file of the records has so many bytes.
+    fn has_records<R: Files>(&self, rt: &R, bytes: u64) -> bool {
         match fs::metadata(rt, self.records.as_str()) {
             Ok(metadata) => metadata.is_file() && metadata.len() == bytes,
             Err(_) => false,
@@ -256,18 +262,18 @@ impl Day {
         &self,
         rt: &R,
         alloc: Global,
-        archive: &Archive<'_>,
+        asked: &DayOptions,
         claim: &Claim<R::File>,
     ) -> Result<Outcome, AllocError>
-        ensures { IfOk result (IsDayOutcome (asked_of archive.now)) }
+        ensures { IfOk result (IsDayOutcome asked.now) }
     {
-        if archive.resume {
-            if let Some(repacked) = self.kept(rt, alloc, archive.options) {
+        if asked.resume {
+            if let Some(repacked) = self.kept(rt, alloc, asked) {
                 return Ok(Outcome::Same(repacked));
             }
         }
         let files = self.files(alloc, claim.number())?;
-        match self.repack(rt, alloc, archive, &files, claim) {
+        match self.repack(rt, alloc, asked, &files, claim) {
             Ok(repacked) => Ok(Outcome::Done(repacked)),
             Err(refusal) => {
                 if claim.is_ours(rt, self.claim()) {
@@ -283,11 +289,11 @@ impl Day {
         &self,
         rt: &R,
         alloc: Global,
-        archive: &Archive<'_>,
+        asked: &DayOptions,
     ) -> Result<Outcome, AllocError>
     where
         R::File: LockFile,
-        ensures { IfOk result (IsDayOutcome (asked_of archive.now)) }
+        ensures { IfOk result (IsDayOutcome asked.now) }
     {
         let claim = match claim_day(rt, alloc, self) {
             Ok(claim) => claim,
@@ -295,41 +301,78 @@ impl Day {
             Err(ClaimFault::Taken) => return Ok(Outcome::Refused(DayFault::Taken)),
             Err(ClaimFault::Memory) => return Err(AllocError),
         };
-        let outcome = self.do_claimed(rt, alloc, archive, &claim);
+        let outcome = self.do_claimed(rt, alloc, asked, &claim);
         claim.release(rt, self.claim());
         outcome
     }
 
-    /// Repacks the day, or leaves it alone if an earlier walk did it and that is asked for. If it is refused, no
-    /// records and no report of it are left, unless the day cannot be claimed, or its own file may be one of those:
-    /// then nothing is touched.
-    pub(crate) fn handle<R: Files>(
+    /// Does what is asked of the day: repacks it, or leaves it alone if an earlier walk did it and that is asked for.
+    /// If it is refused or not to be kept, no records and no report of it are left, unless the day cannot be claimed,
+    /// or its own file may be one of those: then nothing is touched.
+    fn do_asked<R: Files>(
         &self,
         rt: &R,
         alloc: Global,
-        archive: &Archive<'_>,
+        asked: &DayOptions,
     ) -> Result<Outcome, AllocError>
     where
         R::File: LockFile,
-        ensures { IfOk result (IsDayOutcome (asked_of archive.now)) }
+        ensures { IfOk result (IsDayOutcome asked.now) }
     {
         if self.may_be_output(rt) {
             return Ok(Outcome::Refused(DayFault::CannotOpen));
         }
-        if archive.resume && !self.is_claimed(rt) {
-            if let Some(repacked) = self.kept(rt, alloc, archive.options) {
+        if asked.resume && !self.is_claimed(rt) {
+            if let Some(repacked) = self.kept(rt, alloc, asked) {
                 return Ok(Outcome::Same(repacked));
             }
         }
-        self.claim_and_do(rt, alloc, archive)
+        self.claim_and_do(rt, alloc, asked)
+    }
+
+    /// The length of this day's records: if each day's own is asked for, that of its first record, if records are
+    /// written in it.
+    fn length<R: Files>(
+        &self,
+        rt: &R,
+        alloc: Global,
+        days: &DayOptions,
+    ) -> Result<Length, AllocError>
+        ensures { IfOk result (λ length. days.now.same_length ≡ false → length ≡ days.now.options.record_length) }
+    {
+        let length = days.options.length();
+        if !days.same_length {
+            return Ok(length);
+        }
+        let Ok(input) = open_regular(rt, self.input.as_str()) else {
+            return Ok(length);
+        };
+        let own = first_length(alloc, &mut FromRead::new(input))?;
+        Ok(own.unwrap_or(length))
+    }
+
+    /// Does what is asked of the days of the archive.
+    pub(crate) fn handle<R: Files>(
+        &self,
+        rt: &R,
+        alloc: Global,
+        days: &DayOptions,
+    ) -> Result<Outcome, AllocError>
+    where
+        R::File: LockFile,
+        ensures { IfOk result (IsOutcomeOfDay days.now) }
+    {
+        let length = self.length(rt, alloc, days)?;
+        self.do_asked(rt, alloc, &days.in_length(length))
     }
 }
 
-/// What becomes of a day that is refused: what is not shown has an outcome of its own.
+/// What becomes of a day that is refused: what is not shown, or larger, has an outcome of its own.
 fn refused(refusal: DayFault) -> Outcome
-    ensures { (asked : Asked) → IsRepackedDay asked (Err refusal) → IsDayOutcome asked result }
+    ensures { (asked : DayOptions) → IsRepackedDay asked (Err refusal) → IsDayOutcome asked result }
 {
     match refusal {
+        DayFault::Larger(repacked) => Outcome::Larger(repacked),
         DayFault::NotShown => Outcome::NotShown,
         DayFault::CannotOpen
         | DayFault::Gone

@@ -2,7 +2,7 @@
 ghost use Rattle.std.specs.Prelude.{◌↔◌, IfErr, IfOk, IsErrOf, OnOk};
 ghost use Rattle.msr_devices.specs.Device.{CanCountCall, HasFailed};
 ghost use Rattle.msr_sds.specs.SdsPath.{ReadsAsDay};
-ghost use Rattle.msr_walk.specs.Day.{Asked, IsDayOutcome, asked_of};
+ghost use Rattle.msr_walk.specs.Day.{IsOutcomeOfDay};
 ghost use Rattle.msr_walk.specs.Entries.{IsOutcomeOf};
 ghost use Rattle.msr_walk.specs.Walk.{StopsTelling, Tells, Walks};
 
@@ -14,9 +14,10 @@ use crate::paths::{channel_text, entry_path, join};
 use crate::places::stands_apart;
 use crate::summary::write_summary;
 use crate::tally::Tally;
+use msr_days::DayOptions;
 use msr_devices::write_all;
 use msr_sds::{FOLDERS, SdsName, levels_below};
-use msr_tool::{Options, Sink, ToolFault};
+use msr_tool::{Sink, ToolFault};
 use std::alloc::{AllocError, Global};
 use std::fs;
 use std::io::ErrorKind;
@@ -31,13 +32,10 @@ pub struct Archive<'a> {
     pub out: &'a str,
     /// The folder of their reports.
     pub reports: &'a str,
-    pub options: Options,
     /// The paths, from the archive's folder, of the folders that are walked; none for the whole archive.
     pub below: &'a [&'a str],
-    /// Whether days are left alone that an earlier walk did.
-    pub resume: bool,
-    /// Whether the records of a day are held against their report before they get their name.
-    pub check: bool,
+    /// What is asked of its days.
+    pub days: DayOptions,
 }
 
 /// What walks an archive: the files that it goes through, memory and what is asked for.
@@ -49,8 +47,8 @@ struct Walker<'a, R: Files> {
 }
 
 /// Prints the line of an entry, and counts it. The channel is that of a day.
-fn tell<O: Sink>(
-    alloc: Global,
+fn tell<R: Files, O: Sink>(
+    walker: &Walker<'_, R>,
     path: &str,
     channel: &str,
     outcome: Outcome,
@@ -58,13 +56,12 @@ fn tell<O: Sink>(
     tally: &mut Tally,
 ) -> Result<(), ToolFault>
     requires { CanCountCall (O.device out.old) }
-    // This holds whatever is asked for, if the entry has this outcome.
-    ensures told { (asked : Asked) → IsOutcomeOf asked path.now channel.now outcome →
-        OnOk result (Tells asked (O.device out.old) (O.device out.new) tally.old tally.new) }
-    ensures stops { (asked : Asked) → IsOutcomeOf asked path.now channel.now outcome →
-        IfErr result (StopsTelling asked (O.device out.old) (O.device out.new)) }
+    ensures told { IsOutcomeOf walker.now.archive.now.days path.now channel.now outcome →
+        OnOk result (Tells walker.now.archive.now.days (O.device out.old) (O.device out.new) tally.old tally.new) }
+    ensures stops { IsOutcomeOf walker.now.archive.now.days path.now channel.now outcome →
+        IfErr result (StopsTelling walker.now.archive.now.days (O.device out.old) (O.device out.new)) }
 {
-    let line = outcome.line(alloc, path)?;
+    let line = outcome.line(walker.alloc, path, walker.archive.days.bytes)?;
     write_all(out, line.as_bytes())?;
     tally.add(channel, outcome)?;
     Ok(())
@@ -78,13 +75,13 @@ fn handle_day<R: Files>(
 ) -> Result<Outcome, AllocError>
 where
     R::File: LockFile,
-    ensures { IfOk result (IsDayOutcome (asked_of walker.now.archive.now)) }
+    ensures { IfOk result (IsOutcomeOfDay walker.now.archive.now.days) }
 {
     if !apart {
         return Ok(Outcome::Refused(DayFault::CannotOpen));
     }
     let day = Day::new(walker.alloc, walker.archive, path)?;
-    day.handle(walker.rt, walker.alloc, walker.archive)
+    day.handle(walker.rt, walker.alloc, &walker.archive.days)
 }
 
 /// Repacks a day, prints its line and counts it.
@@ -100,14 +97,14 @@ where
     R::File: LockFile,
     requires day { ReadsAsDay path.now name.now }
     requires count { CanCountCall (O.device out.old) }
-    ensures told { OnOk result (Tells (asked_of walker.now.archive.now) (O.device out.old)
+    ensures told { OnOk result (Tells walker.now.archive.now.days (O.device out.old)
         (O.device out.new) tally.old tally.new) }
-    ensures stops { IfErr result (StopsTelling (asked_of walker.now.archive.now) (O.device out.old)
+    ensures stops { IfErr result (StopsTelling walker.now.archive.now.days (O.device out.old)
         (O.device out.new)) }
 {
     let channel = channel_text(walker.alloc, name)?;
     let outcome = handle_day(walker, path, apart)?;
-    tell(walker.alloc, path, channel.as_str(), outcome, out, tally)
+    tell(walker, path, channel.as_str(), outcome, out, tally)
 }
 
 /// Handles an entry that is no folder of the walk.
@@ -121,14 +118,14 @@ fn tell_file<R: Files, O: Sink>(
 where
     R::File: LockFile,
     requires { CanCountCall (O.device out.old) }
-    ensures told { OnOk result (Tells (asked_of walker.now.archive.now) (O.device out.old)
+    ensures told { OnOk result (Tells walker.now.archive.now.days (O.device out.old)
         (O.device out.new) tally.old tally.new) }
-    ensures stops { IfErr result (StopsTelling (asked_of walker.now.archive.now) (O.device out.old)
+    ensures stops { IfErr result (StopsTelling walker.now.archive.now.days (O.device out.old)
         (O.device out.new)) }
 {
     match SdsName::parse(path) {
         Ok(name) => tell_day(walker, path, &name, apart, out, tally),
-        Err(fault) => tell(walker.alloc, path, "", Outcome::Skipped(fault), out, tally),
+        Err(fault) => tell(walker, path, "", Outcome::Skipped(fault), out, tally),
     }
 }
 
@@ -176,14 +173,14 @@ fn tell_entry<R: Files, O: Sink>(
 where
     R::File: LockFile,
     requires { CanCountCall (O.device out.old) }
-    ensures told { OnOk result (Tells (asked_of walker.now.archive.now) (O.device out.old)
+    ensures told { OnOk result (Tells walker.now.archive.now.days (O.device out.old)
         (O.device out.new) tally.old tally.new) }
-    ensures stops { IfErr result (StopsTelling (asked_of walker.now.archive.now) (O.device out.old)
+    ensures stops { IfErr result (StopsTelling walker.now.archive.now.days (O.device out.old)
         (O.device out.new)) }
 {
     if kind == Kind::Gone {
         let refused = Outcome::Refused(DayFault::Gone);
-        return tell(walker.alloc, path, "", refused, out, tally);
+        return tell(walker, path, "", refused, out, tally);
     }
     tell_file(walker, path, apart, out, tally)
 }
@@ -196,14 +193,14 @@ fn tell_unlisted<R: Files, O: Sink>(
     tally: &mut Tally,
 ) -> Result<(), ToolFault>
     requires { CanCountCall (O.device out.old) }
-    ensures told { OnOk result (Tells (asked_of walker.now.archive.now) (O.device out.old)
+    ensures told { OnOk result (Tells walker.now.archive.now.days (O.device out.old)
         (O.device out.new) tally.old tally.new) }
-    ensures stops { IfErr result (StopsTelling (asked_of walker.now.archive.now) (O.device out.old)
+    ensures stops { IfErr result (StopsTelling walker.now.archive.now.days (O.device out.old)
         (O.device out.new)) }
 {
     let path = if folder.is_empty() { "." } else { folder };
     let refused = Outcome::Refused(DayFault::Listing);
-    tell(walker.alloc, path, "", refused, out, tally)
+    tell(walker, path, "", refused, out, tally)
 }
 
 /// The entries of a folder with that path from the archive's own, below which folders stand that many levels deep.
@@ -217,9 +214,9 @@ fn walk_folder<R: Files, O: Sink>(
 where
     R::File: LockFile,
     requires { CanCountCall (O.device out.old) }
-    ensures told { OnOk result (Tells (asked_of walker.now.archive.now) (O.device out.old)
+    ensures told { OnOk result (Tells walker.now.archive.now.days (O.device out.old)
         (O.device out.new) tally.old tally.new) }
-    ensures stops { IfErr result (StopsTelling (asked_of walker.now.archive.now) (O.device out.old)
+    ensures stops { IfErr result (StopsTelling walker.now.archive.now.days (O.device out.old)
         (O.device out.new)) }
 {
     let alloc = walker.alloc;
@@ -257,9 +254,9 @@ fn walk_folders<R: Files, O: Sink>(
 where
     R::File: LockFile,
     requires { CanCountCall (O.device out.old) }
-    ensures told { OnOk result (Tells (asked_of walker.now.archive.now) (O.device out.old)
+    ensures told { OnOk result (Tells walker.now.archive.now.days (O.device out.old)
         (O.device out.new) tally.old tally.new) }
-    ensures stops { IfErr result (StopsTelling (asked_of walker.now.archive.now) (O.device out.old)
+    ensures stops { IfErr result (StopsTelling walker.now.archive.now.days (O.device out.old)
         (O.device out.new)) }
 {
     if walker.archive.below.is_empty() {
@@ -282,13 +279,13 @@ pub fn walk<R: Files, O: Sink>(
 where
     R::File: LockFile,
     requires { CanCountCall (O.device out.old) }
-    ensures answer { Walks (asked_of archive.now) (O.device out.old) (O.device out.new) result }
+    ensures answer { Walks (archive.now.days) (O.device out.old) (O.device out.new) result }
 
     // A failure of the sink is answered as such, and nothing else is.
     ensures write { IsErrOf result ToolFault.Write ↔ HasFailed (O.device out.old) (O.device out.new) }
 {
     let mut tally = Tally::new(alloc);
     walk_folders(&Walker { rt, alloc, archive }, out, &mut tally)?;
-    write_summary(alloc, out, &tally)?;
+    write_summary(alloc, out, &archive.days, &tally)?;
     Ok(0 < tally.refused)
 }

@@ -1,7 +1,7 @@
 //! What becomes of an entry of a folder, and its line.
 ghost use Rattle.std.specs.Prelude.{◌≡◌, IfOk};
 ghost use Rattle.std.specs.String.{string_bytes};
-ghost use Rattle.msr_walk.specs.Entries.{IsLineOf};
+ghost use Rattle.msr_walk.specs.Entries.{IsLineOf, bytes_told, counts_told};
 ghost use Rattle.msr_walk.specs.Paths.{shown_path, shown_letter};
 
 use msr_sds::SdsFault;
@@ -21,6 +21,9 @@ pub(crate) enum DayFault {
     /// The report did not show that the records are the fewest, though it is their own.
     #[error("not shown")]
     NotShown,
+    /// Its records are not smaller than its file, and only those are kept that are.
+    #[error("larger")]
+    Larger(Repacked),
     /// It stood in the list of its folder, and was gone when it was looked at.
     #[error("cannot open")]
     Gone,
@@ -43,11 +46,14 @@ impl From<ToolFault> for DayFault {
     }
 }
 
-/// How many records a day file had, and how many were written for it.
-#[derive(Clone, Copy)]
+/// How many records a day file had, and how many were written for it, and of both the bytes.
+#[derive(Clone, Copy, Debug)]
 pub(crate) struct Repacked {
     pub read: u64,
     pub written: u64,
+    pub bytes_read: u64,
+    /// The greatest number of 64 bits if they are more, which no file has.
+    pub bytes_written: u64,
 }
 
 /// What became of an entry.
@@ -60,6 +66,8 @@ pub(crate) enum Outcome {
     Refused(DayFault),
     /// It was repacked, but not shown to be in the fewest records, and so not kept.
     NotShown,
+    /// It was repacked, but did not get smaller, and so not kept.
+    Larger(Repacked),
 }
 
 /// A character of a path as it is printed: a line feed in a name would begin another line.
@@ -86,18 +94,50 @@ fn shown_path(alloc: Global, path: &str) -> Result<String, AllocError>
     Ok(text)
 }
 
+/// What a line says of bytes: nothing, unless that is asked for.
+pub(crate) fn bytes_told(
+    alloc: Global,
+    told: bool,
+    read: u64,
+    written: u64,
+) -> Result<String, AllocError>
+    ensures { IfOk result (λ text. string_bytes text ≡ bytes_told told read written) }
+{
+    if !told {
+        return Ok(String::new(alloc));
+    }
+    format!(in alloc; " bytes {read} {written}")
+}
+
+impl Repacked {
+    /// The counts at the end of a line.
+    fn counts(self, alloc: Global, bytes: bool) -> Result<String, AllocError>
+        ensures { IfOk result (λ text. string_bytes text ≡ counts_told bytes self) }
+    {
+        let Repacked { read, written, .. } = self;
+        let size = bytes_told(alloc, bytes, self.bytes_read, self.bytes_written)?;
+        format!(in alloc; " read {read} written {written}{size}\n")
+    }
+}
+
 impl Outcome {
-    /// The line that tells it of the entry with this path.
-    pub(crate) fn line(self, alloc: Global, path: &str) -> Result<String, AllocError>
-        ensures { IfOk result (λ line. IsLineOf path.now self (string_bytes line)) }
+    /// The line that tells it of the entry with this path, with bytes or without.
+    pub(crate) fn line(self, alloc: Global, path: &str, bytes: bool) -> Result<String, AllocError>
+        ensures { IfOk result (λ line. IsLineOf bytes path.now self (string_bytes line)) }
     {
         let path = shown_path(alloc, path)?;
         match self {
-            Outcome::Done(Repacked { read, written }) => {
-                format!(in alloc; "done {path} read {read} written {written}\n")
+            Outcome::Done(repacked) => {
+                let counts = repacked.counts(alloc, bytes)?;
+                format!(in alloc; "done {path}{counts}")
             }
-            Outcome::Same(Repacked { read, written }) => {
-                format!(in alloc; "same {path} read {read} written {written}\n")
+            Outcome::Same(repacked) => {
+                let counts = repacked.counts(alloc, bytes)?;
+                format!(in alloc; "same {path}{counts}")
+            }
+            Outcome::Larger(repacked) => {
+                let counts = repacked.counts(alloc, bytes)?;
+                format!(in alloc; "larger {path}{counts}")
             }
             Outcome::Skipped(fault) => {
                 let why = fault.to_string(alloc)?;

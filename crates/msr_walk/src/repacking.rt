@@ -1,15 +1,23 @@
 //! The part of a day file that is under contract: from a source to two sinks.
-ghost use Rattle.std.specs.Prelude.{◌≡◌, ◌+◌, IfSome};
+ghost use Rattle.std.specs.Prelude.{◌≡◌, ◌+◌, ◌*◌, IfSome};
 ghost use Rattle.msr_devices.specs.Device.{CanCountCall};
+ghost use Rattle.msr_options.specs.Choice.{size_of};
 ghost use Rattle.msr_report.specs.Proper.{IsProper, records_of};
-ghost use Rattle.msr_walk.specs.Day.{IsKept, IsShown, RepacksDay};
+ghost use Rattle.msr_totals.specs.Totals.{saturated};
+ghost use Rattle.msr_walk.specs.Day.{IsReportKept, IsShown, RepacksDay};
 
 use crate::outcome::{DayFault, Repacked};
+use msr_devices::{FillFault, ReadBuffer};
+use msr_header::{read_header, record_length};
 use msr_report::Report;
 use msr_tool::{
-    Options, Sink, Source, ToolFault, Verdict, check_packed, read_report, repack_and_report,
+    Length, Options, Sink, Source, ToolFault, Verdict, check_packed, read_report, repack_and_report,
 };
-use std::alloc::Global;
+use std::alloc::{AllocError, Global};
+use std::io;
+
+/// How many bytes the longest record has that is written.
+const LONGEST: usize = 65_536;
 
 fn records_written(report: &Report) -> u64
     requires { IsProper report.now }
@@ -22,36 +30,94 @@ fn records_written(report: &Report) -> u64
     records
 }
 
-/// Repacks a day, and counts its records.
-pub(crate) fn repack_day_of<S: Source, W: Sink, T: Sink>(
+/// The bytes of so many records, or the greatest number of 64 bits if they are more.
+pub(crate) fn bytes_of_records(records: u64, options: Options) -> u64
+    ensures { result ≡ saturated (records * size_of options) }
+{
+    records.saturating_mul(u64::from(options.length().bytes()))
+}
+
+/// A source that counts the bytes that it gives.
+#[derive(Drop)]
+pub(crate) struct Counting<S> {
+    inner: S,
+    given: u64,
+}
+
+impl<S: Source> Counting<S> {
+    /// The source, of which nothing was counted yet.
+    pub(crate) fn new(inner: S) -> Counting<S>
+        ensures { ⟦<Counting<S> as Source>⟧.device result ≡ S.device inner }
+    {
+        Counting { inner, given: 0 }
+    }
+}
+
+impl<S: Source> Source for Counting<S> {
+    ghost device = { λ s. S.device s.inner };
+
+    fn read(&mut self, buf: &mut [u8]) -> io::Result<usize> {
+        let result = self.inner.read(buf);
+        if let Ok(count) = &result {
+            self.given = self.given.saturating_add(*count as u64);
+        }
+        result
+    }
+}
+
+/// The length of the record that the source begins with, if records are written in it.
+pub(crate) fn first_length<S: Source>(
     alloc: Global,
     source: &mut S,
+) -> Result<Option<Length>, AllocError>
+    requires { CanCountCall (S.device source.old) }
+{
+    let mut front = ReadBuffer::new(alloc);
+    match front.fill(source, LONGEST) {
+        Ok(()) => {}
+        Err(FillFault::Memory) => return Err(AllocError),
+        Err(FillFault::Read) => return Ok(None),
+    }
+    match read_header(front.bytes()) {
+        Ok(header) if header.exponent <= 16 => Ok(Length::new(record_length(header.exponent))),
+        _ => Ok(None),
+    }
+}
+
+/// Repacks a day, and counts its records and bytes.
+pub(crate) fn repack_day_of<S: Source, W: Sink, T: Sink>(
+    alloc: Global,
+    source: &mut Counting<S>,
     records: &mut W,
     text: &mut T,
     options: Options,
 ) -> Result<Repacked, ToolFault>
-    requires source { CanCountCall (S.device source.old) }
+    requires source { CanCountCall (⟦<Counting<S> as Source>⟧.device source.old) }
     requires records { CanCountCall (W.device records.old) }
     requires text { CanCountCall (T.device text.old) }
-    ensures { RepacksDay options (S.device source.old) (W.device records.old) (W.device records.new)
+    ensures { RepacksDay options (⟦<Counting<S> as Source>⟧.device source.old) (W.device records.old) (W.device records.new)
         (T.device text.old) (T.device text.new) result }
 {
     let report = repack_and_report(alloc, source, records, text, options)?;
+    let written = records_written(&report);
     Ok(Repacked {
         read: report.counts.read,
-        written: records_written(&report),
+        written,
+        bytes_read: source.given,
+        bytes_written: bytes_of_records(written, options),
     })
 }
 
-/// The counts of the report that the source has, if it is one of these options. A report says no strictness, and a
-/// strict repack writes what any other does that counts no mismatch.
+/// The counts of the report that the source has, if it is one of these options, with the bytes that the input has. A
+/// report says no strictness, and a strict repack writes what any other does that counts no mismatch.
 pub(crate) fn counts_kept<S: Source>(
     alloc: Global,
     source: &mut S,
     options: Options,
+    bytes_read: u64,
 ) -> Option<Repacked>
     requires { CanCountCall (S.device source.old) }
-    ensures { IfSome result (IsKept options) }
+    ensures { IfSome result (IsReportKept options) }
 {
     let Ok(report) = read_report(alloc, source) else {
         return None;
@@ -68,6 +134,8 @@ pub(crate) fn counts_kept<S: Source>(
     Some(Repacked {
         read: report.counts.read,
         written,
+        bytes_read,
+        bytes_written: bytes_of_records(written, options),
     })
 }
 

@@ -38,6 +38,11 @@ impl Stamp {
         })
     }
 
+    /// How many bytes the input has.
+    pub(crate) fn bytes(self) -> u64 {
+        self.bytes
+    }
+
     fn text(self, alloc: Global) -> Result<String, AllocError>
         ensures { IfOk result (λ text. string_bytes text ≡ stamp_text self) }
     {

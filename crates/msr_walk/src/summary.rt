@@ -4,59 +4,99 @@ ghost use Rattle.std.specs.List.{flat_map};
 ghost use Rattle.std.specs.String.{string_bytes};
 ghost use Rattle.msr_devices.specs.Device.{CanCountCall, IsCalm, Takes};
 ghost use Rattle.msr_walk.specs.Entries.{Entry, IsTally};
-ghost use Rattle.msr_walk.specs.Walk.{StopsPrefix, channel_line, summary};
+ghost use Rattle.msr_walk.specs.Entries.{bytes_told};
+ghost use Rattle.msr_walk.specs.Walk.{StopsPrefix, channel_line, counts_line, larger_told, summary, with_bytes};
 
+use crate::outcome::bytes_told;
 use crate::tally::Tally;
+use msr_days::DayOptions;
 use msr_devices::write_all;
 use msr_tool::{Sink, ToolFault};
 use msr_totals::{Total, Totals};
 use std::alloc::{AllocError, Global};
 
-fn channel_line(alloc: Global, name: &str, total: Total) -> Result<String, AllocError>
-    ensures { IfOk result (λ line. string_bytes line ≡ channel_line (name.now, total)) }
+/// The line of a channel, with the totals of its records and of its bytes.
+fn channel_line(
+    alloc: Global,
+    told: bool,
+    name: &str,
+    total: Total,
+    bytes: Total,
+) -> Result<String, AllocError>
+    ensures { IfOk result (λ line. string_bytes line ≡ channel_line told ((name.now, total), bytes)) }
 {
     let Total {
         files,
         read,
         written,
     } = total;
-    format!(in alloc; "channel {name} files {files} read {read} written {written}\n")
+    let size = bytes_told(alloc, told, bytes.read, bytes.written)?;
+    format!(in alloc; "channel {name} files {files} read {read} written {written}{size}\n")
 }
 
-fn write_channels<O: Sink>(alloc: Global, out: &mut O, totals: &Totals) -> Result<(), ToolFault>
+fn write_channels<O: Sink>(
+    alloc: Global,
+    out: &mut O,
+    told: bool,
+    totals: &Totals,
+    bytes: &Totals,
+) -> Result<(), ToolFault>
     requires { CanCountCall (O.device out.old) }
-    ensures all { OnOk result (Takes (O.device out.old) (O.device out.new) (flat_map channel_line totals.now)) }
+    ensures all { OnOk result (Takes (O.device out.old) (O.device out.new)
+        (flat_map (channel_line told) (with_bytes totals.now bytes.now))) }
     ensures calm { OnOk result (IsCalm (O.device out.old) (O.device out.new)) }
     ensures stops { IfErr result (StopsPrefix (O.device out.old) (O.device out.new)
-        (flat_map channel_line totals.now)) }
+        (flat_map (channel_line told) (with_bytes totals.now bytes.now))) }
 {
     for place in 0..usize::MAX {
         let Some((name, total)) = totals.get(place) else {
             return Ok(());
         };
-        let line = channel_line(alloc, name, total)?;
+        let Some((_, size)) = bytes.get(place) else {
+            return Ok(());
+        };
+        let line = channel_line(alloc, told, name, total, size)?;
         write_all(out, line.as_bytes())?;
     }
     // No memory holds `usize::MAX` channels.
     Err(ToolFault::Memory)
 }
 
+/// What the last line says of the days that did not get smaller: nothing, unless only those that do are kept.
+fn larger_told(alloc: Global, told: bool, larger: u64) -> Result<String, AllocError>
+    ensures { IfOk result (λ text. string_bytes text ≡ larger_told told larger) }
+{
+    if !told {
+        return Ok(String::new(alloc));
+    }
+    format!(in alloc; " larger {larger}")
+}
+
+fn counts_line(alloc: Global, asked: &DayOptions, tally: &Tally) -> Result<String, AllocError>
+    ensures { IfOk result (λ line. string_bytes line ≡ counts_line asked.now tally.now) }
+{
+    let (files, skipped, refused) = (tally.done, tally.skipped, tally.refused);
+    let larger = larger_told(alloc, asked.only_smaller, tally.larger)?;
+    let size = bytes_told(alloc, asked.bytes, tally.bytes_read, tally.bytes_written)?;
+    format!(in alloc; "files {files} skipped {skipped} refused {refused}{larger}{size}\n")
+}
+
 /// Writes a line for each channel, in the order of their first files that were done, and the line of the counts.
 pub(crate) fn write_summary<O: Sink>(
     alloc: Global,
     out: &mut O,
+    asked: &DayOptions,
     tally: &Tally,
 ) -> Result<(), ToolFault>
     requires { CanCountCall (O.device out.old) }
     ensures all { (entries : List Entry) → IsTally entries tally.now →
-        OnOk result (Takes (O.device out.old) (O.device out.new) (summary entries)) }
+        OnOk result (Takes (O.device out.old) (O.device out.new) (summary asked.now entries)) }
     ensures calm { OnOk result (IsCalm (O.device out.old) (O.device out.new)) }
     ensures stops { (entries : List Entry) → IsTally entries tally.now →
-        IfErr result (StopsPrefix (O.device out.old) (O.device out.new) (summary entries)) }
+        IfErr result (StopsPrefix (O.device out.old) (O.device out.new) (summary asked.now entries)) }
 {
-    write_channels(alloc, out, &tally.channels)?;
-    let (files, skipped, refused) = (tally.done, tally.skipped, tally.refused);
-    let line = format!(in alloc; "files {files} skipped {skipped} refused {refused}\n")?;
+    write_channels(alloc, out, asked.bytes, &tally.channels, &tally.bytes)?;
+    let line = counts_line(alloc, asked, tally)?;
     write_all(out, line.as_bytes())?;
     Ok(())
 }

@@ -1,19 +1,23 @@
 //! What was told so far, counted.
 ghost use Rattle.std.specs.Prelude.{◌≡◌, ◌++◌, ◌∷◌, [], List, OnOk};
-ghost use Rattle.msr_walk.specs.Entries.{Entry, IsTally};
+ghost use Rattle.msr_walk.specs.Entries.{AddsDone, Entry, IsTally};
 
 use crate::outcome::{Outcome, Repacked};
 use msr_totals::Totals;
 use std::alloc::{AllocError, Global};
 
 /// How many entries had each outcome, and the totals of the channels with a file that was done, in this walk or an
-/// earlier one.
+/// earlier one: of records, and of bytes, which of all such files are summed up too.
 #[derive(Drop)]
 pub(crate) struct Tally {
     pub done: u64,
     pub skipped: u64,
     pub refused: u64,
+    pub larger: u64,
+    pub bytes_read: u64,
+    pub bytes_written: u64,
     pub channels: Totals,
+    pub bytes: Totals,
 }
 
 impl Tally {
@@ -25,8 +29,25 @@ impl Tally {
             done: 0,
             skipped: 0,
             refused: 0,
+            larger: 0,
+            bytes_read: 0,
+            bytes_written: 0,
             channels: Totals::new(alloc),
+            bytes: Totals::new(alloc),
         }
+    }
+
+    /// Counts a day more that was done.
+    fn add_done(&mut self, channel: &str, repacked: Repacked) -> Result<(), AllocError>
+        ensures { OnOk result (AddsDone channel.now repacked self.old self.new) }
+    {
+        self.channels.add(channel, repacked.read, repacked.written)?;
+        self.bytes
+            .add(channel, repacked.bytes_read, repacked.bytes_written)?;
+        self.bytes_read = self.bytes_read.saturating_add(repacked.bytes_read);
+        self.bytes_written = self.bytes_written.saturating_add(repacked.bytes_written);
+        self.done = self.done.saturating_add(1);
+        Ok(())
     }
 
     /// Counts one entry more. The channel is that of a day that was done.
@@ -35,12 +56,9 @@ impl Tally {
             → entry.outcome ≡ outcome → OnOk result (IsTally (before ++ entry ∷ []) self.new) }
     {
         match outcome {
-            Outcome::Done(Repacked { read, written }) | Outcome::Same(Repacked { read, written }) =>
-                {
-                    self.channels.add(channel, read, written)?;
-                    self.done = self.done.saturating_add(1);
-                }
+            Outcome::Done(repacked) | Outcome::Same(repacked) => self.add_done(channel, repacked)?,
             Outcome::Skipped(_) => self.skipped = self.skipped.saturating_add(1),
+            Outcome::Larger(_) => self.larger = self.larger.saturating_add(1),
             Outcome::NotShown => self.refused = self.refused.saturating_add(1),
             Outcome::Refused(_) => self.refused = self.refused.saturating_add(1),
         }

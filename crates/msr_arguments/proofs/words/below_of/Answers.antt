@@ -9,15 +9,16 @@ loop-place-init c = apart_none _ _
 
 pub loop-place-preserved : goal.loop-place-preserved
 loop-place-preserved c =
-    apart_more _ c.args.given.now c.loop-place.place _ c.loop-place-test.true
-    (get_or_default c.args.given.now c.loop-place.place _ _ c.loop-place-test.true)
+    apart_more _ c.as_slice-below.result.now c.loop-place.place _ c.loop-place-test.true
+    (get_or_default c.as_slice-below.result.now c.loop-place.place _ _ c.loop-place-test.true)
     c.loop-place.invariant
     (λ any. both_ways c.overlaps_one.result c.if-overlaps_one.false (c.overlaps_one.ensures.1 any))
 
-pub returns-in-Ok-clause-apart : goal.returns-in-Ok-clause-apart
-returns-in-Ok-clause-apart c =
-    let same : map (λ folder. folder.now) c.in-Ok.below.items ≡ map (λ folder. folder.now) c.args.given.now =
+pub returns-clause-apart : goal.returns-clause-apart
+returns-clause-apart c =
+    let below = c.as_slice-below.result.now in
+    let same : map (λ folder. folder.now) c.in_ok-folders.folders.items ≡ map (λ folder. folder.now) below =
     search rules in
-    let all : c.loop-place.place ≡ length c.args.given.now =
+    let all : c.loop-place.place ≡ length below =
     omega (arith, c.loop-place-test.false, c.loop-place.auto.place-end) in
-    rw same (apart_all _ c.args.given.now (rw all at c.loop-place.invariant))
+    rw same (apart_all _ below (rw all at c.loop-place.invariant))

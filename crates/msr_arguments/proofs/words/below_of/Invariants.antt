@@ -3,4 +3,4 @@ use Rattle.msr_arguments.proofs.words.below_of.Given as goal
 
 -- no two of the folders so far overlap
 abbrev pub invariant-loop-place : goal.invariant-loop-place
-invariant-loop-place l = ApartBefore (λ folder. folder.now) l.given l.place
+invariant-loop-place l = ApartBefore (λ folder. folder.now) l.below l.place

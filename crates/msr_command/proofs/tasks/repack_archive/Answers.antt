@@ -1,13 +1,12 @@
 use Rattle.std.proofs.lemmas.Result.{err_from_is_err_and}
 use Rattle.msr_command.proofs.Endings.{archive_done, archive_overlaps, archive_stops, archive_unbegun}
-use Rattle.msr_command.specs.Ends.{days_asked}
 use Rattle.msr_command.proofs.tasks.repack_archive.Goals as goal
 
 pub returns-in-Ok-true : goal.returns-in-Ok-true
-returns-in-Ok-true g c = archive_overlaps (days_asked c.args.asked) (g.O.Sink.device c.args.output.now)
+returns-in-Ok-true g c = archive_overlaps c.args.asked.days (g.O.Sink.device c.args.output.now)
 
 pub returns-in-Err : goal.returns-in-Err
-returns-in-Err g c = archive_unbegun (days_asked c.args.asked) (g.O.Sink.device c.args.output.now)
+returns-in-Err g c = archive_unbegun c.args.asked.days (g.O.Sink.device c.args.output.now)
 
 pub returns-in_err-refused : goal.returns-in_err-refused
 returns-in_err-refused g c =

@@ -1,4 +1,3 @@
-use Rattle.msr_walk.specs.Day.{asked_of}
 use Rattle.msr_walk.specs.Walk.{Tells}
 use Rattle.msr_walk.proofs.folders.+walk_folder.Given as goal
 
@@ -7,5 +6,5 @@ decreases-walk_folder g l = l.levels
 
 -- some entries were told
 abbrev pub invariant-loop-name : goal.invariant-loop-name
-invariant-loop-name g l = Tells (asked_of l.walker.archive.now) (g.O.Sink.device l.fn.out)
+invariant-loop-name g l = Tells l.walker.archive.now.days (g.O.Sink.device l.fn.out)
     (g.O.Sink.device l.out) l.fn.tally l.tally

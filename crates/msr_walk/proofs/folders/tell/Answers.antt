@@ -8,13 +8,15 @@ pub returns-in_err-line-clause-stops : goal.returns-in_err-line-clause-stops
 returns-in_err-line-clause-stops g c =
     let p = err_from_is_err_and c.from_residual.result c.from_residual.ensures.1 in
     let out = g.O.Sink.device c.args.out.now in
-    λ asked is. rw (p.1, p.2) (part_none asked out, (calm_same out).steady)
+    let asked = c.args.walker.now.archive.now.days in
+    λ is. rw (p.1, p.2) (part_none asked out, (calm_same out).steady)
 
 pub returns-in_err-write_all-clause-stops : goal.returns-in_err-write_all-clause-stops
 returns-in_err-write_all-clause-stops g c =
     let p = err_from_is_err_and c.from_residual-in_err-write_all.result c.from_residual-in_err-write_all.ensures.1 in
     let part = c.in_err-write_all.ensures.part in
-    λ asked is. rw (p.1, p.2) (
+    let asked = c.args.walker.now.archive.now.days in
+    λ is. rw (p.1, p.2) (
       part_line asked (g.O.Sink.device c.args.out.now)
           (g.O.Sink.device c.write_all.new.sink) part.0 c.args.path.now c.args.channel.now c.as_bytes.result.now
           c.args.outcome is (rw c.as_bytes.ensures.value c.in_ok-line.ensures) part.1,
@@ -24,7 +26,8 @@ returns-in_err-write_all-clause-stops g c =
 pub returns-in_err-add-clause-stops : goal.returns-in_err-add-clause-stops
 returns-in_err-add-clause-stops g c =
     let p = err_from_is_err_and c.from_residual-in_err-add.result c.from_residual-in_err-add.ensures.1 in
-    λ asked is. rw (p.1, p.2) (
+    let asked = c.args.walker.now.archive.now.days in
+    λ is. rw (p.1, p.2) (
       part_one asked (g.O.Sink.device c.args.out.now)
           (g.O.Sink.device c.write_all.new.sink) c.args.path.now c.args.channel.now c.as_bytes.result.now
           c.args.outcome is (rw c.as_bytes.ensures.value c.in_ok-line.ensures) c.in_ok-write_all.ensures.all,
@@ -33,7 +36,8 @@ returns-in_err-add-clause-stops g c =
 
 pub returns-clause-told : goal.returns-clause-told
 returns-clause-told g c =
-    λ asked is. tells_one asked (g.O.Sink.device c.args.out.now)
+    let asked = c.args.walker.now.archive.now.days in
+    λ is. tells_one asked (g.O.Sink.device c.args.out.now)
     (g.O.Sink.device c.write_all.new.sink) c.args.tally.now c.add.new.self c.args.path.now c.args.channel.now
     c.as_bytes.result.now c.args.outcome is
     (rw c.as_bytes.ensures.value c.in_ok-line.ensures) c.in_ok-write_all.ensures.all c.in_ok-write_all.ensures.calm

@@ -1,5 +1,4 @@
-use Rattle.msr_walk.specs.Day.{asked_of}
 use Rattle.msr_walk.proofs.folders.tell_entry.Goals as goal
 
 pub returns-then-eq-clause-stops : goal.returns-then-eq-clause-stops
-returns-then-eq-clause-stops g c = c.tell.ensures.stops (asked_of c.args.walker.now.archive.now) tt
+returns-then-eq-clause-stops g c = c.tell.ensures.stops tt

@@ -1,6 +1,5 @@
 use Rattle.std.proofs.Common.{rules}
-use Rattle.msr_walk.specs.Day.{asked_of}
 use Rattle.msr_walk.proofs.folders.tell_file.Goals as goal
 
 pub returns-in-Err-clause-stops : goal.returns-in-Err-clause-stops
-returns-in-Err-clause-stops g c = c.tell.ensures.stops (asked_of c.args.walker.now.archive.now) (search rules)
+returns-in-Err-clause-stops g c = c.tell.ensures.stops (search rules)

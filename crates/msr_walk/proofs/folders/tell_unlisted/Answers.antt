@@ -1,5 +1,4 @@
-use Rattle.msr_walk.specs.Day.{asked_of}
 use Rattle.msr_walk.proofs.folders.tell_unlisted.Goals as goal
 
 pub returns-clause-stops : goal.returns-clause-stops
-returns-clause-stops g c = c.tell.ensures.stops (asked_of c.args.walker.now.archive.now) tt
+returns-clause-stops g c = c.tell.ensures.stops tt

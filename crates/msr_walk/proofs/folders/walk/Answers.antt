@@ -2,7 +2,6 @@ use Rattle.std.proofs.Common.{[]}
 use Rattle.std.proofs.lemmas.Result.{err_from_is_err_and}
 use Rattle.msr_devices.proofs.Chaining.{calm_calm}
 use Rattle.msr_tool.proofs.StoppedRepacks.{ok_tells, write_tells_sink}
-use Rattle.msr_walk.specs.Day.{asked_of}
 use Rattle.msr_walk.proofs.EntriesTold.{refusals_told, stops_entries, stops_summary, walk_ends, walk_stops}
 use Rattle.msr_walk.proofs.folders.walk.Goals as goal
 
@@ -11,7 +10,7 @@ returns-in_err-walk_folders-clause-answer g c =
     let p = err_from_is_err_and c.from_residual.result c.from_residual.ensures.1 in
     let out0 = g.O.Sink.device c.args.out.now in
     let out = g.O.Sink.device c.walk_folders.new.out in
-    let asked = asked_of c.args.archive.now in
+    let asked = c.args.archive.now.days in
     let fault = c.in_err-walk_folders.field-0.0 in
     rw (p.1, p.2) (walk_stops asked out0 out fault
     (stops_entries asked out0 out fault c.in_err-walk_folders.ensures.stops))
@@ -30,7 +29,7 @@ returns-in_err-write_summary-clause-answer g c =
     let out0 = g.O.Sink.device c.args.out.now in
     let out1 = g.O.Sink.device c.walk_folders.new.out in
     let out = g.O.Sink.device c.write_summary.new.out in
-    let asked = asked_of c.args.archive.now in
+    let asked = c.args.archive.now.days in
     let fault = c.in_err-write_summary.field-0.0 in
     let told = c.in_ok-walk_folders.ensures.told in
     let front = c.in_err-write_summary.ensures.stops told.entries (told.counts [] c.new-tally.ensures) in
@@ -48,14 +47,14 @@ returns-in_err-write_summary-clause-write g c =
     let told = c.in_ok-walk_folders.ensures.told in
     let front = c.in_err-write_summary.ensures.stops told.entries (told.counts [] c.new-tally.ensures) in
     rw (p.1, p.2) (write_tells_sink _ _ out0 out fault
-    (stops_summary (asked_of c.args.archive.now) out0 out1 out c.new-tally.result c.walk_folders.new.tally
+    (stops_summary c.args.archive.now.days out0 out1 out c.new-tally.result c.walk_folders.new.tally
     fault told front))
 
 pub returns-clause-answer : goal.returns-clause-answer
 returns-clause-answer g c =
     let told = c.in_ok-walk_folders.ensures.told in
     let counts = told.counts [] c.new-tally.ensures in
-    walk_ends (asked_of c.args.archive.now) (g.O.Sink.device c.args.out.now)
+    walk_ends c.args.archive.now.days (g.O.Sink.device c.args.out.now)
     (g.O.Sink.device c.walk_folders.new.out)
     (g.O.Sink.device c.write_summary.new.out) c.new-tally.result c.walk_folders.new.tally _ told
     (c.in_ok-write_summary.ensures.all told.entries counts)

@@ -1,4 +1,4 @@
-use Rattle.std.proofs.Common.{◌∙◌, ap, refl, sym}
+use Rattle.std.proofs.Common.{◌∙◌, ap, refl, rules, sym}
 use Rattle.msr_kinds.specs.Lengths.{bytes_of}
 use Rattle.msr_walk.proofs.repacking.counts_kept.Goals.{else-is_strict-via-then-is_strict+else-report-ne0, else-is_strict-via-else-is_strict}
 use Rattle.msr_walk.proofs.repacking.counts_kept.Goals as goal
@@ -20,4 +20,5 @@ returns g c =
       ];
       read = refl;
       written = c.records_written-written.ensures;
+      bytes = search rules;
     }

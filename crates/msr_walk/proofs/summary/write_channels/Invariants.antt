@@ -1,12 +1,13 @@
 use Rattle.std.proofs.Common.{take}
 use Rattle.std.specs.List.{flat_map}
 use Rattle.msr_devices.specs.Device.{IsCalm, Takes}
-use Rattle.msr_walk.specs.Walk.{channel_line}
+use Rattle.msr_walk.specs.Walk.{channel_line, with_bytes}
 use Rattle.msr_walk.proofs.summary.write_channels.Given as goal
 
 -- the lines of the channels so far are written
 abbrev pub invariant-loop-place : goal.invariant-loop-place
 invariant-loop-place g l = record {
-  prints : Takes (g.O.Sink.device l.fn.out) (g.O.Sink.device l.out) (flat_map channel_line (take l.place l.totals));
+  prints : Takes (g.O.Sink.device l.fn.out) (g.O.Sink.device l.out) (flat_map (channel_line l.told)
+      (take l.place (with_bytes l.totals l.bytes)));
   calm : IsCalm (g.O.Sink.device l.fn.out) (g.O.Sink.device l.out);
 }

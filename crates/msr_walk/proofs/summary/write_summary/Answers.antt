@@ -12,16 +12,16 @@ returns-in_err-write_channels-clause-stops g c =
     let out0 = g.O.Sink.device c.args.out.now in
     let out = g.O.Sink.device c.write_channels.new.out in
     let tally = c.args.tally.now in
-    λ entries h. rw (p.1, p.2, ← summary_is entries tally h)
+    λ entries h. rw (p.1, p.2, ← summary_is c.args.asked.now entries tally h)
     (stops_within out0 out0 out c.in_err-write_channels.field-0.0 (calm_same out0)
     (front_before out0 out _
-    (counts_line tally.done tally.skipped tally.refused)) c.in_err-write_channels.ensures.stops)
+    (counts_line c.args.asked.now tally)) c.in_err-write_channels.ensures.stops)
 
 pub returns-in_err-line-clause-stops : goal.returns-in_err-line-clause-stops
 returns-in_err-line-clause-stops g c =
     let p = err_from_is_err_and c.from_residual-in_err-line.result c.from_residual-in_err-line.ensures.1 in
     let tally = c.args.tally.now in
-    λ entries h. rw (p.1, p.2, ← summary_is entries tally h)
+    λ entries h. rw (p.1, p.2, ← summary_is c.args.asked.now entries tally h)
     (front_all _ _ _ _ c.in_ok-write_channels.ensures.all, c.in_ok-write_channels.ensures.calm.steady)
 
 pub returns-in_err-write_all-clause-stops : goal.returns-in_err-write_all-clause-stops
@@ -29,17 +29,17 @@ returns-in_err-write_all-clause-stops g c =
     let p = err_from_is_err_and c.from_residual-in_err-write_all.result c.from_residual-in_err-write_all.ensures.1 in
     let part = c.in_err-write_all.ensures.part in
     let tally = c.args.tally.now in
-    let line : c.as_bytes.result.now ≡ counts_line tally.done tally.skipped tally.refused = search rules in
+    let line : c.as_bytes.result.now ≡ counts_line c.args.asked.now tally = search rules in
     let failed = calm_failed (g.O.Sink.device c.args.out.now) (g.O.Sink.device c.write_channels.new.out)
     (g.O.Sink.device c.write_all.new.sink) c.in_ok-write_channels.ensures.calm c.in_err-write_all.ensures.failed in
-    λ entries h. rw (p.1, p.2, ← summary_is entries tally h, ← line)
+    λ entries h. rw (p.1, p.2, ← summary_is c.args.asked.now entries tally h, ← line)
     (front_after _ _ _ _ _ part.0 c.in_ok-write_channels.ensures.all part.1, failed)
 
 pub returns-clause-all : goal.returns-clause-all
 returns-clause-all g c =
     let tally = c.args.tally.now in
-    let line : c.as_bytes.result.now ≡ counts_line tally.done tally.skipped tally.refused = search rules in
-    λ entries h. rw (← summary_is entries tally h, ← line)
+    let line : c.as_bytes.result.now ≡ counts_line c.args.asked.now tally = search rules in
+    λ entries h. rw (← summary_is c.args.asked.now entries tally h, ← line)
     (takes_append _ _ _ _ _ c.in_ok-write_channels.ensures.all c.in_ok-write_all.ensures.all)
 
 pub returns-clause-calm : goal.returns-clause-calm

@@ -1,5 +1,4 @@
-use Rattle.msr_walk.specs.Day.{asked_of}
 use Rattle.msr_walk.proofs.day.Day.do_claimed.Goals as goal
 
 pub returns : goal.returns
-returns g c = c.refused.ensures (asked_of c.args.archive.now) c.in-Err.ensures
+returns g c = c.refused.ensures c.args.asked.now c.in-Err.ensures

@@ -1,6 +1,7 @@
+use Rattle.std.proofs.Common.{arith}
 use Rattle.std.proofs.lemmas.Result.{err_from_is_err_and}
-use Rattle.msr_walk.specs.Day.{asked_of}
 use Rattle.msr_walk.proofs.Days.{day_answer, day_unkept, day_unsettled}
+use Rattle.msr_walk.proofs.day.Day.write.Goals.{else-asked-via-then-asked+else-repacked, else-asked-via-else-asked}
 use Rattle.msr_walk.proofs.day.Day.write.Goals as goal
 
 pub returns-in_err-input : goal.returns-in_err-input
@@ -37,7 +38,7 @@ pub returns-in_err-hold : goal.returns-in_err-hold
 returns-in_err-hold g c =
     let p = err_from_is_err_and c.from_residual-in_err-hold.result c.from_residual-in_err-hold.ensures.1 in
     rw (p.1, p.2) (day_unkept
-    (asked_of c.args.archive.now) _ _ _ _ _ _ c.in_err-hold.field-0.0 c.in_ok-repacked.ensures
+    c.args.asked.now _ _ _ _ _ _ c.in_err-hold.field-0.0 c.in_ok-repacked.ensures
     c.in_err-hold.ensures)
 
 pub returns-in_err-keep : goal.returns-in_err-keep
@@ -46,4 +47,11 @@ returns-in_err-keep g c =
     rw (p.1, p.2, c.in_err-keep.ensures) tt
 
 pub returns : goal.returns
-returns g c = record { answer = day_answer _ _ _ _ _ _ _ c.in_ok-repacked.ensures; shown = c.in_ok-hold.ensures }
+returns g c = record {
+  answer = day_answer _ _ _ _ _ _ _ c.in_ok-repacked.ensures;
+  shown = c.in_ok-hold.ensures;
+  smaller = λ only. elim c.else-asked.branch [
+    | else-asked-via-then-asked+else-repacked w ↦ (let smaller = w.if-repacked.false in omega (arith, smaller))
+    | else-asked-via-else-asked w ↦ (let other = w.if-asked.false in absurd cc)
+  ];
+}

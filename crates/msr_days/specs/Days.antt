@@ -1,0 +1,20 @@
+-- What is asked of the days of an archive.
+use Rattle.msr_kinds.specs.declared.lengths.Length.{Length}
+use Rattle.msr_options.specs.Choice.{Choice}
+use Rattle.msr_days.specs.declared.DayOptions.{DayOptions}
+
+-- the same choice for records of another length
+abbrev pub with_length : Length → Choice → Choice
+with_length record_length choice =
+    record { record_length = record_length; tolerance = choice.tolerance; strict = choice.strict }
+
+-- what is asked of days for records of another length
+abbrev pub in_length : Length → DayOptions → DayOptions
+in_length record_length days = record {
+  options = with_length record_length days.options;
+  same_length = days.same_length;
+  resume = days.resume;
+  check = days.check;
+  only_smaller = days.only_smaller;
+  bytes = days.bytes;
+}

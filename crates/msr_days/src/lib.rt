@@ -1,0 +1,43 @@
+//! What is asked of the days of an archive.
+#![tactic(auto)]
+
+ghost use Rattle.std.specs.Prelude.{◌≡◌};
+
+use msr_kinds::Length;
+use msr_options::Options;
+
+/// How the days of an archive are repacked, which of them are kept, and what is told of them.
+#[derive(Clone, Copy, Debug, PartialEq, Eq)]
+pub struct DayOptions {
+    /// With `same_length`, the length is that of the days whose first record has none in which records are written.
+    pub options: Options,
+    /// Whether each day is written in the length of its first record.
+    pub same_length: bool,
+    /// Whether days are left alone that an earlier walk did.
+    pub resume: bool,
+    /// Whether the records of a day are held against their report before they get their name.
+    pub check: bool,
+    /// Whether only days are kept that get smaller in bytes.
+    pub only_smaller: bool,
+    /// Whether lines tell bytes too.
+    pub bytes: bool,
+}
+
+impl DayOptions {
+    ghost use Rattle.msr_days.specs.Days.{in_length};
+
+    /// The same for records of another length.
+    pub fn in_length(&self, length: Length) -> DayOptions
+        ensures { result ≡ in_length length self.now }
+    {
+        let options = Options::new(length, self.options.tolerance()).unwrap();
+        DayOptions {
+            options: options.strict(self.options.is_strict()),
+            same_length: self.same_length,
+            resume: self.resume,
+            check: self.check,
+            only_smaller: self.only_smaller,
+            bytes: self.bytes,
+        }
+    }
+}

@@ -1,0 +1,11 @@
+use Rattle.std.proofs.Common.{IfOk, subst}
+use Rattle.msr_days.specs.declared.DayOptions.{DayOptions}
+use Rattle.msr_walk.specs.Day.{IsDayOutcome}
+use Rattle.msr_walk.proofs.Days.{outcome_of_day}
+use Rattle.msr_walk.proofs.day.Day.handle.Goals as goal
+
+pub returns : goal.returns
+returns g c =
+    let P : DayOptions → Type 0 = λ asked. IfOk c.do_asked.result (IsDayOutcome asked) in
+    outcome_of_day c.args.days.now c.in_ok-length.length c.do_asked.result c.in_ok-length.ensures
+    (subst P c.in_length.ensures c.do_asked.ensures)
