@@ -49,7 +49,8 @@ module _ (bytes : ℕ) (samples : List ℤ) (first second : ℕ) (order : first 
     ]
 
   -- no run of any kind
-  pub none_of_any : ((kind : Kind) → HoldsBoth kind bytes samples first second → ⊥) → NoneHolds bytes samples first second
+  pub none_of_any : ((kind : Kind) → HoldsBoth kind bytes samples first second → ⊥)
+      → NoneHolds bytes samples first second
   none_of_any none = record {
     none = λ a b run p q r s. none run.2.0
         (record { start = a; end = b; run = (run.0, run.1, run.2.1); from = p; past = s });

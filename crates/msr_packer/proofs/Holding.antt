@@ -357,9 +357,11 @@ pub holds_still : (old mid : HeldSamples) (samples : List ℤ) (runs : List Run)
     → GivesPiece old mid None → HoldsRest samples runs separators old → HoldsRest samples runs separators mid
 holds_still old mid samples runs separators first h =
     subst (λ xs. HoldsRest samples xs separators mid) (append-nil runs)
-    (subst (λ xs. HoldsRest samples (runs ++ []) xs mid) (append-nil separators) (first.holds samples runs separators h))
+    (subst (λ xs. HoldsRest samples (runs ++ []) xs mid) (append-nil separators)
+    (first.holds samples runs separators h))
 
-pub gives_again : (old mid new : HeldSamples) (piece : Option Piece) → GivesPiece old mid None → GivesPiece mid new piece
+pub gives_again : (old mid new : HeldSamples) (piece : Option Piece) → GivesPiece old mid None
+    → GivesPiece mid new piece
     → GivesPiece old new piece
 gives_again old mid new piece first second = record {
   sound = second.sound;

@@ -88,7 +88,8 @@ module _ (bytes : ℕ) (samples : List ℤ) (runs : List Run) (separators : List
 
   -- ---- all pieces were given
 
-  pub packs_all : (mid : HeldSamples) (piece : Option Piece) → GivesPiece old mid None → new.record_length ≡ mid.record_length
+  pub packs_all : (mid : HeldSamples) (piece : Option Piece) → GivesPiece old mid None
+      → new.record_length ≡ mid.record_length
       → ((samples : List ℤ) (runs : List Run) (separators : List ℕ) → HoldsRest samples runs separators mid
       → IsCanonical (bytes_of mid.record_length) samples (runs ++ runs_of (pieces_of piece))
       (separators ++ separators_of (pieces_of piece)))

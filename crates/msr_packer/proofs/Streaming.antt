@@ -60,7 +60,8 @@ growing_less bytes held g g' k growing growing' is small frontier start tracker 
     let l = length-drop k held in
     let s : k + growing'.start ≡ growing.start = omega arith in
     let e : k + length (drop k held) ≡ length held = omega arith in
-    let same : run_points (drop k held) growing'.start (length (drop k held)) ≡ run_points held growing.start (length held) =
+    let same : run_points (drop k held) growing'.start (length (drop k held))
+    ≡ run_points held growing.start (length held) =
     run_points_window held k growing'.start (length (drop k held)) (inr (omega arith))
     ∙ ap (λ x. run_points held x (k + length (drop k held))) s ∙ ap (run_points held growing.start) e in
     record {
@@ -82,7 +83,8 @@ begun bytes enough samples start tracker follows = record {
 }
 
 -- when the step is found that ends with the samples
-pub growing_of : (bytes : ℕ) → 256 ≤ bytes → (samples : List ℤ) (g h a : ℕ) (growing : GrowingRun) → g ≤ h → h ≡ length samples
+pub growing_of : (bytes : ℕ) → 256 ≤ bytes → (samples : List ℤ) (g h a : ℕ) (growing : GrowingRun) → g ≤ h
+    → h ≡ length samples
     → IsStep (FitsAny bytes) samples g h a → growing.start ≡ a
     → IsTracked bytes samples a (length samples) growing.tracker → IsGrowing bytes samples g (length samples) growing
 growing_of bytes enough samples g h a growing order all step start tracked =
@@ -96,7 +98,8 @@ growing_of bytes enough samples g h a growing order all step start tracked =
     }
 
 -- so a longest run at most is held after the frontier
-pub growing_few : (bytes : ℕ) (held : List ℤ) (g : ℕ) (growing : GrowingRun) → IsGrowing bytes held g (length held) growing
+pub growing_few : (bytes : ℕ) (held : List ℤ) (g : ℕ) (growing : GrowingRun)
+    → IsGrowing bytes held g (length held) growing
     → length held ≤ g + most_any bytes
 growing_few bytes held g growing is =
     let b = is.before in

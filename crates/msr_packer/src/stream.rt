@@ -48,7 +48,8 @@ fn both(first: Option<Piece>, last: Option<Piece>) -> ArrayVec<Piece, 2>
 fn forget(held: &mut HeldSamples, growing: &mut GrowingRun)
     requires { IsStreaming held.old growing.old }
     ensures streaming { IsStreaming held.new growing.new }
-    ensures holds { (samples : List ℤ) (runs : List Run) (separators : List ℕ) → HoldsRest samples runs separators held.old
+    ensures holds { (samples : List ℤ) (runs : List Run) (separators : List ℕ)
+        → HoldsRest samples runs separators held.old
         → HoldsRest samples runs separators held.new }
     ensures size { held.new.record_length ≡ held.old.record_length }
     ensures number { held.new.offset + length held.new.samples.items ≡ held.old.offset + length held.old.samples.items }

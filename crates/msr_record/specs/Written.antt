@@ -84,8 +84,8 @@ IsWrittenArea Steim2 before samples size frames area = AreFrames Two before samp
 
 -- The bytes are those of the written record of these samples, the first difference being taken from the
 -- sample before them, if there is one.
-pub record IsWrittenRecord (bytes : List ℕ) (key : Key) (start : ℤ) (sequence : ℕ) (before : Option ℤ) (samples : List ℤ)
-    (kind : Kind) (size : ℕ) : Type 0 where
+pub record IsWrittenRecord (bytes : List ℕ) (key : Key) (start : ℤ) (sequence : ℕ) (before : Option ℤ)
+    (samples : List ℤ) (kind : Kind) (size : ℕ) : Type 0 where
   pub time : BTime
   pub micros : ℕ
   pub frames : ℕ

@@ -63,8 +63,8 @@ struct FieldsOfData {
 /// The header of a written record.
 fn header_for(run: &WrittenRun<'_>, fields: FieldsOfData) -> Header
     requires { fields.micros < 100 }
-    ensures header { result ≡ header_for run.now.key.now fields.time fields.micros run.now.sequence fields.count run.now.kind
-        fields.exponent fields.frames }
+    ensures header { result ≡ header_for run.now.key.now fields.time fields.micros run.now.sequence fields.count
+        run.now.kind fields.exponent fields.frames }
     ensures rate { (run.now.key.now.rate.factor ≢ pos 0) × (run.now.key.now.rate.multiplier ≢ pos 0) }
 {
     let key = run.key;

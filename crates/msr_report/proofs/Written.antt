@@ -19,7 +19,8 @@ one_more lines i line within item =
     ap (λ (x : SegmentLine). take i lines ++ x ∷ []) item ∙ sym (take_more lines i line within)
 
 -- the first lines and these segments: a prefix of their text was taken, and the rest waits
-pub record IsWrittenReport (old new : Device) (report : Report) (lines : List SegmentLine) (waits : List ℕ) : Type 0 where
+pub record IsWrittenReport (old new : Device) (report : Report) (lines : List SegmentLine)
+    (waits : List ℕ) : Type 0 where
   pub segments : List ℕ
   pub are : AreSegmentTexts lines segments
   pub taken : List ℕ
@@ -84,7 +85,8 @@ written_next old new next report i line waits text pushed left within item w is_
 -- When some segments are written, a prefix of the report's text is taken.
 pub written_front : (old new : Device) (report : Report) (lines others : List SegmentLine) (waits : List ℕ)
     → lines ++ others ≡ report.segments.items → (others_text : List ℕ) → AreSegmentTexts others others_text
-    → IsWrittenReport old new report lines waits → (text : List ℕ) × (IsReportText report text × TakesPrefix old new text)
+    → IsWrittenReport old new report lines waits
+    → (text : List ℕ) × (IsReportText report text × TakesPrefix old new text)
 written_front old new report lines others waits all more are w =
     let end = end_line (length report.segments.items) (records_of report.segments.items) in
     let P : List SegmentLine → Type 0 = λ l. AreSegmentTexts l (w.segments ++ more) in (

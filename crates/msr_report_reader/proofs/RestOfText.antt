@@ -10,7 +10,8 @@ use Rattle.msr_report_reader.specs.Rest.{Begins, InFirst, AtLine, body_1, body_2
 use Rattle.msr_report_reader.proofs.LineFeeds.{peel, one_append, decimal_is_one}
 
 -- a text of a language begins with a line, and goes on in another language
-pub record LineStep (V : ℕ → List ℕ → Type 0) (L : ℕ → List ℕ → Type 0 → Type 0) (w : List ℕ) (P : Type 0) : Type 0 where
+pub record LineStep (V : ℕ → List ℕ → Type 0) (L : ℕ → List ℕ → Type 0 → Type 0) (w : List ℕ)
+    (P : Type 0) : Type 0 where
   pub value : ℕ
   pub body : List ℕ
   pub more : List ℕ

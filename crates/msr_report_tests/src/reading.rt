@@ -1,5 +1,5 @@
-//! msr_report_reader: reports that come little by little, and those at fault: which line is told, and that reading stops
-//! there.
+//! msr_report_reader: reports that come little by little, and those at fault: which line is told, and that reading
+//! stops there.
 use msr_devices::{Behavior, TestSource};
 use msr_fixtures::{START, key_at};
 use msr_report::{Counts, Report, SegmentLine};

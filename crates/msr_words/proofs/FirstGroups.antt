@@ -34,7 +34,8 @@ all_left ds number is none =
 module _ (d : ℤ) (ds : List ℤ) (all one two three pair triple four size after : ℕ) (fits : FitsBits 32 d)
     (best : IsBest all one two three pair triple four size after)
     (all_is : IsFewestGroups ds all) (one_is : 1 ≤ length ds → IsFewestGroups (drop 1 ds) one)
-    (two_is : 2 ≤ length ds → IsFewestGroups (drop 2 ds) two) (three_is : 3 ≤ length ds → IsFewestGroups (drop 3 ds) three)
+    (two_is : 2 ≤ length ds → IsFewestGroups (drop 2 ds) two)
+    (three_is : 3 ≤ length ds → IsFewestGroups (drop 3 ds) three)
     (two_group : pair < 32768 ↔ (2 ≤ length (d ∷ ds)) × IsGroup One (take 2 (d ∷ ds)))
     (three_group : triple < 128 ↔ (3 ≤ length (d ∷ ds)) × IsGroup One (take 3 (d ∷ ds)))
     (four_group : four < 128 ↔ (4 ≤ length (d ∷ ds)) × IsGroup One (take 4 (d ∷ ds))) where

@@ -259,7 +259,11 @@ pub records-preserved : goal.records-preserved
 records-preserved g c =
     let at = goal.at.records-preserved g c in
     let taken = one_taken g at.After-must_flush (one_read g at.After-take) in
-    record { under = taken; ready = λ is_before_reads. inl ((c.must_flush.ensures.before_reads is_before_reads).0 c.if-must_flush.false) }
+    record {
+      under = taken;
+      ready = λ is_before_reads. inl
+          ((c.must_flush.ensures.before_reads is_before_reads).0 c.if-must_flush.false);
+    }
 
 pub returns-in_err-segments-clause-answer : goal.returns-in_err-segments-clause-answer
 returns-in_err-segments-clause-answer g c =
