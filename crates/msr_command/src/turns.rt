@@ -15,9 +15,11 @@ fn singles_in(segments: &[SegmentLine]) -> usize
 fn saved(read: u64, segments: &[SegmentLine]) -> u64
     ensures { result ≡ read - sum_by records_in segments.now }
 {
-    segments
-        .iter()
-        .fold(read, |left, line| left.saturating_sub(line.records))
+    let mut left = read;
+    for line in segments {
+        left = left.saturating_sub(line.records);
+    }
+    left
 }
 
 /// Whether no record was saved, and most segments stand in one: so it is if channels alternate.

@@ -1,5 +1,5 @@
 //! Looks at what could not be read.
-ghost use Rattle.std.specs.Prelude.{◌≡◌, IfSome};
+ghost use Rattle.std.specs.Prelude.{◌≡◌, IfSome, Some};
 ghost use Rattle.msr_hints.specs.Hints.{IsOfBytes, hint_of_begin};
 
 use crate::hint::Hint;
@@ -25,6 +25,18 @@ fn hint_of_begin(first: &[u8]) -> Option<Hint>
     }
 }
 
+/// What begins so that is still to be read. A read that fails or gives too little tells nothing.
+fn hint_in<F: Read>(file: &mut F) -> Option<Hint>
+    ensures kind { IfSome result IsOfBytes }
+    ensures begins { IfSome result (λ hint. IfSome (F.remaining file.old) (λ bytes. hint_of_begin bytes ≡ Some hint)) }
+{
+    let mut first = [0; 3];
+    match file.read(&mut first) {
+        Ok(count) => hint_of_begin(&first[..count]),
+        Err(_) => None,
+    }
+}
+
 /// What a file is whose bytes have a fault. Only a regular file is opened: what a pipe gave is gone, and opening it
 /// waits for more.
 pub fn hint_of_file<R: Files>(rt: &R, name: &str) -> Option<Hint>
@@ -39,11 +51,7 @@ pub fn hint_of_file<R: Files>(rt: &R, name: &str) -> Option<Hint>
     let Ok(mut file) = File::open(rt, name) else {
         return None;
     };
-    let mut first = [0; 3];
-    match file.read(&mut first) {
-        Ok(count) => hint_of_begin(&first[..count]),
-        Err(_) => None,
-    }
+    hint_in(&mut file)
 }
 
 /// Whether what cannot be read is a folder.
