@@ -1,5 +1,5 @@
 -- When channels seem to alternate in what was repacked.
-use Rattle.std.specs.Prelude.{◌≡◌, ◌==◌, ◌*◌, ◌<◌, ◌≤◌, ℕ, Bool, length, count_by, sum_by}
+use Rattle.std.specs.Prelude.{◌==◌, ◌*◌, ◌<◌, ◌≤◌, ℕ, Bool, length, count_by, sum_by}
 use Rattle.msr_report.specs.declared.report.Report.{Report}
 use Rattle.msr_report.specs.declared.report.SegmentLine.{SegmentLine}
 

@@ -69,13 +69,7 @@ fn hint_of_done(done: &Done) -> Option<Hint>
     ensures { HintsDone done.now result }
 {
     match done {
-        Done::Repacked { in_turns } => {
-            if *in_turns {
-                Some(Hint::Turns)
-            } else {
-                None
-            }
-        }
+        Done::Repacked { in_turns } => { if *in_turns { Some(Hint::Turns) } else { None } }
         Done::Written | Done::Checked(_) | Done::Walked { .. } => None,
     }
 }
@@ -94,11 +88,7 @@ fn hint_of_engine<R: Files>(rt: &R, read: FilesRead<'_>, fault: &ToolFault) -> O
     }
 }
 
-fn hint_of_fault<R: Files>(
-    rt: &R,
-    read: FilesRead<'_>,
-    fault: &TaskFault<'_>,
-) -> Option<Hint>
+fn hint_of_fault<R: Files>(rt: &R, read: FilesRead<'_>, fault: &TaskFault<'_>) -> Option<Hint>
     ensures { HintsFault read.entry fault.now result }
 {
     match fault {
