@@ -1,0 +1,3 @@
+pub mod Symbols
+pub mod Aheads
+pub mod FirstDifferences
