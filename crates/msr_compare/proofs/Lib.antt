@@ -1,3 +1,4 @@
 pub mod Symbols
 pub mod Aheads
 pub mod FirstDifferences
+pub mod Distances

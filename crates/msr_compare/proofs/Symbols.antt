@@ -1,6 +1,7 @@
 -- The symbols of segments: their numbers, and what their beginnings are.
-use Rattle.std.proofs.Common.{◌≡◌, ℕ, ◌+◌, Bool, true, false, List, [], ◌∷◌, ◌++◌, length, map, drop, refl, sym, ap, subst, ◌∙◌, arith, append_assoc, length-append, ℤ, Option, Some, None}
-use Rattle.std.proofs.lemmas.List.{append-nil, map-append}
+use Rattle.std.proofs.Common.{◌≡◌, ℕ, ◌+◌, ◌≤◌, Bool, true, false, List, [], ◌∷◌, ◌++◌, length, map, drop, refl, sym, ap, subst, ◌∙◌, arith, append_assoc, length-append, ℤ, Option, Some, None}
+use Rattle.std.specs.List.{slice_range}
+use Rattle.std.proofs.lemmas.List.{append-nil, drop-drop, drop_all, map-append, take_all, length-drop}
 use Rattle.msr_rows.specs.declared.row.Key.{Key}
 use Rattle.msr_rows.specs.declared.row.Row.{Row}
 use Rattle.msr_segments.specs.declared.joiner.Segment.{Segment}
@@ -119,3 +120,25 @@ holds_so (x ∷ xs) segments sample rest e =
     let same : x ≡ sample = cc in
     let r : map Holds xs ++ symbols_of segments ≡ rest = cc in
     record { after = xs; are = ap (λ (y : ℤ). y ∷ xs) same; rest_is = r }
+
+-- a row at hand whose beginning is passed
+pub opened_ahead : (row : Option Row) (begins : Bool) (passed : ℕ)
+    → row_ahead row false passed ≡ map Holds (held_in (row_ahead row begins passed))
+opened_ahead None begins passed = refl
+opened_ahead (Some row) begins passed = ap (map Holds) (sym (held_ahead row begins passed))
+
+pub range_to_end : (xs : List ℤ) (at : ℕ) → slice_range xs at (length xs) ≡ drop at xs
+range_to_end xs at = take_all _ (drop at xs) (omega (arith, length-drop at xs))
+
+-- a row at hand of which more is passed, or all
+pub passed_ahead : (row : Row) (begins : Bool) (passed count new : ℕ) → new ≡ passed + count
+    → row_ahead (Some row) false new ≡ map Holds (drop count (held_in (row_ahead (Some row) begins passed)))
+passed_ahead row begins passed count new e =
+    ap (λ (n : ℕ). map Holds (drop n row.samples)) e
+    ∙ ap (map Holds) (sym (drop-drop count passed row.samples) ∙ sym (ap (drop count) (held_ahead row begins passed)))
+
+pub all_passed : (row : Row) (begins : Bool) (passed count : ℕ) → length row.samples ≤ passed + count
+    → [] ≡ map Holds (drop count (held_in (row_ahead (Some row) begins passed)))
+all_passed row begins passed count all =
+    ap (map Holds) (sym (drop_all (passed + count) row.samples all) ∙ sym (drop-drop count passed row.samples)
+    ∙ sym (ap (drop count) (held_ahead row begins passed)))

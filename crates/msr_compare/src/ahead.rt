@@ -1,4 +1,5 @@
 //! What was read of an input and not yet compared.
+ghost use Rattle.std.specs.Prelude.{◌≡◌, drop};
 use msr_rows::{Key, Row};
 use msr_segments::Step;
 use std::marker::Model;
@@ -12,6 +13,16 @@ pub(crate) enum Next {
     Samples,
     /// Nothing is at hand.
     Nothing,
+}
+
+/// The samples from that place on.
+fn rest_of(samples: &[i32], at: usize) -> &[i32]
+    ensures { result.now ≡ drop at samples.now }
+{
+    match samples.get(at..) {
+        Some(rest) => rest,
+        None => &[],
+    }
 }
 
 /// The row at hand, as far as it was not compared. It is let go when all of it was.
@@ -32,7 +43,7 @@ impl Model for Ahead {
 }
 
 impl Ahead {
-    ghost use Rattle.std.specs.Prelude.{◌≡◌, ◌↔◌, ◌≤◌, [], drop, length, map, IsTrue};
+    ghost use Rattle.std.specs.Prelude.{◌≡◌, ◌↔◌, [], drop, map, IsTrue};
     ghost use Rattle.msr_compare.specs.Symbols.{Holds, held_in, row_symbols};
     ghost use Rattle.msr_compare.specs.Meetings.{IsNext};
 
@@ -67,7 +78,7 @@ impl Ahead {
         ensures { result.now ≡ held_in self.now }
     {
         match &self.row {
-            Some(row) => row.samples.as_slice().get(self.passed..).unwrap_or(&[]),
+            Some(row) => rest_of(row.samples.as_slice(), self.passed),
             None => &[],
         }
     }
@@ -108,13 +119,17 @@ impl Ahead {
 
     /// Passes some samples, and before them the beginning of a segment, if it is ahead.
     pub(crate) fn pass(&mut self, count: usize)
-        requires { count ≤ length (held_in self.old) }
         ensures { self.new ≡ map Holds (drop count (held_in self.old)) }
     {
-        self.begins = false;
-        self.passed += count;
-        if self.samples().is_empty() {
-            self.row = None;
+        let Some(row) = &self.row else {
+            return;
+        };
+        let passed = self.passed.saturating_add(count);
+        if passed < row.samples.len() {
+            self.passed = passed;
+            self.begins = false;
+        } else {
+            let _ = self.row.take();
         }
     }
 }

@@ -24,7 +24,7 @@ impl Model for Side {
 }
 
 impl Side {
-    ghost use Rattle.std.specs.Prelude.{◌≡◌, ◌≤◌, ◌++◌, List, [], drop, length, map, OnOk, MatchResult};
+    ghost use Rattle.std.specs.Prelude.{◌≡◌, ◌≤◌, ◌++◌, List, [], drop, map, OnOk, MatchResult};
     ghost use Rattle.msr_devices.specs.Device.{Device, CanCountCall, CountsFew};
     ghost use Rattle.msr_input.specs.Reading.{StopsReading};
     ghost use Rattle.msr_input.specs.declared.settings.Settings.{Settings as How};
@@ -138,7 +138,6 @@ impl Side {
 
     /// Passes some samples, and before them the beginning of a segment, if it is ahead.
     pub(crate) fn pass(&mut self, count: usize)
-        requires { count ≤ length (held_in self.old.ahead) }
         ensures ahead { self.new.ahead ≡ map Holds (drop count (held_in self.old.ahead)) }
         ensures only { PassesOnly self.old self.new }
     {
