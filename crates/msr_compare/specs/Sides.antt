@@ -1,5 +1,5 @@
 -- What is known of one of two inputs while they are compared.
-use Rattle.std.specs.Prelude.{◌≡◌, ℕ, ◌+◌, ◌*◌, ◌≤◌, Bool, true, List, [], ◌∷◌, ◌++◌, length, Option, None, Some}
+use Rattle.std.specs.Prelude.{◌≡◌, ℕ, ◌+◌, ◌*◌, ◌≤◌, Bool, true, false, List, [], ◌∷◌, ◌++◌, length, Option, None, Some}
 use Rattle.std.specs.Option.{option_to_list}
 use Rattle.msr_rows.specs.declared.row.Record.{Record}
 use Rattle.msr_devices.specs.Device.{Device, HasLeft, IsSteady}
@@ -53,6 +53,7 @@ pub record HasTaken (settings : Settings) (start now : Device) (side : Standing)
   pub answers : List Step
   pub read : HasReadRows start now side.reading records answers
   pub settings_are : row_settings side.reading ≡ settings
+  pub bounded : settings.tolerance ≤ 1_000_000
   pub joining : Joining
   pub given : List Segment
   pub joined : HasJoined joining (rows_of_records records) given
@@ -92,5 +93,10 @@ TakesNext None old new = new ≡ old
 TakesNext (Some next) old new = TakesRow next old new
 
 -- how much is left to compare at most: a record has a byte at least, and 65,535 samples at most
+abbrev pub left_to_read : Bool → ℕ → ℕ
+left_to_read true left = 0
+left_to_read false left = 65_536 * left
+
 abbrev pub weight : Device → Standing → ℕ
-weight source side = 65_536 * left_with source side.reading.position.waiting + length side.ahead
+weight source side =
+    left_to_read side.ended (left_with source side.reading.position.waiting) + length side.ahead
