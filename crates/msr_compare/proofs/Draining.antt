@@ -1,11 +1,12 @@
 -- Reading an input to its end, without its samples.
-use Rattle.std.proofs.Common.{◌≡◌, ℕ, Bool, true, false, List, [], ◌∷◌, ◌++◌, refl, sym, ap, subst, ◌∙◌, append_assoc, Option, Some, None}
+use Rattle.std.proofs.Common.{◌≡◌, ℕ, arith, Bool, true, false, List, [], ◌∷◌, ◌++◌, refl, sym, ap, subst, ◌∙◌, append_assoc, Option, Some, None}
 use Rattle.std.specs.Option.{option_to_list}
 use Rattle.std.proofs.lemmas.List.{append-nil}
 use Rattle.std.proofs.lemmas.Bool.{both_ways}
 use Rattle.msr_rows.specs.declared.row.Record.{Record}
 use Rattle.msr_rows.specs.declared.row.Row.{Row}
-use Rattle.msr_devices.specs.Device.{Device}
+use Rattle.msr_devices.specs.Device.{Device, CanCountCall, CountsFew, IsSteady}
+use Rattle.msr_devices.proofs.Chaining.{steady_then_few}
 use Rattle.msr_segments.specs.Spans.{Following, IsStep}
 use Rattle.msr_segments.specs.Segments.{row_span, row_segment, with_row}
 use Rattle.msr_segments.specs.Joining.{Joining, HasJoined, following_of}
@@ -23,7 +24,7 @@ use Rattle.msr_input.specs.declared.fault.ReadFault.{ReadFault}
 use Rattle.msr_input.specs.declared.row_reader.NextOutline.{NextOutline}
 use Rattle.msr_input.specs.declared.outline.RowOutline.{RowOutline}
 use Rattle.msr_compare.specs.Symbols.{Symbol, symbols_of, row_symbols}
-use Rattle.msr_compare.specs.Sides.{Standing, HasTaken, IsAtEnd, IsDrained}
+use Rattle.msr_compare.specs.Sides.{Standing, HasBegun, HasTaken, IsAtEnd, IsDrained}
 use Rattle.msr_compare.proofs.Sides.{begins_whole, joins_whole}
 use Rattle.msr_compare.proofs.Taking.{readable_end, tolerance_is}
 
@@ -174,3 +175,34 @@ drained_before settings start now side done h ended =
       whole = λ e. refl;
       steady = h.read.came.steady;
     }
+
+-- Some records came from a source that could count calls.
+pub record IsDraining (now : Device) (reading : RowReading) : Type 0 where
+  pub settings : Settings
+  pub start : Device
+  pub symbols : List Symbol
+  pub drains : Draining settings start now reading symbols
+  pub can : CanCountCall start
+
+pub is_draining : (now : Device) (side : Standing) → HasBegun now side → IsDraining now side.reading
+is_draining now side h = record {
+  settings = h.settings;
+  start = h.start;
+  symbols = h.done ++ side.ahead;
+  drains = draining h.settings h.start now side h.done h.taken;
+  can = h.can;
+}
+
+pub still_draining : (a b : Device) (old new : RowReading) (next : NextOutline) (d : IsDraining a old)
+    → ReadsOutline d.start b new d.drains.records d.drains.answers next → row_settings new ≡ row_settings old
+    → IsStep old.following (outline_span next.row) next.step new.following → IsDraining b new
+still_draining a b old new next d outline same step = record {
+  settings = d.settings;
+  start = d.start;
+  symbols = d.symbols;
+  drains = drains_row d.settings d.start a b old new d.symbols next d.drains outline same step;
+  can = d.can;
+}
+
+pub steady_few : (a b : Device) → IsSteady a b → CountsFew a b
+steady_few a b steady = steady_then_few a b b steady (record { failures = omega arith; interruptions = omega arith })

@@ -2,7 +2,7 @@
 use Rattle.std.specs.Prelude.{◌≡◌, ℕ, ◌+◌, ◌*◌, ◌≤◌, Bool, true, false, List, [], ◌∷◌, ◌++◌, length, Option, None, Some}
 use Rattle.std.specs.Option.{option_to_list}
 use Rattle.msr_rows.specs.declared.row.Record.{Record}
-use Rattle.msr_devices.specs.Device.{Device, HasLeft, IsSteady}
+use Rattle.msr_devices.specs.Device.{Device, CanCountCall, HasLeft, IsSteady}
 use Rattle.msr_segments.specs.Joining.{Joining, HasJoined, following_of}
 use Rattle.msr_segments.specs.declared.follow.Step.{Step}
 use Rattle.msr_segments.specs.declared.joiner.Segment.{Segment}
@@ -67,6 +67,14 @@ pub record HasTaken (settings : Settings) (start now : Device) (side : Standing)
 pub record IsFetched (settings : Settings) (start now : Device) (side : Standing) (done : List Symbol) : Type 0 where
   pub taken : HasTaken settings start now side done
   pub some : side.ahead ≡ [] → side.ended ≡ true
+
+-- Some records came from a source that could count calls.
+pub record HasBegun (now : Device) (side : Standing) : Type 0 where
+  pub settings : Settings
+  pub start : Device
+  pub done : List Symbol
+  pub taken : HasTaken settings start now side done
+  pub can : CanCountCall start
 
 -- The input was read to its end, and is readable. The symbols of its segments are these, and more only if it had not
 -- been read to its end before.

@@ -4,7 +4,7 @@ ghost use Rattle.msr_devices.specs.Device.{Device, CanCountCall, CountsFew, HasF
 ghost use Rattle.msr_input.specs.declared.settings.Settings.{Settings as How};
 ghost use Rattle.msr_compare.specs.Answers.{CompareAnswers};
 ghost use Rattle.msr_compare.specs.Symbols.{Symbol};
-ghost use Rattle.msr_compare.specs.Sides.{HasTaken, IsDrained};
+ghost use Rattle.msr_compare.specs.Sides.{HasBegun, HasTaken, IsDrained};
 ghost use Rattle.msr_compare.specs.Meetings.{HaveTaken, HaveMet, StopsMeeting, StopsOne, StopsOther};
 
 use crate::comparison::{Comparison, Difference, SameSegments};
@@ -51,13 +51,15 @@ fn agree<One: Source, Other: Source>(
 
 /// Reads the first input to its end.
 fn drain_one<One: Source>(side: &mut Side, one: &mut One) -> Result<(), CompareFault>
-    requires { CanCountCall (One.device one.old) }
+    requires { HasBegun (One.device one.old) side.old }
     ensures drained { (settings : How) (start : Device) (done : List Symbol)
         → HasTaken settings start (One.device one.old) side.old done
         → MatchResult result
         (λ _. IsDrained settings start (One.device one.new) side.old.ended (done ++ side.old.ahead))
         (StopsOne settings start (One.device one.new)) }
-    ensures few { CountsFew (One.device one.old) (One.device one.new) }
+    ensures few { (settings : How) (start : Device) (done : List Symbol)
+        → HasTaken settings start (One.device one.old) side.old done
+        → CountsFew start (One.device one.new) }
 {
     match side.drain(one) {
         Ok(()) => Ok(()),
@@ -67,13 +69,15 @@ fn drain_one<One: Source>(side: &mut Side, one: &mut One) -> Result<(), CompareF
 
 /// Reads the other input to its end.
 fn drain_other<Other: Source>(side: &mut Side, other: &mut Other) -> Result<(), CompareFault>
-    requires { CanCountCall (Other.device other.old) }
+    requires { HasBegun (Other.device other.old) side.old }
     ensures drained { (settings : How) (start : Device) (done : List Symbol)
         → HasTaken settings start (Other.device other.old) side.old done
         → MatchResult result
         (λ _. IsDrained settings start (Other.device other.new) side.old.ended (done ++ side.old.ahead))
         (StopsOther settings start (Other.device other.new)) }
-    ensures few { CountsFew (Other.device other.old) (Other.device other.new) }
+    ensures few { (settings : How) (start : Device) (done : List Symbol)
+        → HasTaken settings start (Other.device other.old) side.old done
+        → CountsFew start (Other.device other.new) }
 {
     match side.drain(other) {
         Ok(()) => Ok(()),
