@@ -5,3 +5,4 @@ pub mod FirstDifferences
 pub mod Sides
 pub mod Taking
 pub mod Draining
+pub mod MeetingLemmas
