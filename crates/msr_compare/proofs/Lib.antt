@@ -6,3 +6,4 @@ pub mod Sides
 pub mod Taking
 pub mod Draining
 pub mod MeetingLemmas
+pub mod Agreeing
