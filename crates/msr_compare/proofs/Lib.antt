@@ -7,3 +7,5 @@ pub mod Taking
 pub mod Draining
 pub mod MeetingLemmas
 pub mod Agreeing
+pub mod DifferingAheads
+pub mod ComparedInputs

@@ -137,6 +137,7 @@ pub record Advance (tolerance count : ℕ) (rows : List Row) (following : Follow
   pub samples_are : tally.samples ≡ samples_in (given ++ option_to_list joining.current)
   pub few_segments : tally.segments ≤ count
   pub few_samples : tally.samples ≤ 65_535 * count
+  pub few_count : tally.count < 2 ^ 64
   pub at_open : IsOpenIn joining.current tally
   pub greatest : IsGreatestMove tolerance rows tally.moved
 
@@ -170,6 +171,7 @@ advance_begins old new rows given row ended next count symbols before after h s 
       samples_are = omega (arith, t.samples (omega (arith, few_samples, few, short)), samples, sum);
       few_segments = omega (arith, t.segments (omega (arith, few_segments, few)), few_segments);
       few_samples = omega (arith, t.samples (omega (arith, few_samples, few, short)), few_samples, short);
+      few_count = omega (arith, t.count, short);
       at_open = λ segment e.
           let same : row_segment row ≡ segment = some_so (row_segment row) segment (sym current ∙ e) in
           (t.start ∙ ap (λ (x : Segment). x.start) same, t.count ∙ ap (λ (x : Segment). length x.samples) same);
@@ -243,6 +245,7 @@ advance_joins old new rows given row ended next count symbols before after h s s
       samples_are = omega (arith, summed, samples, sum, sum_was, parts);
       few_segments = omega (arith, t.segments, few_segments);
       few_samples = omega (arith, summed, few_samples, short);
+      few_count = omega (arith, counted, at.1, parts, limit);
       at_open = λ segment e.
           let same : longer ≡ segment = some_so longer segment (sym current ∙ e) in (
             t.start ∙ at.0 ∙ ap (λ (x : Segment). x.start) same,

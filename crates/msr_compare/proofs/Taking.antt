@@ -96,6 +96,7 @@ taken_none settings start a b side reading done found answers h going none read 
         samples_are = h.tallied.samples_are;
         few_segments = omega (arith, h.tallied.few_segments, size);
         few_samples = omega (arith, h.tallied.few_samples, size);
+        few_count = h.tallied.few_count;
         at_open = h.tallied.at_open;
         greatest = subst (λ (rs : List Row). IsGreatestMove settings.tolerance rs side.tally.moved) (sym rows)
             h.tallied.greatest;
@@ -143,6 +144,7 @@ taken_row settings start a b side new reading done found next answers h going no
         samples_are = g.samples_are;
         few_segments = omega (arith, g.few_segments, size);
         few_samples = omega (arith, g.few_samples, size);
+        few_count = g.few_count;
         at_open = g.at_open;
         greatest = subst (λ (rs : List Row). IsGreatestMove settings.tolerance rs new.tally.moved) (sym rows)
             (subst (λ (t : ℕ). IsGreatestMove t (rows_of_records h.records ++ next.row ∷ []) new.tally.moved)
@@ -253,6 +255,7 @@ taken_first settings start reading read following strict bounded = record {
     samples_are = refl;
     few_segments = omega arith;
     few_samples = omega arith;
+    few_count = omega arith;
     at_open = λ segment e. absurd cc;
     greatest = no_move settings.tolerance;
   };

@@ -1,0 +1,266 @@
+-- What is answered for two inputs.
+use Rattle.std.proofs.Common.{◌≡◌, ◌↔◌, ℕ, true, List, [], ◌∷◌, ◌++◌, length, map, refl, sym, ap, subst, ◌∙◌, ℤ, Option, Some, None, Result, Ok, Err, IsErrOf}
+use Rattle.std.specs.Option.{option_to_list}
+use Rattle.std.proofs.lemmas.List.{append-nil}
+use Rattle.msr_rows.specs.declared.row.Key.{Key}
+use Rattle.msr_rows.specs.declared.row.Record.{Record}
+use Rattle.msr_devices.specs.Device.{Device, HasFailed, HasLeft, IsSteady}
+use Rattle.msr_devices.proofs.Chaining.{left_of, steady_sound}
+use Rattle.msr_segments.specs.declared.joiner.Segment.{Segment}
+use Rattle.msr_input.specs.Input.{IsReadable}
+use Rattle.msr_input.specs.Reading.{StopsReading}
+use Rattle.msr_input.specs.declared.settings.Settings.{Settings}
+use Rattle.msr_input.specs.declared.fault.ReadFault.{ReadFault}
+use Rattle.msr_input.specs.declared.fault.ReadFault.TheVariants as fault
+use Rattle.msr_compare.specs.declared.comparison.Comparison.{Comparison}
+use Rattle.msr_compare.specs.declared.comparison.Comparison.TheVariants.{Same, Differ}
+use Rattle.msr_compare.specs.declared.comparison.SameSegments.{SameSegments}
+use Rattle.msr_compare.specs.declared.comparison.Difference.{Difference}
+use Rattle.msr_compare.specs.declared.fault.CompareFault.{CompareFault}
+use Rattle.msr_compare.specs.declared.fault.CompareFault.TheVariants as failing
+use Rattle.msr_compare.specs.Answers.{CompareAnswers, HasFirstFault, HasMoved, HasSegments}
+use Rattle.msr_compare.specs.Differences.{samples_in}
+use Rattle.msr_compare.specs.Moves.{IsGreatestMove}
+use Rattle.msr_compare.specs.Symbols.{Symbol, Opens, Holds, symbols_of}
+use Rattle.msr_compare.specs.Sides.{Standing, HasTaken, IsDrained}
+use Rattle.msr_compare.specs.Meetings.{HaveFinished, HaveMet, IsReadableFrom, KeepsFault, ReadableIfRefused, ReadsFirst, StopsFinishing, StopsMeeting}
+use Rattle.msr_compare.proofs.Symbols.{no_symbols, opens_so}
+use Rattle.msr_compare.proofs.Taking.{readable_end, tolerance_is}
+use Rattle.msr_compare.proofs.DifferingAheads.{counted, first_so}
+
+-- the samples of two segments and the symbols after them are the same, if all together are
+pub tails_same : (xs ys : List ℤ) (ones others : List Segment)
+    → map Holds xs ++ symbols_of ones ≡ map Holds ys ++ symbols_of others
+    → (xs ≡ ys) × (symbols_of ones ≡ symbols_of others)
+tails_same [] [] ones others e = (refl, e)
+tails_same [] (y ∷ ys) [] others e = absurd cc
+tails_same [] (y ∷ ys) (one ∷ ones) others e = absurd cc
+tails_same (x ∷ xs) [] ones [] e = absurd cc
+tails_same (x ∷ xs) [] ones (other ∷ others) e = absurd cc
+tails_same (x ∷ xs) (y ∷ ys) ones others e =
+    let same : x ≡ y = cc in
+    let rest : map Holds xs ++ symbols_of ones ≡ map Holds ys ++ symbols_of others = cc in
+    let tails = tails_same xs ys ones others rest in
+    (ap (λ (z : ℤ). z ∷ xs) same ∙ ap (λ (l : List ℤ). y ∷ l) tails.0, tails.1)
+
+same_segment : (x y : Segment) → x.key ≡ y.key → x.start ≡ y.start → x.samples ≡ y.samples → x ≡ y
+same_segment x y key start samples =
+    ap (λ (k : Key). record { key = k; start = x.start; samples = x.samples }) key
+    ∙ ap (λ (t : ℤ). record { key = y.key; start = t; samples = x.samples }) start
+    ∙ ap (λ (l : List ℤ). record { key = y.key; start = y.start; samples = l }) samples
+
+-- segments with the same symbols are the same
+pub symbols_same : (ones others : List Segment) → symbols_of ones ≡ symbols_of others → ones ≡ others
+symbols_same [] others e = sym (no_symbols others (sym e))
+symbols_same (x ∷ xs) others e =
+    let o = opens_so others x.key x.start (map Holds x.samples ++ symbols_of xs) (sym e) in
+    let tails = tails_same x.samples o.segment.samples xs o.after (sym o.rest_is) in
+    let first = same_segment x o.segment (sym o.key_is) (sym o.start_is) tails.0 in
+    ap (λ (s : Segment). s ∷ xs) first ∙ ap (λ (l : List Segment). o.segment ∷ l) (symbols_same xs o.after tails.1)
+    ∙ sym o.are
+
+-- what is answered, for some inputs
+pub record AnswerFor (settings : Settings) (start_one start_other : Device)
+    (answer : Result Comparison CompareFault) : Type 0 where
+  pub first : List ℕ
+  pub second : List ℕ
+  pub left : HasLeft start_one first
+  pub other_left : HasLeft start_other second
+  pub answers : CompareAnswers settings first second answer
+
+pub as_answer : (settings : Settings) (start_one start_other : Device) (answer : Result Comparison CompareFault)
+    → AnswerFor settings start_one start_other answer → (first second : List ℕ) × HasLeft start_one first
+    × HasLeft start_other second × CompareAnswers settings first second answer
+as_answer settings start_one start_other answer a = (a.first, a.second, a.left, a.other_left, a.answers)
+
+-- both have ended, with the same segments
+pub same_answer : (settings : Settings) (start_one one_now start_other other_now : Device) (one other : Standing)
+    → HaveMet settings start_one one_now start_other other_now one other None
+    → AnswerFor settings start_one start_other (Ok (Same (record {
+      segments = one.tally.segments;
+      samples = one.tally.samples;
+      moved_one = one.tally.moved;
+      moved_other = other.tally.moved;
+    })))
+same_answer settings start_one one_now start_other other_now one other m =
+    let f = m.fetched in
+    let t = f.taken.one_taken in
+    let u = f.taken.other_taken in
+    let at = t.end (f.one_some m.is_found.0) in
+    let other_at = u.end (f.other_some m.is_found.1) in
+    let ones = t.given ++ option_to_list t.joining.current in
+    let others = u.given ++ option_to_list u.joining.current in
+    let done = f.taken.done in
+    let symbols = t.symbols ∙ ap (λ (l : List Symbol). done ++ l) (m.is_found.0 ∙ sym m.is_found.1) ∙ sym u.symbols in
+    let same : others ≡ ones = sym (symbols_same ones others symbols) in
+    let end = readable_end settings start_one one_now one.reading t.records t.answers t.joining t.given t.read
+    t.settings_are at.none_wait at.ended t.joined
+    (tolerance_is settings one.reading t.joining t.settings_are t.stands) in
+    let other_end = readable_end settings start_other other_now other.reading u.records u.answers u.joining u.given u.read
+    u.settings_are other_at.none_wait other_at.ended u.joined
+    (tolerance_is settings other.reading u.joining u.settings_are u.stands) in
+    record {
+      first = end.0;
+      second = other_end.0;
+      left = end.1;
+      other_left = other_end.1;
+      answers = record {
+        same = record {
+          segments = ones;
+          one_has = record { records = t.records; readable = end.2 };
+          other_has = record {
+            records = u.records;
+            readable = subst (λ (l : List Segment). IsReadable settings other_end.0 u.records l) same other_end.2;
+          };
+        };
+        segments_are = t.tallied.segments_are;
+        samples_are = t.tallied.samples_are;
+        one_moved = record {
+          records = t.records;
+          segments = ones;
+          readable = end.2;
+          greatest = t.tallied.greatest;
+        };
+        other_moved = record {
+          records = u.records;
+          segments = others;
+          readable = other_end.2;
+          greatest = u.tallied.greatest;
+        };
+      };
+    }
+
+-- both were read to their ends after a difference
+pub differ_answer : (settings : Settings) (start_one a b start_other c d : Device) (one other : Standing)
+    (difference : Difference) (comparison : Comparison)
+    (m : HaveMet settings start_one a start_other c one other (Some difference))
+    → HaveFinished settings start_one b start_other d one other m.fetched.taken.done m.fetched.taken.done difference
+    comparison → AnswerFor settings start_one start_other (Ok comparison)
+differ_answer settings start_one a b start_other c d one other difference comparison m fin =
+    let f = m.fetched in
+    let x = fin.one_drained in
+    let y = fin.other_drained in
+    let first = first_so difference.kind difference.segment one other f.taken.done x.more y.more x.segments y.segments
+    (counted settings start_one a one f.taken.done f.taken.one_taken)
+    (counted settings start_other c other f.taken.done f.taken.other_taken) m.is_found.segment_is m.is_found.differ
+    x.symbols_are y.symbols_are (λ none. x.whole (f.one_some none)) (λ none. y.whole (f.other_some none)) in
+    rw fin.told (record {
+      first = x.input;
+      second = y.input;
+      left = x.left;
+      other_left = y.left;
+      answers = record {
+        ones = x.segments;
+        others = y.segments;
+        one_has = record { records = x.records; readable = x.readable };
+        other_has = record { records = y.records; readable = y.readable };
+        first = first;
+      };
+    })
+
+-- the first input is refused, or its source or memory failed
+pub one_answer : (settings : Settings) (start_one one_now start_other : Device) (why : ReadFault)
+    → StopsReading settings start_one one_now [] why
+    → AnswerFor settings start_one start_other (Err (failing.One why))
+one_answer settings start_one one_now start_other (fault.Input found) h =
+    let other = left_of start_other in
+    record {
+      first = h.0.input;
+      second = other.0;
+      left = h.0.left;
+      other_left = other.1;
+      answers = record { records = h.0.records; first = h.0.first };
+    }
+one_answer settings start_one one_now start_other fault.Read h =
+    let one = left_of start_one in
+    let other = left_of start_other in
+    record { first = one.0; second = other.0; left = one.1; other_left = other.1; answers = tt }
+one_answer settings start_one one_now start_other fault.Memory h =
+    let one = left_of start_one in
+    let other = left_of start_other in
+    record { first = one.0; second = other.0; left = one.1; other_left = other.1; answers = tt }
+
+-- the other input is, and the first one is readable then
+pub other_answer : (settings : Settings) (start_one start_other other_now : Device) (why : ReadFault)
+    → StopsReading settings start_other other_now [] why → ReadableIfRefused settings start_one why
+    → AnswerFor settings start_one start_other (Err (failing.Other why))
+other_answer settings start_one start_other other_now (fault.Input found) h readable = record {
+  first = readable.input;
+  second = h.0.input;
+  left = readable.left;
+  other_left = h.0.left;
+  answers = record {
+    segments = readable.segments;
+    one_has = readable.has;
+    faulty = record { records = h.0.records; first = h.0.first };
+  };
+}
+other_answer settings start_one start_other other_now fault.Read h readable =
+    let one = left_of start_one in
+    let other = left_of start_other in
+    record { first = one.0; second = other.0; left = one.1; other_left = other.1; answers = tt }
+other_answer settings start_one start_other other_now fault.Memory h readable =
+    let one = left_of start_one in
+    let other = left_of start_other in
+    record { first = one.0; second = other.0; left = one.1; other_left = other.1; answers = tt }
+
+-- why reading the second one stopped, if the first one was read on
+pub refused_answer : (settings : Settings) (start_one one_now start_other other_now : Device) (why : ReadFault)
+    (told : CompareFault) → StopsReading settings start_other other_now [] why
+    → ReadsFirst settings start_one one_now why told → AnswerFor settings start_one start_other (Err told)
+refused_answer settings start_one one_now start_other other_now why (failing.One first) h r =
+    one_answer settings start_one one_now start_other first r
+refused_answer settings start_one one_now start_other other_now why (failing.Other second) h r =
+    rw r.same (other_answer settings start_one start_other other_now why h r.readable)
+
+-- which answers tell that a source failed
+abbrev pub TellsOne : Result Comparison CompareFault → Type 0
+TellsOne answer = IsErrOf answer (failing.One fault.Read)
+
+abbrev pub TellsOther : Result Comparison CompareFault → Type 0
+TellsOther answer = IsErrOf answer (failing.Other fault.Read)
+
+pub record Tells (start_one one_now start_other other_now : Device) (answer : Result Comparison CompareFault)
+    : Type 0 where
+  pub one : TellsOne answer ↔ HasFailed start_one one_now
+  pub other : TellsOther answer ↔ HasFailed start_other other_now
+
+pub tells_ok : (start_one one_now start_other other_now : Device) (comparison : Comparison)
+    → IsSteady start_one one_now → IsSteady start_other other_now
+    → Tells start_one one_now start_other other_now (Ok comparison)
+tells_ok start_one one_now start_other other_now comparison steady other_steady = record {
+  one = ((λ e. absurd cc), (λ failed. absurd (steady_sound start_one one_now steady failed)));
+  other = ((λ e. absurd cc), (λ failed. absurd (steady_sound start_other other_now other_steady failed)));
+}
+
+pub tells_one : (settings : Settings) (start_one one_now start_other other_now : Device) (why : ReadFault)
+    → StopsReading settings start_one one_now [] why → IsSteady start_other other_now
+    → Tells start_one one_now start_other other_now (Err (failing.One why))
+tells_one settings start_one one_now start_other other_now (fault.Input found) h steady = record {
+  one = ((λ e. absurd cc), (λ failed. absurd (steady_sound start_one one_now h.1 failed)));
+  other = ((λ e. absurd cc), (λ failed. absurd (steady_sound start_other other_now steady failed)));
+}
+tells_one settings start_one one_now start_other other_now fault.Read h steady = record {
+  one = ((λ e. h.1), (λ failed. refl));
+  other = ((λ e. absurd cc), (λ failed. absurd (steady_sound start_other other_now steady failed)));
+}
+tells_one settings start_one one_now start_other other_now fault.Memory h steady = record {
+  one = ((λ e. absurd cc), (λ failed. absurd (steady_sound start_one one_now h.1 failed)));
+  other = ((λ e. absurd cc), (λ failed. absurd (steady_sound start_other other_now steady failed)));
+}
+
+pub tells_other : (settings : Settings) (start_one one_now start_other other_now : Device) (why : ReadFault)
+    → StopsReading settings start_other other_now [] why → IsSteady start_one one_now
+    → Tells start_one one_now start_other other_now (Err (failing.Other why))
+tells_other settings start_one one_now start_other other_now (fault.Input found) h steady = record {
+  one = ((λ e. absurd cc), (λ failed. absurd (steady_sound start_one one_now steady failed)));
+  other = ((λ e. absurd cc), (λ failed. absurd (steady_sound start_other other_now h.1 failed)));
+}
+tells_other settings start_one one_now start_other other_now fault.Read h steady = record {
+  one = ((λ e. absurd cc), (λ failed. absurd (steady_sound start_one one_now steady failed)));
+  other = ((λ e. h.1), (λ failed. refl));
+}
+tells_other settings start_one one_now start_other other_now fault.Memory h steady = record {
+  one = ((λ e. absurd cc), (λ failed. absurd (steady_sound start_one one_now steady failed)));
+  other = ((λ e. absurd cc), (λ failed. absurd (steady_sound start_other other_now h.1 failed)));
+}
