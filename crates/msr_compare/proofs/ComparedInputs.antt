@@ -1,5 +1,5 @@
 -- What is answered for two inputs.
-use Rattle.std.proofs.Common.{◌≡◌, ◌↔◌, ℕ, true, List, [], ◌∷◌, ◌++◌, length, map, refl, sym, ap, subst, ◌∙◌, ℤ, Option, Some, None, Result, Ok, Err, IsErrOf}
+use Rattle.std.proofs.Common.{◌≡◌, ◌↔◌, ℕ, Bool, true, List, [], ◌∷◌, ◌++◌, length, map, refl, sym, ap, subst, ◌∙◌, ℤ, Option, Some, None, Result, Ok, Err, IsErrOf}
 use Rattle.std.specs.Option.{option_to_list}
 use Rattle.std.proofs.lemmas.List.{append-nil}
 use Rattle.msr_rows.specs.declared.row.Key.{Key}
@@ -10,6 +10,7 @@ use Rattle.msr_segments.specs.declared.joiner.Segment.{Segment}
 use Rattle.msr_input.specs.Input.{IsReadable}
 use Rattle.msr_input.specs.Reading.{StopsReading}
 use Rattle.msr_input.specs.declared.settings.Settings.{Settings}
+use Rattle.msr_input.specs.declared.fault.Fault.{Fault}
 use Rattle.msr_input.specs.declared.fault.ReadFault.{ReadFault}
 use Rattle.msr_input.specs.declared.fault.ReadFault.TheVariants as fault
 use Rattle.msr_compare.specs.declared.comparison.Comparison.{Comparison}
@@ -18,7 +19,7 @@ use Rattle.msr_compare.specs.declared.comparison.SameSegments.{SameSegments}
 use Rattle.msr_compare.specs.declared.comparison.Difference.{Difference}
 use Rattle.msr_compare.specs.declared.fault.CompareFault.{CompareFault}
 use Rattle.msr_compare.specs.declared.fault.CompareFault.TheVariants as failing
-use Rattle.msr_compare.specs.Answers.{CompareAnswers, HasFirstFault, HasMoved, HasSegments}
+use Rattle.msr_compare.specs.Answers.{CompareAnswers, HasFirstFault, HasMoved, HasSegments, IsOfFault}
 use Rattle.msr_compare.specs.Differences.{samples_in}
 use Rattle.msr_compare.specs.Moves.{IsGreatestMove}
 use Rattle.msr_compare.specs.Symbols.{Symbol, Opens, Holds, symbols_of}
@@ -209,7 +210,7 @@ pub refused_answer : (settings : Settings) (start_one one_now start_other other_
     (told : CompareFault) → StopsReading settings start_other other_now [] why
     → ReadsFirst settings start_one one_now why told → AnswerFor settings start_one start_other (Err told)
 refused_answer settings start_one one_now start_other other_now why (failing.One first) h r =
-    one_answer settings start_one one_now start_other first r
+    one_answer settings start_one one_now start_other first r.0
 refused_answer settings start_one one_now start_other other_now why (failing.Other second) h r =
     rw r.same (other_answer settings start_one start_other other_now why h r.readable)
 
@@ -264,3 +265,80 @@ tells_other settings start_one one_now start_other other_now fault.Memory h stea
   one = ((λ e. absurd cc), (λ failed. absurd (steady_sound start_one one_now steady failed)));
   other = ((λ e. absurd cc), (λ failed. absurd (steady_sound start_other other_now h.1 failed)));
 }
+
+readable_if : (settings : Settings) (start : Device) (why : ReadFault) → IsReadableFrom settings start
+    → ReadableIfRefused settings start why
+readable_if settings start (fault.Input found) readable = readable
+readable_if settings start fault.Read readable = tt
+readable_if settings start fault.Memory readable = tt
+
+pub drained_readable : (settings : Settings) (start now : Device) (ended : Bool) (symbols : List Symbol)
+    → IsDrained settings start now ended symbols → IsReadableFrom settings start
+drained_readable settings start now ended symbols d = record {
+  input = d.input;
+  segments = d.segments;
+  left = d.left;
+  has = record { records = d.records; readable = d.readable };
+}
+
+-- the first input was read to its end, since the other one is refused
+pub keeps_refusal : (settings : Settings) (start now : Device) (why : ReadFault) (found : Fault) (ended : Bool)
+    (symbols : List Symbol) → why ≡ fault.Input found → IsDrained settings start now ended symbols
+    → KeepsFault settings start now why (fault.Input found)
+keeps_refusal settings start now why found ended symbols e d = record {
+  same = sym e;
+  steady = d.steady;
+  readable = readable_if settings start why (drained_readable settings start now ended symbols d);
+}
+
+pub keeps_read : (settings : Settings) (start now : Device) (why : ReadFault) → why ≡ fault.Read → IsSteady start now
+    → KeepsFault settings start now why fault.Read
+keeps_read settings start now why e steady = record { same = sym e; steady = steady; readable = rw e tt }
+
+pub keeps_memory : (settings : Settings) (start now : Device) (why : ReadFault) → why ≡ fault.Memory
+    → IsSteady start now → KeepsFault settings start now why fault.Memory
+keeps_memory settings start now why e steady = record { same = sym e; steady = steady; readable = rw e tt }
+
+-- a refusal is no failure
+refused_steady : (settings : Settings) (start now : Device) (why : ReadFault) → StopsReading settings start now [] why
+    → IsOfFault why → IsSteady start now
+refused_steady settings start now (fault.Input found) h is = h.1
+refused_steady settings start now fault.Read h is = absurd is
+refused_steady settings start now fault.Memory h is = absurd is
+
+pub tells_refused : (settings : Settings) (start_one one_now start_other other_now : Device) (why : ReadFault)
+    (told : CompareFault) → StopsReading settings start_other other_now [] why
+    → ReadsFirst settings start_one one_now why told
+    → Tells start_one one_now start_other other_now (Err told)
+tells_refused settings start_one one_now start_other other_now why (failing.One first) h r =
+    tells_one settings start_one one_now start_other other_now first r.0
+    (refused_steady settings start_other other_now why h r.1)
+tells_refused settings start_one one_now start_other other_now why (failing.Other second) h r =
+    rw r.same (tells_other settings start_one one_now start_other other_now why h r.steady)
+
+pub is_refusal : (why : ReadFault) (found : Fault) → why ≡ fault.Input found → IsOfFault why
+is_refusal why found e = rw e tt
+
+pub tells_finished : (settings : Settings) (start_one one_now start_other other_now : Device) (one other : Standing)
+    (done other_done : List Symbol) (difference : Difference) (comparison : Comparison)
+    → HaveFinished settings start_one one_now start_other other_now one other done other_done difference comparison
+    → Tells start_one one_now start_other other_now (Ok comparison)
+tells_finished settings start_one one_now start_other other_now one other done other_done difference comparison f =
+    tells_ok start_one one_now start_other other_now comparison f.one_drained.steady f.other_drained.steady
+
+-- why both were not read to their ends
+pub unfinished_answer : (settings : Settings) (start_one one_now start_other other_now : Device) (told : CompareFault)
+    → StopsFinishing settings start_one one_now start_other other_now told
+    → AnswerFor settings start_one start_other (Err told)
+unfinished_answer settings start_one one_now start_other other_now (failing.One why) h =
+    one_answer settings start_one one_now start_other why h.0
+unfinished_answer settings start_one one_now start_other other_now (failing.Other why) h =
+    other_answer settings start_one start_other other_now why h.0 (readable_if settings start_one why h.2)
+
+pub tells_unfinished : (settings : Settings) (start_one one_now start_other other_now : Device) (told : CompareFault)
+    → StopsFinishing settings start_one one_now start_other other_now told
+    → Tells start_one one_now start_other other_now (Err told)
+tells_unfinished settings start_one one_now start_other other_now (failing.One why) h =
+    tells_one settings start_one one_now start_other other_now why h.0 h.1
+tells_unfinished settings start_one one_now start_other other_now (failing.Other why) h =
+    tells_other settings start_one one_now start_other other_now why h.0 h.1

@@ -7,7 +7,7 @@ use Rattle.msr_input.specs.declared.settings.Settings.{Settings}
 use Rattle.msr_input.specs.declared.fault.ReadFault.{ReadFault}
 use Rattle.msr_input.specs.declared.fault.ReadFault.TheVariants as fault
 use Rattle.msr_segments.specs.declared.joiner.Segment.{Segment}
-use Rattle.msr_compare.specs.Answers.{HasSegments}
+use Rattle.msr_compare.specs.Answers.{HasSegments, IsOfFault}
 use Rattle.msr_compare.specs.declared.comparison.Which.TheVariants as which
 use Rattle.msr_compare.specs.declared.comparison.Comparison.{Comparison}
 use Rattle.msr_compare.specs.declared.comparison.Comparison.TheVariants.{Differ}
@@ -191,19 +191,19 @@ pub record HaveFinished (settings : Settings) (start_one one_now start_other oth
   pub one_drained : IsDrained settings start_one one_now one.ended (done ++ one.ahead)
   pub other_drained : IsDrained settings start_other other_now other.ended (other_done ++ other.ahead)
 
--- why one of them was not
-abbrev pub StopsFinishing : Settings → Device → Device → Device → Device → CompareFault → Type 0
-StopsFinishing settings start_one one_now start_other other_now (failing.One why) =
-    StopsReading settings start_one one_now [] why × IsSteady start_other other_now
-StopsFinishing settings start_one one_now start_other other_now (failing.Other why) =
-    StopsReading settings start_other other_now [] why × IsSteady start_one one_now
-
 -- the input that the source has is readable
 pub record IsReadableFrom (settings : Settings) (start : Device) : Type 0 where
   pub input : List ℕ
   pub segments : List Segment
   pub left : HasLeft start input
   pub has : HasSegments settings input segments
+
+-- why one of them was not; the first one is read first
+abbrev pub StopsFinishing : Settings → Device → Device → Device → Device → CompareFault → Type 0
+StopsFinishing settings start_one one_now start_other other_now (failing.One why) =
+    StopsReading settings start_one one_now [] why × IsSteady start_other other_now
+StopsFinishing settings start_one one_now start_other other_now (failing.Other why) =
+    StopsReading settings start_other other_now [] why × IsSteady start_one one_now × IsReadableFrom settings start_one
 
 -- where the other input is refused, the first one is readable
 abbrev pub ReadableIfRefused : Settings → Device → ReadFault → Type 0
@@ -218,5 +218,5 @@ pub record KeepsFault (settings : Settings) (start now : Device) (why told : Rea
 
 -- why reading stops if the other input stopped so: the first one comes first
 abbrev pub ReadsFirst : Settings → Device → Device → ReadFault → CompareFault → Type 0
-ReadsFirst settings start now why (failing.One first) = StopsReading settings start now [] first
+ReadsFirst settings start now why (failing.One first) = StopsReading settings start now [] first × IsOfFault why
 ReadsFirst settings start now why (failing.Other told) = KeepsFault settings start now why told
