@@ -1,10 +1,10 @@
 -- What is answered for two inputs.
-use Rattle.std.proofs.Common.{◌≡◌, ◌↔◌, ℕ, Bool, true, List, [], ◌∷◌, ◌++◌, length, map, refl, sym, ap, subst, ◌∙◌, ℤ, Option, Some, None, Result, Ok, Err, IsErrOf}
+use Rattle.std.proofs.Common.{◌≡◌, ◌↔◌, ℕ, Bool, true, List, [], ◌∷◌, ◌++◌, length, map, refl, sym, ap, subst, ◌∙◌, ℤ, Option, Some, None, Result, Ok, Err, IsErrOf, MatchResult}
 use Rattle.std.specs.Option.{option_to_list}
 use Rattle.std.proofs.lemmas.List.{append-nil}
 use Rattle.msr_rows.specs.declared.row.Key.{Key}
 use Rattle.msr_rows.specs.declared.row.Record.{Record}
-use Rattle.msr_devices.specs.Device.{Device, HasFailed, HasLeft, IsSteady}
+use Rattle.msr_devices.specs.Device.{Device, CountsFew, HasFailed, HasLeft, IsSteady}
 use Rattle.msr_devices.proofs.Chaining.{left_of, steady_sound}
 use Rattle.msr_segments.specs.declared.joiner.Segment.{Segment}
 use Rattle.msr_input.specs.Input.{IsReadable}
@@ -24,7 +24,7 @@ use Rattle.msr_compare.specs.Differences.{samples_in}
 use Rattle.msr_compare.specs.Moves.{IsGreatestMove}
 use Rattle.msr_compare.specs.Symbols.{Symbol, Opens, Holds, symbols_of}
 use Rattle.msr_compare.specs.Sides.{Standing, HasTaken, IsDrained}
-use Rattle.msr_compare.specs.Meetings.{HaveFinished, HaveMet, IsReadableFrom, KeepsFault, ReadableIfRefused, ReadsFirst, StopsFinishing, StopsMeeting}
+use Rattle.msr_compare.specs.Meetings.{HaveFinished, HaveMet, IsAnswered, IsReadableFrom, KeepsFault, ReadableIfRefused, ReadsFirst, StopsFinishing, StopsMeeting}
 use Rattle.msr_compare.proofs.Symbols.{no_symbols, opens_so}
 use Rattle.msr_compare.proofs.Taking.{readable_end, tolerance_is}
 use Rattle.msr_compare.proofs.DifferingAheads.{counted, first_so}
@@ -68,11 +68,6 @@ pub record AnswerFor (settings : Settings) (start_one start_other : Device)
   pub left : HasLeft start_one first
   pub other_left : HasLeft start_other second
   pub answers : CompareAnswers settings first second answer
-
-pub as_answer : (settings : Settings) (start_one start_other : Device) (answer : Result Comparison CompareFault)
-    → AnswerFor settings start_one start_other answer → (first second : List ℕ) × HasLeft start_one first
-    × HasLeft start_other second × CompareAnswers settings first second answer
-as_answer settings start_one start_other answer a = (a.first, a.second, a.left, a.other_left, a.answers)
 
 -- both have ended, with the same segments
 pub same_answer : (settings : Settings) (start_one one_now start_other other_now : Device) (one other : Standing)
@@ -342,3 +337,70 @@ tells_unfinished settings start_one one_now start_other other_now (failing.One w
     tells_one settings start_one one_now start_other other_now why h.0 h.1
 tells_unfinished settings start_one one_now start_other other_now (failing.Other why) h =
     tells_other settings start_one one_now start_other other_now why h.0 h.1
+
+-- all that an answer says
+answered : (settings : Settings) (start_one one_now start_other other_now : Device)
+    (answer : Result Comparison CompareFault) → AnswerFor settings start_one start_other answer
+    → Tells start_one one_now start_other other_now answer → CountsFew start_one one_now
+    → CountsFew start_other other_now → IsAnswered settings start_one one_now start_other other_now answer
+answered settings start_one one_now start_other other_now answer a t few other_few = record {
+  first = a.first;
+  second = a.second;
+  left = a.left;
+  other_left = a.other_left;
+  answers = a.answers;
+  read_one = t.one;
+  read_other = t.other;
+  few_one = few;
+  few_other = other_few;
+}
+
+pub answered_same : (settings : Settings) (start_one one_now start_other other_now : Device) (one other : Standing)
+    (told : SameSegments) → HaveMet settings start_one one_now start_other other_now one other None
+    → told ≡ record {
+      segments = one.tally.segments;
+      samples = one.tally.samples;
+      moved_one = one.tally.moved;
+      moved_other = other.tally.moved;
+    } → CountsFew start_one one_now → CountsFew start_other other_now
+    → IsAnswered settings start_one one_now start_other other_now (Ok (Same told))
+answered_same settings start_one one_now start_other other_now one other told m e few other_few =
+    let t = m.fetched.taken in
+    rw e (answered settings start_one one_now start_other other_now _
+    (same_answer settings start_one one_now start_other other_now one other m)
+    (tells_ok start_one one_now start_other other_now _ t.one_taken.read.came.steady t.other_taken.read.came.steady)
+    few other_few)
+
+pub answered_one : (settings : Settings) (start_one one_now start_other other_now : Device) (why : ReadFault)
+    → StopsReading settings start_one one_now [] why × IsSteady start_other other_now → CountsFew start_one one_now
+    → CountsFew start_other other_now
+    → IsAnswered settings start_one one_now start_other other_now (Err (failing.One why))
+answered_one settings start_one one_now start_other other_now why h few other_few =
+    answered settings start_one one_now start_other other_now (Err (failing.One why))
+    (one_answer settings start_one one_now start_other why h.0)
+    (tells_one settings start_one one_now start_other other_now why h.0 h.1) few other_few
+
+pub answered_refused : (settings : Settings) (start_one one_now start_other other_now : Device) (why : ReadFault)
+    (told : CompareFault) → StopsReading settings start_other other_now [] why
+    → ReadsFirst settings start_one one_now why told → CountsFew start_one one_now → CountsFew start_other other_now
+    → IsAnswered settings start_one one_now start_other other_now (Err told)
+answered_refused settings start_one one_now start_other other_now why told h r few other_few =
+    answered settings start_one one_now start_other other_now (Err told)
+    (refused_answer settings start_one one_now start_other other_now why told h r)
+    (tells_refused settings start_one one_now start_other other_now why told h r) few other_few
+
+pub answered_finished : (settings : Settings) (start_one a b start_other c d : Device) (one other : Standing)
+    (difference : Difference) (result : Result Comparison CompareFault)
+    (m : HaveMet settings start_one a start_other c one other (Some difference))
+    → MatchResult result (HaveFinished settings start_one b start_other d one other m.fetched.taken.done
+    m.fetched.taken.done difference) (StopsFinishing settings start_one b start_other d) → CountsFew start_one b
+    → CountsFew start_other d → IsAnswered settings start_one b start_other d result
+answered_finished settings start_one a b start_other c d one other difference (Ok comparison) m fin few other_few =
+    answered settings start_one b start_other d (Ok comparison)
+    (differ_answer settings start_one a b start_other c d one other difference comparison m fin)
+    (tells_finished settings start_one b start_other d one other m.fetched.taken.done m.fetched.taken.done difference
+    comparison fin) few other_few
+answered_finished settings start_one a b start_other c d one other difference (Err told) m fin few other_few =
+    answered settings start_one b start_other d (Err told)
+    (unfinished_answer settings start_one b start_other d told fin)
+    (tells_unfinished settings start_one b start_other d told fin) few other_few

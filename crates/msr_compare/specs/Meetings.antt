@@ -1,13 +1,13 @@
 -- What is found where what is ahead of two sides is compared.
-use Rattle.std.specs.Prelude.{◌≡◌, ◌≢◌, ℕ, ◌+◌, ◌-◌, ◌^◌, ◌<◌, ◌≤◌, true, List, [], ◌∷◌, ◌++◌, length, map, ℤ, Option, None, Some, Result, Ok, Err}
+use Rattle.std.specs.Prelude.{◌≡◌, ◌≢◌, ◌↔◌, IsErrOf, ℕ, ◌+◌, ◌-◌, ◌^◌, ◌<◌, ◌≤◌, true, List, [], ◌∷◌, ◌++◌, length, map, ℤ, Option, None, Some, Result, Ok, Err}
 use Rattle.msr_rows.specs.declared.row.Key.{Key}
-use Rattle.msr_devices.specs.Device.{Device, HasLeft, IsSteady}
+use Rattle.msr_devices.specs.Device.{Device, CountsFew, HasFailed, HasLeft, IsSteady}
 use Rattle.msr_input.specs.Reading.{StopsReading}
 use Rattle.msr_input.specs.declared.settings.Settings.{Settings}
 use Rattle.msr_input.specs.declared.fault.ReadFault.{ReadFault}
 use Rattle.msr_input.specs.declared.fault.ReadFault.TheVariants as fault
 use Rattle.msr_segments.specs.declared.joiner.Segment.{Segment}
-use Rattle.msr_compare.specs.Answers.{HasSegments, IsOfFault}
+use Rattle.msr_compare.specs.Answers.{CompareAnswers, HasSegments, IsOfFault}
 use Rattle.msr_compare.specs.declared.comparison.Which.TheVariants as which
 use Rattle.msr_compare.specs.declared.comparison.Comparison.{Comparison}
 use Rattle.msr_compare.specs.declared.comparison.Comparison.TheVariants.{Differ}
@@ -220,3 +220,21 @@ pub record KeepsFault (settings : Settings) (start now : Device) (why told : Rea
 abbrev pub ReadsFirst : Settings → Device → Device → ReadFault → CompareFault → Type 0
 ReadsFirst settings start now why (failing.One first) = StopsReading settings start now [] first × IsOfFault why
 ReadsFirst settings start now why (failing.Other told) = KeepsFault settings start now why told
+
+-- both sides are before their first records
+pub record BothBegin (start_one start_other : Device) (one other : Standing) : Type 0 where
+  pub settings : Settings
+  pub taken : HaveTaken settings start_one start_one start_other start_other one other
+
+-- What is answered of the inputs that the sources have, and what it tells of the sources.
+pub record IsAnswered (settings : Settings) (start_one one_now start_other other_now : Device)
+    (answer : Result Comparison CompareFault) : Type 0 where
+  pub first : List ℕ
+  pub second : List ℕ
+  pub left : HasLeft start_one first
+  pub other_left : HasLeft start_other second
+  pub answers : CompareAnswers settings first second answer
+  pub read_one : IsErrOf answer (failing.One fault.Read) ↔ HasFailed start_one one_now
+  pub read_other : IsErrOf answer (failing.Other fault.Read) ↔ HasFailed start_other other_now
+  pub few_one : CountsFew start_one one_now
+  pub few_other : CountsFew start_other other_now

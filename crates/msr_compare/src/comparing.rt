@@ -5,7 +5,7 @@ ghost use Rattle.msr_input.specs.declared.settings.Settings.{Settings as How};
 ghost use Rattle.msr_compare.specs.Answers.{CompareAnswers};
 ghost use Rattle.msr_compare.specs.Symbols.{Symbol};
 ghost use Rattle.msr_compare.specs.Sides.{HasBegun, HasTaken};
-ghost use Rattle.msr_compare.specs.Meetings.{HaveFinished, HaveMet, HaveTaken, ReadsFirst, StopsFinishing, StopsMeeting};
+ghost use Rattle.msr_compare.specs.Meetings.{BothBegin, HaveFinished, HaveMet, HaveTaken, IsAnswered, ReadsFirst, StopsFinishing, StopsMeeting};
 
 use crate::comparison::{Comparison, Difference, SameSegments};
 use crate::fault::CompareFault;
@@ -50,7 +50,6 @@ fn agree<One: Source, Other: Source>(
 }
 
 /// Both inputs are read to their ends, after their first difference: a later record may be refused.
-#[tactic(none)]
 fn finish<One: Source, Other: Source>(
     one_side: &mut Side,
     one: &mut One,
@@ -84,7 +83,6 @@ fn finish<One: Source, Other: Source>(
 }
 
 /// Reading the other input stopped. If it is refused, the first one is read to its end: it may be refused too.
-#[tactic(none)]
 fn refuse<One: Source>(side: &mut Side, one: &mut One, why: ReadFault) -> CompareFault
     requires { HasBegun (One.device one.old) side.old }
     ensures refused { (settings : How) (start : Device) (done : List Symbol)
@@ -121,6 +119,31 @@ fn same_segments(one: &Side, other: &Side) -> SameSegments
     }
 }
 
+/// What is answered for two sides before their first records.
+#[tactic(none)]
+fn answer<One: Source, Other: Source>(
+    one_side: &mut Side,
+    one: &mut One,
+    other_side: &mut Side,
+    other: &mut Other,
+) -> Result<Comparison, CompareFault>
+    requires one { CanCountCall (One.device one.old) }
+    requires other { CanCountCall (Other.device other.old) }
+    requires begins { BothBegin (One.device one.old) (Other.device other.old) one_side.old other_side.old }
+    ensures { (settings : How)
+        → HaveTaken settings (One.device one.old) (One.device one.old) (Other.device other.old) (Other.device other.old)
+        one_side.old other_side.old
+        → IsAnswered settings (One.device one.old) (One.device one.new) (Other.device other.old)
+        (Other.device other.new) result }
+{
+    match agree(one_side, one, other_side, other) {
+        Ok(None) => Ok(Comparison::Same(same_segments(one_side, other_side))),
+        Ok(Some(difference)) => finish(one_side, one, other_side, other, difference),
+        Err(CompareFault::One(why)) => Err(CompareFault::One(why)),
+        Err(CompareFault::Other(why)) => Err(refuse(one_side, one, why)),
+    }
+}
+
 /// Reads both inputs to their ends, and says whether they have the same segments, or which is the first difference. If
 /// an input is refused, that is the answer, also if a segment before it differs; if both are, the first one's. Of each
 /// input the samples of one record are kept.
@@ -149,10 +172,5 @@ pub fn compare<One: Source, Other: Source>(
 {
     let mut one_side = Side::new(alloc, settings);
     let mut other_side = Side::new(alloc, settings);
-    match agree(&mut one_side, one, &mut other_side, other) {
-        Ok(None) => Ok(Comparison::Same(same_segments(&one_side, &other_side))),
-        Ok(Some(difference)) => finish(&mut one_side, one, &mut other_side, other, difference),
-        Err(CompareFault::One(why)) => Err(CompareFault::One(why)),
-        Err(CompareFault::Other(why)) => Err(refuse(&mut one_side, one, why)),
-    }
+    answer(&mut one_side, one, &mut other_side, other)
 }
