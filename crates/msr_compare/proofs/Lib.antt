@@ -9,3 +9,4 @@ pub mod MeetingLemmas
 pub mod Agreeing
 pub mod DifferingAheads
 pub mod ComparedInputs
+pub mod SameInputs
