@@ -10,3 +10,4 @@ pub mod Agreeing
 pub mod DifferingAheads
 pub mod ComparedInputs
 pub mod SameInputs
+pub mod OneAnswer

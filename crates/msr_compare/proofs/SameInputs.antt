@@ -28,7 +28,7 @@ pub one_list : (settings : Settings) (input : List ℕ) (segments others : List 
 one_list settings input segments others a b =
     (one_list_of_records settings input a.records b.records segments others a.readable b.readable).1
 
-no_fault : (settings : Settings) (input : List ℕ) (segments : List Segment) (found : Fault)
+pub no_fault : (settings : Settings) (input : List ℕ) (segments : List Segment) (found : Fault)
     → HasSegments settings input segments → HasFirstFault settings input found → ⊥
 no_fault settings input segments found a b =
     readable_has_no_fault settings input a.records b.records segments found a.readable b.first
@@ -63,7 +63,7 @@ transitive settings one other third first second s t = record {
   other_moved = t.other_moved;
 }
 
-cons_same : {X : Type 0} (x y : X) (xs ys : List X) → x ∷ xs ≡ y ∷ ys → x ≡ y
+pub cons_same : {X : Type 0} (x y : X) (xs ys : List X) → x ∷ xs ≡ y ∷ ys → x ≡ y
 cons_same {X} x y xs ys e = cc
 
 -- what stands after the same
@@ -71,7 +71,7 @@ tails_after : {X : Type 0} (front xs ys : List X) → front ++ xs ≡ front ++ y
 tails_after {X} [] xs ys e = e
 tails_after {X} (z ∷ front) xs ys e = let rest : front ++ xs ≡ front ++ ys = cc in tails_after front xs ys rest
 
-heads_same : (front : List ℤ) (x y : ℤ) (xs ys : List ℤ) → front ++ x ∷ xs ≡ front ++ y ∷ ys → x ≡ y
+pub heads_same : (front : List ℤ) (x y : ℤ) (xs ys : List ℤ) → front ++ x ∷ xs ≡ front ++ y ∷ ys → x ≡ y
 heads_same front x y xs ys e = cons_same x y xs ys (tails_after front (x ∷ xs) (y ∷ ys) e)
 
 not_longer : (xs : List ℤ) (sample : ℤ) (rest : List ℤ) → xs ≡ xs ++ sample ∷ rest → ⊥
@@ -100,7 +100,7 @@ not_heads first ones others how d =
 not_only : (first : Segment) (ones others : List Segment) → IsOnlyIn ones (first ∷ others) → ⊥
 not_only first ones others only = let none : first ∷ others ≡ [] = only.none in cc
 
-not_first : (first : Segment) (ones others : List Segment) (how : DifferenceKind)
+pub not_first : (first : Segment) (ones others : List Segment) (how : DifferenceKind)
     → ListsDiffer (first ∷ ones) (first ∷ others) how → ⊥
 not_first first ones others kind.Key d = not_heads first ones others kind.Key d
 not_first first ones others kind.Start d = not_heads first ones others kind.Start d
@@ -111,7 +111,7 @@ not_first first ones others (kind.SampleOnlyIn number which) d =
 not_first first ones others (kind.SegmentOnlyIn which.One) d = not_only first (first ∷ ones) others d
 not_first first ones others (kind.SegmentOnlyIn which.Other) d = not_only first (first ∷ others) ones d
 
-none_differ : (how : DifferenceKind) → ListsDiffer [] [] how → ⊥
+pub none_differ : (how : DifferenceKind) → ListsDiffer [] [] how → ⊥
 none_differ kind.Key d = let e = d.ones_are in cc
 none_differ kind.Start d = let e = d.ones_are in cc
 none_differ (kind.Sample number value other_value) d = let e = d.ones_are in cc

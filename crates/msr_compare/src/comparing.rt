@@ -120,7 +120,6 @@ fn same_segments(one: &Side, other: &Side) -> SameSegments
 }
 
 /// What is answered for two sides before their first records.
-#[tactic(none)]
 fn answer<One: Source, Other: Source>(
     one_side: &mut Side,
     one: &mut One,
@@ -147,7 +146,6 @@ fn answer<One: Source, Other: Source>(
 /// Reads both inputs to their ends, and says whether they have the same segments, or which is the first difference. If
 /// an input is refused, that is the answer, also if a segment before it differs; if both are, the first one's. Of each
 /// input the samples of one record are kept.
-#[tactic(none)]
 pub fn compare<One: Source, Other: Source>(
     alloc: Global,
     one: &mut One,
