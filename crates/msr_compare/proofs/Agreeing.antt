@@ -1,17 +1,14 @@
 -- Two sides that were read as far as they are the same.
-use Rattle.std.proofs.Common.{◌≡◌, ℕ, ◌+◌, ◌<◌, ◌≤◌, Bool, true, false, List, [], ◌∷◌, ◌++◌, length, refl, sym, ap, subst, ◌∙◌, arith, append_assoc, length-append, Option, Some, None}
+use Rattle.std.proofs.Common.{◌≡◌, ◌+◌, ◌<◌, ◌≤◌, List, ◌++◌, length, sym, ap, subst, ◌∙◌, arith, append_assoc, length-append, Option}
 use Rattle.std.specs.Option.{option_to_list}
-use Rattle.msr_devices.specs.Device.{Device, IsSteady}
-use Rattle.msr_input.specs.Records.{left_with}
+use Rattle.msr_devices.specs.Device.{Device}
 use Rattle.msr_input.specs.Rows.{RowReading, HasReadRows, row_settings}
 use Rattle.msr_input.specs.declared.settings.Settings.{Settings}
-use Rattle.msr_segments.specs.Spans.{Following}
-use Rattle.msr_segments.specs.Joining.{following_of}
 use Rattle.msr_compare.specs.declared.comparison.Difference.{Difference}
 use Rattle.msr_compare.specs.declared.tally.Tally.{Tally}
 use Rattle.msr_compare.specs.Symbols.{Symbol}
-use Rattle.msr_compare.specs.Sides.{Standing, HasTaken, IsAtEnd, IsFetched, IsTallied, left_to_read, weight}
-use Rattle.msr_compare.specs.Meetings.{DiffersAhead, HaveFetched, HaveMet, HaveTaken, IsFound, PassesAlike, PassesOnly, StandStill}
+use Rattle.msr_compare.specs.Sides.{Standing, HasTaken, IsAtEnd, IsFetched, IsTallied, weight}
+use Rattle.msr_compare.specs.Meetings.{HaveFetched, HaveMet, HaveTaken, IsFound, PassesAlike, PassesOnly, StandStill}
 
 -- a side that passed what is ahead
 pass_one : (settings : Settings) (start now : Device) (side new : Standing) (done front : List Symbol)

@@ -1,9 +1,7 @@
 -- What is answered for two inputs.
-use Rattle.std.proofs.Common.{◌≡◌, ◌↔◌, ℕ, Bool, true, List, [], ◌∷◌, ◌++◌, length, map, refl, sym, ap, subst, ◌∙◌, ℤ, Option, Some, None, Result, Ok, Err, IsErrOf, MatchResult}
+use Rattle.std.proofs.Common.{◌≡◌, ◌↔◌, ℕ, Bool, List, [], ◌∷◌, ◌++◌, map, refl, sym, ap, subst, ◌∙◌, ℤ, Some, None, Result, Ok, Err, IsErrOf, MatchResult}
 use Rattle.std.specs.Option.{option_to_list}
-use Rattle.std.proofs.lemmas.List.{append-nil}
 use Rattle.msr_rows.specs.declared.row.Key.{Key}
-use Rattle.msr_rows.specs.declared.row.Record.{Record}
 use Rattle.msr_devices.specs.Device.{Device, CountsFew, HasFailed, HasLeft, IsSteady}
 use Rattle.msr_devices.proofs.Chaining.{left_of, steady_sound}
 use Rattle.msr_segments.specs.declared.joiner.Segment.{Segment}
@@ -14,17 +12,15 @@ use Rattle.msr_input.specs.declared.fault.Fault.{Fault}
 use Rattle.msr_input.specs.declared.fault.ReadFault.{ReadFault}
 use Rattle.msr_input.specs.declared.fault.ReadFault.TheVariants as fault
 use Rattle.msr_compare.specs.declared.comparison.Comparison.{Comparison}
-use Rattle.msr_compare.specs.declared.comparison.Comparison.TheVariants.{Same, Differ}
+use Rattle.msr_compare.specs.declared.comparison.Comparison.TheVariants.{Same}
 use Rattle.msr_compare.specs.declared.comparison.SameSegments.{SameSegments}
 use Rattle.msr_compare.specs.declared.comparison.Difference.{Difference}
 use Rattle.msr_compare.specs.declared.fault.CompareFault.{CompareFault}
 use Rattle.msr_compare.specs.declared.fault.CompareFault.TheVariants as failing
-use Rattle.msr_compare.specs.Answers.{CompareAnswers, HasFirstFault, HasMoved, HasSegments, IsOfFault}
-use Rattle.msr_compare.specs.Differences.{samples_in}
-use Rattle.msr_compare.specs.Moves.{IsGreatestMove}
-use Rattle.msr_compare.specs.Symbols.{Symbol, Opens, Holds, symbols_of}
-use Rattle.msr_compare.specs.Sides.{Standing, HasTaken, IsDrained}
-use Rattle.msr_compare.specs.Meetings.{HaveFinished, HaveMet, IsAnswered, IsReadableFrom, KeepsFault, ReadableIfRefused, ReadsFirst, StopsFinishing, StopsMeeting}
+use Rattle.msr_compare.specs.Answers.{CompareAnswers, IsOfFault}
+use Rattle.msr_compare.specs.Symbols.{Symbol, Holds, symbols_of}
+use Rattle.msr_compare.specs.Sides.{Standing, IsDrained}
+use Rattle.msr_compare.specs.Meetings.{HaveFinished, HaveMet, IsAnswered, IsReadableFrom, KeepsFault, ReadableIfRefused, ReadsFirst, StopsFinishing}
 use Rattle.msr_compare.proofs.Symbols.{no_symbols, opens_so}
 use Rattle.msr_compare.proofs.Taking.{readable_end, tolerance_is}
 use Rattle.msr_compare.proofs.DifferingAheads.{counted, first_so}

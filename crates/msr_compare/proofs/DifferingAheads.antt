@@ -1,5 +1,5 @@
 -- The first difference of what is ahead of two sides is that of the segments of their inputs.
-use Rattle.std.proofs.Common.{◌≡◌, ◌≢◌, ℕ, ◌+◌, ◌-◌, ◌*◌, ◌^◌, ◌<◌, ◌≤◌, true, List, [], ◌∷◌, ◌++◌, length, map, refl, sym, ap, subst, ◌∙◌, arith, append_assoc, length-append, ℤ, Option, Some, None}
+use Rattle.std.proofs.Common.{◌≡◌, ℕ, ◌+◌, ◌^◌, ◌<◌, ◌≤◌, List, [], ◌∷◌, ◌++◌, length, map, refl, sym, ap, subst, ◌∙◌, arith, append_assoc, length-append, ℤ, Option, Some, None}
 use Rattle.std.specs.Option.{option_to_list}
 use Rattle.std.proofs.lemmas.List.{length-map, map-append}
 use Rattle.msr_rows.specs.declared.row.Row.{Row}
@@ -15,7 +15,7 @@ use Rattle.msr_compare.specs.declared.comparison.DifferenceKind.{DifferenceKind}
 use Rattle.msr_compare.specs.declared.comparison.DifferenceKind.TheVariants as kind
 use Rattle.msr_compare.specs.Symbols.{Symbol, Opens, Holds, symbols_of, held_in, opened_in, count_after}
 use Rattle.msr_compare.specs.Sides.{Standing, HasTaken}
-use Rattle.msr_compare.specs.Meetings.{AheadsDiffer, BeginsMore, HoldsMore, HoldsNext, KeysDiffer, StartsDiffer, ValuesDiffer, place_of, side_of}
+use Rattle.msr_compare.specs.Meetings.{AheadsDiffer, BeginsMore, HoldsMore, KeysDiffer, StartsDiffer, ValuesDiffer, place_of, side_of}
 use Rattle.msr_compare.proofs.Symbols.{count_append, count_held, count_last, held_map, opened_append, opened_held, opened_symbols}
 use Rattle.msr_compare.proofs.Aheads.{none_held_more}
 use Rattle.msr_compare.proofs.FirstDifferences.{LongerAt, keys_first, longer_at, only_first, starts_first, values_first}

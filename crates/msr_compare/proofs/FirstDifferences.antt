@@ -3,8 +3,7 @@ use Rattle.std.proofs.Common.{◌≡◌, ◌≢◌, ℕ, ◌+◌, List, [], ◌�
 use Rattle.std.proofs.lemmas.List.{append-nil}
 use Rattle.msr_rows.specs.declared.row.Key.{Key}
 use Rattle.msr_segments.specs.declared.joiner.Segment.{Segment}
-use Rattle.msr_compare.specs.Differences.{IsFirstDifference, IsLonger, IsOnlyIn, ListsDiffer, SamplesDiffer}
-use Rattle.msr_compare.specs.declared.comparison.Which.TheVariants.{One, Other}
+use Rattle.msr_compare.specs.Differences.{IsFirstDifference, IsLonger, IsOnlyIn}
 use Rattle.msr_compare.specs.declared.comparison.Difference.{Difference}
 use Rattle.msr_compare.specs.declared.comparison.DifferenceKind.{DifferenceKind}
 use Rattle.msr_compare.specs.declared.comparison.DifferenceKind.TheVariants as kind

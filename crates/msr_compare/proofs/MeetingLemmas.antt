@@ -1,15 +1,11 @@
 -- What is found where what is ahead of two sides is compared.
-use Rattle.std.proofs.Common.{◌≡◌, ◌≢◌, Bool, true, false, not, w64, ℕ, suc, ◌+◌, ◌-◌, ◌^◌, ◌<◌, ◌≤◌, min, List, [], ◌∷◌, ◌++◌, length, map, take, drop, refl, sym, ap, subst, ◌∙◌, arith, ℤ, pos, get_or, FitsSigned, w32, to_z, of_z, to_z-of_z}
+use Rattle.std.proofs.Common.{◌≡◌, ◌≢◌, Bool, true, false, not, w64, ℕ, suc, ◌+◌, ◌<◌, ◌≤◌, min, List, [], ◌∷◌, ◌++◌, length, map, take, drop, refl, sym, ap, subst, ◌∙◌, arith, ℤ, pos, get_or, FitsSigned, w32, to_z, of_z, to_z-of_z}
 use Rattle.std.proofs.Math.Seq.{drop-cons}
 use Rattle.std.proofs.lemmas.List.{length-map, length-take-le, map-append, take-append-drop}
-use Rattle.msr_compare.specs.declared.comparison.Difference.{Difference}
-use Rattle.msr_compare.specs.declared.comparison.DifferenceKind.TheVariants as kind
-use Rattle.msr_compare.specs.declared.meeting.Met.{Met}
-use Rattle.msr_compare.specs.declared.meeting.Met.TheVariants as met
 use Rattle.msr_rows.specs.declared.row.Key.{Key}
 use Rattle.msr_compare.specs.Symbols.{Symbol, Opens, Holds, held_in}
 use Rattle.msr_compare.specs.Sides.{Standing}
-use Rattle.msr_compare.specs.Meetings.{BeginsNext, HoldsNext, HoldsNone, Meets, PassesAlike, PassesOnly, StartsDiffer, UnequalAt, ValuesDiffer, place_of}
+use Rattle.msr_compare.specs.Meetings.{BeginsNext, HoldsNext, PassesAlike, PassesOnly, StartsDiffer, UnequalAt, ValuesDiffer, place_of}
 use Rattle.msr_compare.proofs.Symbols.{held_map}
 
 split_at : (xs : List ℤ) (at : ℕ) → at < length xs → xs ≡ take at xs ++ get_or xs at (pos 0) ∷ drop (suc at) xs

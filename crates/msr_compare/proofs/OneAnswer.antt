@@ -1,5 +1,5 @@
 -- Two lists of segments have one first difference, and two inputs one answer.
-use Rattle.std.proofs.Common.{◌≡◌, ◌≢◌, ℕ, ◌+◌, ◌≤◌, List, [], ◌∷◌, ◌++◌, length, refl, sym, ap, subst, ◌∙◌, arith, append_assoc, length-append, ℤ, Result, Ok, Err}
+use Rattle.std.proofs.Common.{◌≡◌, ◌≢◌, ℕ, List, [], ◌∷◌, ◌++◌, length, refl, sym, ap, subst, ◌∙◌, arith, append_assoc, length-append, ℤ, Result, Ok, Err}
 use Rattle.msr_rows.specs.declared.row.Record.{Record}
 use Rattle.msr_segments.specs.declared.joiner.Segment.{Segment}
 use Rattle.msr_input.specs.Input.{rows_of_records}
@@ -8,7 +8,7 @@ use Rattle.msr_input.specs.declared.fault.Fault.{Fault}
 use Rattle.msr_input.specs.declared.fault.ReadFault.TheVariants as fault
 use Rattle.msr_input.proofs.OneReading.{one_first_fault, one_list_of_records}
 use Rattle.msr_compare.specs.Moves.{IsGreatestMove}
-use Rattle.msr_compare.specs.Differences.{FirstsDiffer, IsFirstDifference, IsLonger, IsOnlyIn, ListsDiffer, SamplesDiffer, SegmentsDiffer, samples_in}
+use Rattle.msr_compare.specs.Differences.{FirstsDiffer, IsFirstDifference, IsLonger, ListsDiffer, SamplesDiffer, SegmentsDiffer, samples_in}
 use Rattle.msr_compare.specs.declared.comparison.Which.TheVariants as which
 use Rattle.msr_compare.specs.declared.comparison.Comparison.{Comparison}
 use Rattle.msr_compare.specs.declared.comparison.Comparison.TheVariants.{Same, Differ}
@@ -18,7 +18,7 @@ use Rattle.msr_compare.specs.declared.comparison.DifferenceKind.{DifferenceKind}
 use Rattle.msr_compare.specs.declared.comparison.DifferenceKind.TheVariants as kind
 use Rattle.msr_compare.specs.declared.fault.CompareFault.{CompareFault}
 use Rattle.msr_compare.specs.declared.fault.CompareFault.TheVariants.{One, Other}
-use Rattle.msr_compare.specs.Answers.{AreSame, CompareAnswers, DifferFirst, HasFirstFault, HasMoved, HasSegments, HaveOneAnswer, IsOfInputs}
+use Rattle.msr_compare.specs.Answers.{AreSame, CompareAnswers, DifferFirst, HasFirstFault, HasMoved, HaveOneAnswer, IsOfInputs}
 use Rattle.msr_compare.proofs.SameInputs.{cons_same, exact, heads_same, no_fault, none_differ, not_first, one_list}
 
 -- where two lists of samples first differ

@@ -1,26 +1,18 @@
 -- Inputs that are the same, and that two inputs have one answer.
-use Rattle.std.proofs.Common.{◌≡◌, ◌≢◌, ℕ, ◌+◌, ◌≤◌, List, [], ◌∷◌, ◌++◌, length, refl, sym, ap, subst, ◌∙◌, arith, append_assoc, length-append, ℤ, Result, Ok, Err}
-use Rattle.std.proofs.lemmas.List.{append-nil}
-use Rattle.msr_rows.specs.declared.row.Record.{Record}
+use Rattle.std.proofs.Common.{◌≡◌, ℕ, List, [], ◌∷◌, ◌++◌, length, refl, sym, ap, subst, ◌∙◌, arith, length-append, ℤ, Ok, Err}
 use Rattle.msr_segments.specs.declared.joiner.Segment.{Segment}
-use Rattle.msr_input.specs.Input.{rows_of_records}
 use Rattle.msr_input.specs.declared.settings.Settings.{Settings}
 use Rattle.msr_input.specs.declared.fault.Fault.{Fault}
-use Rattle.msr_input.specs.declared.fault.ReadFault.{ReadFault}
 use Rattle.msr_input.specs.declared.fault.ReadFault.TheVariants as fault
-use Rattle.msr_input.proofs.OneReading.{one_first_fault, one_list_of_records, readable_has_no_fault}
-use Rattle.msr_compare.specs.Moves.{IsGreatestMove}
-use Rattle.msr_compare.specs.Differences.{FirstsDiffer, IsFirstDifference, IsLonger, IsOnlyIn, ListsDiffer, SamplesDiffer, SegmentsDiffer, samples_in}
+use Rattle.msr_input.proofs.OneReading.{one_list_of_records, readable_has_no_fault}
+use Rattle.msr_compare.specs.Differences.{FirstsDiffer, IsFirstDifference, IsOnlyIn, ListsDiffer, SegmentsDiffer}
 use Rattle.msr_compare.specs.declared.comparison.Which.TheVariants as which
-use Rattle.msr_compare.specs.declared.comparison.Comparison.{Comparison}
 use Rattle.msr_compare.specs.declared.comparison.Comparison.TheVariants.{Same, Differ}
-use Rattle.msr_compare.specs.declared.comparison.SameSegments.{SameSegments}
 use Rattle.msr_compare.specs.declared.comparison.Difference.{Difference}
 use Rattle.msr_compare.specs.declared.comparison.DifferenceKind.{DifferenceKind}
 use Rattle.msr_compare.specs.declared.comparison.DifferenceKind.TheVariants as kind
-use Rattle.msr_compare.specs.declared.fault.CompareFault.{CompareFault}
 use Rattle.msr_compare.specs.declared.fault.CompareFault.TheVariants.{One, Other}
-use Rattle.msr_compare.specs.Answers.{AreSame, CompareAnswers, DifferFirst, HasFirstFault, HasMoved, HasSegments, HaveOneAnswer, HaveSameSegments, IsOfFault, IsOfInputs, OtherHasFault, SameIsExact, SameIsReflexive, SameIsSymmetric, SameIsTransitive}
+use Rattle.msr_compare.specs.Answers.{HasFirstFault, HasSegments, SameIsExact, SameIsReflexive, SameIsSymmetric, SameIsTransitive}
 
 -- an input has one list of segments
 pub one_list : (settings : Settings) (input : List ℕ) (segments others : List Segment)

@@ -1,17 +1,14 @@
 -- What is known of a side, and how a record more changes it.
-use Rattle.std.proofs.Common.{◌≡◌, ℕ, ◌+◌, ◌-◌, ◌*◌, ◌^◌, ◌<◌, ◌≤◌, ◌⊎◌, inl, inr, max, Bool, true, false, List, [], ◌∷◌, ◌++◌, length, map, refl, sym, ap, subst, ◌∙◌, arith, append_assoc, length-append, ℤ, Option, Some, None, IfSome}
+use Rattle.std.proofs.Common.{◌≡◌, ℕ, ◌+◌, ◌-◌, ◌*◌, ◌^◌, ◌<◌, ◌≤◌, inl, inr, max, List, [], ◌∷◌, ◌++◌, length, map, refl, sym, ap, subst, ◌∙◌, arith, append_assoc, length-append, ℤ, Option, Some, None}
 use Rattle.std.specs.Option.{option_to_list}
 use Rattle.std.specs.Prelude.{option_map}
 use Rattle.std.proofs.lemmas.List.{append-nil, map-append}
 use Rattle.msr_time.specs.SampleRate.{SampleRate, IsNear}
-use Rattle.msr_rows.specs.declared.row.Record.{Record}
 use Rattle.msr_rows.specs.declared.row.Row.{Row}
 use Rattle.msr_rows.specs.declared.row.Key.{Key}
-use Rattle.msr_devices.specs.Device.{Device}
-use Rattle.msr_devices.proofs.Chaining.{left_of}
 use Rattle.msr_segments.specs.Spans.{Following, IsInBounds, IsStep}
 use Rattle.msr_segments.specs.Segments.{AreSegments, ContinuesSegment, row_span, row_segment, segment_span, with_row}
-use Rattle.msr_segments.specs.Joining.{Joining, HasJoined, BeginsRow, JoinsRow, IsPush, IsPushTold, following_of}
+use Rattle.msr_segments.specs.Joining.{Joining, HasJoined, BeginsRow, JoinsRow, following_of}
 use Rattle.msr_segments.specs.declared.follow.Step.{Step}
 use Rattle.msr_segments.specs.declared.follow.Step.TheVariants.{Begins, Joins}
 use Rattle.msr_segments.specs.declared.joiner.Segment.{Segment}
@@ -25,7 +22,7 @@ use Rattle.msr_compare.specs.Differences.{samples_in}
 use Rattle.msr_compare.specs.Symbols.{Symbol, Opens, Holds, symbols_of, row_symbols}
 use Rattle.msr_compare.specs.Tallies.{TellsDistance, TalliesBeginning, TalliesJoining, TalliesRow}
 use Rattle.msr_compare.specs.Sides.{IsOpenIn}
-use Rattle.msr_compare.proofs.Symbols.{symbols_append, symbols_snoc}
+use Rattle.msr_compare.proofs.Symbols.{symbols_snoc}
 
 pub samples_append : (xs ys : List Segment) → samples_in (xs ++ ys) ≡ samples_in xs + samples_in ys
 samples_append [] ys = omega arith

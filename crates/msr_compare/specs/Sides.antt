@@ -1,5 +1,5 @@
 -- What is known of one of two inputs while they are compared.
-use Rattle.std.specs.Prelude.{◌≡◌, ℕ, ◌+◌, ◌*◌, ◌^◌, ◌<◌, ◌≤◌, Bool, true, false, List, [], ◌∷◌, ◌++◌, length, Option, None, Some}
+use Rattle.std.specs.Prelude.{◌≡◌, ℕ, ◌+◌, ◌*◌, ◌^◌, ◌<◌, ◌≤◌, Bool, true, false, List, [], ◌++◌, length, Option, None, Some}
 use Rattle.std.specs.Option.{option_to_list}
 use Rattle.msr_rows.specs.declared.row.Record.{Record}
 use Rattle.msr_devices.specs.Device.{Device, CanCountCall, HasLeft, IsSteady}

@@ -1,5 +1,4 @@
-use Rattle.std.proofs.Common.{◌≡◌, ◌+◌, ◌∙◌, ℕ, List, ℤ, ap, length, min, refl, rules, take, FitsSigned, w32, to_z-of_z}
-use Rattle.msr_compare.specs.Meetings.{UnequalAt}
+use Rattle.std.proofs.Common.{◌+◌, ◌∙◌, ap, min, refl, rules, FitsSigned, w32, to_z-of_z}
 use Rattle.msr_compare.proofs.MeetingLemmas.{passes_samples, values_differ}
 use Rattle.msr_compare.proofs.meeting.meet_samples.Goals as goal
 
