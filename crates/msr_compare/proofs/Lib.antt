@@ -1,0 +1,13 @@
+pub mod Symbols
+pub mod Aheads
+pub mod Distances
+pub mod FirstDifferences
+pub mod Sides
+pub mod Taking
+pub mod Draining
+pub mod MeetingLemmas
+pub mod Agreeing
+pub mod DifferingAheads
+pub mod ComparedInputs
+pub mod SameInputs
+pub mod OneAnswer
