@@ -6,7 +6,14 @@
 An input is a block of samples, made up and the same on every machine, or that of the sample file that comes with
 libmseed. A file has the block as often as --copies says, each time later, so that it is one segment. Nothing of an
 output counts before libmseed has read the same samples and start from it as from the input, and `msrepack check` has
-said `least` of ours. README.md says what the columns are and what has to be there; --picture draws the ratios as SVG.
+said `least` of ours. README.md says what has to be there; --picture draws the ratios as SVG. The columns:
+
+instructions a sample   those of the user's code by callgrind, as the difference between two blocks and one
+ms                      the shortest of seven runs (--runs) from start to end, over 40 blocks (--copies); files are in
+                        /dev/shm if it is there. Ours writes its report, too, and waits until its output is stored
+peak KiB                the most memory at one time over these blocks, by /usr/bin/time
+records                 how many of the length were written (--length, 512)
+libmseed, ratio         libmseed's figure, and ours by libmseed's
 """
 import argparse
 import array

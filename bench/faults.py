@@ -6,8 +6,27 @@
 strace lets a call of reading, writing, opening, closing, syncing or memory fail, once or from there on; a pipe gives
 single bytes; limits make a disk full at some byte, and memory short. Each run has to end as the undisturbed one does,
 or with status 1, the fault's line, and a prefix of the report and of the records. The last line is
-`N faults, M wrong`, and the status 0 if none is wrong. README.md says what is tried; archive_faults.py tries it on
-`archive`.
+`N faults, M wrong`, and the status 0 if none is wrong. --only takes the runs with this text in their titles;
+archive_faults.py tries `archive`.
+
+The commands are `repack` to a file and to a report only, `list`, `check` (of both verdicts), `feed`, `repack` and `feed`
+of a file that is cut, and help, over both examples and a file of 3 MB. What fails, and how:
+
+- reading, writing, opening, looking at a file, cutting it to nothing, syncing, closing, memory: each call after the
+  program's start, with the errors that fit it (EIO, ENOSPC, EMFILE, EINVAL, ENOMEM), once and for all from there on;
+- interruptions: EINTR once, 63 and 64 in a row at each reading and writing; once at each other call but those of memory;
+- short writes: each takes 1 byte, half or all but one; none at all is a fault;
+- short reads: standard input from a pipe that gives a byte at a time;
+- a full disk: files that cannot grow past a byte, by a limit: at 0, 1, half and all but one of what is written; standard
+  output to /dev/full;
+- memory: a limit of 3 MB and more, in steps of 128 KB, until it is enough;
+- standard output: closed; redirected to OUT or to the REPORT of `feed`, which is told with status 2.
+
+A run is right if it ends as the undisturbed one in every byte, and the fault allows that (a file that could not be
+closed, 63 interruptions, memory that was found elsewhere); or if its status is 1, standard error has the line of that
+fault alone, what was printed is a prefix of the undisturbed text, and OUT has a prefix of the records, or, if the fault
+came before it was cut to nothing, what stood there before. After a fault, and if nothing can be printed, the REPORT of
+`feed` is empty.
 """
 import argparse
 import collections

@@ -1,8 +1,27 @@
 #!/usr/bin/env python3
 """Works out the transcript of crates/msr_transcripts from its script, apart from the program, and compares the two.
 
+    interop/transcript.py
+    interop/transcript.py --script FILE --transcript FILE        # another script
+    interop/transcript.py --print                                # what is worked out
+
 Inputs are made here from the layout of a record; what a run does is said in commands.py, walks.py, reports.py and
-model.py. README.md tells what is compared, and what the documents leave open.
+model.py. Each difference is printed with the script's line; the last line is `N steps, M differ`. Steps are compared
+
+- `exact`: the documents say each byte;
+- `prefix only`, if a device or an input fails while records, a report or lines are printed: what stands there has to be
+  a first part of the whole, and no more than the device moved; of a feed whose input fails it also has to have all
+  records that no later sample can change;
+- by `the product's own words`, as of the version and the texts of help: each command, option, name of a file and status,
+  and each line of a walk, has to be named; of the parser's text for a wrong command line only the status is compared;
+- with `one of several` outcomes that the documents allow, as when a device fails at a later call than the fewest that
+  are needed;
+- not, if `not determined`: what is asked of a file of which only a first part may be there, or that has words of the
+  product's own.
+
+Three things stand elsewhere than in docs/MANUAL.md, docs/PROFILE.md and README.md: by the page of msr_command a closed
+standard output is found before anything is opened but the report of a feed; by the system a folder can be opened and
+not read; and `--`, `-h` and `help COMMAND` do what is usual.
 """
 import argparse
 import collections
@@ -548,7 +567,7 @@ def compare(lines, transcript):
 
 
 def main():
-    options = argparse.ArgumentParser(description=__doc__)
+    options = argparse.ArgumentParser(description=__doc__, formatter_class=argparse.RawDescriptionHelpFormatter)
     options.add_argument("--script", default=os.path.join(CRATE, "stdin"))
     options.add_argument("--transcript", default=os.path.join(CRATE, "stdout"))
     options.add_argument("--print", action="store_true", help="prints what is worked out, and compares nothing")
