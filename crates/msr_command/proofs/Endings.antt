@@ -1,5 +1,5 @@
 -- How tasks end: done, stopped, or before they begin.
-use Rattle.std.specs.Prelude.{⊤}
+use Rattle.std.specs.Prelude.{◌↔◌, ⊤, IsTrue}
 use Rattle.std.proofs.Common.{◌≡◌, ◌⊎◌, ℕ, Bool, List, [], codes, refl, subst, sym, inl, inr, append-nil, Result, Ok, Err}
 use Rattle.msr_devices.specs.Device.{Device, Takes}
 use Rattle.msr_devices.proofs.Chaining.{calm_same, left_of, takes_append, takes_none}
@@ -16,12 +16,13 @@ use Rattle.msr_days.specs.declared.DayOptions.{DayOptions}
 use Rattle.msr_walk.specs.Walk.{IsWalk, Walks}
 use Rattle.msr_walk.proofs.EntriesTold.{part_none, stops_entries, walk_stops}
 use Rattle.msr_command.specs.declared.done.Done.{Done}
-use Rattle.msr_command.specs.declared.done.Done.TheVariants.{Written, Checked, Walked}
+use Rattle.msr_command.specs.declared.done.Done.TheVariants.{Written, Repacked, Checked, Walked}
 use Rattle.msr_command.specs.declared.task_fault.TaskFault.{TaskFault}
 use Rattle.msr_command.specs.declared.task_fault.TaskFault.TheVariants.{CannotOpen, SameFile, SameOutput, Overlap, Closed, Tool}
 use Rattle.msr_arguments.specs.declared.task.Task.{Task}
 use Rattle.msr_arguments.specs.declared.task.Task.TheVariants.{Repack, List as Listing, Check, Archive, Feed}
-use Rattle.msr_command.specs.Ends.{Checks, Does, Ends, EndsClosed, Feeds, FeedAnswers, FeedEnds, FeedsTo, IfChecked, IfWritten, IsUncreated, IsUnread, ListEnds, ListsNamed, Over, RepackEnds, Repacks, RepacksNamed, StopsRecords, StopsReport, WalksArchive, WritesList, WritesRecords, WritesReport}
+use Rattle.msr_command.specs.Turns.{AreTurns}
+use Rattle.msr_command.specs.Ends.{Checks, Does, Ends, EndsClosed, Feeds, FeedAnswers, FeedEnds, FeedsTo, IfChecked, IfRepacked, IfWritten, IsUncreated, IsUnread, ListEnds, ListsNamed, Over, RepackEnds, Repacks, RepacksNamed, StopsRecords, StopsReport, WalksArchive, WritesList, WritesRecords, WritesReport}
 
 -- nothing was read or printed
 over_none : (known : Type 0) (says : (input printed : List ℕ) → Type 0) (source out0 out : Device) → Takes out0 out [] →
@@ -61,7 +62,7 @@ over_said known says others source out0 out then does = record {
 
 unread : (done : Done → Type 0) (stopped : ToolFault → Type 0) (stop : TaskFault) → IsUnread stop →
     Ends done IsUnread stopped [] (Err stop)
-unread done stopped (CannotOpen name) is = (tt, refl)
+unread done stopped (CannotOpen name error) is = (tt, refl)
 unread done stopped SameFile is = (tt, refl)
 unread done stopped SameOutput is = absurd is
 unread done stopped Overlap is = absurd is
@@ -70,7 +71,7 @@ unread done stopped (Tool why) is = absurd is
 
 uncreated : (done : Done → Type 0) (stopped : ToolFault → Type 0) (stop : TaskFault) → IsUncreated stop →
     Ends done IsUncreated stopped [] (Err stop)
-uncreated done stopped (CannotOpen name) is = (tt, refl)
+uncreated done stopped (CannotOpen name error) is = (tt, refl)
 uncreated done stopped SameFile is = (tt, refl)
 uncreated done stopped SameOutput is = (tt, refl)
 uncreated done stopped Overlap is = absurd is
@@ -83,7 +84,7 @@ closed_or done stopped stop (inl is) = rw is refl
 closed_or done stopped stop (inr is) = uncreated done stopped stop is
 
 pub unread_uncreated : (stop : TaskFault) → IsUnread stop → IsUncreated stop
-unread_uncreated (CannotOpen name) is = tt
+unread_uncreated (CannotOpen name error) is = tt
 unread_uncreated SameFile is = tt
 unread_uncreated SameOutput is = absurd is
 unread_uncreated Overlap is = absurd is
@@ -94,7 +95,7 @@ pub repack_uncreated : (choice : Choice) (known : Type 0) (source out : Device) 
     Over known (RepackEnds choice (Err stop)) source out out
 repack_uncreated choice known source out stop is =
     over_none known (RepackEnds choice (Err stop)) source out out (takes_none out)
-    (λ input. uncreated (IfWritten (WritesReport choice input [])) (StopsReport choice input []) stop is)
+    (λ input. uncreated (IfRepacked (WritesReport choice input [])) (StopsReport choice input []) stop is)
 
 pub repack_unread : (choice : Choice) (name : List ℕ) (standard out : Device) (stop : TaskFault) → IsUnread stop →
     RepacksNamed choice name standard out out (Err stop)
@@ -153,14 +154,15 @@ then_does (Feed asked) standard out0 out1 out result none does = over_after _ _ 
 
 -- the engine succeeds, or stops
 
-pub repack_done : (choice : Choice) (source records0 records out0 out : Device) (report : Report) →
-    Reports choice source records0 records out0 out (Ok report) → Repacks choice source out0 out (Ok Written)
-repack_done choice source records0 records out0 out report does = record {
+pub repack_done : (choice : Choice) (source records0 records out0 out : Device) (report : Report) (in_turns : Bool) →
+    Reports choice source records0 records out0 out (Ok report) → (IsTrue in_turns ↔ AreTurns report) →
+    Repacks choice source out0 out (Ok (Repacked in_turns))
+repack_done choice source records0 records out0 out report in_turns does turns = record {
   input = does.input;
   printed = does.told;
   left = λ is. does.left;
   prints = does.told_all;
-  ends = record { written = does.written; report = report; reported = does.answers };
+  ends = record { written = does.written; report = report; reported = does.answers; turns = turns };
 }
 
 pub repack_stops : (choice : Choice) (source records0 records out0 out : Device) (why : ToolFault) →
@@ -243,16 +245,25 @@ archive_unbegun asked out = archive_stops asked out out fault.Memory
 
 -- what was printed is not stored
 
-repack_unstored : (choice : Choice) (input printed : List ℕ) → RepackEnds choice (Ok Written) input printed →
-    RepackEnds choice (Err (Tool fault.Write)) input printed
-repack_unstored choice input printed ends = record {
+repack_unstored : (choice : Choice) (in_turns : Bool) (input printed : List ℕ) →
+    RepackEnds choice (Ok (Repacked in_turns)) input printed → RepackEnds choice (Err (Tool fault.Write)) input printed
+repack_unstored choice in_turns input printed ends = record {
   written = ends.written;
   answers = inr (record { report = ends.report; rest = []; reported = rw append-nil ends.reported });
 }
 
-pub repack_unsettled : (choice : Choice) (source out0 out : Device) → Repacks choice source out0 out (Ok Written) →
-    Repacks choice source out0 out (Err (Tool fault.Write))
-repack_unsettled choice source out0 out does = over_said _ _ _ source out0 out (repack_unstored choice) does
+pub repack_unsettled : (choice : Choice) (source records0 records out0 out : Device) (report : Report) →
+    Reports choice source records0 records out0 out (Ok report) → Repacks choice source out0 out (Err (Tool fault.Write))
+repack_unsettled choice source records0 records out0 out report does = record {
+  input = does.input;
+  printed = does.told;
+  left = λ is. does.left;
+  prints = does.told_all;
+  ends = record {
+    written = does.written;
+    answers = inr (record { report = report; rest = []; reported = rw append-nil does.answers });
+  };
+}
 
 feed_unstored : (choice : Choice) (input printed : List ℕ) → FeedAnswers choice (Ok tt) input printed →
     FeedAnswers choice (Err fault.Write) input printed
@@ -282,18 +293,22 @@ check_unsettled out0 out verdict does = record {
 
 pub task_unsettled : (task : Task) (standard out0 out : Device) (done : Done) → Does task standard out0 out (Ok done) →
     Does task standard out0 out (Err (Tool fault.Write))
-task_unsettled (Repack asked) standard out0 out Written does =
-    over_said _ _ _ standard out0 out (repack_unstored asked.options) does
+task_unsettled (Repack asked) standard out0 out Written does = absurd does.ends
+task_unsettled (Repack asked) standard out0 out (Repacked in_turns) does =
+    over_said _ _ _ standard out0 out (repack_unstored asked.options in_turns) does
 task_unsettled (Repack asked) standard out0 out (Checked verdict) does = absurd does.ends
 task_unsettled (Repack asked) standard out0 out (Walked refused) does = absurd does.ends
 task_unsettled (Listing asked) standard out0 out Written does =
     over_said _ _ _ standard out0 out (list_unstored asked.options) does
+task_unsettled (Listing asked) standard out0 out (Repacked in_turns) does = absurd does.ends
 task_unsettled (Listing asked) standard out0 out (Checked verdict) does = absurd does.ends
 task_unsettled (Listing asked) standard out0 out (Walked refused) does = absurd does.ends
 task_unsettled (Check asked) standard out0 out Written does = absurd does.ends
+task_unsettled (Check asked) standard out0 out (Repacked in_turns) does = absurd does.ends
 task_unsettled (Check asked) standard out0 out (Checked verdict) does = check_unsettled out0 out verdict does
 task_unsettled (Check asked) standard out0 out (Walked refused) does = absurd does.ends
 task_unsettled (Archive asked) standard out0 out Written does = absurd does.ends
+task_unsettled (Archive asked) standard out0 out (Repacked in_turns) does = absurd does.ends
 task_unsettled (Archive asked) standard out0 out (Checked verdict) does = absurd does.ends
 task_unsettled (Archive asked) standard out0 out (Walked refused) does =
     let P : List ℕ → Type 0 = λ text. IsWalk asked.days text does.ends.0 in
@@ -304,6 +319,7 @@ task_unsettled (Archive asked) standard out0 out (Walked refused) does =
     }
 task_unsettled (Feed asked) standard out0 out Written does =
     over_said _ _ _ standard out0 out (feed_unstored asked.options) does
+task_unsettled (Feed asked) standard out0 out (Repacked in_turns) does = absurd does.ends
 task_unsettled (Feed asked) standard out0 out (Checked verdict) does = absurd does.ends
 task_unsettled (Feed asked) standard out0 out (Walked refused) does = absurd does.ends
 

@@ -1,5 +1,5 @@
 -- How a task ends: what was read and printed, for what the files of the system hold.
-use Rattle.std.specs.Prelude.{if◌then◌else◌, ◌≡◌, ◌≢◌, ◌⊎◌, ◌<◌, ◌≤◌, ℕ, ⊤, Bool, List, [], codes, string_bytes, Result, Ok, Err}
+use Rattle.std.specs.Prelude.{if◌then◌else◌, ◌≡◌, ◌≢◌, ◌⊎◌, ◌↔◌, ◌<◌, ◌≤◌, ℕ, ⊤, Bool, IsTrue, List, [], codes, string_bytes, Result, Ok, Err}
 use Rattle.std.specs.declared.io.Error.{Error}
 use Rattle.msr_devices.specs.Device.{Device, CountsError, HasFailed, HasLeft, Takes}
 use Rattle.msr_base.specs.declared.counts.Counts.{Counts}
@@ -14,9 +14,10 @@ use Rattle.msr_verdict.specs.declared.verdict.Verdict.TheVariants.{Least, NotSho
 use Rattle.msr_tool.specs.declared.fault.ToolFault.{ToolFault}
 use Rattle.msr_walk.specs.Walk.{WalkEnds}
 use Rattle.msr_command.specs.declared.done.Done.{Done}
-use Rattle.msr_command.specs.declared.done.Done.TheVariants.{Written, Checked, Walked}
+use Rattle.msr_command.specs.declared.done.Done.TheVariants.{Written, Repacked, Checked, Walked}
 use Rattle.msr_command.specs.declared.task_fault.TaskFault.{TaskFault}
 use Rattle.msr_command.specs.declared.task_fault.TaskFault.TheVariants.{CannotOpen, SameFile, SameOutput, Overlap, Closed, Tool}
+use Rattle.msr_command.specs.Turns.{AreTurns}
 use Rattle.msr_arguments.specs.declared.task.NoTask.{NoTask}
 use Rattle.msr_arguments.specs.declared.task.NoTask.TheVariants.{Ending, Memory}
 use Rattle.msr_arguments.specs.declared.task.Task.{Task}
@@ -26,13 +27,14 @@ use Rattle.msr_arguments.specs.Tasks.{HasStatus, IsDefault}
 -- 0 for what was written or is least, 3 for what is not shown, 1 for a walk on which an entry was refused
 abbrev pub status_of_done : Done → ℕ
 status_of_done Written = 0
+status_of_done (Repacked in_turns) = 0
 status_of_done (Checked Least) = 0
 status_of_done (Checked NotShown) = 3
 status_of_done (Walked refused) = if refused then 1 else 0
 
 -- 2 if the output is the input, two outputs are one file, or folders overlap, which is a wrong command line, and else 1
 abbrev pub status_of_task_fault : TaskFault → ℕ
-status_of_task_fault (CannotOpen name) = 1
+status_of_task_fault (CannotOpen name why) = 1
 status_of_task_fault SameFile = 2
 status_of_task_fault SameOutput = 2
 status_of_task_fault Overlap = 2
@@ -45,7 +47,7 @@ status_of (Err stop) = status_of_task_fault stop
 
 -- an input could not be opened, or is the output
 abbrev pub IsUnread : TaskFault → Type 0
-IsUnread (CannotOpen name) = ⊤
+IsUnread (CannotOpen name why) = ⊤
 IsUnread SameFile = ⊤
 IsUnread SameOutput = ⊥
 IsUnread Overlap = ⊥
@@ -54,7 +56,7 @@ IsUnread (Tool fault) = ⊥
 
 -- a file could not be made, or is the input or another output
 abbrev pub IsUncreated : TaskFault → Type 0
-IsUncreated (CannotOpen name) = ⊤
+IsUncreated (CannotOpen name why) = ⊤
 IsUncreated SameFile = ⊤
 IsUncreated SameOutput = ⊤
 IsUncreated Overlap = ⊥
@@ -63,26 +65,35 @@ IsUncreated (Tool fault) = ⊥
 
 -- folders overlap
 abbrev pub IsOverlap : TaskFault → Type 0
-IsOverlap (CannotOpen name) = ⊥
+IsOverlap (CannotOpen name why) = ⊥
 IsOverlap SameFile = ⊥
 IsOverlap SameOutput = ⊥
 IsOverlap Overlap = ⊤
 IsOverlap Closed = ⊥
 IsOverlap (Tool fault) = ⊥
 
--- what it says that a task was done by writing, by a verdict, or by a walk
+-- what it says that a task was done by writing, by a repack, by a verdict, or by a walk
 abbrev pub IfWritten : Type 0 → Done → Type 0
 IfWritten says Written = says
+IfWritten says (Repacked in_turns) = ⊥
 IfWritten says (Checked verdict) = ⊥
 IfWritten says (Walked refused) = ⊥
 
+abbrev pub IfRepacked : (Bool → Type 0) → Done → Type 0
+IfRepacked says Written = ⊥
+IfRepacked says (Repacked in_turns) = says in_turns
+IfRepacked says (Checked verdict) = ⊥
+IfRepacked says (Walked refused) = ⊥
+
 abbrev pub IfChecked : (Verdict → Type 0) → Done → Type 0
 IfChecked says Written = ⊥
+IfChecked says (Repacked in_turns) = ⊥
 IfChecked says (Checked verdict) = says verdict
 IfChecked says (Walked refused) = ⊥
 
 abbrev pub IfWalked : (Bool → Type 0) → Done → Type 0
 IfWalked says Written = ⊥
+IfWalked says (Repacked in_turns) = ⊥
 IfWalked says (Checked verdict) = ⊥
 IfWalked says (Walked refused) = says refused
 
@@ -91,7 +102,7 @@ IfWalked says (Walked refused) = says refused
 abbrev pub Ends : (done : Done → Type 0) → (file : TaskFault → Type 0) → (stopped : ToolFault → Type 0) →
     (printed : List ℕ) → Result Done TaskFault → Type 0
 Ends done file stopped printed (Ok what) = done what
-Ends done file stopped printed (Err (CannotOpen name)) = file (CannotOpen name) × (printed ≡ [])
+Ends done file stopped printed (Err (CannotOpen name why)) = file (CannotOpen name why) × (printed ≡ [])
 Ends done file stopped printed (Err SameFile) = file SameFile × (printed ≡ [])
 Ends done file stopped printed (Err SameOutput) = file SameOutput × (printed ≡ [])
 Ends done file stopped printed (Err Overlap) = file Overlap × (printed ≡ [])
@@ -107,11 +118,13 @@ pub record Over (known : Type 0) (says : (input printed : List ℕ) → Type 0) 
   pub prints : Takes out0 out printed
   pub ends : says input printed
 
--- The input was repacked into some records, and what was printed is the text of its report.
-pub record WritesReport (choice : Choice) (input printed : List ℕ) : Type 0 where
+-- The input was repacked into some records, and what was printed is the text of its report. It is told whether
+-- channels seem to alternate.
+pub record WritesReport (choice : Choice) (input printed : List ℕ) (in_turns : Bool) : Type 0 where
   pub written : List ℕ
   pub report : Report
   pub reported : IsReported choice input written printed report
+  pub turns : IsTrue in_turns ↔ AreTurns report
 
 -- The engine stopped at this fault, after some records.
 pub record StopsReport (choice : Choice) (input printed : List ℕ) (fault : ToolFault) : Type 0 where
@@ -120,7 +133,7 @@ pub record StopsReport (choice : Choice) (input printed : List ℕ) (fault : Too
 
 abbrev pub RepackEnds : Choice → Result Done TaskFault → (input printed : List ℕ) → Type 0
 RepackEnds choice result input printed =
-    Ends (IfWritten (WritesReport choice input printed)) IsUncreated (StopsReport choice input printed) printed result
+    Ends (IfRepacked (WritesReport choice input printed)) IsUncreated (StopsReport choice input printed) printed result
 
 -- Repacking a source.
 abbrev pub Repacks : Choice → (source out0 out : Device) → Result Done TaskFault → Type 0

@@ -9,6 +9,8 @@ use msr_tool::Verdict;
 pub(crate) enum Done {
     /// Everything was written.
     Written,
+    /// Records and report were written, and channels seem to alternate, or not.
+    Repacked { in_turns: bool },
     /// A verdict was printed.
     Checked(Verdict),
     /// An archive was walked to its end, and an entry was refused, or none.
@@ -21,7 +23,7 @@ impl Done {
         ensures { result ≡ status_of_done self.now }
     {
         match self {
-            Done::Written => 0,
+            Done::Written | Done::Repacked { .. } => 0,
             Done::Checked(verdict) => verdict.status(),
             Done::Walked { refused } => { if *refused { 1 } else { 0 } }
         }

@@ -56,13 +56,14 @@ pub(crate) fn open_file<'a, R: Files>(
 ) -> Result<OpenedFile<R::File>, TaskFault<'a>>
     ensures { IfErr result IsUnread }
 {
-    let Ok(file) = File::open(rt, name) else {
-        return Err(TaskFault::CannotOpen(name));
+    let file = match File::open(rt, name) {
+        Ok(file) => file,
+        Err(error) => return Err(TaskFault::CannotOpen(name, error)),
     };
-    let Ok(metadata) = file.metadata() else {
-        return Err(TaskFault::CannotOpen(name));
+    let id = match file.metadata() {
+        Ok(metadata) => id_of(&metadata),
+        Err(error) => return Err(TaskFault::CannotOpen(name, error)),
     };
-    let id = id_of(&metadata);
     if is_printed_to(rt, id) {
         return Err(TaskFault::SameFile);
     }
@@ -94,11 +95,13 @@ pub(crate) fn create_output<'a, R: Files>(
 {
     // Asked before the file is opened: if standard output is closed, the file gets its descriptor.
     let output = id_of_standard_output(rt);
-    let Ok(file) = OpenOptions::new().write(true).create(true).open(rt, name) else {
-        return Err(TaskFault::CannotOpen(name));
+    let file = match OpenOptions::new().write(true).create(true).open(rt, name) {
+        Ok(file) => file,
+        Err(error) => return Err(TaskFault::CannotOpen(name, error)),
     };
-    let Ok(metadata) = file.metadata() else {
-        return Err(TaskFault::CannotOpen(name));
+    let metadata = match file.metadata() {
+        Ok(metadata) => metadata,
+        Err(error) => return Err(TaskFault::CannotOpen(name, error)),
     };
     let Some(id) = id_of(&metadata) else {
         return Ok(file);
@@ -111,7 +114,7 @@ pub(crate) fn create_output<'a, R: Files>(
     }
     match file.set_len(0) {
         Ok(()) => Ok(file),
-        Err(_) => Err(TaskFault::CannotOpen(name)),
+        Err(error) => Err(TaskFault::CannotOpen(name, error)),
     }
 }
 

@@ -2,10 +2,14 @@
 #![tactic(auto)]
 
 mod done;
+mod errors;
 mod files;
+mod hints;
 mod program;
 mod task_fault;
 mod tasks;
+mod turns;
 
+pub use errors::Errors;
 pub use msr_arguments::NOT_UTF8;
 pub use program::{complain, run};

@@ -1,14 +1,18 @@
 //! What the program does with its words: a task, or the text that they end with.
 ghost use Rattle.std.specs.Io.KnownBytes.{Appends};
-ghost use Rattle.std.specs.Prelude.{◌≡◌, ◌⊎◌, ◌++◌, OnOk, codes, length};
+ghost use Rattle.std.specs.Prelude.{◌≡◌, ◌⊎◌, ◌++◌, OnOk, codes, false, length};
 ghost use Rattle.msr_devices.specs.Device.{CanCountCall};
-ghost use Rattle.msr_command.specs.Ends.{EndsTask, EndsText, EndsWithoutTask, status_of_task_fault};
+ghost use Rattle.msr_command.specs.Ends.{EndsTask, EndsText, EndsWithoutTask, status_of, status_of_task_fault};
 ghost use Rattle.msr_arguments.specs.declared.task.NoTask.TheVariants.{Ending as WithText};
 
+use crate::done::Done;
+use crate::errors::Errors;
+use crate::hints::{FilesRead, hint_of};
 use crate::task_fault::TaskFault;
 use crate::tasks::do_task;
 use msr_arguments::{Ending, NoTask, read_words};
 use msr_devices::{Sink, Source, write_all};
+use msr_hints::write_hint;
 use msr_walk::LockFile;
 use std::alloc::Global;
 use std::io;
@@ -38,6 +42,33 @@ fn complain_of<E: Write>(errors: &mut E, fault: &TaskFault<'_>) -> u8
     fault.status()
 }
 
+/// Prints the line of a task's fault, if it has one, and gives the status.
+fn tell<E: Write>(errors: &mut E, ended: &Result<Done, TaskFault<'_>>) -> u8
+    ensures { result ≡ status_of ended.now }
+{
+    match ended {
+        Ok(done) => done.status(),
+        Err(fault) => complain_of(errors, fault),
+    }
+}
+
+/// Prints a hint after that, if a person reads it. If it cannot be written, it is left out.
+fn tell_person<R: Files, E: Write>(
+    rt: &R,
+    errors: &mut Errors<E>,
+    read: FilesRead<'_>,
+    ended: &Result<Done, TaskFault<'_>>,
+)
+    ensures { errors.old.is_terminal ≡ false → errors.new ≡ errors.old }
+{
+    if !errors.is_terminal {
+        return;
+    }
+    if let Some(hint) = hint_of(rt, read, ended) {
+        write_hint(&mut errors.to, hint).ok();
+    }
+}
+
 /// Prints the text to end with: help and the version as output, a fault of the command line as an error.
 fn end<O: Sink, E: Write>(output: &mut O, errors: &mut E, ending: &Ending) -> u8
     requires output { CanCountCall (O.device output.old) }
@@ -60,7 +91,7 @@ pub fn run<R: Files, I: Source, O: Sink, E: Write>(
     words: &[&str],
     input: &mut I,
     output: &mut O,
-    errors: &mut E,
+    errors: &mut Errors<E>,
 ) -> u8
 where
     R::File: LockFile,
@@ -70,11 +101,14 @@ where
         ⊎ EndsWithoutTask (length words.now) (O.device output.old) (O.device output.new) result }
 {
     match read_words(alloc, words) {
-        Ok(task) => match do_task(rt, alloc, task, input, output) {
-            Ok(done) => done.status(),
-            Err(fault) => complain_of(errors, &fault),
-        },
-        Err(NoTask::Ending(ending)) => end(output, errors, &ending),
-        Err(NoTask::Memory) => complain(errors, 1, "out of memory"),
+        Ok(task) => {
+            let read = FilesRead::of(&task);
+            let ended = do_task(rt, alloc, task, input, output);
+            let status = tell(&mut errors.to, &ended);
+            tell_person(rt, errors, read, &ended);
+            status
+        }
+        Err(NoTask::Ending(ending)) => end(output, &mut errors.to, &ending),
+        Err(NoTask::Memory) => complain(&mut errors.to, 1, "out of memory"),
     }
 }

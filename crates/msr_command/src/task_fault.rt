@@ -1,13 +1,14 @@
 //! Why a task ends before it is done.
 use msr_tool::ToolFault;
+use std::io;
 use thiserror::Error;
 
 /// Why a task ended before it was done.
 #[derive(Debug, Drop, Error)]
 pub(crate) enum TaskFault<'a> {
-    /// The file with this name could not be opened, or not be made.
+    /// The file with this name could not be opened, or not be made, and why.
     #[error("cannot open {0}")]
-    CannotOpen(&'a str),
+    CannotOpen(&'a str, io::Error),
     /// The output is the input, by another name or a link; or standard output is redirected to an input.
     #[error("the output is the input")]
     SameFile,
@@ -34,7 +35,7 @@ impl<'a> TaskFault<'a> {
         ensures { result ≡ status_of_task_fault self.now }
     {
         match self {
-            TaskFault::CannotOpen(_) | TaskFault::Closed => 1,
+            TaskFault::CannotOpen(_, _) | TaskFault::Closed => 1,
             TaskFault::SameFile | TaskFault::SameOutput | TaskFault::Overlap => 2,
             TaskFault::Tool(fault) => fault.status(),
         }

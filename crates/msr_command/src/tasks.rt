@@ -8,6 +8,7 @@ use crate::files::{
     FileId, create_output, create_report, open_file, settle_standard_output, standard_input,
 };
 use crate::task_fault::TaskFault;
+use crate::turns::is_in_turns;
 use msr_arguments::{Archiving, Checking, Feeding, Listing, Repacking, Task};
 use msr_tool::{
     FromRead, FromWrite, Options, Sink, Source, ToolFault, check_and_tell, feed_and_report,
@@ -153,11 +154,13 @@ fn repack_from<'a, R: Files, I: Source, O: Sink>(
 {
     let Some(name) = target.name else {
         let mut nowhere = FromWrite::new(io::sink());
-        repack_and_report(alloc, source, &mut nowhere, output, options)?;
-        return Ok(Done::Written);
+        let report = repack_and_report(alloc, source, &mut nowhere, output, options)?;
+        return Ok(Done::Repacked {
+            in_turns: is_in_turns(&report),
+        });
     };
     let mut file = create_output(rt, name, target.input)?;
-    repack_and_report(
+    let report = repack_and_report(
         alloc,
         source,
         &mut FromWrite::new(&mut file),
@@ -165,7 +168,9 @@ fn repack_from<'a, R: Files, I: Source, O: Sink>(
         options,
     )?;
     settle(&file)?;
-    Ok(Done::Written)
+    Ok(Done::Repacked {
+        in_turns: is_in_turns(&report),
+    })
 }
 
 /// Makes the report's file before anything is read. It stands empty after a fault.

@@ -1,10 +1,10 @@
 //! The program `msrepack`: hands its words and streams to `run`, and ends with the status that it gives.
 #![tactic(auto)]
 
-use msr_command::{NOT_UTF8, complain, run};
+use msr_command::{Errors, NOT_UTF8, complain, run};
 use msr_tool::{FromRead, FromWrite};
 use std::alloc::{AllocError, Global};
-use std::io::ErrorKind;
+use std::io::{ErrorKind, IsTerminal};
 use std::process::ExitCode;
 use std::{env, io};
 
@@ -19,7 +19,12 @@ fn borrowed(alloc: Global, words: &[String]) -> Result<Vec<&str>, AllocError> {
 
 fn main(rt: HostRuntime) -> ExitCode {
     let alloc = rt.alloc();
-    let mut errors = rt.stderr();
+    let standard = rt.stderr();
+    let is_terminal = standard.is_terminal();
+    let mut errors = Errors {
+        to: standard,
+        is_terminal,
+    };
     let status = match words_given(&rt, alloc) {
         Ok(words) => match borrowed(alloc, words.as_slice()) {
             Ok(words) => {
@@ -34,13 +39,13 @@ fn main(rt: HostRuntime) -> ExitCode {
                     &mut errors,
                 )
             }
-            Err(AllocError) => complain(&mut errors, 1, "out of memory"),
+            Err(AllocError) => complain(&mut errors.to, 1, "out of memory"),
         },
         Err(error) if error.kind() == ErrorKind::InvalidData => {
             eprint!(&rt; "{}", NOT_UTF8).ok();
             2
         }
-        Err(_) => complain(&mut errors, 1, "out of memory"),
+        Err(_) => complain(&mut errors.to, 1, "out of memory"),
     };
     ExitCode::from(status)
 }

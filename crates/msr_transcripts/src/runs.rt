@@ -2,7 +2,7 @@
 
 use crate::files;
 use crate::settings::Settings;
-use msr_command::run;
+use msr_command::{Errors, run};
 use msr_tool::{TestSink, TestSource};
 use std::fs::{File, OpenOptions};
 use std::{fs, io};
@@ -62,18 +62,21 @@ fn run_with(rt: &HostRuntime, settings: &Settings<'_>, words: &[&str]) -> io::Re
     let input = given(rt, settings)?;
     let mut source = TestSource::new(input.as_slice(), settings.reading);
     let mut sink = TestSink::new(Vec::new(rt.alloc()), settings.writing);
-    let mut complaint = Vec::new(rt.alloc());
+    let mut errors = Errors {
+        to: Vec::new(rt.alloc()),
+        is_terminal: false,
+    };
     let status = run(
         &settings.odd,
         rt.alloc(),
         words,
         &mut source,
         &mut sink,
-        &mut complaint,
+        &mut errors,
     );
     Ok(Answer {
         printed: shown(rt, sink.bytes(), settings.into)?,
-        complaint,
+        complaint: errors.to,
         status,
     })
 }

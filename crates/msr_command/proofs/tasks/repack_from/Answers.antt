@@ -4,7 +4,7 @@ use Rattle.msr_command.proofs.Endings.{repack_done, repack_stops, repack_uncreat
 use Rattle.msr_command.proofs.tasks.repack_from.Goals as goal
 
 pub returns-in_default : goal.returns-in_default
-returns-in_default g c = repack_done _ _ _ _ _ _ _ c.in_ok-repack_and_report.ensures.answer
+returns-in_default g c = repack_done _ _ _ _ _ _ _ _ c.in_ok-repack_and_report.ensures.answer c.is_in_turns.ensures
 
 pub returns-in_err-file : goal.returns-in_err-file
 returns-in_err-file g c =
@@ -21,8 +21,8 @@ returns-in_err-repack_and_report-2 g c =
 pub returns-in_err-settle : goal.returns-in_err-settle
 returns-in_err-settle g c =
     let p = err_from_is_err_and c.from_residual-in_err-settle.result c.from_residual-in_err-settle.ensures.1 in
-    rw (p.1, p.2, c.in_err-settle.ensures) (repack_unsettled _ _ _ _
-    (repack_done _ _ _ _ _ _ _ c.in_ok-repack_and_report-2.ensures.answer))
+    rw (p.1, p.2, c.in_err-settle.ensures)
+    (repack_unsettled _ _ _ _ _ _ _ c.in_ok-repack_and_report-2.ensures.answer)
 
 pub returns : goal.returns
-returns g c = repack_done _ _ _ _ _ _ _ c.in_ok-repack_and_report-2.ensures.answer
+returns g c = repack_done _ _ _ _ _ _ _ _ c.in_ok-repack_and_report-2.ensures.answer c.is_in_turns-2.ensures

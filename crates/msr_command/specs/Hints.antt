@@ -1,0 +1,69 @@
+-- What a person is told when a task has ended.
+use Rattle.std.specs.Prelude.{if◌then◌else◌, ◌≡◌, ◌≢◌, ℕ, List, codes, IfSome, IsSomeAnd, Option, None, Some, Result, Ok, Err}
+use Rattle.msr_hints.specs.Hints.{IsOfBytes}
+use Rattle.msr_hints.specs.declared.hint.Hint.{Hint}
+use Rattle.msr_hints.specs.declared.hint.Hint.TheVariants.{Folder, System, Turns}
+use Rattle.msr_arguments.specs.declared.task.Task.{Task}
+use Rattle.msr_arguments.specs.declared.task.Task.TheVariants.{Repack, List as Listing, Check, Archive, Feed}
+use Rattle.msr_tool.specs.declared.fault.ToolFault.{ToolFault}
+use Rattle.msr_tool.specs.declared.fault.ToolFault.TheVariants as fault
+use Rattle.msr_command.specs.declared.done.Done.{Done}
+use Rattle.msr_command.specs.declared.done.Done.TheVariants.{Written, Repacked, Checked, Walked}
+use Rattle.msr_command.specs.declared.task_fault.TaskFault.{TaskFault}
+use Rattle.msr_command.specs.declared.task_fault.TaskFault.TheVariants.{CannotOpen, SameFile, SameOutput, Overlap, Closed, Tool}
+use Rattle.msr_command.specs.declared.hints.FilesRead.{FilesRead}
+
+-- the records are read from the file of this name, which is standard input for `-`
+pub record IsInput (name : List ℕ) (read : FilesRead) : Type 0 where
+  pub standard : name ≡ codes "-" → read.records ≡ None
+  pub file : name ≢ codes "-" → IsSomeAnd read.records (λ it. it.now ≡ name)
+  pub no_report : read.report ≡ None
+
+-- the files that a task reads
+abbrev pub AreFilesOf : Task → FilesRead → Type 0
+AreFilesOf (Repack asked) read = IsInput asked.input.now read
+AreFilesOf (Listing asked) read = IsInput asked.input.now read
+AreFilesOf (Check asked) read = (read.records ≡ Some asked.packed) × (read.report ≡ Some asked.report)
+AreFilesOf (Archive asked) read = (read.records ≡ None) × (read.report ≡ None)
+AreFilesOf (Feed asked) read = (read.records ≡ None) × (read.report ≡ None)
+
+-- the bytes of a file tell it, if there is a file
+abbrev pub HintsBytes : {A : Type 0} → Option A → Option Hint → Type 0
+HintsBytes None hint = hint ≡ None
+HintsBytes (Some name) hint = IfSome hint IsOfBytes
+
+-- a file is a folder, if there is a file
+abbrev pub HintsFolder : {A : Type 0} → Option A → Option Hint → Type 0
+HintsFolder None hint = hint ≡ None
+HintsFolder (Some name) hint = IfSome hint (λ it. it ≡ Folder)
+
+-- one of two files is a folder
+abbrev pub HintsFolders : {A : Type 0} → Option A → Option A → Option Hint → Type 0
+HintsFolders None other hint = HintsFolder other hint
+HintsFolders (Some name) other hint = IfSome hint (λ it. it ≡ Folder)
+
+abbrev pub HintsDone : Done → Option Hint → Type 0
+HintsDone Written hint = hint ≡ None
+HintsDone (Repacked in_turns) hint = hint ≡ (if in_turns then Some Turns else None)
+HintsDone (Checked verdict) hint = hint ≡ None
+HintsDone (Walked refused) hint = hint ≡ None
+
+abbrev pub HintsEngine : FilesRead → ToolFault → Option Hint → Type 0
+HintsEngine read (fault.Input found) hint = HintsBytes read.records hint
+HintsEngine read (fault.Report line) hint = HintsBytes read.report hint
+HintsEngine read fault.Read hint = HintsFolders read.report read.records hint
+HintsEngine read fault.Write hint = hint ≡ None
+HintsEngine read fault.Memory hint = hint ≡ None
+
+abbrev pub HintsFault : FilesRead → TaskFault → Option Hint → Type 0
+HintsFault read (CannotOpen name why) hint = hint ≡ Some (System why)
+HintsFault read SameFile hint = hint ≡ None
+HintsFault read SameOutput hint = hint ≡ None
+HintsFault read Overlap hint = hint ≡ None
+HintsFault read Closed hint = hint ≡ None
+HintsFault read (Tool why) hint = HintsEngine read why hint
+
+-- what is certain beside how a task ended
+abbrev pub HintsEnd : FilesRead → Result Done TaskFault → Option Hint → Type 0
+HintsEnd read (Ok done) hint = HintsDone done hint
+HintsEnd read (Err why) hint = HintsFault read why hint

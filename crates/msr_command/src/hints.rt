@@ -1,0 +1,115 @@
+//! What a person is told when a task has ended.
+ghost use Rattle.msr_command.specs.Hints.{HintsBytes, HintsDone, HintsEnd, HintsEngine, HintsFault, HintsFolder};
+
+use crate::done::Done;
+use crate::task_fault::TaskFault;
+use msr_arguments::Task;
+use msr_hints::{Hint, hint_of_file, hint_of_folder};
+use msr_tool::ToolFault;
+use std::rt::Files;
+
+/// The names of the files that a task reads, records and a report. Standard input has none: what it gave is gone.
+#[derive(Clone, Copy)]
+pub(crate) struct FilesRead<'a> {
+    pub records: Option<&'a str>,
+    pub report: Option<&'a str>,
+}
+
+impl<'a> FilesRead<'a> {
+    ghost use Rattle.msr_command.specs.Hints.{AreFilesOf, IsInput};
+
+    pub(crate) fn of(task: &Task<'a>) -> FilesRead<'a>
+        ensures { AreFilesOf task.now result }
+    {
+        match task {
+            Task::Repack(asked) => FilesRead::of_input(asked.input),
+            Task::List(asked) => FilesRead::of_input(asked.input),
+            Task::Check(asked) => FilesRead {
+                records: Some(asked.packed),
+                report: Some(asked.report),
+            },
+            Task::Archive(_) | Task::Feed(_) => FilesRead {
+                records: None,
+                report: None,
+            },
+        }
+    }
+
+    fn of_input(name: &'a str) -> FilesRead<'a>
+        ensures { IsInput name.now result }
+    {
+        FilesRead {
+            records: if name == "-" { None } else { Some(name) },
+            report: None,
+        }
+    }
+}
+
+/// What the bytes of a file tell that has a fault.
+fn hint_of_bytes<R: Files>(rt: &R, name: Option<&str>) -> Option<Hint>
+    ensures { HintsBytes name.entry result }
+{
+    match name {
+        Some(name) => hint_of_file(rt, name),
+        None => None,
+    }
+}
+
+/// Whether a file that could not be read is a folder.
+fn hint_of_unread<R: Files>(rt: &R, name: Option<&str>) -> Option<Hint>
+    ensures { HintsFolder name.entry result }
+{
+    match name {
+        Some(name) => hint_of_folder(rt, name),
+        None => None,
+    }
+}
+
+fn hint_of_done(done: &Done) -> Option<Hint>
+    ensures { HintsDone done.now result }
+{
+    match done {
+        Done::Repacked { in_turns } => { if *in_turns { Some(Hint::Turns) } else { None } }
+        Done::Written | Done::Checked(_) | Done::Walked { .. } => None,
+    }
+}
+
+fn hint_of_engine<R: Files>(rt: &R, read: FilesRead<'_>, fault: &ToolFault) -> Option<Hint>
+    ensures { HintsEngine read.entry fault.now result }
+{
+    match fault {
+        ToolFault::Input(_) => hint_of_bytes(rt, read.records),
+        ToolFault::Report(_) => hint_of_bytes(rt, read.report),
+        ToolFault::Read => {
+            let report = hint_of_unread(rt, read.report);
+            report.or(hint_of_unread(rt, read.records))
+        }
+        ToolFault::Write | ToolFault::Memory => None,
+    }
+}
+
+fn hint_of_fault<R: Files>(rt: &R, read: FilesRead<'_>, fault: &TaskFault<'_>) -> Option<Hint>
+    ensures { HintsFault read.entry fault.now result }
+{
+    match fault {
+        TaskFault::CannotOpen(_, why) => Some(Hint::System(*why)),
+        TaskFault::Tool(fault) => hint_of_engine(rt, read, fault),
+        TaskFault::SameFile | TaskFault::SameOutput | TaskFault::Overlap | TaskFault::Closed => {
+            None
+        }
+    }
+}
+
+/// What is certain beside how a task ended.
+pub(crate) fn hint_of<R: Files>(
+    rt: &R,
+    read: FilesRead<'_>,
+    ended: &Result<Done, TaskFault<'_>>,
+) -> Option<Hint>
+    ensures { HintsEnd read.entry ended.now result }
+{
+    match ended {
+        Ok(done) => hint_of_done(done),
+        Err(fault) => hint_of_fault(rt, read, fault),
+    }
+}

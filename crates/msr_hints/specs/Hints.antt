@@ -1,0 +1,36 @@
+-- What is told to people, and when.
+use Rattle.std.specs.Prelude.{if◌then◌else◌, ◌≡◌, ◌⊎◌, ◌==◌, ℕ, List, [], ◌∷◌, ◌++◌, codes, Option, None, Some}
+use Rattle.std.specs.List.{starts_with}
+use Rattle.std.specs.Option.{option_map}
+use Rattle.msr_hints.specs.declared.hint.Hint.{Hint}
+use Rattle.msr_hints.specs.declared.hint.Hint.TheVariants.{Gzip, MiniSeed3, Folder, Turns, System}
+
+-- the text of a hint; that of the system's reason is the system's own
+abbrev pub text_of : Hint → Option (List ℕ)
+text_of Gzip = Some (codes "this is gzip")
+text_of MiniSeed3 = Some (codes "this is miniSEED 3, which msrepack does not read")
+text_of Folder = Some (codes "a folder: msrepack archive reads archives")
+text_of Turns = Some (codes "channels which alternate are not joined")
+text_of (System error) = None
+
+-- the line of a hint
+abbrev pub line_of : Hint → Option (List ℕ)
+line_of hint = option_map (λ text. codes "hint: " ++ (text ++ codes "\n")) (text_of hint)
+
+-- how files of gzip begin, and records of miniSEED 3
+abbrev pub gzip_begin : List ℕ
+gzip_begin = 31 ∷ 139 ∷ []
+
+abbrev pub miniseed_3_begin : List ℕ
+miniseed_3_begin = codes "MS" ++ 3 ∷ []
+
+-- what begins so
+abbrev pub hint_of_begin : List ℕ → Option Hint
+hint_of_begin bytes =
+    if starts_with (λ x y. x == y) bytes gzip_begin then Some Gzip
+    else if starts_with (λ x y. x == y) bytes miniseed_3_begin then Some MiniSeed3
+    else None
+
+-- the bytes of a file have told it
+abbrev pub IsOfBytes : Hint → Type 0
+IsOfBytes hint = (hint ≡ Gzip) ⊎ (hint ≡ MiniSeed3)
