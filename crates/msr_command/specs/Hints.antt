@@ -1,6 +1,7 @@
 -- What a person is told when a task has ended.
 use Rattle.std.specs.Prelude.{if◌then◌else◌, ◌≡◌, ◌≢◌, ℕ, List, codes, IfSome, IsSomeAnd, Option, None, Some, Result, Ok, Err}
-use Rattle.msr_hints.specs.Hints.{IsOfBytes}
+use Rattle.std.specs.Io.KnownBytes.{Appends}
+use Rattle.msr_hints.specs.Hints.{IsOfBytes, line_of}
 use Rattle.msr_hints.specs.declared.hint.Hint.{Hint}
 use Rattle.msr_hints.specs.declared.hint.Hint.TheVariants.{Folder, System, Turns}
 use Rattle.msr_arguments.specs.declared.task.Task.{Task}
@@ -67,3 +68,14 @@ HintsFault read (Tool why) hint = HintsEngine read why hint
 abbrev pub HintsEnd : FilesRead → Result Done TaskFault → Option Hint → Type 0
 HintsEnd read (Ok done) hint = HintsDone done hint
 HintsEnd read (Err why) hint = HintsFault read why hint
+
+-- the line of a hint was written, if there is one
+abbrev pub AddsLine : Option Hint → (old new : Option (List ℕ)) → Type 0
+AddsLine None old new = new ≡ old
+AddsLine (Some hint) old new = IfSome (line_of hint) (Appends old new)
+
+-- What a writer holds when a person was told of how a task ended.
+pub record TellsPerson (read : FilesRead) (ended : Result Done TaskFault) (old new : Option (List ℕ)) : Type 0 where
+  pub hint : Option Hint
+  pub certain : HintsEnd read ended hint
+  pub told : AddsLine hint old new

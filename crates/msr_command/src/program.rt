@@ -1,8 +1,9 @@
 //! What the program does with its words: a task, or the text that they end with.
 ghost use Rattle.std.specs.Io.KnownBytes.{Appends};
-ghost use Rattle.std.specs.Prelude.{◌≡◌, ◌⊎◌, ◌++◌, OnOk, codes, false, length};
+ghost use Rattle.std.specs.Prelude.{◌≡◌, ◌⊎◌, ◌++◌, OnOk, codes, false, length, true};
 ghost use Rattle.msr_devices.specs.Device.{CanCountCall};
 ghost use Rattle.msr_command.specs.Ends.{EndsTask, EndsText, EndsWithoutTask, status_of, status_of_task_fault};
+ghost use Rattle.msr_command.specs.Hints.{TellsPerson};
 ghost use Rattle.msr_arguments.specs.declared.task.NoTask.TheVariants.{Ending as WithText};
 
 use crate::done::Done;
@@ -52,20 +53,23 @@ fn tell<E: Write>(errors: &mut E, ended: &Result<Done, TaskFault<'_>>) -> u8
     }
 }
 
-/// Prints a hint after that, if a person reads it. If it cannot be written, it is left out.
+/// Prints a hint after that, if there is one and a person reads it.
 fn tell_person<R: Files, E: Write>(
     rt: &R,
     errors: &mut Errors<E>,
     read: FilesRead<'_>,
     ended: &Result<Done, TaskFault<'_>>,
-)
-    ensures { errors.old.is_terminal ≡ false → errors.new ≡ errors.old }
+) -> io::Result<()>
+    ensures script { errors.old.is_terminal ≡ false → errors.new ≡ errors.old }
+    ensures person { OnOk result (errors.old.is_terminal ≡ true →
+        TellsPerson read.entry ended.now (E.contents errors.old.to) (E.contents errors.new.to)) }
 {
     if !errors.is_terminal {
-        return;
+        return Ok(());
     }
-    if let Some(hint) = hint_of(rt, read, ended) {
-        write_hint(&mut errors.to, hint).ok();
+    match hint_of(rt, read, ended) {
+        Some(hint) => write_hint(&mut errors.to, hint),
+        None => Ok(()),
     }
 }
 
@@ -105,7 +109,7 @@ where
             let read = FilesRead::of(&task);
             let ended = do_task(rt, alloc, task, input, output);
             let status = tell(&mut errors.to, &ended);
-            tell_person(rt, errors, read, &ended);
+            tell_person(rt, errors, read, &ended).ok();
             status
         }
         Err(NoTask::Ending(ending)) => end(output, &mut errors.to, &ending),

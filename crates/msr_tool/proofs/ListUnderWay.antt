@@ -1,5 +1,5 @@
 -- The state of listing between two rows, and what is answered when it stops.
-use Rattle.std.proofs.Common.{◌≡◌, inl, inr, ℕ, ◌<◌, List, [], ◌++◌, ◌∙◌, length, length-append, refl, sym, ap, subst, Result, Ok, Err, Option, Some, None, IfSome}
+use Rattle.std.proofs.Common.{◌≡◌, inl, inr, ℕ, ◌<◌, List, [], ◌++◌, ◌∙◌, length, length-append, refl, sym, ap, subst, Ok, Err, Option, Some, None, IfSome}
 use Rattle.std.proofs.lemmas.List.{append-nil}
 use Rattle.std.specs.Prelude.{option_map}
 use Rattle.std.specs.Option.{option_to_list}
@@ -31,6 +31,7 @@ use Rattle.msr_tool.specs.declared.fault.ToolFault.TheVariants as fault
 use Rattle.msr_tool.specs.declared.listed_segment.ListedSegment.{ListedSegment}
 use Rattle.msr_tool.proofs.Listed.{prefix_wider}
 use Rattle.msr_tool.proofs.RowsSoFar.{RowsSoFar, RowMore, no_rows, row_more}
+use Rattle.msr_tool.proofs.StoppedRepacks.{IsAnswered}
 
 -- A joiner of the rows so far says what was begun and what has ended.
 pub record UnderList (settings : Settings) (source0 source sink0 sink : Device) (reading : RowReading)
@@ -119,43 +120,31 @@ under_more settings source0 source' sink0 sink' reading' lister lister' given jo
       few_wait = few_wait;
     }
 
--- what is answered, for some input and some bytes written
-abbrev pub IsListAnswered : Settings → Device → Device → Device → Result Counts ToolFault → Type 0
-IsListAnswered settings source0 sink0 sink result =
-    (input : List ℕ) × (written : List ℕ) × HasLeft source0 input × Takes sink0 sink written
-    × ListAnswers settings input written result
-
-record Stopped (settings : Settings) (source0 sink0 sink : Device) : Type 0 where
-  pub input : List ℕ
-  pub written : List ℕ
-  pub left : HasLeft source0 input
-  pub takes : Takes sink0 sink written
-  pub stopped : IsListStopped settings input written
-
 stopped : (settings : Settings) (source0 sink0 sink : Device) (given : List Segment)
-    → StopsAfter settings source0 given → HasListedPrefix sink0 sink given → Stopped settings source0 sink0 sink
+    → StopsAfter settings source0 given → HasListedPrefix sink0 sink given
+    → (input : List ℕ) × (written : List ℕ) × HasLeft source0 input × Takes sink0 sink written
+    × IsListStopped settings input written
 stopped settings source0 sink0 sink given h prefix =
     let all : List Segment = given ++ h.begun.others in
-    let wide = prefix_wider sink0 sink given h.begun.others all prefix refl in
-    record {
-      input = h.input;
-      written = wide.taken;
-      left = h.left;
-      takes = wide.takes;
-      stopped = record {
+    let wide = prefix_wider sink0 sink given h.begun.others all prefix refl in (
+      h.input,
+      wide.taken,
+      h.left,
+      wide.takes,
+      record {
         records = h.records;
         rest = h.rest;
         segments = all;
         are_read = h.are_read;
         are_segments = h.begun.are_segments;
         prefix = wide.prefix;
-      };
-    }
+      },
+    )
 
 -- no further segment is read
 pub list_read_failed : (settings : Settings) (source0 source sink0 sink : Device) (given : List Segment)
     (why : ReadFault) → StopsReading settings source0 source given why → HasListedPrefix sink0 sink given
-    → IsListAnswered settings source0 sink0 sink (Err (fault_of_reading why))
+    → IsAnswered (ListAnswers settings) source0 sink0 sink (Err (fault_of_reading why))
 list_read_failed settings source0 source sink0 sink given (read.Input found) h prefix =
     let all : List Segment = given ++ h.0.begun.others in
     let wide = prefix_wider sink0 sink given h.0.begun.others all prefix refl in (
@@ -172,21 +161,21 @@ list_read_failed settings source0 source sink0 sink given (read.Input found) h p
       },
     )
 list_read_failed settings source0 source sink0 sink given read.Read h prefix =
-    let s = stopped settings source0 sink0 sink given h.0 prefix in (s.input, s.written, s.left, s.takes, s.stopped)
+    stopped settings source0 sink0 sink given h.0 prefix
 list_read_failed settings source0 source sink0 sink given read.Memory h prefix =
-    let s = stopped settings source0 sink0 sink given h.0 prefix in (s.input, s.written, s.left, s.takes, s.stopped)
+    stopped settings source0 sink0 sink given h.0 prefix
 
 -- a line is not written
 pub list_write_failed : (settings : Settings) (source0 sink0 sink : Device) (given : List Segment)
     (found : ToolFault) → StopsAfter settings source0 given → StopsListing sink0 sink given found
-    → IsListAnswered settings source0 sink0 sink (Err found)
+    → IsAnswered (ListAnswers settings) source0 sink0 sink (Err found)
 list_write_failed settings source0 sink0 sink given (fault.Input other) after h = absurd h
 list_write_failed settings source0 sink0 sink given (fault.Report line) after h = absurd h
 list_write_failed settings source0 sink0 sink given fault.Read after h = absurd h
 list_write_failed settings source0 sink0 sink given fault.Write after h =
-    let s = stopped settings source0 sink0 sink given after h.0 in (s.input, s.written, s.left, s.takes, inl s.stopped)
+    let s = stopped settings source0 sink0 sink given after h.0 in (s.0, s.1, s.2, s.3, inl s.4)
 list_write_failed settings source0 sink0 sink given fault.Memory after h =
-    let s = stopped settings source0 sink0 sink given after h.0 in (s.input, s.written, s.left, s.takes, s.stopped)
+    stopped settings source0 sink0 sink given after h.0
 
 -- some of an input that was read to its end
 after_end : (settings : Settings) (source0 : Device) (segments : List Segment) (counts : Counts)
@@ -203,7 +192,8 @@ after_end settings source0 segments counts gave = record {
 -- the last lines are not written
 pub list_all_failed : (settings : Settings) (source0 sink0 sink : Device) (segments : List Segment)
     (counts : Counts) (found : ToolFault) → GaveReadable source0 settings segments counts
-    → StopsListingAll sink0 sink segments counts found → IsListAnswered settings source0 sink0 sink (Err found)
+    → StopsListingAll sink0 sink segments counts found
+    → IsAnswered (ListAnswers settings) source0 sink0 sink (Err found)
 list_all_failed settings source0 sink0 sink segments counts (fault.Input other) gave h = absurd h
 list_all_failed settings source0 sink0 sink segments counts (fault.Report line) gave h = absurd h
 list_all_failed settings source0 sink0 sink segments counts fault.Read gave h = absurd h
@@ -227,13 +217,12 @@ list_all_failed settings source0 sink0 sink segments counts fault.Write gave h =
   }),
 )
 list_all_failed settings source0 sink0 sink segments counts fault.Memory gave h =
-    let s = stopped settings source0 sink0 sink segments (after_end settings source0 segments counts gave) h.0 in
-    (s.input, s.written, s.left, s.takes, s.stopped)
+    stopped settings source0 sink0 sink segments (after_end settings source0 segments counts gave) h.0
 
 -- all was written
 pub list_done : (settings : Settings) (source0 sink0 sink : Device) (segments : List Segment) (counts : Counts)
     → GaveReadable source0 settings segments counts → HasListedAll sink0 sink segments counts
-    → IsListAnswered settings source0 sink0 sink (Ok counts)
+    → IsAnswered (ListAnswers settings) source0 sink0 sink (Ok counts)
 list_done settings source0 sink0 sink segments counts gave h = (
   gave.input,
   h.text ++ counts_line counts,

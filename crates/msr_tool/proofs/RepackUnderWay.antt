@@ -26,7 +26,7 @@ use Rattle.msr_output.specs.Decided.{IsDecidedOutput, IsEncoded}
 use Rattle.msr_options.specs.Choice.{Choice, size_of}
 use Rattle.msr_tool.specs.Settings.{settings_of}
 use Rattle.msr_tool.specs.Writing.{Lined, GoesOn, HasLined, LinesMore, LinesAll, StopsLining, current_with, ended_with}
-use Rattle.msr_tool.specs.Answer.{AreLinesOf}
+use Rattle.msr_tool.specs.Answer.{Answers, AreLinesOf}
 use Rattle.msr_tool.specs.Fault.{fault_of_reading}
 use Rattle.msr_tool.specs.KeepingUp.{HasKeptUp}
 use Rattle.msr_tool.specs.declared.fault.ToolFault.{ToolFault}
@@ -120,20 +120,19 @@ pub done : (choice : Choice) (source0 sink0 sink : Device) (segments : List Segm
     1 ≤ choice.tolerance → choice.tolerance ≤ 1_000_000 → 1 ≤ size_of choice → OutputKeepsSegments → OutputHasSize →
     report.length ≡ choice.record_length → report.tolerance ≡ choice.tolerance → report.counts ≡ counts
     → report.segments.items ≡ lines → IsFirst (bytes_of report.length) report.tolerance report.counts
-    → IsAnswered choice source0 sink0 sink (Ok report)
+    → IsAnswered (Answers choice) source0 sink0 sink (Ok report)
 done choice source0 sink0 sink segments lines counts report gave can wrote least most some keeps has_size
     same_length same_tolerance same_counts same_lines is_first =
     let size = wrote.writing.size in
     let all = wrote.packed in
     let bytes = wrote.written.bytes in
     let writable : All IsWritable (map segment_of_packed all) = rw wrote.same can in
-    let count : length bytes ≡ size * count_of_runs all = has_size size all wrote.rows bytes wrote.written.output in
-    record {
-      input = gave.input;
-      written = bytes;
-      left = gave.left;
-      takes = wrote.written.takes;
-      answers = record {
+    let count : length bytes ≡ size * count_of_runs all = has_size size all wrote.rows bytes wrote.written.output in (
+      gave.input,
+      bytes,
+      gave.left,
+      wrote.written.takes,
+      record {
         records = gave.records;
         packed = all;
         rows = wrote.rows;
@@ -155,15 +154,15 @@ done choice source0 sink0 sink segments lines counts report gave can wrote least
           };
           is_form = record { first = is_first; segments = rw same_lines wrote.forms };
         };
-      };
-    }
+      },
+    )
 
 -- or it is not
 pub flush_stops : (choice : Choice) (source0 source sink0 sink sink' : Device) (reading : RowReading)
     (so_far : Lined) (found : ToolFault) (u : UnderWay choice source0 source sink0 sink reading so_far)
     → StopsLining so_far.writing.size sink0 sink'
     (map segment_of_packed u.packed ++ option_to_list u.joining.current) found
-    → IsAnswered choice source0 sink0 sink' (Err found)
+    → IsAnswered (Answers choice) source0 sink0 sink' (Err found)
 flush_stops choice source0 source sink0 sink sink' reading so_far found u stops =
     let all = map segment_of_packed u.packed ++ option_to_list u.joining.current in
     write_failed choice source0 sink0 sink' all found

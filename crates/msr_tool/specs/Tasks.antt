@@ -1,10 +1,11 @@
 -- What the tasks answer that also write a text: a repack with the text of its report, a check with the line of its
 -- verdict.
-use Rattle.std.specs.Prelude.{◌≡◌, ◌⊎◌, ℕ, List, [], ◌++◌, codes, Result, Ok, Err}
-use Rattle.msr_devices.specs.Device.{Device, HasLeft, Takes}
+use Rattle.std.specs.Prelude.{◌≡◌, ◌⊎◌, ◌↔◌, ℕ, List, [], ◌++◌, codes, Result, Ok, Err, IsErrOf}
+use Rattle.msr_devices.specs.Device.{Device, CountsFew, HasFailed, HasLeft, Takes}
 use Rattle.msr_report.specs.Text.{IsReportText}
 use Rattle.msr_report.specs.declared.report.Report.{Report}
 use Rattle.msr_report_reader.specs.Fault.{IsFaultLine}
+use Rattle.msr_input.specs.declared.fault.Fault.{Fault}
 use Rattle.msr_input.specs.declared.fault.ReadFault.TheVariants as read
 use Rattle.msr_verdict.specs.Texts.{text_of}
 use Rattle.msr_verdict.specs.declared.verdict.Verdict.{Verdict}
@@ -51,6 +52,19 @@ pub record Reports (choice : Choice) (source : Device) (records0 records text0 t
   pub wrote : Takes records0 records written
   pub told_all : Takes text0 text told
   pub answers : ReportAnswers choice input written told result
+
+-- How such a repack answers for its devices: a failure of one is answered as such, and nothing else is. If the input or
+-- its source is at fault, or the records are, no call was made for the text.
+pub record TellsFailures (untold : Type 0) (source0 source records0 records text0 text : Device)
+    (result : Result Report ToolFault) : Type 0 where
+  pub read : IsErrOf result fault.Read ↔ HasFailed source0 source
+  pub write : IsErrOf result fault.Write ↔ (HasFailed records0 records ⊎ HasFailed text0 text)
+  pub untold_at_fault : (found : Fault) → result ≡ Err (fault.Input found) → untold
+  pub untold_at_read : HasFailed source0 source → untold
+  pub untold_at_write : HasFailed records0 records → untold
+  pub few_source : CountsFew source0 source
+  pub few_records : CountsFew records0 records
+  pub few_text : CountsFew text0 text
 
 -- the line that a check prints
 abbrev pub verdict_line : Verdict → List ℕ

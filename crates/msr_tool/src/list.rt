@@ -1,8 +1,8 @@
 //! Listing the segments of an input.
-ghost use Rattle.std.specs.Prelude.{◌↔◌, List, ℕ, IsErrOf};
-ghost use Rattle.msr_devices.specs.Device.{CanCountCall, CountsFew, HasFailed, HasLeft, Takes};
-ghost use Rattle.msr_tool.specs.Settings.{settings_of};
+ghost use Rattle.msr_devices.specs.Device.{CanCountCall};
+ghost use Rattle.msr_tool.specs.Fault.{ReadsAndWrites};
 ghost use Rattle.msr_tool.specs.Listing.{ListAnswers};
+ghost use Rattle.msr_tool.specs.Settings.{settings_of};
 
 use crate::fault::ToolFault;
 use crate::list_writer::ListWriter;
@@ -23,17 +23,8 @@ pub fn list_segments<R: Source, W: Sink>(
 ) -> Result<Counts, ToolFault>
     requires source { CanCountCall (R.device source.old) }
     requires sink { CanCountCall (W.device sink.old) }
-
-    // What was written and what is answered, for the bytes that the source has.
-    ensures answer { (input : List ℕ) × (written : List ℕ) × HasLeft (R.device source.old) input
-        × Takes (W.device sink.old) (W.device sink.new) written × ListAnswers (settings_of
-        options) input written result }
-
-    // A failure of a device is answered as such, and nothing else is.
-    ensures read { IsErrOf result ToolFault.Read ↔ HasFailed (R.device source.old) (R.device source.new) }
-    ensures write { IsErrOf result ToolFault.Write ↔ HasFailed (W.device sink.old) (W.device sink.new) }
-    ensures few_source { CountsFew (R.device source.old) (R.device source.new) }
-    ensures few_sink { CountsFew (W.device sink.old) (W.device sink.new) }
+    ensures { ReadsAndWrites (ListAnswers (settings_of options)) (R.device source.old) (R.device source.new)
+        (W.device sink.old) (W.device sink.new) result }
 {
     let mut reader = RowReader::new(alloc, settings_of(options));
     let mut writer = ListWriter::new(alloc);

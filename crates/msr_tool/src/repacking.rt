@@ -1,8 +1,9 @@
 //! Repacking an input, whole or while it comes.
-ghost use Rattle.std.specs.Prelude.{◌≡◌, ◌↔◌, List, ℕ, IsErrOf, false};
-ghost use Rattle.msr_devices.specs.Device.{CanCountCall, CountsFew, HasFailed, HasLeft, Takes};
+ghost use Rattle.std.specs.Prelude.{◌≡◌, ◌↔◌, IsErrOf, false};
+ghost use Rattle.msr_devices.specs.Device.{CanCountCall};
 ghost use Rattle.msr_input.specs.Reading.{HoldsRecord};
 ghost use Rattle.msr_tool.specs.Answer.{Answers};
+ghost use Rattle.msr_tool.specs.Fault.{ReadsAndWrites};
 ghost use Rattle.msr_tool.specs.KeepingUp.{HasKeptUp};
 
 use crate::fault::ToolFault;
@@ -34,16 +35,8 @@ pub fn repack<R: Source, W: Sink>(
 ) -> Result<Report, ToolFault>
     requires source { CanCountCall (R.device source.old) }
     requires sink { CanCountCall (W.device sink.old) }
-
-    // What was written and what is answered, for the bytes that the source has.
-    ensures answer { (input : List ℕ) × (written : List ℕ) × HasLeft (R.device source.old) input
-        × Takes (W.device sink.old) (W.device sink.new) written × Answers options input written result }
-
-    // A failure of a device is answered as such, and nothing else is.
-    ensures read { IsErrOf result ToolFault.Read ↔ HasFailed (R.device source.old) (R.device source.new) }
-    ensures write { IsErrOf result ToolFault.Write ↔ HasFailed (W.device sink.old) (W.device sink.new) }
-    ensures few_source { CountsFew (R.device source.old) (R.device source.new) }
-    ensures few_sink { CountsFew (W.device sink.old) (W.device sink.new) }
+    ensures { ReadsAndWrites (Answers options) (R.device source.old) (R.device source.new)
+        (W.device sink.old) (W.device sink.new) result }
 {
     repack_with(alloc, source, sink, options, Flush::Full)
 }
@@ -58,20 +51,12 @@ pub fn feed<R: Source, W: Sink>(
 ) -> Result<Report, ToolFault>
     requires source { CanCountCall (R.device source.old) }
     requires sink { CanCountCall (W.device sink.old) }
-
-    // What was written and what is answered, for the bytes that the source has.
-    ensures answer { (input : List ℕ) × (written : List ℕ) × HasLeft (R.device source.old) input
-        × Takes (W.device sink.old) (W.device sink.new) written × Answers options input written result }
-
-    // A failure of a device is answered as such, and nothing else is.
-    ensures read { IsErrOf result ToolFault.Read ↔ HasFailed (R.device source.old) (R.device source.new) }
-    ensures write { IsErrOf result ToolFault.Write ↔ HasFailed (W.device sink.old) (W.device sink.new) }
+    ensures does { ReadsAndWrites (Answers options) (R.device source.old) (R.device source.new)
+        (W.device sink.old) (W.device sink.new) result }
 
     // When a read fails, which may be any, all was written but at most two longest runs of samples at the end.
     ensures kept_up { IsErrOf result ToolFault.Read
         → HasKeptUp options (R.device source.old) (R.device source.new) (W.device sink.old) (W.device sink.new) }
-    ensures few_source { CountsFew (R.device source.old) (R.device source.new) }
-    ensures few_sink { CountsFew (W.device sink.old) (W.device sink.new) }
 {
     repack_with(alloc, source, sink, options, Flush::BeforeReads)
 }
@@ -93,18 +78,10 @@ fn repack_with<R: Source, W: Sink>(
 ) -> Result<Report, ToolFault>
     requires source { CanCountCall (R.device source.old) }
     requires sink { CanCountCall (W.device sink.old) }
-
-    // What was written and what is answered, for the bytes that the source has.
-    ensures answer { (input : List ℕ) × (written : List ℕ) × HasLeft (R.device source.old) input
-        × Takes (W.device sink.old) (W.device sink.new) written × Answers options input written result }
-
-    // A failure of a device is answered as such, and nothing else is.
-    ensures read { IsErrOf result ToolFault.Read ↔ HasFailed (R.device source.old) (R.device source.new) }
-    ensures write { IsErrOf result ToolFault.Write ↔ HasFailed (W.device sink.old) (W.device sink.new) }
+    ensures does { ReadsAndWrites (Answers options) (R.device source.old) (R.device source.new)
+        (W.device sink.old) (W.device sink.new) result }
     ensures kept_up { flush ≡ Flush.BeforeReads → IsErrOf result ToolFault.Read
         → HasKeptUp options (R.device source.old) (R.device source.new) (W.device sink.old) (W.device sink.new) }
-    ensures few_source { CountsFew (R.device source.old) (R.device source.new) }
-    ensures few_sink { CountsFew (W.device sink.old) (W.device sink.new) }
 {
     let mut reader = RowReader::new(alloc, settings_of(options));
     let mut writer = LinedWriter::new(alloc, options.length());

@@ -1,10 +1,9 @@
 //! Tasks that also write a text: a repack with the text of its report, a check with the line of its verdict.
 ghost use Rattle.std.specs.Prelude.{◌≡◌, ◌⊎◌, ◌↔◌, ℕ, IsErrOf, OnErr};
 ghost use Rattle.msr_devices.specs.Device.{CanCountCall, CountsFew, HasFailed};
-ghost use Rattle.msr_input.specs.declared.fault.Fault.{Fault as FirstFault};
 ghost use Rattle.msr_tool.specs.Checking.{GivesReport};
 ghost use Rattle.msr_tool.specs.KeepingUp.{HasKeptUp};
-ghost use Rattle.msr_tool.specs.Tasks.{Reports, Tells};
+ghost use Rattle.msr_tool.specs.Tasks.{Reports, Tells, TellsFailures};
 
 use crate::check::check_packed;
 use crate::fault::ToolFault;
@@ -27,23 +26,10 @@ pub fn repack_and_report<R: Source, W: Sink, T: Sink>(
     requires source { CanCountCall (R.device source.old) }
     requires records { CanCountCall (W.device records.old) }
     requires text { CanCountCall (T.device text.old) }
-
-    // What was written and what is answered, for the bytes that the source has.
     ensures answer { Reports options (R.device source.old) (W.device records.old) (W.device records.new)
         (T.device text.old) (T.device text.new) result }
-
-    // A failure of a device is answered as such, and nothing else is.
-    ensures read { IsErrOf result ToolFault.Read ↔ HasFailed (R.device source.old) (R.device source.new) }
-    ensures write { IsErrOf result ToolFault.Write ↔ (HasFailed (W.device records.old) (W.device records.new)
-        ⊎ HasFailed (T.device text.old) (T.device text.new)) }
-
-    // If the input or its device is at fault, or the records are, no call was made for the text.
-    ensures untold_at_fault { (fault : FirstFault) → result ≡ Err (ToolFault.Input fault) → text.new ≡ text.old }
-    ensures untold_at_read { HasFailed (R.device source.old) (R.device source.new) → text.new ≡ text.old }
-    ensures untold_at_write { HasFailed (W.device records.old) (W.device records.new) → text.new ≡ text.old }
-    ensures few_source { CountsFew (R.device source.old) (R.device source.new) }
-    ensures few_records { CountsFew (W.device records.old) (W.device records.new) }
-    ensures few_text { CountsFew (T.device text.old) (T.device text.new) }
+    ensures failures { TellsFailures (text.new ≡ text.old) (R.device source.old) (R.device source.new)
+        (W.device records.old) (W.device records.new) (T.device text.old) (T.device text.new) result }
 {
     let report = repack(alloc, source, records, options)?;
     report.write_text(alloc, text)?;
@@ -62,27 +48,14 @@ pub fn feed_and_report<R: Source, W: Sink, T: Sink>(
     requires source { CanCountCall (R.device source.old) }
     requires records { CanCountCall (W.device records.old) }
     requires text { CanCountCall (T.device text.old) }
-
-    // What was written and what is answered, for the bytes that the source has.
     ensures answer { Reports options (R.device source.old) (W.device records.old) (W.device records.new)
         (T.device text.old) (T.device text.new) result }
-
-    // A failure of a device is answered as such, and nothing else is.
-    ensures read { IsErrOf result ToolFault.Read ↔ HasFailed (R.device source.old) (R.device source.new) }
-    ensures write { IsErrOf result ToolFault.Write ↔ (HasFailed (W.device records.old) (W.device records.new)
-        ⊎ HasFailed (T.device text.old) (T.device text.new)) }
-
-    // If the input or its device is at fault, or the records are, no call was made for the text.
-    ensures untold_at_fault { (fault : FirstFault) → result ≡ Err (ToolFault.Input fault) → text.new ≡ text.old }
-    ensures untold_at_read { HasFailed (R.device source.old) (R.device source.new) → text.new ≡ text.old }
-    ensures untold_at_write { HasFailed (W.device records.old) (W.device records.new) → text.new ≡ text.old }
+    ensures failures { TellsFailures (text.new ≡ text.old) (R.device source.old) (R.device source.new)
+        (W.device records.old) (W.device records.new) (T.device text.old) (T.device text.new) result }
 
     // When a read fails, all was written but at most two longest runs of samples at the end.
     ensures kept_up { IsErrOf result ToolFault.Read → HasKeptUp options (R.device source.old) (R.device source.new)
         (W.device records.old) (W.device records.new) }
-    ensures few_source { CountsFew (R.device source.old) (R.device source.new) }
-    ensures few_records { CountsFew (W.device records.old) (W.device records.new) }
-    ensures few_text { CountsFew (T.device text.old) (T.device text.new) }
 {
     let fed = feed(alloc, source, records, options)?;
     fed.write_text(alloc, text)?;

@@ -4,7 +4,7 @@ use Rattle.msr_command.proofs.Endings.{repack_done, repack_stops, repack_uncreat
 use Rattle.msr_command.proofs.tasks.repack_from.Goals as goal
 
 pub returns-in_default : goal.returns-in_default
-returns-in_default g c = repack_done _ _ _ _ _ _ _ _ c.in_ok-repack_and_report.ensures.answer c.is_in_turns.ensures
+returns-in_default g c = repack_done _ _ _ _ _ _ _ _ c.in_ok-report.ensures.answer c.is_in_turns.ensures
 
 pub returns-in_err-file : goal.returns-in_err-file
 returns-in_err-file g c =
@@ -12,17 +12,17 @@ returns-in_err-file g c =
     rw (p.1, p.2) (repack_uncreated c.args.options ⊤ (g.I.Source.device c.args.source.now)
     (g.O.Sink.device c.args.output.now) c.in_err-file.field-0.0 c.in_err-file.ensures)
 
-pub returns-in_err-repack_and_report-2 : goal.returns-in_err-repack_and_report-2
-returns-in_err-repack_and_report-2 g c =
-    let p = err_from_is_err_and c.from_residual-in_err-repack_and_report-2.result
-    c.from_residual-in_err-repack_and_report-2.ensures.1 in
-    rw (p.1, p.2) (repack_stops _ _ _ _ _ _ _ c.in_err-repack_and_report-2.ensures.answer)
+pub returns-in_err-report-2 : goal.returns-in_err-report-2
+returns-in_err-report-2 g c =
+    let p = err_from_is_err_and c.from_residual-in_err-report-2.result
+    c.from_residual-in_err-report-2.ensures.1 in
+    rw (p.1, p.2) (repack_stops _ _ _ _ _ _ _ c.in_err-report-2.ensures.answer)
 
 pub returns-in_err-settle : goal.returns-in_err-settle
 returns-in_err-settle g c =
     let p = err_from_is_err_and c.from_residual-in_err-settle.result c.from_residual-in_err-settle.ensures.1 in
     rw (p.1, p.2, c.in_err-settle.ensures)
-    (repack_unsettled _ _ _ _ _ _ _ c.in_ok-repack_and_report-2.ensures.answer)
+    (repack_unsettled _ _ _ _ _ _ _ c.in_ok-report-2.ensures.answer)
 
 pub returns : goal.returns
-returns g c = repack_done _ _ _ _ _ _ _ _ c.in_ok-repack_and_report-2.ensures.answer c.is_in_turns-2.ensures
+returns g c = repack_done _ _ _ _ _ _ _ _ c.in_ok-report-2.ensures.answer c.is_in_turns-2.ensures

@@ -5,16 +5,15 @@ use Rattle.msr_kinds.specs.Lengths.{bytes_of}
 use Rattle.msr_segments.specs.Spans.{Following}
 use Rattle.msr_report_reader.specs.Form.{IsFirst}
 use Rattle.msr_report_reader.proofs.Forms.{is_length}
-use Rattle.msr_devices.proofs.Chaining.{calm_same, steady_can_count, steady_then_few}
+use Rattle.msr_devices.proofs.Chaining.{calm_same, steady_can_count}
 use Rattle.msr_input.specs.Reading.{StopsReading}
 use Rattle.msr_output.specs.Output.{segment_of_packed}
 use Rattle.msr_tool.specs.Settings.{settings_of}
 use Rattle.msr_tool.specs.Fault.{fault_of_reading}
-use Rattle.msr_tool.specs.Writing.{all_with}
 use Rattle.msr_tool.specs.declared.fault.ToolFault.TheVariants as fault
 use Rattle.msr_tool.proofs.Lines.{can_take_row, prefix_lined}
 use Rattle.msr_tool.proofs.RowsSoFar.{RecordMore, more_read, no_rows, record_more, rows_end, rows_read, rows_stop}
-use Rattle.msr_tool.proofs.StoppedRepacks.{read_failed, write_failed, read_tells_source, write_tells_source, write_tells_sink, write_unread, ok_tells, as_answer}
+use Rattle.msr_tool.proofs.StoppedRepacks.{all_ends, read_ends, read_failed, write_ends, write_failed, write_unread}
 use Rattle.msr_tool.proofs.RepackUnderWay.{UnderWay, done, flush_stops, flushed, kept_up, more}
 use Rattle.msr_tool.proofs.repacking.repack_with.Given as given
 use Rattle.msr_tool.proofs.repacking.repack_with.Goals as goal
@@ -47,10 +46,8 @@ why_stopped : (g : given.Over) (c : In_err-next g)
     ++ option_to_list c.records.invariant.under.joining.current) c.in_err-next.field-0.0
 why_stopped g c =
     let u = c.records.invariant.under in
-    rows_stop (settings_of c.args.options) (g.R.Source.device c.args.source.now)
-    (g.R.Source.device c.records.source) (g.R.Source.device c.next_record.new.source) c.records.reader
-    (map segment_of_packed u.packed) u.joining c.in_err-next.field-0.0 u.rows
-    (c.in_err-next.ensures.read (g.R.Source.device c.args.source.now) u.rows.records u.rows.answers u.rows.has_read)
+    rows_stop _ _ _ _ _ _ _ c.in_err-next.field-0.0 u.rows
+    (c.in_err-next.ensures.read _ u.rows.records u.rows.answers u.rows.has_read)
 
 -- one more record is read
 one_read : (g : given.Over) (c : After-take g)
@@ -64,11 +61,7 @@ one_read g c =
     let step = rw c.in-Some.is at c.in_ok-next.ensures.step in
     let bounds = rw c.in-Some.is at c.in_ok-next.ensures.in_bounds in
     let row = rw c.in-Some.is at c.in_ok-next.ensures.row in
-    record_more (settings_of c.args.options) (g.R.Source.device c.args.source.now)
-    (g.R.Source.device c.records.source)
-    (g.R.Source.device c.next_record.new.source) c.records.reader c.next_record.new.self
-    (map segment_of_packed u.packed) u.joining c.in-Some.next u.rows reads step c.next_record.ensures.settings
-    bounds row
+    record_more _ _ _ _ _ _ _ _ c.in-Some.next u.rows reads step c.next_record.ensures.settings bounds row
 
 -- and its samples are written
 one_taken : (g : given.Over) (c : After-must_flush g)
@@ -79,35 +72,20 @@ one_taken : (g : given.Over) (c : After-must_flush g)
     (g.W.Sink.device c.args.sink.now) (g.W.Sink.device c.take.new.sink) c.next_record.new.self c.take.new.self
 one_taken g c m =
     let u = c.records.invariant.under in
-    more c.args.options (g.R.Source.device c.args.source.now) (g.R.Source.device c.next_record.new.source)
-    (g.W.Sink.device c.args.sink.now)
-    (g.W.Sink.device c.take.new.sink) c.next_record.new.self c.take.new.self u.packed u.joining
-    c.in-Some.next.row m (c.in_ok-take.ensures.written
-    (g.W.Sink.device c.args.sink.now) u.packed u.joining.current
-    u.lined) c.in_ok-take.ensures.last (c.in_ok-take.ensures.encoded u.encoded) (rw c.in_ok-take.ensures.size
-    u.size)
+    more _ _ _ _ _ _ _ u.packed u.joining c.in-Some.next.row m
+    (c.in_ok-take.ensures.written _ u.packed u.joining.current u.lined) c.in_ok-take.ensures.last
+    (c.in_ok-take.ensures.encoded u.encoded) (rw c.in_ok-take.ensures.size u.size)
 
-pub returns-in_err-next-clause-answer : goal.returns-in_err-next-clause-answer
-returns-in_err-next-clause-answer g c =
+pub returns-in_err-next-clause-does : goal.returns-in_err-next-clause-does
+returns-in_err-next-clause-does g c =
     let p = err_from_is_err_and c.from_residual.result c.from_residual.ensures.1 in
     let u = c.records.invariant.under in
+    let given = map segment_of_packed u.packed ++ option_to_list u.joining.current in
     let why = c.in_err-next.field-0.0 in
-    let stops = why_stopped g (goal.at.returns-in_err-next-clause-answer g c).In_err-next in
-    let prefix = rw u.size at (prefix_lined (g.W.Sink.device c.args.sink.now)
-    (g.W.Sink.device c.records.sink) c.records.writer u.packed u.joining.current u.goes_on u.lined) in
-    rw (p.1, p.2) (as_answer _ _ _ _ _ (read_failed c.args.options (g.R.Source.device c.args.source.now)
-    (g.R.Source.device c.next_record.new.source) (g.W.Sink.device c.args.sink.now)
-    (g.W.Sink.device c.records.sink) (map segment_of_packed u.packed
-    ++ option_to_list u.joining.current) why stops prefix))
-
-pub returns-in_err-next-clause-read : goal.returns-in_err-next-clause-read
-returns-in_err-next-clause-read g c =
-    let p = err_from_is_err_and c.from_residual.result c.from_residual.ensures.1 in
-    let u = c.records.invariant.under in
-    let why = c.in_err-next.field-0.0 in
-    let stops = why_stopped g (goal.at.returns-in_err-next-clause-read g c).In_err-next in
-    rw (p.1, p.2) (read_tells_source _ (g.R.Source.device c.args.source.now)
-    (g.R.Source.device c.next_record.new.source) _ why stops)
+    let stops = why_stopped g (goal.at.returns-in_err-next-clause-does g c).In_err-next in
+    let prefix = rw u.size at (prefix_lined _ _ c.records.writer u.packed u.joining.current u.goes_on u.lined) in
+    rw (p.1, p.2) (read_ends _ (settings_of c.args.options) _ _ _ _ _ given why u.rows.has_read.came.steady
+    c.next_record.ensures.few u.calm.steady stops (read_failed c.args.options _ _ _ _ given why stops prefix))
 
 pub returns-in_err-next-clause-kept_up : goal.returns-in_err-next-clause-kept_up
 returns-in_err-next-clause-kept_up g c =
@@ -117,10 +95,7 @@ returns-in_err-next-clause-kept_up g c =
     let stops = why_stopped g (goal.at.returns-in_err-next-clause-kept_up g c).In_err-next in
     rw (p.1, p.2) (λ is_before_reads e.
     let same : fault_of_reading why ≡ fault.Read = cc in
-    kept_up c.args.options (g.R.Source.device c.args.source.now) (g.R.Source.device c.records.source)
-    (g.R.Source.device c.next_record.new.source) (g.W.Sink.device c.args.sink.now)
-    (g.W.Sink.device c.records.sink) c.records.reader c.next_record.new.self c.records.writer why u
-    (c.records.invariant.ready is_before_reads) same stops c.in_err-next.ensures.unread
+    kept_up _ _ _ _ _ _ _ c.next_record.new.self _ why u (c.records.invariant.ready is_before_reads) same stops c.in_err-next.ensures.unread
     (λ read. c.in_err-next.ensures.failed
     (g.R.Source.device c.args.source.now) u.rows.records u.rows.answers u.rows.has_read
     (rw read refl)) (λ read. c.in_err-next.ensures.awaited (rw read refl)))
@@ -128,95 +103,47 @@ returns-in_err-next-clause-kept_up g c =
 pub take-requires-clause-row : goal.take-requires-clause-row
 take-requires-clause-row g c =
     let u = c.records.invariant.under in
-    let next = c.in-Some.next in
     let step = rw c.in-Some.is at c.in_ok-next.ensures.step in
     let row = rw c.in-Some.is at c.in_ok-next.ensures.row in
-    can_take_row (g.W.Sink.device c.args.sink.now)
-    (g.W.Sink.device c.records.sink) c.records.writer u.packed u.joining.current c.records.reader.following
-    c.next_record.new.self.following next.row u.lined
+    can_take_row _ _ _ u.packed u.joining.current c.records.reader.following
+    c.next_record.new.self.following c.in-Some.next.row u.lined
     (ap (λ (f : Following). f.current) u.rows.stands) u.rows.in_bounds step row
 
-pub returns-in_err-take-clause-answer : goal.returns-in_err-take-clause-answer
-returns-in_err-take-clause-answer g c =
+pub returns-in_err-take-clause-does : goal.returns-in_err-take-clause-does
+returns-in_err-take-clause-does g c =
     let p = err_from_is_err_and c.from_residual-in_err-take.result c.from_residual-in_err-take.ensures.1 in
     let u = c.records.invariant.under in
-    let m = one_read g (goal.at.returns-in_err-take-clause-answer g c).After-take in
+    let m = one_read g (goal.at.returns-in_err-take-clause-does g c).After-take in
     let stops = rw u.size at (c.in_err-take.ensures.written
     (g.W.Sink.device c.args.sink.now) u.packed u.joining.current u.lined) in
-    let after = more_read (settings_of c.args.options) (g.R.Source.device c.args.source.now)
-    (g.R.Source.device c.next_record.new.source) c.next_record.new.self
-    (map segment_of_packed u.packed) u.joining c.in-Some.next.row m in
-    rw (p.1, p.2) (as_answer _ _ _ _ _ (write_failed c.args.options (g.R.Source.device c.args.source.now)
-    (g.W.Sink.device c.args.sink.now) (g.W.Sink.device c.take.new.sink)
-    (map segment_of_packed u.packed
-    ++ all_with c.in-Some.next.row u.joining.current) c.in_err-take.field-0.0 after stops))
-
-pub returns-in_err-take-clause-read : goal.returns-in_err-take-clause-read
-returns-in_err-take-clause-read g c =
-    let p = err_from_is_err_and c.from_residual-in_err-take.result c.from_residual-in_err-take.ensures.1 in
-    let u = c.records.invariant.under in
-    let m = one_read g (goal.at.returns-in_err-take-clause-read g c).After-take in
-    rw (p.1, p.2) (write_tells_source _ _ (g.R.Source.device c.args.source.now)
-    (g.R.Source.device c.next_record.new.source) (g.W.Sink.device c.args.sink.now)
-    (g.W.Sink.device c.take.new.sink) c.in_err-take.field-0.0 m.rows.has_read.came.steady
-    (c.in_err-take.ensures.written (g.W.Sink.device c.args.sink.now) u.packed u.joining.current u.lined))
-
-pub returns-in_err-take-clause-write : goal.returns-in_err-take-clause-write
-returns-in_err-take-clause-write g c =
-    let p = err_from_is_err_and c.from_residual-in_err-take.result c.from_residual-in_err-take.ensures.1 in
-    let u = c.records.invariant.under in
-    rw (p.1, p.2) (write_tells_sink _ _ (g.W.Sink.device c.args.sink.now)
-    (g.W.Sink.device c.take.new.sink) c.in_err-take.field-0.0
-    (c.in_err-take.ensures.written (g.W.Sink.device c.args.sink.now) u.packed u.joining.current u.lined))
+    let after = more_read _ _ _ _ _ u.joining c.in-Some.next.row m in
+    rw (p.1, p.2) (write_ends _ _ _ _ _ _ _ _ c.in_err-take.field-0.0 m.rows.has_read.came.steady u.calm.steady
+    c.take.ensures.few stops (write_failed c.args.options _ _ _ _ c.in_err-take.field-0.0 after stops))
 
 pub returns-in_err-take-clause-kept_up : goal.returns-in_err-take-clause-kept_up
 returns-in_err-take-clause-kept_up g c =
     let p = err_from_is_err_and c.from_residual-in_err-take.result c.from_residual-in_err-take.ensures.1 in
     let u = c.records.invariant.under in
-    rw (p.1, p.2) (λ kept_up. write_unread _ _ (g.W.Sink.device c.args.sink.now)
-    (g.W.Sink.device c.take.new.sink) c.in_err-take.field-0.0
+    rw (p.1, p.2) (λ kept_up. write_unread _ _ _ _ c.in_err-take.field-0.0
     (c.in_err-take.ensures.written (g.W.Sink.device c.args.sink.now) u.packed u.joining.current u.lined))
 
-pub returns-in_err-flush-clause-answer : goal.returns-in_err-flush-clause-answer
-returns-in_err-flush-clause-answer g c =
+pub returns-in_err-flush-clause-does : goal.returns-in_err-flush-clause-does
+returns-in_err-flush-clause-does g c =
     let p = err_from_is_err_and c.from_residual-in_err-flush.result c.from_residual-in_err-flush.ensures.1 in
-    let at = goal.at.returns-in_err-flush-clause-answer g c in
+    let at = goal.at.returns-in_err-flush-clause-does g c in
     let taken = one_taken g at.After-must_flush (one_read g at.After-take) in
-    rw (p.1, p.2) (as_answer _ _ _ _ _ (flush_stops c.args.options (g.R.Source.device c.args.source.now)
-    (g.R.Source.device c.next_record.new.source) (g.W.Sink.device c.args.sink.now)
-    (g.W.Sink.device c.take.new.sink)
-    (g.W.Sink.device c.flush.new.sink) c.next_record.new.self c.take.new.self c.in_err-flush.field-0.0 taken
-    (c.in_err-flush.ensures.written
-    (g.W.Sink.device c.args.sink.now) taken.packed taken.joining.current taken.lined)))
-
-pub returns-in_err-flush-clause-read : goal.returns-in_err-flush-clause-read
-returns-in_err-flush-clause-read g c =
-    let p = err_from_is_err_and c.from_residual-in_err-flush.result c.from_residual-in_err-flush.ensures.1 in
-    let at = goal.at.returns-in_err-flush-clause-read g c in
-    let taken = one_taken g at.After-must_flush (one_read g at.After-take) in
-    rw (p.1, p.2) (write_tells_source _ _ (g.R.Source.device c.args.source.now)
-    (g.R.Source.device c.next_record.new.source) (g.W.Sink.device c.args.sink.now)
-    (g.W.Sink.device c.flush.new.sink) c.in_err-flush.field-0.0 taken.rows.has_read.came.steady
-    (c.in_err-flush.ensures.written
-    (g.W.Sink.device c.args.sink.now) taken.packed taken.joining.current taken.lined))
-
-pub returns-in_err-flush-clause-write : goal.returns-in_err-flush-clause-write
-returns-in_err-flush-clause-write g c =
-    let p = err_from_is_err_and c.from_residual-in_err-flush.result c.from_residual-in_err-flush.ensures.1 in
-    let at = goal.at.returns-in_err-flush-clause-write g c in
-    let taken = one_taken g at.After-must_flush (one_read g at.After-take) in
-    rw (p.1, p.2) (write_tells_sink _ _ (g.W.Sink.device c.args.sink.now)
-    (g.W.Sink.device c.flush.new.sink) c.in_err-flush.field-0.0
-    (c.in_err-flush.ensures.written
-    (g.W.Sink.device c.args.sink.now) taken.packed taken.joining.current taken.lined))
+    let stops = c.in_err-flush.ensures.written
+    (g.W.Sink.device c.args.sink.now) taken.packed taken.joining.current taken.lined in
+    rw (p.1, p.2) (write_ends _ _ _ _ _ _ _ _ c.in_err-flush.field-0.0 taken.rows.has_read.came.steady
+    taken.calm.steady c.flush.ensures.few stops
+    (flush_stops _ _ _ _ _ _ _ _ c.in_err-flush.field-0.0 taken stops))
 
 pub returns-in_err-flush-clause-kept_up : goal.returns-in_err-flush-clause-kept_up
 returns-in_err-flush-clause-kept_up g c =
     let p = err_from_is_err_and c.from_residual-in_err-flush.result c.from_residual-in_err-flush.ensures.1 in
     let at = goal.at.returns-in_err-flush-clause-kept_up g c in
     let taken = one_taken g at.After-must_flush (one_read g at.After-take) in
-    rw (p.1, p.2) (λ kept_up. write_unread _ _ (g.W.Sink.device c.args.sink.now)
-    (g.W.Sink.device c.flush.new.sink) c.in_err-flush.field-0.0
+    rw (p.1, p.2) (λ kept_up. write_unread _ _ _ _ c.in_err-flush.field-0.0
     (c.in_err-flush.ensures.written
     (g.W.Sink.device c.args.sink.now) taken.packed taken.joining.current taken.lined))
 
@@ -224,34 +151,16 @@ pub flush-requires-clause-count : goal.flush-requires-clause-count
 flush-requires-clause-count g c =
     let at = goal.at.flush-requires-clause-count g c in
     let taken = one_taken g at.After-must_flush (one_read g at.After-take) in
-    steady_can_count (g.W.Sink.device c.args.sink.now)
-    (g.W.Sink.device c.take.new.sink) taken.calm.steady c.requires.sink
-
-pub returns-in_err-flush-clause-few_source : goal.returns-in_err-flush-clause-few_source
-returns-in_err-flush-clause-few_source g c =
-    let u = c.records.invariant.under in
-    steady_then_few (g.R.Source.device c.args.source.now) (g.R.Source.device c.records.source)
-    (g.R.Source.device c.next_record.new.source) u.rows.has_read.came.steady c.next_record.ensures.few
-
-pub returns-in_err-flush-clause-few_sink : goal.returns-in_err-flush-clause-few_sink
-returns-in_err-flush-clause-few_sink g c =
-    let at = goal.at.returns-in_err-flush-clause-few_sink g c in
-    let taken = one_taken g at.After-must_flush (one_read g at.After-take) in
-    steady_then_few (g.W.Sink.device c.args.sink.now) (g.W.Sink.device c.take.new.sink)
-    (g.W.Sink.device c.flush.new.sink) taken.calm.steady c.flush.ensures.few
+    steady_can_count _ _ taken.calm.steady c.requires.sink
 
 pub records-preserved-in-Continue-branch-4 : goal.records-preserved-in-Continue-branch-4
 records-preserved-in-Continue-branch-4 g c =
     let at = goal.at.records-preserved-in-Continue-branch-4 g c in
     let taken = one_taken g at.After-must_flush (one_read g at.After-take) in
     record {
-      under = flushed c.args.options (g.R.Source.device c.args.source.now)
-          (g.R.Source.device c.next_record.new.source) (g.W.Sink.device c.args.sink.now)
-          (g.W.Sink.device c.take.new.sink)
-          (g.W.Sink.device c.flush.new.sink) c.next_record.new.self c.take.new.self c.flush.new.self taken
-          (c.in_ok-flush.ensures.written
-          (g.W.Sink.device c.args.sink.now) taken.packed taken.joining.current
-          taken.lined) c.flush.ensures.last c.flush.ensures.size;
+      under = flushed _ _ _ _ _ _ _ _ _ taken
+          (c.in_ok-flush.ensures.written _ taken.packed taken.joining.current taken.lined)
+          c.flush.ensures.last c.flush.ensures.size;
       ready = λ is_before_reads. inr c.in_ok-flush.ensures.none_wait;
     }
 
@@ -259,60 +168,33 @@ pub records-preserved : goal.records-preserved
 records-preserved g c =
     let at = goal.at.records-preserved g c in
     let taken = one_taken g at.After-must_flush (one_read g at.After-take) in
-    record {
-      under = taken;
-      ready = λ is_before_reads. inl
-          ((c.must_flush.ensures.before_reads is_before_reads).0 c.if-must_flush.false);
-    }
+    record { under = taken; ready = λ is_before_reads. inl ((c.must_flush.ensures.before_reads is_before_reads).0 c.if-must_flush.false) }
 
-pub returns-in_err-segments-clause-answer : goal.returns-in_err-segments-clause-answer
-returns-in_err-segments-clause-answer g c =
-    let p = err_from_is_err_and c.from_residual-in_err-segments.result c.from_residual-in_err-segments.ensures.1 in
-    let u = c.records.invariant.under in
-    let stops = rw u.size at (c.in_err-segments.ensures.written
-    (g.W.Sink.device c.args.sink.now) u.packed u.joining.current u.lined) in
-    rw (p.1, p.2) (as_answer _ _ _ _ _ (write_failed c.args.options (g.R.Source.device c.args.source.now)
-    (g.W.Sink.device c.args.sink.now) (g.W.Sink.device c.finish.new.sink)
-    (map segment_of_packed u.packed ++ option_to_list u.joining.current) c.in_err-segments.field-0.0
-    (rows_read (settings_of c.args.options) (g.R.Source.device c.args.source.now)
-    (g.R.Source.device c.records.source) c.records.reader (map segment_of_packed u.packed) u.joining u.rows) stops))
-
-pub returns-in_err-segments-clause-read : goal.returns-in_err-segments-clause-read
-returns-in_err-segments-clause-read g c =
+pub returns-in_err-segments-clause-does : goal.returns-in_err-segments-clause-does
+returns-in_err-segments-clause-does g c =
     let p = err_from_is_err_and c.from_residual-in_err-segments.result c.from_residual-in_err-segments.ensures.1 in
     let u = c.records.invariant.under in
     let end = rw c.in_default.is at (c.in_ok-next.ensures.read
     (g.R.Source.device c.args.source.now) u.rows.records u.rows.answers u.rows.has_read) in
-    rw (p.1, p.2) (write_tells_source _ _ (g.R.Source.device c.args.source.now)
-    (g.R.Source.device c.next_record.new.source) (g.W.Sink.device c.args.sink.now)
-    (g.W.Sink.device c.finish.new.sink) c.in_err-segments.field-0.0 end.none.read.came.steady
-    (c.in_err-segments.ensures.written (g.W.Sink.device c.args.sink.now) u.packed u.joining.current u.lined))
-
-pub returns-in_err-segments-clause-write : goal.returns-in_err-segments-clause-write
-returns-in_err-segments-clause-write g c =
-    let p = err_from_is_err_and c.from_residual-in_err-segments.result c.from_residual-in_err-segments.ensures.1 in
-    let u = c.records.invariant.under in
-    rw (p.1, p.2) (write_tells_sink _ _ (g.W.Sink.device c.args.sink.now)
-    (g.W.Sink.device c.finish.new.sink) c.in_err-segments.field-0.0
-    (c.in_err-segments.ensures.written (g.W.Sink.device c.args.sink.now) u.packed u.joining.current u.lined))
+    let stops = rw u.size at (c.in_err-segments.ensures.written
+    (g.W.Sink.device c.args.sink.now) u.packed u.joining.current u.lined) in
+    rw (p.1, p.2) (write_ends _ _ _ _ _ _ _ _ c.in_err-segments.field-0.0 end.none.read.came.steady u.calm.steady
+    c.finish.ensures.few stops (write_failed c.args.options _ _ _ _ c.in_err-segments.field-0.0
+    (rows_read _ _ _ _ _ u.joining u.rows) stops))
 
 pub returns-in_err-segments-clause-kept_up : goal.returns-in_err-segments-clause-kept_up
 returns-in_err-segments-clause-kept_up g c =
     let p = err_from_is_err_and c.from_residual-in_err-segments.result c.from_residual-in_err-segments.ensures.1 in
     let u = c.records.invariant.under in
-    rw (p.1, p.2) (λ kept_up. write_unread _ _ (g.W.Sink.device c.args.sink.now)
-    (g.W.Sink.device c.finish.new.sink) c.in_err-segments.field-0.0
+    rw (p.1, p.2) (λ kept_up. write_unread _ _ _ _ c.in_err-segments.field-0.0
     (c.in_err-segments.ensures.written (g.W.Sink.device c.args.sink.now) u.packed u.joining.current u.lined))
 
-pub returns-clause-answer : goal.returns-clause-answer
-returns-clause-answer g c =
+pub returns-clause-does : goal.returns-clause-does
+returns-clause-does g c =
     let u = c.records.invariant.under in
     let end = rw c.in_default.is at (c.in_ok-next.ensures.read
     (g.R.Source.device c.args.source.now) u.rows.records u.rows.answers u.rows.has_read) in
-    let gave = rows_end (settings_of c.args.options) (g.R.Source.device c.args.source.now)
-    (g.R.Source.device c.records.source)
-    (g.R.Source.device c.next_record.new.source) c.records.reader c.next_record.new.self
-    (map segment_of_packed u.packed) u.joining c.counts-counts.result u.rows end c.next_record.ensures.settings
+    let gave = rows_end _ _ _ _ _ _ _ _ c.counts-counts.result u.rows end c.next_record.ensures.settings
     c.counts-counts.ensures in
     let wrote = rw u.size at (c.in_ok-segments.ensures.written
     (g.W.Sink.device c.args.sink.now) u.packed u.joining.current u.lined) in
@@ -324,25 +206,9 @@ returns-clause-answer g c =
       empty = search rules;
       mismatched = search rules;
     } in
-    as_answer _ _ _ _ _ (done c.args.options (g.R.Source.device c.args.source.now)
-    (g.W.Sink.device c.args.sink.now) (g.W.Sink.device c.finish.new.sink)
-    (map segment_of_packed u.packed
-    ++ option_to_list u.joining.current) _ c.counts-counts.result _ gave u.rows.writable wrote
+    all_ends _ _ _ _ _ _ end.none.read.came.steady wrote.written.calm.steady
+    (done c.args.options _ _ _ _ _ c.counts-counts.result _ gave u.rows.writable wrote
     (rw c.tolerance.ensures.same at c.tolerance.ensures.in_range.0)
     (rw c.tolerance.ensures.same at c.tolerance.ensures.in_range.1) (omega arith)
     c.output_keeps_segments.ensures c.output_has_size.ensures
     c.length-2.ensures.same c.tolerance.ensures.same refl refl is_first)
-
-pub returns-clause-read : goal.returns-clause-read
-returns-clause-read g c =
-    let u = c.records.invariant.under in
-    let end = rw c.in_default.is at (c.in_ok-next.ensures.read
-    (g.R.Source.device c.args.source.now) u.rows.records u.rows.answers u.rows.has_read) in
-    ok_tells (g.R.Source.device c.args.source.now)
-    (g.R.Source.device c.next_record.new.source) _ _ end.none.read.came.steady
-
-pub returns-clause-write : goal.returns-clause-write
-returns-clause-write g c =
-    let u = c.records.invariant.under in
-    let wrote = c.in_ok-segments.ensures.written (g.W.Sink.device c.args.sink.now) u.packed u.joining.current u.lined in
-    ok_tells (g.W.Sink.device c.args.sink.now) (g.W.Sink.device c.finish.new.sink) _ _ wrote.written.calm.steady

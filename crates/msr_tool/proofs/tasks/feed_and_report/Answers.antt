@@ -5,17 +5,11 @@ use Rattle.msr_tool.proofs.tasks.feed_and_report.Goals as goal
 pub returns-in_err-fed-clause-answer : goal.returns-in_err-fed-clause-answer
 returns-in_err-fed-clause-answer g c =
     let p = err_from_is_err_and c.from_residual.result c.from_residual.ensures.1 in
-    let a = c.in_err-fed.ensures.answer in
-    rw (p.1, p.2) (repack_stops c.args.options (g.R.Source.device c.args.source.now)
-    (g.W.Sink.device c.args.records.now) (g.W.Sink.device c.feed.new.sink)
-    (g.T.Sink.device c.args.text.now) a.0 a.1 c.in_err-fed.field-0.0 a.2 a.3 a.4)
+    rw (p.1, p.2) (repack_stops c.args.options _ _ _ _ _ _ c.in_err-fed.ensures.does)
 
 pub returns-in_err-write_text-clause-answer : goal.returns-in_err-write_text-clause-answer
 returns-in_err-write_text-clause-answer g c =
     let p = err_from_is_err_and c.from_residual-in_err-write_text.result c.from_residual-in_err-write_text.ensures.1 in
-    let a = c.in_ok-fed.ensures.answer in
     let t = c.in_err-write_text.ensures.text in
-    rw (p.1, p.2) (text_stops c.args.options (g.R.Source.device c.args.source.now)
-    (g.W.Sink.device c.args.records.now) (g.W.Sink.device c.feed.new.sink) (g.T.Sink.device c.args.text.now)
-    (g.T.Sink.device c.write_text.new.sink) a.0 a.1 t.0 c.in_ok-fed.fed c.in_err-write_text.field-0.0 a.2 a.3
-    a.4 t.1.0 t.1.1)
+    rw (p.1, p.2) (text_stops c.args.options _ _ _ _ _ _ t.0 _ c.in_err-write_text.field-0.0
+    c.in_ok-fed.ensures.does t.1.0 t.1.1)
