@@ -1,0 +1,144 @@
+-- The symbols of segments: their numbers, and what their beginnings are.
+use Rattle.std.proofs.Common.{◌≡◌, ℕ, ◌+◌, ◌≤◌, Bool, true, false, List, [], ◌∷◌, ◌++◌, length, map, drop, refl, sym, ap, subst, ◌∙◌, arith, append_assoc, length-append, ℤ, Option, Some, None}
+use Rattle.std.specs.List.{slice_range}
+use Rattle.std.proofs.lemmas.List.{append-nil, drop-drop, drop_all, map-append, take_all, length-drop}
+use Rattle.msr_rows.specs.declared.row.Key.{Key}
+use Rattle.msr_rows.specs.declared.row.Row.{Row}
+use Rattle.msr_segments.specs.declared.joiner.Segment.{Segment}
+use Rattle.msr_compare.specs.Symbols.{Symbol, Opens, Holds, symbols_of, held_in, opened_in, count_after, opening_ahead, row_ahead}
+
+pub held_map : (xs : List ℤ) → held_in (map Holds xs) ≡ xs
+held_map [] = refl
+held_map (x ∷ xs) = ap (λ (l : List ℤ). x ∷ l) (held_map xs)
+
+held_opening : (begins : Bool) (row : Row) (rest : List Symbol) → held_in (opening_ahead begins row ++ rest) ≡ held_in rest
+held_opening true row rest = refl
+held_opening false row rest = refl
+
+-- what is held of a row at hand
+pub held_ahead : (row : Row) (begins : Bool) (passed : ℕ)
+    → held_in (row_ahead (Some row) begins passed) ≡ drop passed row.samples
+held_ahead row begins passed =
+    held_opening begins row (map Holds (drop passed row.samples)) ∙ held_map (drop passed row.samples)
+
+pub symbols_append : (xs ys : List Segment) → symbols_of (xs ++ ys) ≡ symbols_of xs ++ symbols_of ys
+symbols_append [] ys = refl
+symbols_append (x ∷ xs) ys =
+    ap (λ (l : List Symbol). Opens x.key x.start ∷ l)
+    (ap (λ (l : List Symbol). map Holds x.samples ++ l) (symbols_append xs ys)
+    ∙ sym (append_assoc (map Holds x.samples) (symbols_of xs) (symbols_of ys)))
+
+-- the symbols of one segment more
+pub symbols_snoc : (xs : List Segment) (x : Segment)
+    → symbols_of (xs ++ x ∷ []) ≡ symbols_of xs ++ Opens x.key x.start ∷ map Holds x.samples
+symbols_snoc xs x =
+    symbols_append xs (x ∷ []) ∙ ap (λ (l : List Symbol). symbols_of xs ++ Opens x.key x.start ∷ l)
+    (append-nil (map Holds x.samples))
+
+pub opened_append : (xs ys : List Symbol) → opened_in (xs ++ ys) ≡ opened_in xs + opened_in ys
+opened_append [] ys = omega arith
+opened_append (Opens key start ∷ xs) ys = omega (arith, opened_append xs ys)
+opened_append (Holds x ∷ xs) ys = opened_append xs ys
+
+pub opened_held : (xs : List ℤ) → opened_in (map Holds xs) ≡ 0
+opened_held [] = refl
+opened_held (x ∷ xs) = opened_held xs
+
+-- there are as many beginnings as segments
+pub opened_symbols : (segments : List Segment) → opened_in (symbols_of segments) ≡ length segments
+opened_symbols [] = refl
+opened_symbols (x ∷ xs) =
+    omega (arith, opened_append (map Holds x.samples) (symbols_of xs), opened_held x.samples, opened_symbols xs)
+
+pub count_append : (n : ℕ) (xs ys : List Symbol) → count_after n (xs ++ ys) ≡ count_after (count_after n xs) ys
+count_append n [] ys = refl
+count_append n (Opens key start ∷ xs) ys = count_append 0 xs ys
+count_append n (Holds x ∷ xs) ys = count_append (n + 1) xs ys
+
+pub count_held : (n : ℕ) (xs : List ℤ) → count_after n (map Holds xs) ≡ n + length xs
+count_held n [] = omega arith
+count_held n (x ∷ xs) = omega (arith, count_held (n + 1) xs)
+
+-- the samples after the last beginning are those of the last segment
+pub count_last : (n : ℕ) (segments : List Segment) (last : Segment)
+    → count_after n (symbols_of (segments ++ last ∷ [])) ≡ length last.samples
+count_last n segments last =
+    ap (count_after n) (symbols_snoc segments last)
+    ∙ count_append n (symbols_of segments) (Opens last.key last.start ∷ map Holds last.samples)
+    ∙ count_held 0 last.samples ∙ omega arith
+
+-- no list of segments begins with a sample
+pub no_sample_first : (segments : List Segment) (sample : ℤ) (rest : List Symbol)
+    → symbols_of segments ≡ Holds sample ∷ rest → ⊥
+no_sample_first [] sample rest e = cc
+no_sample_first (x ∷ xs) sample rest e = cc
+
+-- no symbols are those of no segments
+pub no_symbols : (segments : List Segment) → symbols_of segments ≡ [] → segments ≡ []
+no_symbols [] e = refl
+no_symbols (x ∷ xs) e = cc
+
+-- segments that begin so
+pub record OpensSo (segments : List Segment) (key : Key) (start : ℤ) (rest : List Symbol) : Type 0 where
+  pub segment : Segment
+  pub after : List Segment
+  pub are : segments ≡ segment ∷ after
+  pub key_is : segment.key ≡ key
+  pub start_is : segment.start ≡ start
+  pub rest_is : map Holds segment.samples ++ symbols_of after ≡ rest
+
+pub opens_so : (segments : List Segment) (key : Key) (start : ℤ) (rest : List Symbol)
+    → symbols_of segments ≡ Opens key start ∷ rest → OpensSo segments key start rest
+opens_so [] key start rest e = absurd cc
+opens_so (x ∷ xs) key start rest e =
+    let k : x.key ≡ key = cc in
+    let t : x.start ≡ start = cc in
+    let r : map Holds x.samples ++ symbols_of xs ≡ rest = cc in
+    record { segment = x; after = xs; are = refl; key_is = k; start_is = t; rest_is = r }
+
+-- samples and then segments: where a segment begins, no samples are before it
+pub record OpensNext (samples : List ℤ) (segments : List Segment) (key : Key) (start : ℤ) (rest : List Symbol)
+    : Type 0 where
+  pub none : samples ≡ []
+  pub opens : OpensSo segments key start rest
+
+pub opens_next : (samples : List ℤ) (segments : List Segment) (key : Key) (start : ℤ) (rest : List Symbol)
+    → map Holds samples ++ symbols_of segments ≡ Opens key start ∷ rest → OpensNext samples segments key start rest
+opens_next [] segments key start rest e = record { none = refl; opens = opens_so segments key start rest e }
+opens_next (x ∷ xs) segments key start rest e = absurd cc
+
+-- where a sample stands, it is the first of them
+pub record HoldsSo (samples : List ℤ) (segments : List Segment) (sample : ℤ) (rest : List Symbol) : Type 0 where
+  pub after : List ℤ
+  pub are : samples ≡ sample ∷ after
+  pub rest_is : map Holds after ++ symbols_of segments ≡ rest
+
+pub holds_so : (samples : List ℤ) (segments : List Segment) (sample : ℤ) (rest : List Symbol)
+    → map Holds samples ++ symbols_of segments ≡ Holds sample ∷ rest → HoldsSo samples segments sample rest
+holds_so [] segments sample rest e = absurd (no_sample_first segments sample rest e)
+holds_so (x ∷ xs) segments sample rest e =
+    let same : x ≡ sample = cc in
+    let r : map Holds xs ++ symbols_of segments ≡ rest = cc in
+    record { after = xs; are = ap (λ (y : ℤ). y ∷ xs) same; rest_is = r }
+
+-- a row at hand whose beginning is passed
+pub opened_ahead : (row : Option Row) (begins : Bool) (passed : ℕ)
+    → row_ahead row false passed ≡ map Holds (held_in (row_ahead row begins passed))
+opened_ahead None begins passed = refl
+opened_ahead (Some row) begins passed = ap (map Holds) (sym (held_ahead row begins passed))
+
+pub range_to_end : (xs : List ℤ) (at : ℕ) → slice_range xs at (length xs) ≡ drop at xs
+range_to_end xs at = take_all _ (drop at xs) (omega (arith, length-drop at xs))
+
+-- a row at hand of which more is passed, or all
+pub passed_ahead : (row : Row) (begins : Bool) (passed count new : ℕ) → new ≡ passed + count
+    → row_ahead (Some row) false new ≡ map Holds (drop count (held_in (row_ahead (Some row) begins passed)))
+passed_ahead row begins passed count new e =
+    ap (λ (n : ℕ). map Holds (drop n row.samples)) e
+    ∙ ap (map Holds) (sym (drop-drop count passed row.samples) ∙ sym (ap (drop count) (held_ahead row begins passed)))
+
+pub all_passed : (row : Row) (begins : Bool) (passed count : ℕ) → length row.samples ≤ passed + count
+    → [] ≡ map Holds (drop count (held_in (row_ahead (Some row) begins passed)))
+all_passed row begins passed count all =
+    ap (map Holds) (sym (drop_all (passed + count) row.samples all) ∙ sym (drop-drop count passed row.samples)
+    ∙ sym (ap (drop count) (held_ahead row begins passed)))

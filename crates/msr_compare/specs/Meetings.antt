@@ -1,0 +1,188 @@
+-- What is found where what is ahead of two sides is compared.
+use Rattle.std.specs.Prelude.{◌≡◌, ◌≢◌, ℕ, ◌+◌, ◌-◌, ◌^◌, ◌<◌, ◌≤◌, true, List, [], ◌∷◌, ◌++◌, length, map, ℤ, Option, None, Some, Result, Ok, Err}
+use Rattle.msr_rows.specs.declared.row.Key.{Key}
+use Rattle.msr_devices.specs.Device.{Device, IsSteady}
+use Rattle.msr_input.specs.Reading.{StopsReading}
+use Rattle.msr_input.specs.declared.settings.Settings.{Settings}
+use Rattle.msr_compare.specs.declared.comparison.Which.TheVariants as which
+use Rattle.msr_compare.specs.declared.comparison.Difference.{Difference}
+use Rattle.msr_compare.specs.declared.comparison.DifferenceKind.{DifferenceKind}
+use Rattle.msr_compare.specs.declared.comparison.DifferenceKind.TheVariants as kind
+use Rattle.msr_compare.specs.declared.fault.CompareFault.{CompareFault}
+use Rattle.msr_compare.specs.declared.fault.CompareFault.TheVariants as failing
+use Rattle.msr_compare.specs.declared.ahead.Next.{Next}
+use Rattle.msr_compare.specs.declared.ahead.Next.TheVariants as next
+use Rattle.msr_compare.specs.declared.meeting.Unequal.{Unequal}
+use Rattle.msr_compare.specs.declared.meeting.Met.{Met}
+use Rattle.msr_compare.specs.declared.meeting.Met.TheVariants as met
+use Rattle.msr_compare.specs.Symbols.{Symbol, Opens, Holds, held_in}
+use Rattle.msr_compare.specs.Sides.{Standing, HasTaken}
+
+-- no sample is ahead, but a beginning or nothing
+abbrev pub HoldsNone : List Symbol → Type 0
+HoldsNone ahead = (sample : ℤ) (rest : List Symbol) → ahead ≡ Holds sample ∷ rest → ⊥
+
+-- what comes next: a segment's beginning and then samples, or samples, or nothing
+pub record BeginsNext (key : Key) (start : ℤ) (ahead : List Symbol) : Type 0 where
+  pub samples : List ℤ
+  pub ahead_is : ahead ≡ Opens key start ∷ map Holds samples
+
+pub record HoldsNext (ahead : List Symbol) : Type 0 where
+  pub sample : ℤ
+  pub samples : List ℤ
+  pub ahead_is : ahead ≡ Holds sample ∷ map Holds samples
+
+abbrev pub IsNext : Next → List Symbol → Type 0
+IsNext (next.Begins key start) ahead = BeginsNext key start ahead
+IsNext next.Samples ahead = HoldsNext ahead
+IsNext next.Nothing ahead = ahead ≡ []
+
+-- two lists of samples differ first at that place
+pub record UnequalAt (ones others : List ℤ) (at : ℕ) (one other : ℤ) : Type 0 where
+  pub front : List ℤ
+  pub ones_after : List ℤ
+  pub others_after : List ℤ
+  pub ones_are : ones ≡ front ++ one ∷ ones_after
+  pub others_are : others ≡ front ++ other ∷ others_after
+  pub at_is : at ≡ length front
+  pub differ : one ≢ other
+
+abbrev pub UnequalIn : List ℤ → List ℤ → Unequal → Type 0
+UnequalIn ones others unequal = UnequalAt ones others unequal.at unequal.one unequal.other
+
+-- how many samples of the open segment were compared
+abbrev pub place_of : Standing → ℕ
+place_of side = side.tally.count - length (held_in side.ahead)
+
+-- both sides begin a segment next, and the keys differ, or the keys are equal and the starts differ
+pub record KeysDiffer (one other : Standing) : Type 0 where
+  pub key : Key
+  pub other_key : Key
+  pub start : ℤ
+  pub other_start : ℤ
+  pub begins : BeginsNext key start one.ahead
+  pub other_begins : BeginsNext other_key other_start other.ahead
+  pub differ : key ≢ other_key
+
+pub record StartsDiffer (one other : Standing) : Type 0 where
+  pub key : Key
+  pub start : ℤ
+  pub other_start : ℤ
+  pub begins : BeginsNext key start one.ahead
+  pub other_begins : BeginsNext key other_start other.ahead
+  pub differ : start ≢ other_start
+
+-- samples are ahead of both, and these are the first that differ
+pub record ValuesDiffer (one other : Standing) (number : ℕ) (value other_value : ℤ) : Type 0 where
+  pub ones : List ℤ
+  pub others : List ℤ
+  pub at : ℕ
+  pub one_is : one.ahead ≡ map Holds ones
+  pub other_is : other.ahead ≡ map Holds others
+  pub unequal : UnequalAt ones others at value other_value
+  pub number_is : place_of one + at < 2 ^ 64 → number ≡ place_of one + at
+
+-- one side goes on with samples, and the other does not
+pub record HoldsMore (more less : Standing) (number : ℕ) : Type 0 where
+  pub holds : HoldsNext more.ahead
+  pub none : HoldsNone less.ahead
+  pub number_is : number ≡ place_of more
+
+-- one side begins a segment, and nothing is ahead of the other
+pub record BeginsMore (more less : Standing) : Type 0 where
+  pub key : Key
+  pub start : ℤ
+  pub begins : BeginsNext key start more.ahead
+  pub none : less.ahead ≡ []
+
+-- what is ahead differs so
+abbrev pub AheadsDiffer : Standing → Standing → DifferenceKind → Type 0
+AheadsDiffer one other kind.Key = KeysDiffer one other
+AheadsDiffer one other kind.Start = StartsDiffer one other
+AheadsDiffer one other (kind.Sample number value other_value) = ValuesDiffer one other number value other_value
+AheadsDiffer one other (kind.SampleOnlyIn number which.One) = HoldsMore one other number
+AheadsDiffer one other (kind.SampleOnlyIn number which.Other) = HoldsMore other one number
+AheadsDiffer one other (kind.SegmentOnlyIn which.One) = BeginsMore one other
+AheadsDiffer one other (kind.SegmentOnlyIn which.Other) = BeginsMore other one
+
+-- the side whose segment it is
+abbrev pub side_of : DifferenceKind → Standing → Standing → Standing
+side_of (kind.SampleOnlyIn number which.Other) one other = other
+side_of (kind.SegmentOnlyIn which.Other) one other = other
+side_of _ one other = one
+
+pub record DiffersAhead (one other : Standing) (difference : Difference) : Type 0 where
+  pub segment_is : difference.segment ≡ (side_of difference.kind one other).tally.segments
+  pub differ : AheadsDiffer one other difference.kind
+
+-- only what is ahead of the side is another
+pub record PassesOnly (old new : Standing) : Type 0 where
+  pub reading : new.reading ≡ old.reading
+  pub tally : new.tally ≡ old.tally
+  pub ended : new.ended ≡ old.ended
+
+-- the same symbols were ahead of both, and are passed
+pub record PassesAlike (one other new_one new_other : Standing) : Type 0 where
+  pub front : List Symbol
+  pub some : 1 ≤ length front
+  pub one_is : one.ahead ≡ front ++ new_one.ahead
+  pub other_is : other.ahead ≡ front ++ new_other.ahead
+  pub one_passes : PassesOnly one new_one
+  pub other_passes : PassesOnly other new_other
+
+-- neither side changed
+pub record StandStill (one other new_one new_other : Standing) : Type 0 where
+  pub one_still : new_one ≡ one
+  pub other_still : new_other ≡ other
+
+abbrev pub Meets : Standing → Standing → Met → Standing → Standing → Type 0
+Meets one other met.Agree new_one new_other = PassesAlike one other new_one new_other
+Meets one other met.End new_one new_other =
+    (one.ahead ≡ []) × (other.ahead ≡ []) × StandStill one other new_one new_other
+Meets one other (met.Differ difference) new_one new_other =
+    DiffersAhead one other difference × StandStill one other new_one new_other
+
+-- Both sides have come to these symbols, which are the same.
+pub record HaveTaken (settings : Settings) (start_one one_now start_other other_now : Device) (one other : Standing)
+    : Type 0 where
+  pub done : List Symbol
+  pub one_taken : HasTaken settings start_one one_now one done
+  pub other_taken : HasTaken settings start_other other_now other done
+
+-- and where nothing is ahead, the input has ended
+pub record HaveFetched (settings : Settings) (start_one one_now start_other other_now : Device) (one other : Standing)
+    : Type 0 where
+  pub taken : HaveTaken settings start_one one_now start_other other_now one other
+  pub one_some : one.ahead ≡ [] → one.ended ≡ true
+  pub other_some : other.ahead ≡ [] → other.ended ≡ true
+
+-- how the sides differ then, or that both have ended
+abbrev pub IsFound : Standing → Standing → Option Difference → Type 0
+IsFound one other None = (one.ahead ≡ []) × (other.ahead ≡ [])
+IsFound one other (Some difference) = DiffersAhead one other difference
+
+pub record HaveMet (settings : Settings) (start_one one_now start_other other_now : Device) (one other : Standing)
+    (found : Option Difference) : Type 0 where
+  pub fetched : HaveFetched settings start_one one_now start_other other_now one other
+  pub is_found : IsFound one other found
+
+-- one side has come so far
+pub record HasSomeTaken (settings : Settings) (start now : Device) (side : Standing) : Type 0 where
+  pub done : List Symbol
+  pub taken : HasTaken settings start now side done
+
+-- why two sides are no further compared
+abbrev pub StopsMeeting : Settings → Device → Device → Device → Device → Standing → CompareFault → Type 0
+StopsMeeting settings start_one one_now start_other other_now one (failing.One why) =
+    StopsReading settings start_one one_now [] why × IsSteady start_other other_now
+StopsMeeting settings start_one one_now start_other other_now one (failing.Other why) =
+    StopsReading settings start_other other_now [] why × HasSomeTaken settings start_one one_now one
+
+-- why an input was not read to its end
+abbrev pub StopsOne : Settings → Device → Device → CompareFault → Type 0
+StopsOne settings start now (failing.One why) = StopsReading settings start now [] why
+StopsOne settings start now (failing.Other why) = ⊥
+
+abbrev pub StopsOther : Settings → Device → Device → CompareFault → Type 0
+StopsOther settings start now (failing.One why) = ⊥
+StopsOther settings start now (failing.Other why) = StopsReading settings start now [] why

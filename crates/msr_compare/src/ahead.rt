@@ -1,0 +1,135 @@
+//! What was read of an input and not yet compared.
+ghost use Rattle.std.specs.Prelude.{◌≡◌, drop};
+use msr_rows::{Key, Row};
+use msr_segments::Step;
+use std::marker::Model;
+
+/// What comes next.
+#[derive(Clone, Copy, Debug)]
+pub(crate) enum Next {
+    /// A segment with that key begins at that instant; its samples follow.
+    Begins(Key, i64),
+    /// Samples of the segment that was begun last.
+    Samples,
+    /// Nothing is at hand.
+    Nothing,
+}
+
+/// The samples from that place on.
+fn rest_of(samples: &[i32], at: usize) -> &[i32]
+    ensures { result.now ≡ drop at samples.now }
+{
+    match samples.get(at..) {
+        Some(rest) => rest,
+        None => &[],
+    }
+}
+
+/// The row at hand, as far as it was not compared. It is let go when all of it was.
+#[derive(Debug, Drop)]
+pub(crate) struct Ahead {
+    row: Option<Row>,
+    begins: bool,
+    passed: usize,
+}
+
+impl Model for Ahead {
+    ghost use Rattle.std.specs.Prelude.{List};
+    ghost use Rattle.msr_compare.specs.Symbols.{Symbol, row_ahead};
+
+    ghost Value = { List Symbol };
+
+    ghost view = { λ a. row_ahead a.row a.begins a.passed };
+}
+
+impl Ahead {
+    ghost use Rattle.std.specs.Prelude.{◌≡◌, ◌↔◌, [], drop, map, IsTrue};
+    ghost use Rattle.msr_compare.specs.Symbols.{Holds, held_in, row_symbols};
+    ghost use Rattle.msr_compare.specs.Meetings.{IsNext};
+
+    /// Nothing is at hand.
+    pub(crate) fn new() -> Ahead
+        ensures { result ≡ [] }
+    {
+        Ahead {
+            row: None,
+            begins: false,
+            passed: 0,
+        }
+    }
+
+    /// The row, which does that, and nothing of it was compared.
+    pub(crate) fn of_row(step: Step, row: Row) -> Ahead
+        ensures { result ≡ row_symbols step row }
+    {
+        let begins = match step {
+            Step::Begins => true,
+            Step::Joins => false,
+        };
+        Ahead {
+            row: Some(row),
+            begins,
+            passed: 0,
+        }
+    }
+
+    /// The samples that are ahead, after a segment's beginning if that is ahead.
+    pub(crate) fn samples(&self) -> &[i32]
+        ensures { result.now ≡ held_in self.now }
+    {
+        match &self.row {
+            Some(row) => rest_of(row.samples.as_slice(), self.passed),
+            None => &[],
+        }
+    }
+
+    /// What comes next.
+    pub(crate) fn next(&self) -> Next
+        ensures { IsNext result self.now }
+    {
+        let Some(row) = &self.row else {
+            return Next::Nothing;
+        };
+        if self.begins {
+            return Next::Begins(row.key, row.start);
+        }
+        if self.samples().is_empty() {
+            Next::Nothing
+        } else {
+            Next::Samples
+        }
+    }
+
+    /// Whether nothing is at hand.
+    pub(crate) fn is_empty(&self) -> bool
+        ensures { IsTrue result ↔ (self.now ≡ []) }
+    {
+        match self.next() {
+            Next::Nothing => true,
+            _ => false,
+        }
+    }
+
+    /// Passes the beginning of a segment, if it is ahead.
+    pub(crate) fn open(&mut self)
+        ensures { self.new ≡ map Holds (held_in self.old) }
+    {
+        self.begins = false;
+    }
+
+    /// Passes some samples, and before them the beginning of a segment, if it is ahead.
+    pub(crate) fn pass(&mut self, count: usize)
+        ensures { self.new ≡ map Holds (drop count (held_in self.old)) }
+    {
+        let Some(row) = &self.row else {
+            return;
+        };
+        let passed = self.passed.saturating_add(count);
+        if passed < row.samples.len() {
+            self.passed = passed;
+            self.begins = false;
+        } else {
+            let _ = self.row.take();
+        }
+    }
+}

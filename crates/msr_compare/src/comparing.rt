@@ -1,0 +1,145 @@
+//! Comparing the segments of two inputs.
+ghost use Rattle.std.specs.Prelude.{◌≡◌, ◌↔◌, ◌≤◌, ◌++◌, ℕ, List, IsErrOf, MatchResult};
+ghost use Rattle.msr_devices.specs.Device.{Device, CanCountCall, CountsFew, HasFailed, HasLeft};
+ghost use Rattle.msr_input.specs.declared.settings.Settings.{Settings as How};
+ghost use Rattle.msr_compare.specs.Answers.{CompareAnswers};
+ghost use Rattle.msr_compare.specs.Symbols.{Symbol};
+ghost use Rattle.msr_compare.specs.Sides.{HasBegun, HasTaken, IsDrained};
+ghost use Rattle.msr_compare.specs.Meetings.{HaveTaken, HaveMet, StopsMeeting, StopsOne, StopsOther};
+
+use crate::comparison::{Comparison, Difference, SameSegments};
+use crate::fault::CompareFault;
+use crate::meeting::{Met, meet};
+use crate::side::Side;
+use msr_devices::Source;
+use msr_input::{ReadFault, Settings};
+use std::alloc::Global;
+
+/// Reads two sides as far as their segments are the same: the first difference, or `None` if both ended.
+fn agree<One: Source, Other: Source>(
+    one_side: &mut Side,
+    one: &mut One,
+    other_side: &mut Side,
+    other: &mut Other,
+) -> Result<Option<Difference>, CompareFault>
+    requires one { CanCountCall (One.device one.old) }
+    requires other { CanCountCall (Other.device other.old) }
+    ensures met { (settings : How) (start_one start_other : Device)
+        → HaveTaken settings start_one (One.device one.old) start_other (Other.device other.old)
+        one_side.old other_side.old
+        → MatchResult result
+        (HaveMet settings start_one (One.device one.new) start_other (Other.device other.new)
+        one_side.new other_side.new)
+        (StopsMeeting settings start_one (One.device one.new) start_other (Other.device other.new) one_side.new) }
+    ensures few_one { CountsFew (One.device one.old) (One.device one.new) }
+    ensures few_other { CountsFew (Other.device other.old) (Other.device other.new) }
+{
+    'meetings: loop {
+        if let Err(fault) = one_side.fetch(one) {
+            return Err(CompareFault::One(fault));
+        }
+        if let Err(fault) = other_side.fetch(other) {
+            return Err(CompareFault::Other(fault));
+        }
+        match meet(one_side, other_side) {
+            Met::Agree => {}
+            Met::End => return Ok(None),
+            Met::Differ(difference) => return Ok(Some(difference)),
+        }
+    }
+}
+
+/// Reads the first input to its end.
+fn drain_one<One: Source>(side: &mut Side, one: &mut One) -> Result<(), CompareFault>
+    requires { HasBegun (One.device one.old) side.old }
+    ensures drained { (settings : How) (start : Device) (done : List Symbol)
+        → HasTaken settings start (One.device one.old) side.old done
+        → MatchResult result
+        (λ _. IsDrained settings start (One.device one.new) side.old.ended (done ++ side.old.ahead))
+        (StopsOne settings start (One.device one.new)) }
+    ensures few { (settings : How) (start : Device) (done : List Symbol)
+        → HasTaken settings start (One.device one.old) side.old done
+        → CountsFew start (One.device one.new) }
+{
+    match side.drain(one) {
+        Ok(()) => Ok(()),
+        Err(fault) => Err(CompareFault::One(fault)),
+    }
+}
+
+/// Reads the other input to its end.
+fn drain_other<Other: Source>(side: &mut Side, other: &mut Other) -> Result<(), CompareFault>
+    requires { HasBegun (Other.device other.old) side.old }
+    ensures drained { (settings : How) (start : Device) (done : List Symbol)
+        → HasTaken settings start (Other.device other.old) side.old done
+        → MatchResult result
+        (λ _. IsDrained settings start (Other.device other.new) side.old.ended (done ++ side.old.ahead))
+        (StopsOther settings start (Other.device other.new)) }
+    ensures few { (settings : How) (start : Device) (done : List Symbol)
+        → HasTaken settings start (Other.device other.old) side.old done
+        → CountsFew start (Other.device other.new) }
+{
+    match side.drain(other) {
+        Ok(()) => Ok(()),
+        Err(fault) => Err(CompareFault::Other(fault)),
+    }
+}
+
+/// What is told of two sides whose segments are the same.
+fn same_segments(one: &Side, other: &Side) -> SameSegments
+    ensures { result ≡ record {
+        segments = one.now.tally.segments;
+        samples = one.now.tally.samples;
+        moved_one = one.now.tally.moved;
+        moved_other = other.now.tally.moved;
+    } }
+{
+    SameSegments {
+        segments: one.tally().segments,
+        samples: one.tally().samples,
+        moved_one: one.tally().moved,
+        moved_other: other.tally().moved,
+    }
+}
+
+/// Reads both inputs to their ends, and says whether they have the same segments, or which is the first difference. If
+/// an input is refused, that is the answer, also if a segment before it differs; if both are, the first one's. Of each
+/// input the samples of one record are kept.
+pub fn compare<One: Source, Other: Source>(
+    alloc: Global,
+    one: &mut One,
+    other: &mut Other,
+    settings: Settings,
+) -> Result<Comparison, CompareFault>
+    requires one { CanCountCall (One.device one.old) }
+    requires other { CanCountCall (Other.device other.old) }
+    requires tolerance { (1 ≤ settings.tolerance) × (settings.tolerance ≤ 1_000_000) }
+
+    // What is answered, for the bytes that the sources have.
+    ensures answer { (first second : List ℕ) × HasLeft (One.device one.old) first
+        × HasLeft (Other.device other.old) second × CompareAnswers settings first second result }
+
+    // A failure of a source is answered as such, and nothing else is.
+    ensures read_one { IsErrOf result (CompareFault.One ReadFault.Read)
+        ↔ HasFailed (One.device one.old) (One.device one.new) }
+    ensures read_other { IsErrOf result (CompareFault.Other ReadFault.Read)
+        ↔ HasFailed (Other.device other.old) (Other.device other.new) }
+    ensures few_one { CountsFew (One.device one.old) (One.device one.new) }
+    ensures few_other { CountsFew (Other.device other.old) (Other.device other.new) }
+{
+    let mut one_side = Side::new(alloc, settings);
+    let mut other_side = Side::new(alloc, settings);
+    match agree(&mut one_side, one, &mut other_side, other) {
+        Ok(None) => Ok(Comparison::Same(same_segments(&one_side, &other_side))),
+        Ok(Some(difference)) => {
+            drain_one(&mut one_side, one)?;
+            drain_other(&mut other_side, other)?;
+            Ok(Comparison::Differ(difference))
+        }
+        Err(CompareFault::Other(ReadFault::Input(fault))) => {
+            drain_one(&mut one_side, one)?;
+            Err(CompareFault::Other(ReadFault::Input(fault)))
+        }
+        Err(fault) => Err(fault),
+    }
+}

@@ -1,0 +1,16 @@
+//! Whether two inputs of miniSEED have the same segments.
+#![tactic(auto)]
+
+mod ahead;
+mod comparing;
+mod comparison;
+mod fault;
+mod laws;
+mod meeting;
+mod side;
+mod tally;
+
+pub use comparing::compare;
+pub use comparison::{Comparison, Difference, DifferenceKind, SameSegments, Which};
+pub use fault::CompareFault;
+pub use laws::{compare_has_one_answer, same_is_an_equivalence, same_is_exact};

@@ -1,0 +1,163 @@
+//! Comparing what is ahead of two inputs.
+ghost use Rattle.std.specs.Prelude.{◌≡◌, [], min, length, take, MatchOption};
+ghost use Rattle.msr_compare.specs.Meetings.{BeginsNext, HoldsNext, Meets, UnequalIn, place_of};
+
+use crate::ahead::Next;
+use crate::comparison::{Difference, DifferenceKind, Which};
+use crate::side::Side;
+use msr_rows::Key;
+
+/// What was found.
+#[derive(Clone, Copy, Debug)]
+pub(crate) enum Met {
+    /// The same was ahead of both, and is passed.
+    Agree,
+    /// Nothing is ahead of either.
+    End,
+    /// What is ahead differs.
+    Differ(Difference),
+}
+
+/// Two samples that differ, and how many before them are the same.
+#[derive(Clone, Copy, Debug)]
+struct Unequal {
+    at: usize,
+    one: i32,
+    other: i32,
+}
+
+/// The first samples that differ, of as many as both lists have.
+fn first_unequal(ones: &[i32], others: &[i32]) -> Option<Unequal>
+    ensures { MatchOption result
+        (take (min (length ones.now) (length others.now)) ones.now
+        ≡ take (min (length ones.now) (length others.now)) others.now)
+        (UnequalIn ones.now others.now) }
+{
+    let count = ones.len().min(others.len());
+    'samples: for at in 0..count {
+        let one = ones[at];
+        let other = others[at];
+        if one != other {
+            return Some(Unequal { at, one, other });
+        }
+    }
+    None
+}
+
+/// The segment of a side is the first that differs, and in that.
+fn differs(side: &Side, kind: DifferenceKind) -> Met
+    ensures { result ≡ Met.Differ (record { segment = side.now.tally.segments; kind = kind }) }
+{
+    Met::Differ(Difference {
+        segment: side.tally().segments,
+        kind,
+    })
+}
+
+/// Samples are ahead of this side, and none of the other.
+fn holds_more(side: &Side, which: Which) -> Met
+    ensures { result ≡ Met.Differ (record {
+        segment = side.now.tally.segments;
+        kind = DifferenceKind.SampleOnlyIn (place_of side.now) which;
+    }) }
+{
+    differs(
+        side,
+        DifferenceKind::SampleOnlyIn {
+            number: side.place(),
+            which,
+        },
+    )
+}
+
+/// Nothing is ahead of the first side.
+fn meet_nothing(one: &Side, other: &Side) -> Met
+    requires { one.now.ahead ≡ [] }
+    ensures { Meets one.now other.now result one.now other.now }
+{
+    match other.next() {
+        Next::Begins(_, _) => differs(other, DifferenceKind::SegmentOnlyIn(Which::Other)),
+        Next::Samples => holds_more(other, Which::Other),
+        Next::Nothing => Met::End,
+    }
+}
+
+/// Samples are ahead of both sides.
+fn meet_samples(one: &mut Side, other: &mut Side) -> Met
+    requires one { HoldsNext one.old.ahead }
+    requires other { HoldsNext other.old.ahead }
+    ensures { Meets one.old other.old result one.new other.new }
+{
+    if let Some(unequal) = first_unequal(one.samples(), other.samples()) {
+        return differs(
+            one,
+            DifferenceKind::Sample {
+                number: one.place().saturating_add(unequal.at as u64),
+                one: unequal.one,
+                other: unequal.other,
+            },
+        );
+    }
+    let count = one.samples().len().min(other.samples().len());
+    one.pass(count);
+    other.pass(count);
+    Met::Agree
+}
+
+/// Samples are ahead of the first side.
+fn meet_held(one: &mut Side, other: &mut Side) -> Met
+    requires { HoldsNext one.old.ahead }
+    ensures { Meets one.old other.old result one.new other.new }
+{
+    match other.next() {
+        Next::Samples => meet_samples(one, other),
+        _ => holds_more(one, Which::One),
+    }
+}
+
+/// Both sides begin a segment.
+fn meet_beginnings(
+    one: &mut Side,
+    other: &mut Side,
+    keys: (Key, Key),
+    starts: (i64, i64),
+) -> Met
+    requires one { BeginsNext keys.0 starts.0 one.old.ahead }
+    requires other { BeginsNext keys.1 starts.1 other.old.ahead }
+    ensures { Meets one.old other.old result one.new other.new }
+{
+    if keys.0 != keys.1 {
+        return differs(one, DifferenceKind::Key);
+    }
+    if starts.0 != starts.1 {
+        return differs(one, DifferenceKind::Start);
+    }
+    one.open();
+    other.open();
+    Met::Agree
+}
+
+/// The first side begins a segment.
+fn meet_beginning(one: &mut Side, other: &mut Side, key: Key, start: i64) -> Met
+    requires { BeginsNext key start one.old.ahead }
+    ensures { Meets one.old other.old result one.new other.new }
+{
+    match other.next() {
+        Next::Begins(other_key, other_start) => {
+            meet_beginnings(one, other, (key, other_key), (start, other_start))
+        }
+        Next::Samples => holds_more(other, Which::Other),
+        Next::Nothing => differs(one, DifferenceKind::SegmentOnlyIn(Which::One)),
+    }
+}
+
+/// Compares what is ahead of both sides, as far as it can be, and passes what is the same.
+pub(crate) fn meet(one: &mut Side, other: &mut Side) -> Met
+    ensures { Meets one.old other.old result one.new other.new }
+{
+    match one.next() {
+        Next::Begins(key, start) => meet_beginning(one, other, key, start),
+        Next::Samples => meet_held(one, other),
+        Next::Nothing => meet_nothing(one, other),
+    }
+}

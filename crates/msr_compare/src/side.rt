@@ -1,0 +1,148 @@
+//! One of two inputs while they are compared.
+use crate::ahead::{Ahead, Next};
+use crate::tally::Tally;
+use msr_devices::Source;
+use msr_input::{NextRow, ReadFault, RowReader, Settings};
+use std::alloc::Global;
+use std::marker::Model;
+
+/// Reads an input, with the samples of one record at hand, and counts its rows. All calls take the same source.
+#[derive(Drop)]
+pub(crate) struct Side {
+    reader: RowReader,
+    tally: Tally,
+    ahead: Ahead,
+    ended: bool,
+}
+
+impl Model for Side {
+    ghost use Rattle.msr_compare.specs.Sides.{Standing};
+
+    ghost Value = { Standing };
+
+    ghost view = { λ s. record { reading = s.reader; tally = s.tally; ahead = s.ahead; ended = s.ended } };
+}
+
+impl Side {
+    ghost use Rattle.std.specs.Prelude.{◌≡◌, ◌≤◌, ◌++◌, List, [], drop, map, OnOk, MatchResult};
+    ghost use Rattle.msr_devices.specs.Device.{Device, CanCountCall, CountsFew};
+    ghost use Rattle.msr_input.specs.Reading.{StopsReading};
+    ghost use Rattle.msr_input.specs.declared.settings.Settings.{Settings as How};
+    ghost use Rattle.msr_compare.specs.Symbols.{Symbol, Holds, held_in};
+    ghost use Rattle.msr_compare.specs.Sides.{HasBegun, HasTaken, IsFetched, IsDrained, TakesNext, weight};
+    ghost use Rattle.msr_compare.specs.Meetings.{IsNext, PassesOnly, place_of};
+
+    /// A side before the first record, with a tolerance in its range. It takes no memory yet.
+    pub(crate) fn new(alloc: Global, settings: Settings) -> Side
+        requires { (1 ≤ settings.tolerance) × (settings.tolerance ≤ 1_000_000) }
+        ensures { (start : Device) → HasTaken settings start start result [] }
+    {
+        Side {
+            reader: RowReader::new(alloc, settings),
+            tally: Tally::new(),
+            ahead: Ahead::new(),
+            ended: false,
+        }
+    }
+
+    /// Takes the row of the record that was read, if it has one.
+    fn take(&mut self, next: Option<NextRow>)
+        ensures { TakesNext next self.old self.new }
+    {
+        let Some(next) = next else {
+            return;
+        };
+        self.tally = self.tally.with(next.step, &next.row);
+        self.ahead = Ahead::of_row(next.step, next.row);
+    }
+
+    /// Reads on if nothing is ahead, until something is, or the input has ended.
+    pub(crate) fn fetch<R: Source>(&mut self, source: &mut R) -> Result<(), ReadFault>
+        requires { CanCountCall (R.device source.old) }
+        ensures fetched { (settings : How) (start : Device) (done : List Symbol)
+            → HasTaken settings start (R.device source.old) self.old done
+            → MatchResult result
+            (λ _. IsFetched settings start (R.device source.new) self.new done)
+            (StopsReading settings start (R.device source.new) []) }
+        ensures weight { OnOk result (weight (R.device source.new) self.new
+            ≤ weight (R.device source.old) self.old) }
+        ensures few { CountsFew (R.device source.old) (R.device source.new) }
+    {
+        if self.ended {
+            return Ok(());
+        }
+        'records: while self.ahead.is_empty() {
+            let Some(next) = self.reader.next_record(source)? else {
+                self.ended = true;
+                return Ok(());
+            };
+            self.take(next.row);
+        }
+        Ok(())
+    }
+
+    /// Reads the input to its end, without samples.
+    pub(crate) fn drain<R: Source>(&mut self, source: &mut R) -> Result<(), ReadFault>
+        requires { HasBegun (R.device source.old) self.old }
+        ensures drained { (settings : How) (start : Device) (done : List Symbol)
+            → HasTaken settings start (R.device source.old) self.old done
+            → MatchResult result
+            (λ _. IsDrained settings start (R.device source.new) self.old.ended (done ++ self.old.ahead))
+            (StopsReading settings start (R.device source.new) []) }
+        ensures few { (settings : How) (start : Device) (done : List Symbol)
+            → HasTaken settings start (R.device source.old) self.old done
+            → CountsFew start (R.device source.new) }
+    {
+        if self.ended {
+            return Ok(());
+        }
+        'rows: while let Some(_next) = self.reader.next_outline(source)? {}
+        Ok(())
+    }
+
+    /// What comes next.
+    pub(crate) fn next(&self) -> Next
+        ensures { IsNext result self.now.ahead }
+    {
+        self.ahead.next()
+    }
+
+    /// The samples that are ahead, after a segment's beginning if that is ahead.
+    pub(crate) fn samples(&self) -> &[i32]
+        ensures { result.now ≡ held_in self.now.ahead }
+    {
+        self.ahead.samples()
+    }
+
+    /// How many samples of the open segment were compared.
+    pub(crate) fn place(&self) -> u64
+        ensures { result ≡ place_of self.now }
+    {
+        self.tally
+            .count
+            .saturating_sub(self.ahead.samples().len() as u64)
+    }
+
+    /// What was counted of the rows.
+    pub(crate) fn tally(&self) -> Tally
+        ensures { result ≡ self.now.tally }
+    {
+        self.tally
+    }
+
+    /// Passes the beginning of a segment, if it is ahead.
+    pub(crate) fn open(&mut self)
+        ensures ahead { self.new.ahead ≡ map Holds (held_in self.old.ahead) }
+        ensures only { PassesOnly self.old self.new }
+    {
+        self.ahead.open();
+    }
+
+    /// Passes some samples, and before them the beginning of a segment, if it is ahead.
+    pub(crate) fn pass(&mut self, count: usize)
+        ensures ahead { self.new.ahead ≡ map Holds (drop count (held_in self.old.ahead)) }
+        ensures only { PassesOnly self.old self.new }
+    {
+        self.ahead.pass(count);
+    }
+}
