@@ -4,7 +4,7 @@ use Rattle.msr_rows.specs.declared.row.Key.{Key}
 use Rattle.msr_rows.specs.declared.row.Row.{Row}
 use Rattle.msr_compare.specs.Symbols.{Symbol, Opens, Holds, held_in, row_ahead}
 use Rattle.msr_compare.proofs.Symbols.{all_passed, held_ahead, held_map, passed_ahead}
-use Rattle.msr_compare.specs.Meetings.{HoldsNone, BeginsNext, HoldsNext}
+use Rattle.msr_compare.specs.Meetings.{HoldsNone, HoldsNext}
 
 pub nothing_held : (ahead : List Symbol) → ahead ≡ [] → HoldsNone ahead
 nothing_held ahead none sample rest e = cc

@@ -1,4 +1,4 @@
-use Rattle.std.proofs.Common.{◌≡◌, ◌+◌, ◌≤◌, arith, length}
+use Rattle.std.proofs.Common.{arith}
 use Rattle.msr_compare.proofs.Aheads.{more_passed, whole_passed}
 use Rattle.msr_compare.proofs.ahead.Ahead.pass.Goals as goal
 use Rattle.msr_compare.proofs.ahead.Ahead.pass.Goals.{in-Some-1, in-None-1}
