@@ -15,7 +15,7 @@ use Rattle.msr_arguments.specs.declared.task.Folders.{Folders}
 use Rattle.msr_arguments.specs.declared.task.NoTask.{NoTask}
 use Rattle.msr_arguments.specs.declared.task.NoTask.TheVariants.{Ending, Memory}
 use Rattle.msr_arguments.specs.declared.task.Task.{Task}
-use Rattle.msr_arguments.specs.declared.task.Task.TheVariants.{Repack, List as Listing, Check, Archive, Feed}
+use Rattle.msr_arguments.specs.declared.task.Task.TheVariants.{Repack, List as Listing, Check, Compare, Archive, Feed}
 
 -- the number of 32 bits that a text is in decimal digits, with or without a plus before them; `None` if there is no
 -- text, or it is no such number
@@ -110,6 +110,8 @@ AsksTask found (Repack asked) = AsksOptions found (length_in found) asked.option
 AsksTask found (Listing asked) =
     AsksOptions found (length_in found) asked.options × (first_value found (codes "IN") ≡ Some asked.input.now)
 AsksTask found (Check asked) = AsksCheck found asked
+AsksTask found (Compare asked) = AsksOptions found (length_in found) asked.options
+    × (first_value found (codes "ONE") ≡ Some asked.one.now) × (first_value found (codes "OTHER") ≡ Some asked.other.now)
 AsksTask found (Archive asked) = AsksArchive found asked
 AsksTask found (Feed asked) =
     AsksOptions found (length_in found) asked.options × (first_value found (codes "REPORT") ≡ Some asked.report.now)
@@ -119,6 +121,7 @@ abbrev pub command_of : Task → List ℕ
 command_of (Repack asked) = codes "repack"
 command_of (Listing asked) = codes "list"
 command_of (Check asked) = codes "check"
+command_of (Compare asked) = codes "compare"
 command_of (Archive asked) = codes "archive"
 command_of (Feed asked) = codes "feed"
 

@@ -3,7 +3,7 @@ use Rattle.std.specs.Prelude.{◌≡◌, ◌≢◌, ◌⊎◌, ◌≤◌, ℕ, �
 use Rattle.msr_options.specs.Choice.{Choice, size_of}
 use Rattle.msr_arguments.specs.declared.task.Folders.{Folders}
 use Rattle.msr_arguments.specs.declared.task.Task.{Task}
-use Rattle.msr_arguments.specs.declared.task.Task.TheVariants.{Repack, List as Listing, Check, Archive, Feed}
+use Rattle.msr_arguments.specs.declared.task.Task.TheVariants.{Repack, List as Listing, Check, Compare, Archive, Feed}
 use Rattle.msr_arguments.specs.declared.task.NoTask.{NoTask}
 use Rattle.msr_arguments.specs.declared.task.NoTask.TheVariants.{Ending, Memory}
 
@@ -17,6 +17,7 @@ abbrev pub HasTolerance : Task → Type 0
 HasTolerance (Repack asked) = IsTolerance asked.options.tolerance
 HasTolerance (Listing asked) = IsTolerance asked.options.tolerance
 HasTolerance (Check asked) = ⊤
+HasTolerance (Compare asked) = IsTolerance asked.options.tolerance
 HasTolerance (Archive asked) = IsTolerance asked.days.options.tolerance
 HasTolerance (Feed asked) = IsTolerance asked.options.tolerance
 
@@ -38,11 +39,17 @@ pub record StandApart (folders : Folders) : Type 0 where
   pub reports : ¬ (Overlap folders.root.now folders.reports.now)
   pub outputs : ¬ (Overlap folders.out.now folders.reports.now)
 
--- the output, if one is asked for, has another name than the input; the folders of an archive stand apart
+-- both names stand for standard input
+abbrev pub AreBothStandard : (one other : List ℕ) → Type 0
+AreBothStandard one other = (one ≡ codes "-") × (other ≡ codes "-")
+
+-- the output, if one is asked for, has another name than the input; of two inputs not both are standard input; the
+-- folders of an archive stand apart
 abbrev pub KeepsInput : Task → Type 0
 KeepsInput (Repack asked) = IfSome asked.output (λ name. name.now ≢ asked.input.now)
 KeepsInput (Listing asked) = ⊤
 KeepsInput (Check asked) = ⊤
+KeepsInput (Compare asked) = ¬ (AreBothStandard asked.one.now asked.other.now)
 KeepsInput (Archive asked) = StandApart asked.folders
 KeepsInput (Feed asked) = ⊤
 
@@ -59,6 +66,7 @@ IsDefault (Repack asked) =
     AreOptions 512 1000 false asked.options × (asked.input.now ≡ codes "-") × (asked.output ≡ None)
 IsDefault (Listing asked) = ⊥
 IsDefault (Check asked) = ⊥
+IsDefault (Compare asked) = ⊥
 IsDefault (Archive asked) = ⊥
 IsDefault (Feed asked) = ⊥
 

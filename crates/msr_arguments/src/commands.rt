@@ -137,6 +137,21 @@ fn check<'a>(alloc: Global) -> Result<Command<'a>, AllocError> {
     )
 }
 
+fn compare<'a>(alloc: Global) -> Result<Command<'a>, AllocError> {
+    let command = described(
+        alloc,
+        "compare",
+        texts::COMPARE_ABOUT,
+        texts::COMPARE_LONG_ABOUT,
+        texts::COMPARE_AFTER,
+    );
+    files(
+        alloc,
+        command.arg(tolerance(alloc))?,
+        &[("ONE", texts::ONE), ("OTHER", texts::OTHER)],
+    )
+}
+
 fn feed<'a>(alloc: Global) -> Result<Command<'a>, AllocError> {
     let command = described(
         alloc,
@@ -195,6 +210,7 @@ enum Verb {
     Repack,
     List,
     Check,
+    Compare,
     Archive,
     Feed,
 }
@@ -204,6 +220,7 @@ fn command_for<'a>(alloc: Global, verb: Verb) -> Result<Command<'a>, AllocError>
         Verb::Repack => repack(alloc),
         Verb::List => list(alloc),
         Verb::Check => check(alloc),
+        Verb::Compare => compare(alloc),
         Verb::Archive => archive(alloc),
         Verb::Feed => feed(alloc),
     }
@@ -230,6 +247,7 @@ pub(crate) fn command<'a>(alloc: Global) -> Result<Command<'a>, AllocError> {
         Verb::Repack,
         Verb::List,
         Verb::Check,
+        Verb::Compare,
         Verb::Archive,
         Verb::Feed,
     ] {

@@ -6,6 +6,8 @@ mod task;
 mod texts;
 mod words;
 
-pub use task::{Archiving, Checking, Ending, Feeding, Folders, Listing, NoTask, Repacking, Task};
+pub use task::{
+    Archiving, Checking, Comparing, Ending, Feeding, Folders, Listing, NoTask, Repacking, Task,
+};
 pub use texts::NOT_UTF8;
 pub use words::read_words;

@@ -39,6 +39,17 @@ pub struct Checking<'a> {
     pub report: &'a str,
 }
 
+/// Two files that are to be compared.
+#[derive(Clone, Copy, Debug, PartialEq, Eq)]
+pub struct Comparing<'a> {
+    /// The length is not used, since no record is written.
+    pub options: Options,
+    /// The name of a file, or `-` for standard input.
+    pub one: &'a str,
+    /// The name of another, or `-` if that of the first is not.
+    pub other: &'a str,
+}
+
 /// The folders of an archive, of the records that are written, and of their reports.
 #[derive(Clone, Copy, Debug, PartialEq, Eq)]
 pub struct Folders<'a> {
@@ -62,6 +73,7 @@ pub enum Task<'a> {
     Repack(Repacking<'a>),
     List(Listing<'a>),
     Check(Checking<'a>),
+    Compare(Comparing<'a>),
     Archive(Archiving<'a>),
     Feed(Feeding<'a>),
 }

@@ -25,11 +25,13 @@ Statuses:
   1  refused: an input has a fault, or a file cannot be opened, read or written;
      for an archive, at least one of its files or folders
   2  the command line is wrong
-  3  the report does not show that the records are the fewest
+  3  the report does not show that the records are the fewest, or two files have not
+     the same data
 
 Examples:
   msrepack repack --length 4096 day.mseed packed.mseed > packed.txt
   msrepack check packed.mseed packed.txt
+  msrepack compare day.mseed packed.mseed
   msrepack archive sds packed reports";
 
 /// What `repack` does, in a line.
@@ -109,6 +111,47 @@ if the command line is wrong.";
 pub(crate) const CHECK_AFTER: &str = "Example:
   msrepack repack --length 4096 day.mseed packed.mseed > packed.txt
   msrepack check packed.mseed packed.txt";
+
+/// What `compare` does, in a line.
+pub(crate) const COMPARE_ABOUT: &str = "Says whether two files have the same segments";
+
+/// What `compare` does.
+pub(crate) const COMPARE_LONG_ABOUT: &str = "Says whether two files have the same segments.
+
+Reads both files, joins their records into segments as `repack` does, and compares
+these one after another: name, quality, rate and flags, start, and every sample. How the
+samples are divided into records, and how these are encoded, does not matter. It
+prints, if all are the same,
+
+same segments N samples N
+moved N N                             by how many microseconds a record's time is at
+                                      most off the time of its first sample, counted
+                                      from the start of its segment: in ONE, in OTHER
+
+or else one line with the first difference, segments counted from 1, samples from 0:
+
+differ segment K key                  name, quality, rate, flags, correction or timing
+differ segment K start
+differ segment K sample N values V V  its value in ONE, and in OTHER
+differ segment K sample N only in ONE
+differ segment K only in ONE          or, in both of these, OTHER
+
+Neither file is trusted, and it does not matter what wrote them. If one has a fault, one
+line on standard error names the file, at which byte and why, and nothing is compared.
+
+Status 0 if they are the same, 3 if they differ, 1 after a fault, 2 if the command line
+is wrong.";
+
+/// An example of `compare`.
+pub(crate) const COMPARE_AFTER: &str = "Example:
+  msrepack repack --length 4096 day.mseed packed.mseed > packed.txt
+  msrepack compare day.mseed packed.mseed";
+
+/// The first file of `compare`.
+pub(crate) const ONE: &str = "The file to compare, or - for standard input";
+
+/// The second file of `compare`.
+pub(crate) const OTHER: &str = "The file to compare it with, or - for standard input";
 
 /// What `archive` does, in a line.
 pub(crate) const ARCHIVE_ABOUT: &str = "Repacks every day file of an SDS archive";
@@ -282,6 +325,9 @@ pub(crate) const NOT_A_LENGTH: &str = "msrepack: not a record length: \
 
 /// The output and the input have one name.
 pub(crate) const SAME_FILE: &str = "msrepack: the output is the input\n";
+
+/// Both inputs of a comparison are standard input.
+pub(crate) const ONE_STANDARD_INPUT: &str = "msrepack: only one input can be standard input\n";
 
 /// Two folders are one, or one stands below another.
 pub(crate) const OVERLAP: &str = "msrepack: the folders overlap\n";

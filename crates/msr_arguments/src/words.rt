@@ -3,11 +3,11 @@ ghost use Rattle.std.specs.Prelude.{◌≡◌, ◌≢◌, ◌<◌, ◌↔◌, �
 ghost use Rattle.msr_kinds.specs.RecordLength.{IsRecordLength};
 ghost use Rattle.clap.specs.Words.{first_value, found_of, kind_of, one_text, subcommand_name_of};
 ghost use Rattle.msr_arguments.specs.Found.{AsksArchive, AsksBelow, AsksCheck, AsksDays, AsksFlags, AsksFolders, AsksOptions, AsksTask, EndsFor, HoldsOptions, IsFlagOf, IsLengthOf, IsNumberOf, command_of, without_slash};
-ghost use Rattle.msr_arguments.specs.Tasks.{AreApart, AreOptions, HasStatus, HasTolerance, IsBadLine, IsBelow, IsDefault, IsTolerance, IsWrong, KeepsInput, Overlap, StandApart};
+ghost use Rattle.msr_arguments.specs.Tasks.{AreApart, AreBothStandard, AreOptions, HasStatus, HasTolerance, IsBadLine, IsBelow, IsDefault, IsTolerance, IsWrong, KeepsInput, Overlap, StandApart};
 
 use crate::commands::command;
 use crate::task::{
-    Archiving, Checking, Ending, Feeding, Folders, Listing, NoTask, Repacking, Task,
+    Archiving, Checking, Comparing, Ending, Feeding, Folders, Listing, NoTask, Repacking, Task,
 };
 use crate::texts;
 use clap::ArgMatches;
@@ -120,8 +120,8 @@ fn flag_in(found: &ArgMatches<'_>, name: &str) -> bool
     found.get_flag(name)
 }
 
-/// The options that clap found, with that length. The command `list` takes none, and does not use the one that is given
-/// here.
+/// The options that clap found, with that length. The commands `list` and `compare` take none, and do not use the one
+/// that is given here.
 fn options_in(
     alloc: Global,
     found: &ArgMatches<'_>,
@@ -366,6 +366,45 @@ fn repacking_in<'a>(
     repacking_of(alloc, options, input, found.get_str("OUT"))
 }
 
+/// Two files to be compared, exactly if not both are standard input.
+fn comparing_of<'a>(
+    alloc: Global,
+    options: Options,
+    one: &'a str,
+    other: &'a str,
+) -> Result<Comparing<'a>, NoTask>
+    ensures ok { IsOk result ↔ ¬ (AreBothStandard one.now other.now) }
+    ensures asked { IfOk result (λ asked. (asked.options ≡ options) × (asked.one.now ≡ one.now)
+        × (asked.other.now ≡ other.now)) }
+    ensures status { IfErr result IsBadLine }
+{
+    if one == "-" && other == "-" {
+        return Err(wrong(alloc, texts::ONE_STANDARD_INPUT));
+    }
+    Ok(Comparing {
+        options,
+        one,
+        other,
+    })
+}
+
+/// The files to be compared that clap found.
+fn comparing_in<'a>(
+    alloc: Global,
+    options: Options,
+    found: &ArgMatches<'a>,
+) -> Result<Comparing<'a>, NoTask>
+    ensures asked { IfOk result (λ asked. (asked.options ≡ options)
+        × (first_value (found_of found.now) (codes "ONE") ≡ Some asked.one.now)
+        × (first_value (found_of found.now) (codes "OTHER") ≡ Some asked.other.now)) }
+    ensures keeps_input { IfOk result (λ asked. ¬ (AreBothStandard asked.one.now asked.other.now)) }
+    ensures status { IfErr result IsBadLine }
+{
+    let one = given(alloc, found, "ONE")?;
+    let other = given(alloc, found, "OTHER")?;
+    comparing_of(alloc, options, one, other)
+}
+
 /// What clap found. It lets no line through without a command, its inputs and numbers in their ranges.
 fn task_of<'a>(alloc: Global, matches: &ArgMatches<'a>) -> Result<Task<'a>, NoTask>
     ensures command { IfOk result (λ task. subcommand_name_of matches.now ≡ Some (command_of task)) }
@@ -404,6 +443,9 @@ fn task_in<'a>(alloc: Global, name: &str, found: &ArgMatches<'a>) -> Result<Task
     if name == "list" {
         let input = given(alloc, found, "IN")?;
         return Ok(Task::List(Listing { options, input }));
+    }
+    if name == "compare" {
+        return Ok(Task::Compare(comparing_in(alloc, options, found)?));
     }
     if name == "repack" {
         return Ok(Task::Repack(repacking_in(alloc, options, found)?));
