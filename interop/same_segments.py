@@ -88,6 +88,8 @@ def changed_by_hand():
     yield "key and start", edited(two, (6, b"Q"), (26, b"\1")), ["differ segment 1 key"]
     yield "key and sample", edited(two, (1536 + 6, b"Q"), (1536 + 65, b"\1")), ["differ segment 2 key"]
     yield "timing of the second", edited(two, (512 + 60, b"\1")), ["differ segment 1 sample 100 only in ONE"]
+    yield "timing of the fourth", edited(two, (1536 + 60, b"\1")), ["differ segment 2 key"]
+    yield "flags of the fourth", edited(two, (1536 + 38, b"\x80")), ["differ segment 2 key"]
     yield "rate as 2 times 10", edited(two, *[(at + 32, b"\0\2\0\12") for at in range(0, 2560, 512)]), ["differ segment 1 key"]
     yield "second 50 late", edited(two, *fine(1, 0, 50)), ["same segments 2 samples 500", "moved 0 50"]
     yield "third 7 early", edited(two, (1024 + 61, b"\xf9")), ["same segments 2 samples 500", "moved 0 7"]
@@ -124,6 +126,9 @@ def by_hand():
     yield Pair("by hand: both cut", two[:2000], two[:1000], known="ONE: offset 1536: 10 RecordCut")
     yield Pair("by hand: both cut, turned", two[:1000], two[:2000], known="ONE: offset 512: 10 RecordCut")
     yield Pair("by hand: no records", b"clock set\n", two, known="ONE: offset 0: 1 Truncated")
+    corrected = [inputs.record(1, at, range(9), inputs.Form(correction=10, activity=bit)) for at, bit in ((0, 0), (1000, 2), (0, 2))]
+    yield Pair("by hand: correction, applied before", *corrected[:2], known=["same segments 1 samples 9", "moved 0 0"])
+    yield Pair("by hand: correction, not applied", *corrected[1:], known=["differ segment 1 start"])
     for start, moved in ((33_333_332, 2), (33_333_333, 1), (33_333_334, 1), (33_333_335, 2)):
         known = ["same segments 1 samples 200", f"moved {moved} 1"]
         yield Pair(f"by hand: thirds, {start}", thirds(start), thirds(33_333_333), known=known)
