@@ -5,6 +5,7 @@ what is printed, the complaint on standard error, the status, and what stands in
 with the product. What the documents leave open is left open here: an outcome can have a text of which any first part
 may be there (`loose`), words that are the product's own (None), and a run can have more than one outcome.
 """
+import itertools
 import os
 import re
 from collections import namedtuple
@@ -18,6 +19,7 @@ COMMANDS = {
     "feed": (("--length", "--tolerance", "--strict"), (1, 1)),
     "list": (("--tolerance", "--strict"), (1, 1)),
     "check": ((), (2, 2)),
+    "compare": (("--tolerance",), (2, 2)),
     "archive": (("--length", "--tolerance", "--strict", "--below", "--resume", "--check", "--only-smaller", "--bytes"), (3, 3)),
 }
 VALUED = ("--length", "--tolerance", "--below")
@@ -122,6 +124,8 @@ def read_words(words):
         raise Ends(2, told(f"not a record length: {', '.join(map(str, most))} or {last} bytes"))
     if command == "repack" and len(names) == 2 and names[0] == names[1]:
         raise Ends(2, told("the output is the input"))
+    if command == "compare" and names == ["-", "-"]:
+        raise Ends(2, told("only one input can be standard input"))
     if command == "archive" and (overlap(names) or overlap(below)):
         raise Ends(2, told("the folders overlap"))
     if not all(map(is_place, below)):
@@ -271,6 +275,21 @@ def check(task, given):
     yield Outcome(0, b"least\n", b"") if is_shown else Outcome(3, b"not shown\n", b"")
 
 
+def compare(task, given):
+    """Both are opened first, and then read record by record in turns: if reading the other one fails, a fault of the
+    first may be found before."""
+    both = [inputs(name, given) for name in task.names]
+    for (one, one_fails), (other, other_fails) in itertools.product(*both):
+        for name, fails in zip(task.names, (one_fails, other_fails)):
+            if fails:
+                yield Outcome(1, b"", told(f"{name}: read fault"))
+        answer = model.compared(one, other, task.tolerance)
+        if answer.fault and not one_fails and not (other_fails and answer.whose == 1):
+            yield Outcome(1, b"", told(f"{task.names[answer.whose]}: {answer.fault}"))
+        elif not one_fails and not other_fails:
+            yield Outcome(answer.status, model.text(answer.lines).encode(), b"")
+
+
 def archive(task, given):
     if walks.overlap(task.names):
         raise Ends(2, told("the folders overlap"))
@@ -279,7 +298,7 @@ def archive(task, given):
     yield Outcome(int(walk.refused > 0), text, b"", lines=True)
 
 
-DOES = {"repack": repack, "feed": feed, "list": list_segments, "check": check, "archive": archive}
+DOES = {"repack": repack, "feed": feed, "list": list_segments, "check": check, "compare": compare, "archive": archive}
 
 
 def printing(outcome, device):

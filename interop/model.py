@@ -5,6 +5,8 @@ from the end. It shares no line with the product; compare.py holds the two again
 """
 import datetime
 import functools
+import itertools
+import math
 import struct
 from collections import namedtuple
 from fractions import Fraction
@@ -30,8 +32,10 @@ THREE = (3, 8, 1, None)
 Key = namedtuple("Key", "network station location channel quality factor multiplier activity clock data correction timing")
 Row = namedtuple("Row", "key start samples kind")
 Segment = namedtuple("Segment", "key start samples")
-Read = namedtuple("Read", "segments counts fault rows")
+Read = namedtuple("Read", "segments counts fault rows moved")
 Repacked = namedtuple("Repacked", "records report fault")
+# The lines and the status; or whose fault it is (0: that of the first, 1: of the other), and the fault.
+Compared = namedtuple("Compared", "lines status whose fault")
 
 
 class Refused(Exception):
@@ -228,15 +232,19 @@ def is_in_time(key, start, count):
     return is_instant(start) and is_instant(rounded(nominal(key, start, count - 1)))
 
 
+def apart(segment, row):
+    """How far the row begins from the nominal instant of the segment's next sample, before or after it."""
+    return abs(row.start - nominal(segment.key, segment.start, len(segment.samples)))
+
+
 def joins(segment, row, tolerance):
-    following = nominal(segment.key, segment.start, len(segment.samples))
-    return segment.key == row.key and abs(row.start - following) <= tolerance
+    return segment.key == row.key and apart(segment, row) <= tolerance
 
 
 def read_all(content, tolerance, strict=False):
-    """The segments before the first fault, the counts of records, and the fault in the program's words; and of each
-    record its length and its row."""
-    segments, offset, counts, rows = [], 0, [0, 0, 0], []
+    """The segments before the first fault, the counts of records, and the fault in the program's words; of each record
+    its length and its row; and how far a row that joins is from its place at most, rounded up to the microsecond."""
+    segments, offset, counts, rows, moved = [], 0, [0, 0, 0], [], 0
     content = memoryview(content)
     try:
         while offset < len(content):
@@ -245,6 +253,7 @@ def read_all(content, tolerance, strict=False):
                 key, start, samples = segments[-1]
                 if not is_in_time(key, start, len(samples) + len(row.samples)):
                     raise Refused("17 TimeRange")
+                moved = max(moved, math.ceil(apart(segments[-1], row)))
                 samples += row.samples
             elif row:
                 segments.append(Segment(row.key, row.start, list(row.samples)))
@@ -252,8 +261,8 @@ def read_all(content, tolerance, strict=False):
             counts = [counts[0] + 1, counts[1] + (row is None), counts[2] + (not agrees)]
             offset += length
     except Refused as why:
-        return Read(segments, counts, f"offset {offset}: {why}", rows)
-    return Read(segments, counts, None, rows)
+        return Read(segments, counts, f"offset {offset}: {why}", rows, moved)
+    return Read(segments, counts, None, rows, moved)
 
 
 # Packing.
@@ -441,11 +450,10 @@ def listed(content, tolerance, strict=False):
     return text([*map(segment_line, read.segments), counts_line(read.counts)]), read.fault
 
 
-def repacked(content, size, tolerance, strict=False):
-    """The records of all rows before the fault, the text of the report if there is none, and the fault."""
-    read = read_all(content, tolerance, strict)
-    records, lines = [], ["msrepack 1", f"length {size}", f"tolerance {tolerance}", counts_line(read.counts)]
-    for segment in read.segments:
+def packed(segments, size):
+    """The records of segments, and their lines in a report."""
+    records, lines = [], []
+    for segment in segments:
         runs, separators, differences = packing(segment.samples, size)
         for start, end, kind in runs:
             time = rounded(nominal(segment.key, segment.start, start))
@@ -453,5 +461,48 @@ def repacked(content, size, tolerance, strict=False):
             records.append(record(segment.key, time, number, segment.samples[start:end], differences[start:end], kind, size))
         lines.append(f"{segment_line(segment)} records {len(runs)}")
         lines.append(" ".join(map(str, ["separators", *separators])))
-    lines.append(f"end {len(read.segments)} segments {len(records)} records")
-    return Repacked(b"".join(records), None if read.fault else text(lines), read.fault)
+    return records, lines
+
+
+def repacked(content, size, tolerance, strict=False):
+    """The records of all rows before the fault, the text of the report if there is none, and the fault."""
+    read = read_all(content, tolerance, strict)
+    records, lines = packed(read.segments, size)
+    head = ["msrepack 1", f"length {size}", f"tolerance {tolerance}", counts_line(read.counts)]
+    end = f"end {len(read.segments)} segments {len(records)} records"
+    return Repacked(b"".join(records), None if read.fault else text([*head, *lines, end]), read.fault)
+
+
+# Comparing.
+
+
+def difference(one, other):
+    """In what two segments differ, of which one may be missing; None if they are the same."""
+    if one is None or other is None:
+        return f"only in {'OTHER' if one is None else 'ONE'}"
+    if one.key != other.key:
+        return "key"
+    if one.start != other.start:
+        return "start"
+    for number, (sample, other_sample) in enumerate(itertools.zip_longest(one.samples, other.samples)):
+        if sample is None or other_sample is None:
+            return f"sample {number} only in {'OTHER' if sample is None else 'ONE'}"
+        if sample != other_sample:
+            return f"sample {number} values {sample} {other_sample}"
+    return None
+
+
+def compared(one, other, tolerance):
+    """What is told of two inputs."""
+    both = [read_all(content, tolerance) for content in (one, other)]
+    for whose, read in enumerate(both):
+        if read.fault:
+            return Compared([], 1, whose, read.fault)
+    segments, others = both[0].segments, both[1].segments
+    for number, pair in enumerate(itertools.zip_longest(segments, others), 1):
+        how = difference(*pair)
+        if how:
+            return Compared([f"differ segment {number} {how}"], 3, None, None)
+    samples = sum(len(segment.samples) for segment in segments)
+    told = [f"same segments {len(segments)} samples {samples}", f"moved {both[0].moved} {both[1].moved}"]
+    return Compared(told, 0, None, None)

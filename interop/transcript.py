@@ -404,12 +404,15 @@ REFUSES = ["--strict", "18 ReverseMismatch"]
 LINES = ["done PATH", "same PATH", "skipped PATH: not an SDS path", "not waveform data", "bad day", "notshown PATH", "larger PATH"]
 LINES += ["refused PATH: TEXT", "cannot open", "another walk is at work", "refused PATH: listing"]
 LINES += ["channel NET.STA.LOC.CHAN files N read N written N", "files N skipped N refused N"]
+SAID = ["same segments N samples N", "moved N N", "differ segment K key", "differ segment K start"]
+SAID += ["differ segment K sample N values V V", "differ segment K sample N only in ONE", "differ segment K only in ONE"]
 HELP = {
     None: [*commands.COMMANDS, *STATUSES, "3", "--help", "--version", "does what `msrepack repack -` does"],
     "repack": [*STATUSES, *LENGTH, *TOLERANCE, *REFUSES, "IN", "OUT"],
     "feed": [*STATUSES, *LENGTH, *TOLERANCE, *REFUSES, "REPORT"],
     "list": [*STATUSES, *TOLERANCE, *REFUSES, "IN"],
     "check": [*STATUSES, "3", "PACKED", "REPORT", "least", "not shown"],
+    "compare": [*STATUSES, "3", *TOLERANCE, *SAID, "ONE", "OTHER"],
     "archive": [*STATUSES, *LENGTH, *TOLERANCE, *REFUSES, *LINES, "--below", "--resume", "--check", "--only-smaller", "--bytes", "same"],
 }
 HELP["archive"] += ["ROOT", "OUT", "REPORTS"]

@@ -1,23 +1,24 @@
 # Completions of msrepack for fish: commands, options, lengths, files and folders.
-set -l commands repack feed list check archive help
+set -l commands repack feed list check compare archive help
 set -l none "not __fish_seen_subcommand_from $commands"
 complete -c msrepack -f
 complete -c msrepack -n $none -a repack -d 'Write the segments of a file in the fewest records'
 complete -c msrepack -n $none -a feed -d 'Repack standard input while it comes'
 complete -c msrepack -n $none -a list -d 'List the segments of a file'
 complete -c msrepack -n $none -a check -d 'Say whether a report shows that records are the fewest'
+complete -c msrepack -n $none -a compare -d 'Say whether two files have the same segments'
 complete -c msrepack -n $none -a archive -d 'Repack every day file of an SDS archive'
 complete -c msrepack -n $none -a help -d 'Print help'
 complete -c msrepack -n $none -s V -l version -d 'Print the version'
 complete -c msrepack -s h -l help -d 'Print help'
-complete -c msrepack -n '__fish_seen_subcommand_from help' -a 'repack feed list check archive'
+complete -c msrepack -n '__fish_seen_subcommand_from help' -a 'repack feed list check compare archive'
 
-complete -c msrepack -n '__fish_seen_subcommand_from repack feed list check' -F
+complete -c msrepack -n '__fish_seen_subcommand_from repack feed list check compare' -F
 complete -c msrepack -n '__fish_seen_subcommand_from archive' -a '(__fish_complete_directories)'
 complete -c msrepack -n '__fish_seen_subcommand_from repack feed archive' -x -l length \
     -a '256 512 1024 2048 4096 8192 16384 32768 65536' -d 'Bytes of each record'
 complete -c msrepack -n '__fish_seen_subcommand_from archive' -x -l length -a same -d 'That of each first record'
-complete -c msrepack -n '__fish_seen_subcommand_from repack feed list archive' -x -l tolerance \
+complete -c msrepack -n '__fish_seen_subcommand_from repack feed list compare archive' -x -l tolerance \
     -d 'Microseconds by which a record may be early or late'
 complete -c msrepack -n '__fish_seen_subcommand_from repack feed list archive' -l strict \
     -d 'Refuse a record whose last sample is not its reverse constant'
