@@ -40,10 +40,10 @@ const ANOTHER: &[Edit<'static>] = &[
 ];
 
 /// One sample at three a second, and another 33 1/3 microseconds before it is due, a third of a second later.
-const THIRD: &[Edit<'static>] = &[Edit::Samples(1), Edit::Rate(3, 1)];
+const THIRD: &[Edit<'static>] = &[Edit::SampleCount(1), Edit::Rate(3, 1)];
 
 const EARLY: &[Edit<'static>] = &[
-    Edit::Samples(1),
+    Edit::SampleCount(1),
     Edit::Rate(3, 1),
     Edit::Clock(0, 0, 0, 3333),
 ];
@@ -110,10 +110,10 @@ fn the_same(rt: HostRuntime) -> Result<(), Fail> {
     let late = two(&[], SOON);
     let gap = two(&[], LATER);
     let halves = two(
-        &[Edit::Samples(24)],
-        &[Edit::Samples(24), Edit::Clock(0, 0, 1, 2000)],
+        &[Edit::SampleCount(24)],
+        &[Edit::SampleCount(24), Edit::Clock(0, 0, 1, 2000)],
     );
-    let whole = two(&[], &[Edit::Samples(0)]);
+    let whole = two(&[], &[Edit::SampleCount(0)]);
     let thirds = two(THIRD, EARLY);
     let rows: [(&str, &[u8], &[u8], Answer); 6] = [
         ("itself", &joined, &joined, same(1, 96, 0, 0)),
@@ -137,7 +137,7 @@ fn differences(rt: HostRuntime) -> Result<(), Fail> {
     let later = two(&[], LATEST);
     let another = two(&[], ANOTHER);
     let station = two(&[Edit::Station(*b"OTHER")], NEXT);
-    let shorter = two(&[Edit::Samples(40)], LATER);
+    let shorter = two(&[Edit::SampleCount(40)], LATER);
     let sample = DifferenceKind::Sample {
         number: 51,
         one: 0,
