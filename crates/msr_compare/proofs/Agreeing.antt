@@ -72,5 +72,8 @@ pub weighs_less_both : (source other_source : Device) (one other new_one new_oth
     → PassesAlike one other new_one new_other
     → weight source new_one + weight other_source new_other < weight source one + weight other_source other
 weighs_less_both source other_source one other new_one new_other p =
-    omega (arith, passes_less source one new_one p.front p.some p.one_is p.one_passes,
-    passes_less other_source other new_other p.front p.some p.other_is p.other_passes)
+    omega (
+      arith,
+      passes_less source one new_one p.front p.some p.one_is p.one_passes,
+      passes_less other_source other new_other p.front p.some p.other_is p.other_passes,
+    )

@@ -85,8 +85,13 @@ keys_so segment one other done more other_more ones others c number k e f =
     k.begins.ahead_is)
     (regrouped (symbols_of others) done other.ahead (Opens k.other_key k.other_start ∷ map Holds k.other_begins.samples)
     other_more f k.other_begins.ahead_is) k.differ
-    (omega (arith, number, c.segments, ap opened_in k.begins.ahead_is,
-    opened_beginning k.key k.start k.begins.samples))
+    (omega (
+      arith,
+      number,
+      c.segments,
+      ap opened_in k.begins.ahead_is,
+      opened_beginning k.key k.start k.begins.samples,
+    ))
 
 starts_so : (segment : ℕ) (one other : Standing) (done more other_more : List Symbol) (ones others : List Segment)
     → Counted done one → segment ≡ one.tally.segments → StartsDiffer one other
@@ -99,8 +104,13 @@ starts_so segment one other done more other_more ones others c number k e f =
     k.begins.ahead_is)
     (regrouped (symbols_of others) done other.ahead (Opens k.key k.other_start ∷ map Holds k.other_begins.samples)
     other_more f k.other_begins.ahead_is) k.differ
-    (omega (arith, number, c.segments, ap opened_in k.begins.ahead_is,
-    opened_beginning k.key k.start k.begins.samples))
+    (omega (
+      arith,
+      number,
+      c.segments,
+      ap opened_in k.begins.ahead_is,
+      opened_beginning k.key k.start k.begins.samples,
+    ))
 
 -- samples ahead, of which some are the same
 held_after : (all done ahead more : List Symbol) (samples front after : List ℤ) (sample : ℤ)
@@ -175,8 +185,14 @@ begins_so segment more_side less_side done more other_more ones others c segment
       other_left = at.0.other_left;
       ones_are = at.0.ones_are;
       others_are = at.0.others_are;
-      segment_is = omega (arith, segment_is, c.segments, ap opened_in b.begins.ahead_is,
-          opened_beginning b.key b.start b.begins.samples, at.0.opened);
+      segment_is = omega (
+        arith,
+        segment_is,
+        c.segments,
+        ap opened_in b.begins.ahead_is,
+        opened_beginning b.key b.start b.begins.samples,
+        at.0.opened,
+      );
       only = at.1;
     }
 

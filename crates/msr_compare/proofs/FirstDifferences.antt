@@ -4,8 +4,6 @@ use Rattle.std.proofs.lemmas.List.{append-nil}
 use Rattle.msr_rows.specs.declared.row.Key.{Key}
 use Rattle.msr_segments.specs.declared.joiner.Segment.{Segment}
 use Rattle.msr_compare.specs.Differences.{IsFirstDifference, IsLonger, IsOnlyIn}
-use Rattle.msr_compare.specs.declared.comparison.Difference.{Difference}
-use Rattle.msr_compare.specs.declared.comparison.DifferenceKind.{DifferenceKind}
 use Rattle.msr_compare.specs.declared.comparison.DifferenceKind.TheVariants as kind
 use Rattle.msr_compare.specs.Symbols.{Symbol, Opens, Holds, symbols_of, opened_in, count_after}
 use Rattle.msr_compare.specs.Meetings.{HoldsNone}
@@ -235,9 +233,6 @@ within ones others (Opens key start ∷ done) ahead other_ahead rest sample e f 
 within ones others (Holds x ∷ done) ahead other_ahead rest sample e f holds =
     absurd (no_sample_first ones x (done ++ ahead) e)
 
-difference_so : ℕ → DifferenceKind → Difference
-difference_so segment how = record { segment = segment; kind = how }
-
 -- keys that differ
 pub keys_first : (ones others : List Segment) (done rest other_rest : List Symbol) (key other_key : Key)
     (start other_start : ℤ) (segment : ℕ) → symbols_of ones ≡ done ++ Opens key start ∷ rest
@@ -302,13 +297,15 @@ pub only_first : (ones others : List Segment) (done rest : List Symbol) (key : K
     → (b : Boundary ones others done (Opens key start ∷ rest) []) × IsOnlyIn b.left b.other_left
 only_first ones others done rest key start e f =
     let b = boundary ones others done (Opens key start ∷ rest) [] e f (λ sample after h. cc) (λ sample after h. cc) in
-    let one = opens_so b.left key start rest b.ahead_is in
-    (b, record {
-      one = one.segment;
-      after = one.after;
-      ones_are = one.are;
-      none = no_symbols b.other_left b.other_is;
-    })
+    let one = opens_so b.left key start rest b.ahead_is in (
+      b,
+      record {
+        one = one.segment;
+        after = one.after;
+        ones_are = one.are;
+        none = no_symbols b.other_left b.other_is;
+      },
+    )
 
 -- samples that differ
 pub values_first : (ones others : List Segment) (done rest other_rest : List Symbol) (value other_value : ℤ)

@@ -65,8 +65,13 @@ not_longer_other one other n m x y d l =
 
 not_both : (one other : Segment) (n m : ℕ) → IsLonger one other n → IsLonger other one m → ⊥
 not_both one other n m a b =
-    omega (arith, ap length a.alike.one_is, length-append other.samples (a.sample ∷ a.rest),
-    ap length b.alike.one_is, length-append one.samples (b.sample ∷ b.rest))
+    omega (
+      arith,
+      ap length a.alike.one_is,
+      length-append other.samples (a.sample ∷ a.rest),
+      ap length b.alike.one_is,
+      length-append one.samples (b.sample ∷ b.rest),
+    )
 
 -- in what two segments first differ
 kinds_once : (one other : Segment) (how again : DifferenceKind) → SegmentsDiffer one other how

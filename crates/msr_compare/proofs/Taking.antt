@@ -215,15 +215,18 @@ pub readable_end : (settings : Settings) (start now : Device) (reading : RowRead
 readable_end settings start now reading records answers joining given read are wait ended joined tolerance =
     let came = read.came.begins [] (read.came.end ended) in
     let strict = ap (λ (s : Settings). s.strict) are in
-    let equal = ap (λ (s : Settings). s.tolerance) are in
-    (came.0, came.1, record {
-      are_read = record {
-        begins = rw wait at came.2;
-        in_range = subst (λ (t : ℕ). NoneOverruns t records) equal read.in_range;
-        agree = rw strict at read.came.agree;
-      };
-      are_segments = rw tolerance at joined.segments;
-    })
+    let equal = ap (λ (s : Settings). s.tolerance) are in (
+      came.0,
+      came.1,
+      record {
+        are_read = record {
+          begins = rw wait at came.2;
+          in_range = subst (λ (t : ℕ). NoneOverruns t records) equal read.in_range;
+          agree = rw strict at read.came.agree;
+        };
+        are_segments = rw tolerance at joined.segments;
+      },
+    )
 
 -- a side before the first record
 pub taken_first : (settings : Settings) (start : Device) (reading : RowReading) → HasReadRows start start reading [] []

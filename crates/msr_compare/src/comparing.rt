@@ -105,10 +105,10 @@ fn refuse<One: Source>(side: &mut Side, one: &mut One, why: ReadFault) -> Compar
 /// What is told of two sides whose segments are the same.
 fn same_segments(one: &Side, other: &Side) -> SameSegments
     ensures { result ≡ record {
-        segments = one.now.tally.segments;
-        samples = one.now.tally.samples;
-        moved_one = one.now.tally.moved;
-        moved_other = other.now.tally.moved;
+      segments = one.now.tally.segments;
+      samples = one.now.tally.samples;
+      moved_one = one.now.tally.moved;
+      moved_other = other.now.tally.moved;
     } }
 {
     SameSegments {

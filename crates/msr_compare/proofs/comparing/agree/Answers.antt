@@ -12,9 +12,10 @@ returns-in-Err-clause-met g c = λ settings start_one start_other h.
 pub returns-in-Err-fetch-clause-met : goal.returns-in-Err-fetch-clause-met
 returns-in-Err-fetch-clause-met g c = λ settings start_one start_other h.
     let t = c.meetings.invariant.taken settings start_one start_other h in
-    let f = c.in_default.ensures.fetched settings start_one t.done t.one_taken in
-    (c.in-Err-fetch.ensures.fetched settings start_other t.done t.other_taken,
-    record { done = t.done; taken = f.taken })
+    let f = c.in_default.ensures.fetched settings start_one t.done t.one_taken in (
+      c.in-Err-fetch.ensures.fetched settings start_other t.done t.other_taken,
+      record { done = t.done; taken = f.taken },
+    )
 
 pub returns-in-End-clause-met : goal.returns-in-End-clause-met
 returns-in-End-clause-met g c = λ settings start_one start_other h.

@@ -22,9 +22,11 @@ drain-requires-2 g c = c.requires.other
 
 pub returns-in-Err-drain-clause-finished : goal.returns-in-Err-drain-clause-finished
 returns-in-Err-drain-clause-finished g c = λ settings start_one start_other done other_done h k.
-    let d = c.in_default.ensures.drained settings start_one done h in
-    (c.in-Err-drain.ensures.drained settings start_other other_done k, d.steady,
-    drained_readable settings start_one (g.One.Source.device c.drain.new.source) _ _ d)
+    let d = c.in_default.ensures.drained settings start_one done h in (
+      c.in-Err-drain.ensures.drained settings start_other other_done k,
+      d.steady,
+      drained_readable settings start_one (g.One.Source.device c.drain.new.source) _ _ d,
+    )
 
 pub returns-in-Err-drain-clause-few_one : goal.returns-in-Err-drain-clause-few_one
 returns-in-Err-drain-clause-few_one g c = c.in_default.ensures.few

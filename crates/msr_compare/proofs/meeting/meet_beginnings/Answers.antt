@@ -7,11 +7,14 @@ pub returns-then-starts : goal.returns-then-starts
 returns-then-starts c =
     let same : c.args.keys.0 ≡ c.args.keys.1 =
     (key_decides c.args.keys.0 c.args.keys.1).0 (not_false _ (sym c.ne.ensures ∙ c.if-ne.false)) in
-    rw c.differs-then-starts.ensures (record {
-      segment_is = refl;
-      differ = starts_differ c.args.one.now c.args.other.now c.args.keys.0 c.args.keys.1 c.args.starts.0 c.args.starts.1
-          c.requires.one c.requires.other same (λ e. c.if-starts.true (ap (λ z. of_z w64 z) e));
-    }, record { one_still = refl; other_still = refl })
+    rw c.differs-then-starts.ensures (
+      record {
+        segment_is = refl;
+        differ = starts_differ c.args.one.now c.args.other.now c.args.keys.0 c.args.keys.1 c.args.starts.0 c.args.starts.1
+            c.requires.one c.requires.other same (λ e. c.if-starts.true (ap (λ z. of_z w64 z) e));
+      },
+      record { one_still = refl; other_still = refl },
+    )
 
 pub returns : goal.returns
 returns c =

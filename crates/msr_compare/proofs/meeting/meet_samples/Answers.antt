@@ -7,13 +7,16 @@ returns-in-Some c =
     let unequal = rw (c.samples.ensures, c.samples-2.ensures) at c.in-Some.ensures in
     let fits : FitsSigned w32 c.in-Some.unequal.one = search rules in
     let other_fits : FitsSigned w32 c.in-Some.unequal.other = search rules in
-    rw c.differs.ensures (rw (to_z-of_z fits, to_z-of_z other_fits) (record {
-      segment_is = refl;
-      differ = values_differ c.args.one.now c.args.other.now c.saturating_add.result c.in-Some.unequal.at
-          c.in-Some.unequal.one c.in-Some.unequal.other c.requires.one c.requires.other unequal
-          (c.saturating_add.ensures ∙ ap (λ n. min (n + c.in-Some.unequal.at) 18_446_744_073_709_551_615)
-          c.place.ensures);
-    }, record { one_still = refl; other_still = refl }))
+    rw c.differs.ensures (rw (to_z-of_z fits, to_z-of_z other_fits) (
+      record {
+        segment_is = refl;
+        differ = values_differ c.args.one.now c.args.other.now c.saturating_add.result c.in-Some.unequal.at
+            c.in-Some.unequal.one c.in-Some.unequal.other c.requires.one c.requires.other unequal
+            (c.saturating_add.ensures ∙ ap (λ n. min (n + c.in-Some.unequal.at) 18_446_744_073_709_551_615)
+            c.place.ensures);
+      },
+      record { one_still = refl; other_still = refl },
+    ))
 
 pub returns : goal.returns
 returns c =
