@@ -16,12 +16,14 @@ use Rattle.msr_days.specs.declared.DayOptions.{DayOptions}
 use Rattle.msr_walk.specs.Walk.{IsWalk, Walks}
 use Rattle.msr_walk.proofs.EntriesTold.{part_none, stops_entries, walk_stops}
 use Rattle.msr_command.specs.declared.done.Done.{Done}
-use Rattle.msr_command.specs.declared.done.Done.TheVariants.{Written, Repacked, Checked, Walked}
+use Rattle.msr_command.specs.declared.done.Done.TheVariants.{Written, Repacked, Checked, Compared, Walked}
 use Rattle.msr_command.specs.declared.task_fault.TaskFault.{TaskFault}
-use Rattle.msr_command.specs.declared.task_fault.TaskFault.TheVariants.{CannotOpen, SameFile, SameOutput, Overlap, Closed, Tool}
+use Rattle.msr_command.specs.declared.task_fault.TaskFault.TheVariants.{CannotOpen, Input, SameFile, SameOutput, Overlap, Closed, Tool}
 use Rattle.msr_arguments.specs.declared.task.Task.{Task}
-use Rattle.msr_arguments.specs.declared.task.Task.TheVariants.{Repack, List as Listing, Check, Archive, Feed}
+use Rattle.msr_arguments.specs.declared.task.Task.TheVariants.{Repack, List as Listing, Check, Compare, Archive, Feed}
 use Rattle.msr_command.specs.Turns.{AreTurns}
+use Rattle.msr_command.specs.Comparing.{names_of}
+use Rattle.msr_command.proofs.Comparisons.{compare_unsettled, two_after, two_none}
 use Rattle.msr_command.specs.Ends.{Checks, Does, Ends, EndsClosed, Feeds, FeedAnswers, FeedEnds, FeedsTo, IfChecked, IfRepacked, IfWritten, IsUncreated, IsUnread, ListEnds, ListsNamed, Over, RepackEnds, Repacks, RepacksNamed, StopsRecords, StopsReport, WalksArchive, WritesList, WritesRecords, WritesReport}
 
 -- nothing was read or printed
@@ -63,6 +65,7 @@ over_said known says others source out0 out then does = record {
 unread : (done : Done → Type 0) (stopped : ToolFault → Type 0) (stop : TaskFault) → IsUnread stop →
     Ends done IsUnread stopped [] (Err stop)
 unread done stopped (CannotOpen name error) is = (tt, refl)
+unread done stopped (Input name why) is = absurd is
 unread done stopped SameFile is = (tt, refl)
 unread done stopped SameOutput is = absurd is
 unread done stopped Overlap is = absurd is
@@ -72,6 +75,7 @@ unread done stopped (Tool why) is = absurd is
 uncreated : (done : Done → Type 0) (stopped : ToolFault → Type 0) (stop : TaskFault) → IsUncreated stop →
     Ends done IsUncreated stopped [] (Err stop)
 uncreated done stopped (CannotOpen name error) is = (tt, refl)
+uncreated done stopped (Input name why) is = absurd is
 uncreated done stopped SameFile is = (tt, refl)
 uncreated done stopped SameOutput is = (tt, refl)
 uncreated done stopped Overlap is = absurd is
@@ -85,6 +89,7 @@ closed_or done stopped stop (inr is) = uncreated done stopped stop is
 
 pub unread_uncreated : (stop : TaskFault) → IsUnread stop → IsUncreated stop
 unread_uncreated (CannotOpen name error) is = tt
+unread_uncreated (Input name why) is = absurd is
 unread_uncreated SameFile is = tt
 unread_uncreated SameOutput is = absurd is
 unread_uncreated Overlap is = absurd is
@@ -130,6 +135,8 @@ task_closed (Listing asked) standard out0 out stop none ends =
     rw ends (over_none _ _ standard out0 out none (λ input. refl))
 task_closed (Check asked) standard out0 out stop none ends =
     rw ends (record { input = []; text = []; printed = []; prints = none; ends = refl })
+task_closed (Compare asked) standard out0 out stop none ends =
+    rw ends (two_none _ _ _ standard standard out0 out none (λ first second. refl))
 task_closed (Archive asked) standard out0 out stop none ends =
     rw ends (record { printed = []; prints = none; ends = refl })
 task_closed (Feed asked) standard out0 out stop none ends = feed_closed asked.options standard out0 out stop none ends
@@ -145,6 +152,8 @@ then_does (Check asked) standard out0 out1 out result none does = record {
   ends = does.ends;
   prints = takes_append out0 out1 out [] does.printed none does.prints;
 }
+then_does (Compare asked) standard out0 out1 out result none does =
+    two_after _ _ _ standard standard out0 out1 out none does
 then_does (Archive asked) standard out0 out1 out result none does = record {
   printed = does.printed;
   ends = does.ends;
@@ -297,19 +306,29 @@ task_unsettled (Repack asked) standard out0 out Written does = absurd does.ends
 task_unsettled (Repack asked) standard out0 out (Repacked in_turns) does =
     over_said _ _ _ standard out0 out (repack_unstored asked.options in_turns) does
 task_unsettled (Repack asked) standard out0 out (Checked verdict) does = absurd does.ends
+task_unsettled (Repack asked) standard out0 out (Compared comparison) does = absurd does.ends
 task_unsettled (Repack asked) standard out0 out (Walked refused) does = absurd does.ends
 task_unsettled (Listing asked) standard out0 out Written does =
     over_said _ _ _ standard out0 out (list_unstored asked.options) does
 task_unsettled (Listing asked) standard out0 out (Repacked in_turns) does = absurd does.ends
 task_unsettled (Listing asked) standard out0 out (Checked verdict) does = absurd does.ends
+task_unsettled (Listing asked) standard out0 out (Compared comparison) does = absurd does.ends
 task_unsettled (Listing asked) standard out0 out (Walked refused) does = absurd does.ends
 task_unsettled (Check asked) standard out0 out Written does = absurd does.ends
 task_unsettled (Check asked) standard out0 out (Repacked in_turns) does = absurd does.ends
 task_unsettled (Check asked) standard out0 out (Checked verdict) does = check_unsettled out0 out verdict does
+task_unsettled (Check asked) standard out0 out (Compared comparison) does = absurd does.ends
 task_unsettled (Check asked) standard out0 out (Walked refused) does = absurd does.ends
+task_unsettled (Compare asked) standard out0 out Written does = absurd does.ends
+task_unsettled (Compare asked) standard out0 out (Repacked in_turns) does = absurd does.ends
+task_unsettled (Compare asked) standard out0 out (Checked verdict) does = absurd does.ends
+task_unsettled (Compare asked) standard out0 out (Compared comparison) does =
+    compare_unsettled asked.options (names_of asked) standard out0 out comparison does
+task_unsettled (Compare asked) standard out0 out (Walked refused) does = absurd does.ends
 task_unsettled (Archive asked) standard out0 out Written does = absurd does.ends
 task_unsettled (Archive asked) standard out0 out (Repacked in_turns) does = absurd does.ends
 task_unsettled (Archive asked) standard out0 out (Checked verdict) does = absurd does.ends
+task_unsettled (Archive asked) standard out0 out (Compared comparison) does = absurd does.ends
 task_unsettled (Archive asked) standard out0 out (Walked refused) does =
     let P : List ℕ → Type 0 = λ text. IsWalk asked.days text does.ends.0 in
     record {
@@ -321,6 +340,7 @@ task_unsettled (Feed asked) standard out0 out Written does =
     over_said _ _ _ standard out0 out (feed_unstored asked.options) does
 task_unsettled (Feed asked) standard out0 out (Repacked in_turns) does = absurd does.ends
 task_unsettled (Feed asked) standard out0 out (Checked verdict) does = absurd does.ends
+task_unsettled (Feed asked) standard out0 out (Compared comparison) does = absurd does.ends
 task_unsettled (Feed asked) standard out0 out (Walked refused) does = absurd does.ends
 
 -- a file, and not standard input, was listed, or is at fault

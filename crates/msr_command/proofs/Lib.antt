@@ -1,1 +1,2 @@
+pub mod Comparisons
 pub mod Endings

@@ -13,28 +13,36 @@ use Rattle.msr_verdict.specs.declared.verdict.Verdict.{Verdict}
 use Rattle.msr_verdict.specs.declared.verdict.Verdict.TheVariants.{Least, NotShown}
 use Rattle.msr_tool.specs.declared.fault.ToolFault.{ToolFault}
 use Rattle.msr_walk.specs.Walk.{WalkEnds}
+use Rattle.msr_compare.specs.declared.comparison.Comparison.{Comparison}
+use Rattle.msr_compare.specs.declared.comparison.Comparison.TheVariants.{Same, Differ}
 use Rattle.msr_command.specs.declared.done.Done.{Done}
-use Rattle.msr_command.specs.declared.done.Done.TheVariants.{Written, Repacked, Checked, Walked}
+use Rattle.msr_command.specs.declared.done.Done.TheVariants.{Written, Repacked, Checked, Compared, Walked}
 use Rattle.msr_command.specs.declared.task_fault.TaskFault.{TaskFault}
-use Rattle.msr_command.specs.declared.task_fault.TaskFault.TheVariants.{CannotOpen, SameFile, SameOutput, Overlap, Closed, Tool}
+use Rattle.msr_command.specs.declared.task_fault.TaskFault.TheVariants.{CannotOpen, Input, SameFile, SameOutput, Overlap, Closed, Tool}
+use Rattle.msr_command.specs.declared.comparing.Names.{Names}
+use Rattle.msr_command.specs.Comparing.{IsAnswered, IsUncompared, StopsComparison, names_of}
 use Rattle.msr_command.specs.Turns.{AreTurns}
 use Rattle.msr_arguments.specs.declared.task.NoTask.{NoTask}
 use Rattle.msr_arguments.specs.declared.task.NoTask.TheVariants.{Ending, Memory}
 use Rattle.msr_arguments.specs.declared.task.Task.{Task}
-use Rattle.msr_arguments.specs.declared.task.Task.TheVariants.{Repack, List as Listing, Check, Archive, Feed}
+use Rattle.msr_arguments.specs.declared.task.Task.TheVariants.{Repack, List as Listing, Check, Compare, Archive, Feed}
 use Rattle.msr_arguments.specs.Tasks.{HasStatus, IsDefault}
 
--- 0 for what was written or is least, 3 for what is not shown, 1 for a walk on which an entry was refused
+-- 0 for what was written, is least or is the same, 3 for what is not shown or differs, 1 for a walk on which an entry was
+-- refused
 abbrev pub status_of_done : Done → ℕ
 status_of_done Written = 0
 status_of_done (Repacked in_turns) = 0
 status_of_done (Checked Least) = 0
 status_of_done (Checked NotShown) = 3
+status_of_done (Compared (Same told)) = 0
+status_of_done (Compared (Differ difference)) = 3
 status_of_done (Walked refused) = if refused then 1 else 0
 
 -- 2 if the output is the input, two outputs are one file, or folders overlap, which is a wrong command line, and else 1
 abbrev pub status_of_task_fault : TaskFault → ℕ
 status_of_task_fault (CannotOpen name why) = 1
+status_of_task_fault (Input name why) = 1
 status_of_task_fault SameFile = 2
 status_of_task_fault SameOutput = 2
 status_of_task_fault Overlap = 2
@@ -48,6 +56,7 @@ status_of (Err stop) = status_of_task_fault stop
 -- an input could not be opened, or is the output
 abbrev pub IsUnread : TaskFault → Type 0
 IsUnread (CannotOpen name why) = ⊤
+IsUnread (Input name why) = ⊥
 IsUnread SameFile = ⊤
 IsUnread SameOutput = ⊥
 IsUnread Overlap = ⊥
@@ -57,6 +66,7 @@ IsUnread (Tool fault) = ⊥
 -- a file could not be made, or is the input or another output
 abbrev pub IsUncreated : TaskFault → Type 0
 IsUncreated (CannotOpen name why) = ⊤
+IsUncreated (Input name why) = ⊥
 IsUncreated SameFile = ⊤
 IsUncreated SameOutput = ⊤
 IsUncreated Overlap = ⊥
@@ -66,35 +76,47 @@ IsUncreated (Tool fault) = ⊥
 -- folders overlap
 abbrev pub IsOverlap : TaskFault → Type 0
 IsOverlap (CannotOpen name why) = ⊥
+IsOverlap (Input name why) = ⊥
 IsOverlap SameFile = ⊥
 IsOverlap SameOutput = ⊥
 IsOverlap Overlap = ⊤
 IsOverlap Closed = ⊥
 IsOverlap (Tool fault) = ⊥
 
--- what it says that a task was done by writing, by a repack, by a verdict, or by a walk
+-- what it says that a task was done by writing, by a repack, by a verdict, by an answer, or by a walk
 abbrev pub IfWritten : Type 0 → Done → Type 0
 IfWritten says Written = says
 IfWritten says (Repacked in_turns) = ⊥
 IfWritten says (Checked verdict) = ⊥
+IfWritten says (Compared comparison) = ⊥
 IfWritten says (Walked refused) = ⊥
 
 abbrev pub IfRepacked : (Bool → Type 0) → Done → Type 0
 IfRepacked says Written = ⊥
 IfRepacked says (Repacked in_turns) = says in_turns
 IfRepacked says (Checked verdict) = ⊥
+IfRepacked says (Compared comparison) = ⊥
 IfRepacked says (Walked refused) = ⊥
 
 abbrev pub IfChecked : (Verdict → Type 0) → Done → Type 0
 IfChecked says Written = ⊥
 IfChecked says (Repacked in_turns) = ⊥
 IfChecked says (Checked verdict) = says verdict
+IfChecked says (Compared comparison) = ⊥
 IfChecked says (Walked refused) = ⊥
+
+abbrev pub IfCompared : (Comparison → Type 0) → Done → Type 0
+IfCompared says Written = ⊥
+IfCompared says (Repacked in_turns) = ⊥
+IfCompared says (Checked verdict) = ⊥
+IfCompared says (Compared comparison) = says comparison
+IfCompared says (Walked refused) = ⊥
 
 abbrev pub IfWalked : (Bool → Type 0) → Done → Type 0
 IfWalked says Written = ⊥
 IfWalked says (Repacked in_turns) = ⊥
 IfWalked says (Checked verdict) = ⊥
+IfWalked says (Compared comparison) = ⊥
 IfWalked says (Walked refused) = says refused
 
 -- How a task ends: it is done, or the engine stops, with what that says; or nothing is printed, since a file stops it
@@ -103,6 +125,7 @@ abbrev pub Ends : (done : Done → Type 0) → (file : TaskFault → Type 0) →
     (printed : List ℕ) → Result Done TaskFault → Type 0
 Ends done file stopped printed (Ok what) = done what
 Ends done file stopped printed (Err (CannotOpen name why)) = file (CannotOpen name why) × (printed ≡ [])
+Ends done file stopped printed (Err (Input name why)) = file (Input name why) × (printed ≡ [])
 Ends done file stopped printed (Err SameFile) = file SameFile × (printed ≡ [])
 Ends done file stopped printed (Err SameOutput) = file SameOutput × (printed ≡ [])
 Ends done file stopped printed (Err Overlap) = file Overlap × (printed ≡ [])
@@ -197,6 +220,41 @@ pub record Checks (out0 out : Device) (result : Result Done TaskFault) : Type 0 
   pub prints : Takes out0 out printed
   pub ends : CheckEnds input text printed result
 
+-- What a task over two inputs read and printed, and what these say. Each input is what its source has left, if the source
+-- is known to be that of the task.
+pub record OverTwo (known_one known_other : Type 0) (says : (first second printed : List ℕ) → Type 0)
+    (one other out0 out : Device) : Type 0 where
+  pub first : List ℕ
+  pub second : List ℕ
+  pub printed : List ℕ
+  pub left_one : known_one → HasLeft one first
+  pub left_other : known_other → HasLeft other second
+  pub prints : Takes out0 out printed
+  pub ends : says first second printed
+
+abbrev pub CompareEnds : Choice → Names → Result Done TaskFault → (first second printed : List ℕ) → Type 0
+CompareEnds choice names result first second printed =
+    Ends (IfCompared (IsAnswered choice first second printed)) (IsUncompared choice names first second)
+    (StopsComparison choice first second printed) printed result
+
+-- Comparing two sources.
+abbrev pub Compares : Choice → Names → (one other out0 out : Device) → Result Done TaskFault → Type 0
+Compares choice names one other out0 out result =
+    OverTwo ⊤ ⊤ (CompareEnds choice names result) one other out0 out
+
+-- the first name is that of standard input
+abbrev pub IsOneStandard : Names → Type 0
+IsOneStandard names = names.one.now ≡ codes "-"
+
+-- the other one is; a command line has not both
+abbrev pub IsOtherStandard : Names → Type 0
+IsOtherStandard names = ¬ (IsOneStandard names) × (names.other.now ≡ codes "-")
+
+-- Comparing the files of two names, of which one may be standard input.
+abbrev pub ComparesNamed : Choice → Names → (standard out0 out : Device) → Result Done TaskFault → Type 0
+ComparesNamed choice names standard out0 out result =
+    OverTwo (IsOneStandard names) (IsOtherStandard names) (CompareEnds choice names result) standard standard out0 out
+
 abbrev pub ArchiveEnds : DayOptions → (printed : List ℕ) → Result Done TaskFault → Type 0
 ArchiveEnds asked printed result =
     Ends (IfWalked (λ refused. WalkEnds asked printed (Ok refused))) IsOverlap
@@ -224,6 +282,7 @@ abbrev pub EndsClosed : Task → TaskFault → Type 0
 EndsClosed (Repack asked) stop = stop ≡ Closed
 EndsClosed (Listing asked) stop = stop ≡ Closed
 EndsClosed (Check asked) stop = stop ≡ Closed
+EndsClosed (Compare asked) stop = stop ≡ Closed
 EndsClosed (Archive asked) stop = stop ≡ Closed
 EndsClosed (Feed asked) stop = (stop ≡ Closed) ⊎ IsUncreated stop
 
@@ -232,6 +291,8 @@ abbrev pub Does : Task → (standard out0 out : Device) → Result Done TaskFaul
 Does (Repack asked) standard out0 out result = RepacksNamed asked.options asked.input.now standard out0 out result
 Does (Listing asked) standard out0 out result = ListsNamed asked.options asked.input.now standard out0 out result
 Does (Check asked) standard out0 out result = Checks out0 out result
+Does (Compare asked) standard out0 out result =
+    ComparesNamed asked.options (names_of asked) standard out0 out result
 Does (Archive asked) standard out0 out result = WalksArchive asked.days out0 out result
 Does (Feed asked) standard out0 out result = Feeds asked.options standard out0 out result
 

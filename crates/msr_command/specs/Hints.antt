@@ -5,13 +5,15 @@ use Rattle.msr_hints.specs.Hints.{IsOfBytes, line_of}
 use Rattle.msr_hints.specs.declared.hint.Hint.{Hint}
 use Rattle.msr_hints.specs.declared.hint.Hint.TheVariants.{Folder, System, Turns}
 use Rattle.msr_arguments.specs.declared.task.Task.{Task}
-use Rattle.msr_arguments.specs.declared.task.Task.TheVariants.{Repack, List as Listing, Check, Archive, Feed}
+use Rattle.msr_arguments.specs.declared.task.Task.TheVariants.{Repack, List as Listing, Check, Compare, Archive, Feed}
+use Rattle.msr_input.specs.declared.fault.ReadFault.{ReadFault}
+use Rattle.msr_tool.specs.Fault.{fault_of_reading}
 use Rattle.msr_tool.specs.declared.fault.ToolFault.{ToolFault}
 use Rattle.msr_tool.specs.declared.fault.ToolFault.TheVariants as fault
 use Rattle.msr_command.specs.declared.done.Done.{Done}
-use Rattle.msr_command.specs.declared.done.Done.TheVariants.{Written, Repacked, Checked, Walked}
+use Rattle.msr_command.specs.declared.done.Done.TheVariants.{Written, Repacked, Checked, Compared, Walked}
 use Rattle.msr_command.specs.declared.task_fault.TaskFault.{TaskFault}
-use Rattle.msr_command.specs.declared.task_fault.TaskFault.TheVariants.{CannotOpen, SameFile, SameOutput, Overlap, Closed, Tool}
+use Rattle.msr_command.specs.declared.task_fault.TaskFault.TheVariants.{CannotOpen, Input, SameFile, SameOutput, Overlap, Closed, Tool}
 use Rattle.msr_command.specs.declared.hints.FilesRead.{FilesRead}
 
 -- the records are read from the file of this name, which is standard input for `-`
@@ -20,11 +22,12 @@ pub record IsInput (name : List ℕ) (read : FilesRead) : Type 0 where
   pub file : name ≢ codes "-" → IsSomeAnd read.records (λ it. it.now ≡ name)
   pub no_report : read.report ≡ None
 
--- the files that a task reads
+-- the files that a task reads; of two inputs the fault names the one
 abbrev pub AreFilesOf : Task → FilesRead → Type 0
 AreFilesOf (Repack asked) read = IsInput asked.input.now read
 AreFilesOf (Listing asked) read = IsInput asked.input.now read
 AreFilesOf (Check asked) read = (read.records ≡ Some asked.packed) × (read.report ≡ Some asked.report)
+AreFilesOf (Compare asked) read = (read.records ≡ None) × (read.report ≡ None)
 AreFilesOf (Archive asked) read = (read.records ≡ None) × (read.report ≡ None)
 AreFilesOf (Feed asked) read = (read.records ≡ None) × (read.report ≡ None)
 
@@ -47,6 +50,7 @@ abbrev pub HintsDone : Done → Option Hint → Type 0
 HintsDone Written hint = hint ≡ None
 HintsDone (Repacked in_turns) hint = hint ≡ (if in_turns then Some Turns else None)
 HintsDone (Checked verdict) hint = hint ≡ None
+HintsDone (Compared comparison) hint = hint ≡ None
 HintsDone (Walked refused) hint = hint ≡ None
 
 abbrev pub HintsEngine : FilesRead → ToolFault → Option Hint → Type 0
@@ -56,8 +60,15 @@ HintsEngine read fault.Read hint = HintsFolders read.report read.records hint
 HintsEngine read fault.Write hint = hint ≡ None
 HintsEngine read fault.Memory hint = hint ≡ None
 
+-- The input with this name, which has this fault, tells it as records do that are the only input.
+pub record HintsInput (name : List ℕ) (why : ReadFault) (hint : Option Hint) : Type 0 where
+  pub read : FilesRead
+  pub is_input : IsInput name read
+  pub hints : HintsEngine read (fault_of_reading why) hint
+
 abbrev pub HintsFault : FilesRead → TaskFault → Option Hint → Type 0
 HintsFault read (CannotOpen name why) hint = hint ≡ Some (System why)
+HintsFault read (Input name why) hint = HintsInput name.now why hint
 HintsFault read SameFile hint = hint ≡ None
 HintsFault read SameOutput hint = hint ≡ None
 HintsFault read Overlap hint = hint ≡ None

@@ -1,3 +1,4 @@
+pub mod Comparing
 pub mod Ends
 pub mod Hints
 pub mod Turns

@@ -2,6 +2,7 @@
 ghost use Rattle.std.specs.Prelude.{◌≡◌};
 ghost use Rattle.msr_command.specs.Ends.{status_of_done};
 
+use msr_compare::Comparison;
 use msr_tool::Verdict;
 
 /// What a task that was done ends with.
@@ -13,6 +14,8 @@ pub(crate) enum Done {
     Repacked { in_turns: bool },
     /// A verdict was printed.
     Checked(Verdict),
+    /// An answer was printed.
+    Compared(Comparison),
     /// An archive was walked to its end, and an entry was refused, or none.
     Walked { refused: bool },
 }
@@ -25,6 +28,7 @@ impl Done {
         match self {
             Done::Written | Done::Repacked { .. } => 0,
             Done::Checked(verdict) => verdict.status(),
+            Done::Compared(comparison) => comparison.status(),
             Done::Walked { refused } => { if *refused { 1 } else { 0 } }
         }
     }

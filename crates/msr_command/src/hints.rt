@@ -1,14 +1,16 @@
 //! What a person is told when a task has ended.
-ghost use Rattle.msr_command.specs.Hints.{HintsBytes, HintsDone, HintsEnd, HintsEngine, HintsFault, HintsFolder};
+ghost use Rattle.msr_command.specs.Hints.{HintsBytes, HintsDone, HintsEnd, HintsEngine, HintsFault, HintsFolder, HintsInput};
 
 use crate::done::Done;
 use crate::task_fault::TaskFault;
 use msr_arguments::Task;
 use msr_hints::{Hint, hint_of_file, hint_of_folder};
+use msr_input::ReadFault;
 use msr_tool::ToolFault;
 use std::rt::Files;
 
-/// The names of the files that a task reads, records and a report. Standard input has none: what it gave is gone.
+/// The names of the files that a task reads, records and a report. Standard input has none: what it gave is gone. Of two
+/// inputs the fault names the one.
 #[derive(Clone, Copy)]
 pub(crate) struct FilesRead<'a> {
     pub records: Option<&'a str>,
@@ -28,7 +30,7 @@ impl<'a> FilesRead<'a> {
                 records: Some(asked.packed),
                 report: Some(asked.report),
             },
-            Task::Archive(_) | Task::Feed(_) => FilesRead {
+            Task::Compare(_) | Task::Archive(_) | Task::Feed(_) => FilesRead {
                 records: None,
                 report: None,
             },
@@ -70,7 +72,7 @@ fn hint_of_done(done: &Done) -> Option<Hint>
 {
     match done {
         Done::Repacked { in_turns } => { if *in_turns { Some(Hint::Turns) } else { None } }
-        Done::Written | Done::Checked(_) | Done::Walked { .. } => None,
+        Done::Written | Done::Checked(_) | Done::Compared(_) | Done::Walked { .. } => None,
     }
 }
 
@@ -88,11 +90,19 @@ fn hint_of_engine<R: Files>(rt: &R, read: FilesRead<'_>, fault: &ToolFault) -> O
     }
 }
 
+/// What the file with that name tells, which has this fault.
+fn hint_of_input<R: Files>(rt: &R, name: &str, fault: &ReadFault) -> Option<Hint>
+    ensures { HintsInput name.now fault.now result }
+{
+    hint_of_engine(rt, FilesRead::of_input(name), &ToolFault::from(*fault))
+}
+
 fn hint_of_fault<R: Files>(rt: &R, read: FilesRead<'_>, fault: &TaskFault<'_>) -> Option<Hint>
     ensures { HintsFault read.entry fault.now result }
 {
     match fault {
         TaskFault::CannotOpen(_, why) => Some(Hint::System(*why)),
+        TaskFault::Input(name, fault) => hint_of_input(rt, name, fault),
         TaskFault::Tool(fault) => hint_of_engine(rt, read, fault),
         TaskFault::SameFile | TaskFault::SameOutput | TaskFault::Overlap | TaskFault::Closed => {
             None

@@ -1,6 +1,7 @@
 //! The program's tasks: what is done with the files that a command line names, and what is told at the end.
 #![tactic(auto)]
 
+mod comparing;
 mod done;
 mod errors;
 mod files;

@@ -1,4 +1,5 @@
 //! Why a task ends before it is done.
+use msr_input::ReadFault;
 use msr_tool::ToolFault;
 use std::io;
 use thiserror::Error;
@@ -9,6 +10,9 @@ pub(crate) enum TaskFault<'a> {
     /// The file with this name could not be opened, or not be made, and why.
     #[error("cannot open {0}")]
     CannotOpen(&'a str, io::Error),
+    /// Of two inputs that with this name is refused, or cannot be read.
+    #[error("{0}: {1}")]
+    Input(&'a str, ReadFault),
     /// The output is the input, by another name or a link; or standard output is redirected to an input.
     #[error("the output is the input")]
     SameFile,
@@ -35,7 +39,7 @@ impl<'a> TaskFault<'a> {
         ensures { result ≡ status_of_task_fault self.now }
     {
         match self {
-            TaskFault::CannotOpen(_, _) | TaskFault::Closed => 1,
+            TaskFault::CannotOpen(_, _) | TaskFault::Input(_, _) | TaskFault::Closed => 1,
             TaskFault::SameFile | TaskFault::SameOutput | TaskFault::Overlap => 2,
             TaskFault::Tool(fault) => fault.status(),
         }

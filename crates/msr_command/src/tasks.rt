@@ -3,6 +3,7 @@
 ghost use Rattle.msr_devices.specs.Device.{CanCountCall};
 ghost use Rattle.msr_command.specs.Ends.{Checks, Does, EndsClosed, Feeds, FeedsTo, ListsNamed, OpensOutput, Repacks, RepacksNamed, WalksArchive};
 
+use crate::comparing::compare_files;
 use crate::done::Done;
 use crate::files::{
     FileId, create_output, create_report, open_file, settle_standard_output, standard_input,
@@ -64,6 +65,7 @@ where
         Task::Repack(asked) => repack_file(rt, alloc, asked, input, output),
         Task::List(asked) => list_file(rt, alloc, asked, input, output),
         Task::Check(asked) => check_files(rt, alloc, asked, output),
+        Task::Compare(asked) => compare_files(rt, alloc, asked, input, output),
         Task::Archive(asked) => repack_archive(rt, alloc, asked, output),
         Task::Feed(asked) => feed_input(rt, alloc, asked, input, output),
     }

@@ -1,16 +1,9 @@
 -- What stands ahead of a side.
 use Rattle.std.proofs.Common.{◌≡◌, ℕ, ◌+◌, ◌≤◌, Bool, false, List, [], ◌∷◌, ◌++◌, length, map, drop, refl, sym, ap, subst, ◌∙◌, ℤ, Option, Some}
-use Rattle.msr_rows.specs.declared.row.Key.{Key}
 use Rattle.msr_rows.specs.declared.row.Row.{Row}
 use Rattle.msr_compare.specs.Symbols.{Symbol, Opens, Holds, held_in, row_ahead}
 use Rattle.msr_compare.proofs.Symbols.{all_passed, held_ahead, held_map, passed_ahead}
-use Rattle.msr_compare.specs.Meetings.{HoldsNone, BeginsNext, HoldsNext}
-
-pub nothing_held : (ahead : List Symbol) → ahead ≡ [] → HoldsNone ahead
-nothing_held ahead none sample rest e = cc
-
-pub beginning_held : (ahead rest : List Symbol) (key : Key) (start : ℤ) → ahead ≡ Opens key start ∷ rest → HoldsNone ahead
-beginning_held ahead rest key start opens sample after e = cc
+use Rattle.msr_compare.specs.Meetings.{HoldsNone, HoldsNext}
 
 -- samples that are ahead are some, or none
 pub holds_some : (samples : List ℤ) (ahead : List Symbol) → ahead ≡ map Holds samples → (samples ≡ [] → ⊥)

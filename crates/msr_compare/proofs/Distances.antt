@@ -1,12 +1,11 @@
 -- A distance as a quotient that is rounded up.
-use Rattle.std.proofs.Common.{◌≡◌, ℕ, ◌+◌, ◌-◌, ◌*◌, ◌/◌, ◌^◌, ◌<◌, ◌≤◌, ◌⊎◌, inl, inr, min, refl, sym, ap, subst, ◌∙◌, arith, ℤ, pos, ◌+ℤ◌, ◌-ℤ◌, ◌*ℤ◌, FitsSigned, w64, to_z, of_z, unsigned_abs}
+use Rattle.std.proofs.Common.{◌≡◌, ℕ, ◌+◌, ◌-◌, ◌*◌, ◌/◌, ◌^◌, ◌<◌, ◌≤◌, ◌⊎◌, inl, inr, min, sym, subst, arith, ℤ, pos, ◌+ℤ◌, ◌-ℤ◌, ◌*ℤ◌, FitsSigned, w64, to_z, of_z, unsigned_abs}
 use Rattle.std.specs.Int.{w128}
 use Rattle.std.proofs.Math.Nat.{mul-le-mul_right}
 use Rattle.std.proofs.lemmas.Bool.{cases_lt}
 use Rattle.std.proofs.lemmas.Int.{ints}
-use Rattle.msr_time.specs.SampleRate.{SampleRate, IsNear, period_of}
+use Rattle.msr_time.specs.SampleRate.{SampleRate, period_of}
 use Rattle.msr_time.proofs.RateLemmas.{gap_bound, quotient_bounds}
-use Rattle.msr_compare.specs.Moves.{IsDistance}
 use Rattle.msr_compare.specs.Tallies.{TellsDistance}
 
 pub product_fits : (t t0 : ℤ) (den : ℕ) → FitsSigned w64 t → FitsSigned w64 t0 → den < 2 ^ 30

@@ -1,5 +1,5 @@
 -- Reading an input to its end, without its samples.
-use Rattle.std.proofs.Common.{◌≡◌, ℕ, arith, Bool, true, false, List, [], ◌∷◌, ◌++◌, refl, sym, ap, subst, ◌∙◌, append_assoc, Option, Some, None}
+use Rattle.std.proofs.Common.{◌≡◌, arith, Bool, true, false, List, [], ◌∷◌, ◌++◌, refl, sym, ap, subst, ◌∙◌, append_assoc, Option}
 use Rattle.std.specs.Option.{option_to_list}
 use Rattle.std.proofs.lemmas.List.{append-nil}
 use Rattle.std.proofs.lemmas.Bool.{both_ways}
@@ -10,7 +10,6 @@ use Rattle.msr_devices.proofs.Chaining.{steady_then_few}
 use Rattle.msr_segments.specs.Spans.{Following, IsStep}
 use Rattle.msr_segments.specs.Segments.{row_span, row_segment, with_row}
 use Rattle.msr_segments.specs.Joining.{Joining, HasJoined, following_of}
-use Rattle.msr_segments.specs.declared.span.Span.{Span}
 use Rattle.msr_segments.specs.declared.follow.Step.{Step}
 use Rattle.msr_segments.specs.declared.follow.Step.TheVariants.{Begins, Joins}
 use Rattle.msr_segments.specs.declared.joiner.Segment.{Segment}
@@ -24,7 +23,7 @@ use Rattle.msr_input.specs.declared.fault.ReadFault.{ReadFault}
 use Rattle.msr_input.specs.declared.row_reader.NextOutline.{NextOutline}
 use Rattle.msr_input.specs.declared.outline.RowOutline.{RowOutline}
 use Rattle.msr_compare.specs.Symbols.{Symbol, symbols_of, row_symbols}
-use Rattle.msr_compare.specs.Sides.{Standing, HasBegun, HasTaken, IsAtEnd, IsDrained}
+use Rattle.msr_compare.specs.Sides.{Standing, HasBegun, HasTaken, IsDrained}
 use Rattle.msr_compare.proofs.Sides.{begins_whole, joins_whole}
 use Rattle.msr_compare.proofs.Taking.{readable_end, tolerance_is}
 

@@ -3,8 +3,7 @@ use Rattle.std.proofs.Common.{◌≡◌, ◌≢◌, ℕ, ◌+◌, List, [], ◌�
 use Rattle.std.proofs.lemmas.List.{append-nil}
 use Rattle.msr_rows.specs.declared.row.Key.{Key}
 use Rattle.msr_segments.specs.declared.joiner.Segment.{Segment}
-use Rattle.msr_compare.specs.Differences.{IsFirstDifference, SamplesDiffer, IsLonger}
-use Rattle.msr_compare.specs.declared.comparison.Which.TheVariants.{One, Other}
+use Rattle.msr_compare.specs.Differences.{IsFirstDifference, IsLonger, IsOnlyIn}
 use Rattle.msr_compare.specs.declared.comparison.DifferenceKind.TheVariants as kind
 use Rattle.msr_compare.specs.Symbols.{Symbol, Opens, Holds, symbols_of, opened_in, count_after}
 use Rattle.msr_compare.specs.Meetings.{HoldsNone}
@@ -140,15 +139,9 @@ meet_in (Holds x ∷ done) key start front left other_left after other_after ahe
     rw (a.are, b.are) whole
 
 -- the same of whole lists
-pub record MeetAt (ones others : List Segment) (done ahead other_ahead : List Symbol) : Type 0 where
-  pub before : List Symbol
-  pub opened : opened_in done ≡ 1 + opened_in before
-  pub count : count_after 0 done ≡ count_after 0 before
-  pub at : MeetIn ones others 0 before ahead other_ahead
-
 pub meet_at : (ones others : List Segment) (key : Key) (start : ℤ) (done ahead other_ahead : List Symbol)
     → symbols_of ones ≡ (Opens key start ∷ done) ++ ahead → symbols_of others ≡ (Opens key start ∷ done) ++ other_ahead
-    → MeetAt ones others (Opens key start ∷ done) ahead other_ahead
+    → MeetIn ones others 0 done ahead other_ahead
 meet_at ones others key start done ahead other_ahead e f =
     let a = opens_so ones key start (done ++ ahead) e in
     let b = opens_so others key start (done ++ other_ahead) f in
@@ -159,5 +152,243 @@ meet_at ones others key start done ahead other_ahead e f =
     (segment_is a.segment key start a.key_is a.start_is)
     (subst (λ (s : Segment). MeetIn (segment_so key start a.segment.samples ∷ a.after) (s ∷ b.after) 0 done ahead
     other_ahead) (segment_is b.segment key start b.key_is b.start_is) inner) in
-    let whole : MeetIn ones others 0 done ahead other_ahead = rw (a.are, b.are) moved in
-    record { before = done; opened = refl; count = refl; at = whole }
+    rw (a.are, b.are) moved
+
+-- Two lists of segments with the same first symbols, after which neither goes on with a sample: these are the symbols of
+-- the same segments.
+pub record Boundary (ones others : List Segment) (done ahead other_ahead : List Symbol) : Type 0 where
+  pub same : List Segment
+  pub left : List Segment
+  pub other_left : List Segment
+  pub ones_are : ones ≡ same ++ left
+  pub others_are : others ≡ same ++ other_left
+  pub ahead_is : symbols_of left ≡ ahead
+  pub other_is : symbols_of other_left ≡ other_ahead
+  pub opened : opened_in done ≡ length same
+
+-- where no sample comes next, none is left before the next segment
+none_left : (left : List ℤ) (after : List Segment) (ahead : List Symbol) → map Holds left ++ symbols_of after ≡ ahead
+    → HoldsNone ahead → left ≡ []
+none_left [] after ahead e none = refl
+none_left (x ∷ left) after ahead e none = absurd (none x (map Holds left ++ symbols_of after) (sym e))
+
+boundary_in : (ones others : List Segment) (before : ℕ) (done ahead other_ahead : List Symbol) (key : Key) (start : ℤ)
+    (m : MeetIn ones others before done ahead other_ahead) → HoldsNone ahead → HoldsNone other_ahead
+    → Boundary ones others (Opens key start ∷ done) ahead other_ahead
+boundary_in ones others before done ahead other_ahead key start m none other_none =
+    let empty = none_left m.left m.after ahead m.ahead_is none in
+    let other_empty = none_left m.other_left m.other_after other_ahead m.other_is other_none in
+    let last = segment_so m.key m.start (m.front ++ []) in
+    record {
+      same = m.same ++ last ∷ [];
+      left = m.after;
+      other_left = m.other_after;
+      ones_are = m.ones_are
+          ∙ ap (λ (l : List ℤ). m.same ++ segment_so m.key m.start (m.front ++ l) ∷ m.after) empty
+          ∙ sym (append_assoc m.same (last ∷ []) m.after);
+      others_are = m.others_are
+          ∙ ap (λ (l : List ℤ). m.same ++ segment_so m.key m.start (m.front ++ l) ∷ m.other_after) other_empty
+          ∙ sym (append_assoc m.same (last ∷ []) m.other_after);
+      ahead_is = subst (λ (l : List ℤ). map Holds l ++ symbols_of m.after ≡ ahead) empty m.ahead_is;
+      other_is = subst (λ (l : List ℤ). map Holds l ++ symbols_of m.other_after ≡ other_ahead) other_empty m.other_is;
+      opened = omega (arith, m.opened, length-append m.same (last ∷ []));
+    }
+
+pub boundary : (ones others : List Segment) (done ahead other_ahead : List Symbol) → symbols_of ones ≡ done ++ ahead
+    → symbols_of others ≡ done ++ other_ahead → HoldsNone ahead → HoldsNone other_ahead
+    → Boundary ones others done ahead other_ahead
+boundary ones others [] ahead other_ahead e f none other_none = record {
+  same = [];
+  left = ones;
+  other_left = others;
+  ones_are = refl;
+  others_are = refl;
+  ahead_is = e;
+  other_is = f;
+  opened = refl;
+}
+boundary ones others (Opens key start ∷ done) ahead other_ahead e f none other_none =
+    let m = meet_at ones others key start done ahead other_ahead e f in
+    boundary_in ones others 0 done ahead other_ahead key start m none other_none
+boundary ones others (Holds x ∷ done) ahead other_ahead e f none other_none =
+    absurd (no_sample_first ones x (done ++ ahead) e)
+
+-- where a sample comes next in one of them, both are in a segment
+pub record Within (ones others : List Segment) (done ahead other_ahead : List Symbol) : Type 0 where
+  pub before : List Symbol
+  pub opened : opened_in done ≡ 1 + opened_in before
+  pub count : count_after 0 done ≡ count_after 0 before
+  pub at : MeetIn ones others 0 before ahead other_ahead
+
+pub within : (ones others : List Segment) (done ahead other_ahead rest : List Symbol) (sample : ℤ)
+    → symbols_of ones ≡ done ++ ahead → symbols_of others ≡ done ++ other_ahead → ahead ≡ Holds sample ∷ rest
+    → Within ones others done ahead other_ahead
+within ones others [] ahead other_ahead rest sample e f holds = absurd (no_sample_first ones sample rest (e ∙ holds))
+within ones others (Opens key start ∷ done) ahead other_ahead rest sample e f holds = record {
+  before = done;
+  opened = refl;
+  count = refl;
+  at = meet_at ones others key start done ahead other_ahead e f;
+}
+within ones others (Holds x ∷ done) ahead other_ahead rest sample e f holds =
+    absurd (no_sample_first ones x (done ++ ahead) e)
+
+-- keys that differ
+pub keys_first : (ones others : List Segment) (done rest other_rest : List Symbol) (key other_key : Key)
+    (start other_start : ℤ) (segment : ℕ) → symbols_of ones ≡ done ++ Opens key start ∷ rest
+    → symbols_of others ≡ done ++ Opens other_key other_start ∷ other_rest → key ≢ other_key
+    → segment ≡ opened_in done + 1
+    → IsFirstDifference ones others (record { segment = segment; kind = kind.Key })
+keys_first ones others done rest other_rest key other_key start other_start segment e f differ number =
+    let b = boundary ones others done (Opens key start ∷ rest) (Opens other_key other_start ∷ other_rest) e f
+    (λ sample after h. cc) (λ sample after h. cc) in
+    let one = opens_so b.left key start rest b.ahead_is in
+    let other = opens_so b.other_left other_key other_start other_rest b.other_is in
+    record {
+      same = b.same;
+      ones_left = b.left;
+      others_left = b.other_left;
+      ones_are = b.ones_are;
+      others_are = b.others_are;
+      segment_is = omega (arith, number, b.opened);
+      differ = record {
+        one = one.segment;
+        other = other.segment;
+        ones_after = one.after;
+        others_after = other.after;
+        ones_are = one.are;
+        others_are = other.are;
+        differ = λ same. differ (sym one.key_is ∙ same ∙ other.key_is);
+      };
+    }
+
+-- starts that differ
+pub starts_first : (ones others : List Segment) (done rest other_rest : List Symbol) (key : Key)
+    (start other_start : ℤ) (segment : ℕ) → symbols_of ones ≡ done ++ Opens key start ∷ rest
+    → symbols_of others ≡ done ++ Opens key other_start ∷ other_rest → start ≢ other_start
+    → segment ≡ opened_in done + 1
+    → IsFirstDifference ones others (record { segment = segment; kind = kind.Start })
+starts_first ones others done rest other_rest key start other_start segment e f differ number =
+    let b = boundary ones others done (Opens key start ∷ rest) (Opens key other_start ∷ other_rest) e f
+    (λ sample after h. cc) (λ sample after h. cc) in
+    let one = opens_so b.left key start rest b.ahead_is in
+    let other = opens_so b.other_left key other_start other_rest b.other_is in
+    record {
+      same = b.same;
+      ones_left = b.left;
+      others_left = b.other_left;
+      ones_are = b.ones_are;
+      others_are = b.others_are;
+      segment_is = omega (arith, number, b.opened);
+      differ = record {
+        one = one.segment;
+        other = other.segment;
+        ones_after = one.after;
+        others_after = other.after;
+        ones_are = one.are;
+        others_are = other.are;
+        differ = (one.key_is ∙ sym other.key_is, λ same. differ (sym one.start_is ∙ same ∙ other.start_is));
+      };
+    }
+
+-- a segment that only one list has
+pub only_first : (ones others : List Segment) (done rest : List Symbol) (key : Key) (start : ℤ)
+    → symbols_of ones ≡ done ++ Opens key start ∷ rest → symbols_of others ≡ done ++ []
+    → (b : Boundary ones others done (Opens key start ∷ rest) []) × IsOnlyIn b.left b.other_left
+only_first ones others done rest key start e f =
+    let b = boundary ones others done (Opens key start ∷ rest) [] e f (λ sample after h. cc) (λ sample after h. cc) in
+    let one = opens_so b.left key start rest b.ahead_is in (
+      b,
+      record {
+        one = one.segment;
+        after = one.after;
+        ones_are = one.are;
+        none = no_symbols b.other_left b.other_is;
+      },
+    )
+
+-- samples that differ
+pub values_first : (ones others : List Segment) (done rest other_rest : List Symbol) (value other_value : ℤ)
+    (segment number : ℕ) → symbols_of ones ≡ done ++ Holds value ∷ rest
+    → symbols_of others ≡ done ++ Holds other_value ∷ other_rest → value ≢ other_value → segment ≡ opened_in done
+    → number ≡ count_after 0 done
+    → IsFirstDifference ones others (record { segment = segment; kind = kind.Sample number value other_value })
+values_first ones others done rest other_rest value other_value segment number e f differ segment_is number_is =
+    let w = within ones others done (Holds value ∷ rest) (Holds other_value ∷ other_rest) rest value e f refl in
+    let m = w.at in
+    let one = holds_so m.left m.after value rest m.ahead_is in
+    let other = holds_so m.other_left m.other_after other_value other_rest m.other_is in
+    record {
+      same = m.same;
+      ones_left = segment_so m.key m.start (m.front ++ m.left) ∷ m.after;
+      others_left = segment_so m.key m.start (m.front ++ m.other_left) ∷ m.other_after;
+      ones_are = m.ones_are;
+      others_are = m.others_are;
+      segment_is = omega (arith, segment_is, w.opened, m.opened);
+      differ = record {
+        one = segment_so m.key m.start (m.front ++ m.left);
+        other = segment_so m.key m.start (m.front ++ m.other_left);
+        ones_after = m.after;
+        others_after = m.other_after;
+        ones_are = refl;
+        others_are = refl;
+        differ = record {
+          front = m.front;
+          ones = one.after;
+          others = other.after;
+          alike = record {
+            key = refl;
+            start = refl;
+            one_is = ap (λ (l : List ℤ). m.front ++ l) one.are;
+            other_is = ap (λ (l : List ℤ). m.front ++ l) other.are;
+          };
+          number_is = number_is ∙ w.count ∙ m.count;
+          differ = differ;
+        };
+      };
+    }
+
+-- Samples that only one list has: both are in a segment with the same key and start, and one is longer.
+pub record LongerAt (ones others : List Segment) (segment number : ℕ) : Type 0 where
+  pub same : List Segment
+  pub longer : Segment
+  pub shorter : Segment
+  pub after : List Segment
+  pub other_after : List Segment
+  pub ones_are : ones ≡ same ++ longer ∷ after
+  pub others_are : others ≡ same ++ shorter ∷ other_after
+  pub segment_is : segment ≡ length same + 1
+  pub is_longer : IsLonger longer shorter number
+
+pub longer_at : (ones others : List Segment) (done rest other_ahead : List Symbol) (sample : ℤ) (segment number : ℕ)
+    → symbols_of ones ≡ done ++ Holds sample ∷ rest → symbols_of others ≡ done ++ other_ahead → HoldsNone other_ahead
+    → segment ≡ opened_in done → number ≡ count_after 0 done → LongerAt ones others segment number
+longer_at ones others done rest other_ahead sample segment number e f none segment_is number_is =
+    let w = within ones others done (Holds sample ∷ rest) other_ahead rest sample e f refl in
+    let m = w.at in
+    let one = holds_so m.left m.after sample rest m.ahead_is in
+    let empty = none_left m.other_left m.other_after other_ahead m.other_is none in
+    let all : m.front ++ m.other_left ≡ m.front =
+    ap (λ (l : List ℤ). m.front ++ l) empty ∙ append-nil m.front in
+    record {
+      same = m.same;
+      longer = segment_so m.key m.start (m.front ++ m.left);
+      shorter = segment_so m.key m.start (m.front ++ m.other_left);
+      after = m.after;
+      other_after = m.other_after;
+      ones_are = m.ones_are;
+      others_are = m.others_are;
+      segment_is = omega (arith, segment_is, w.opened, m.opened);
+      is_longer = record {
+        sample = sample;
+        rest = one.after;
+        alike = record {
+          key = refl;
+          start = refl;
+          one_is = ap (λ (l : List ℤ). m.front ++ l) one.are
+              ∙ ap (λ (l : List ℤ). l ++ sample ∷ one.after) (sym all);
+          other_is = sym (append-nil (m.front ++ m.other_left));
+        };
+        number_is = number_is ∙ w.count ∙ m.count ∙ sym (ap length all);
+      };
+    }

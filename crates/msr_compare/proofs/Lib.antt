@@ -5,3 +5,9 @@ pub mod FirstDifferences
 pub mod Sides
 pub mod Taking
 pub mod Draining
+pub mod MeetingLemmas
+pub mod Agreeing
+pub mod DifferingAheads
+pub mod ComparedInputs
+pub mod SameInputs
+pub mod OneAnswer

@@ -1,17 +1,14 @@
 -- What is known of a side, and how a record more changes it.
-use Rattle.std.proofs.Common.{◌≡◌, ℕ, ◌+◌, ◌-◌, ◌*◌, ◌^◌, ◌<◌, ◌≤◌, ◌⊎◌, inl, inr, max, Bool, true, false, List, [], ◌∷◌, ◌++◌, length, map, refl, sym, ap, subst, ◌∙◌, arith, append_assoc, length-append, ℤ, Option, Some, None, IfSome}
+use Rattle.std.proofs.Common.{◌≡◌, ℕ, ◌+◌, ◌-◌, ◌*◌, ◌^◌, ◌<◌, ◌≤◌, inl, inr, max, List, [], ◌∷◌, ◌++◌, length, map, refl, sym, ap, subst, ◌∙◌, arith, append_assoc, length-append, ℤ, Option, Some, None}
 use Rattle.std.specs.Option.{option_to_list}
 use Rattle.std.specs.Prelude.{option_map}
 use Rattle.std.proofs.lemmas.List.{append-nil, map-append}
 use Rattle.msr_time.specs.SampleRate.{SampleRate, IsNear}
-use Rattle.msr_rows.specs.declared.row.Record.{Record}
 use Rattle.msr_rows.specs.declared.row.Row.{Row}
 use Rattle.msr_rows.specs.declared.row.Key.{Key}
-use Rattle.msr_devices.specs.Device.{Device}
-use Rattle.msr_devices.proofs.Chaining.{left_of}
 use Rattle.msr_segments.specs.Spans.{Following, IsInBounds, IsStep}
 use Rattle.msr_segments.specs.Segments.{AreSegments, ContinuesSegment, row_span, row_segment, segment_span, with_row}
-use Rattle.msr_segments.specs.Joining.{Joining, HasJoined, BeginsRow, JoinsRow, IsPush, IsPushTold, following_of}
+use Rattle.msr_segments.specs.Joining.{Joining, HasJoined, BeginsRow, JoinsRow, following_of}
 use Rattle.msr_segments.specs.declared.follow.Step.{Step}
 use Rattle.msr_segments.specs.declared.follow.Step.TheVariants.{Begins, Joins}
 use Rattle.msr_segments.specs.declared.joiner.Segment.{Segment}
@@ -25,7 +22,7 @@ use Rattle.msr_compare.specs.Differences.{samples_in}
 use Rattle.msr_compare.specs.Symbols.{Symbol, Opens, Holds, symbols_of, row_symbols}
 use Rattle.msr_compare.specs.Tallies.{TellsDistance, TalliesBeginning, TalliesJoining, TalliesRow}
 use Rattle.msr_compare.specs.Sides.{IsOpenIn}
-use Rattle.msr_compare.proofs.Symbols.{symbols_append, symbols_snoc}
+use Rattle.msr_compare.proofs.Symbols.{symbols_snoc}
 
 pub samples_append : (xs ys : List Segment) → samples_in (xs ++ ys) ≡ samples_in xs + samples_in ys
 samples_append [] ys = omega arith
@@ -137,6 +134,7 @@ pub record Advance (tolerance count : ℕ) (rows : List Row) (following : Follow
   pub samples_are : tally.samples ≡ samples_in (given ++ option_to_list joining.current)
   pub few_segments : tally.segments ≤ count
   pub few_samples : tally.samples ≤ 65_535 * count
+  pub few_count : tally.count < 2 ^ 64
   pub at_open : IsOpenIn joining.current tally
   pub greatest : IsGreatestMove tolerance rows tally.moved
 
@@ -170,6 +168,7 @@ advance_begins old new rows given row ended next count symbols before after h s 
       samples_are = omega (arith, t.samples (omega (arith, few_samples, few, short)), samples, sum);
       few_segments = omega (arith, t.segments (omega (arith, few_segments, few)), few_segments);
       few_samples = omega (arith, t.samples (omega (arith, few_samples, few, short)), few_samples, short);
+      few_count = omega (arith, t.count, short);
       at_open = λ segment e.
           let same : row_segment row ≡ segment = some_so (row_segment row) segment (sym current ∙ e) in
           (t.start ∙ ap (λ (x : Segment). x.start) same, t.count ∙ ap (λ (x : Segment). length x.samples) same);
@@ -243,6 +242,7 @@ advance_joins old new rows given row ended next count symbols before after h s s
       samples_are = omega (arith, summed, samples, sum, sum_was, parts);
       few_segments = omega (arith, t.segments, few_segments);
       few_samples = omega (arith, summed, few_samples, short);
+      few_count = omega (arith, counted, at.1, parts, limit);
       at_open = λ segment e.
           let same : longer ≡ segment = some_so longer segment (sym current ∙ e) in (
             t.start ∙ at.0 ∙ ap (λ (x : Segment). x.start) same,

@@ -1,5 +1,5 @@
 -- How a record more changes a side, and what is known when its input has ended.
-use Rattle.std.proofs.Common.{◌≡◌, ℕ, ◌+◌, ◌*◌, ◌^◌, ◌-◌, ◌<◌, ◌≤◌, true, false, List, [], ◌∷◌, ◌++◌, length, refl, sym, ap, subst, ◌∙◌, arith, append_assoc, length-append, Option, Some, None, IfSome, pos}
+use Rattle.std.proofs.Common.{◌≡◌, ℕ, ◌^◌, ◌<◌, ◌≤◌, true, false, List, [], ◌∷◌, ◌++◌, length, refl, sym, ap, subst, ◌∙◌, arith, length-append, Option, Some, None, IfSome, pos}
 use Rattle.std.specs.Option.{option_to_list}
 use Rattle.std.proofs.lemmas.List.{append-nil, length-map}
 use Rattle.std.proofs.lemmas.Bool.{both_ways}
@@ -8,32 +8,28 @@ use Rattle.msr_rows.specs.declared.row.Row.{Row}
 use Rattle.msr_devices.specs.Device.{Device, HasLeft}
 use Rattle.msr_devices.proofs.Chaining.{left_of}
 use Rattle.msr_segments.specs.Spans.{Following, IsInBounds, IsStep}
-use Rattle.msr_segments.specs.Segments.{row_span, row_segment, with_row}
-use Rattle.msr_segments.specs.Joining.{Joining, HasJoined, BeginsRow, JoinsRow, following_of}
+use Rattle.msr_segments.specs.Segments.{row_span}
+use Rattle.msr_segments.specs.Joining.{Joining, HasJoined, following_of}
 use Rattle.msr_segments.specs.declared.follow.Step.{Step}
 use Rattle.msr_segments.specs.declared.follow.Step.TheVariants.{Begins, Joins}
 use Rattle.msr_segments.specs.declared.joiner.Segment.{Segment}
 use Rattle.msr_segments.proofs.Histories.{joined_none}
-use Rattle.msr_segments.proofs.StepLaws.{pushes_grow, stand_together, steps_push}
-use Rattle.msr_input.specs.Input.{AllAgree, AreRead, HaveBegun, IsReadable, NoneOverruns, rows_of_records}
-use Rattle.msr_input.specs.Outlines.{outline_span}
+use Rattle.msr_segments.proofs.StepLaws.{stand_together}
+use Rattle.msr_input.specs.Input.{HaveBegun, IsReadable, NoneOverruns, rows_of_records}
 use Rattle.msr_input.specs.Records.{HaveCome, Position, left_with}
 use Rattle.msr_input.specs.Reading.{StopsReading}
-use Rattle.msr_input.specs.Rows.{RowReading, HasReadRows, ReadsNone, ReadsOne, ReadsOutline, ReadsToEnd, StepsTo, StopsRows, answer_told, row_settings, row_told}
+use Rattle.msr_input.specs.Rows.{RowReading, HasReadRows, ReadsNone, ReadsOne, StepsTo, StopsRows, answer_told, row_settings, row_told}
 use Rattle.msr_input.specs.Steps.{CanJoin}
 use Rattle.msr_input.specs.declared.settings.Settings.{Settings}
 use Rattle.msr_input.specs.declared.fault.ReadFault.{ReadFault}
-use Rattle.msr_input.specs.declared.row_reader.NextOutline.{NextOutline}
 use Rattle.msr_input.specs.declared.row_reader.NextRecord.{NextRecord}
 use Rattle.msr_input.specs.declared.row_reader.NextRow.{NextRow}
-use Rattle.msr_input.specs.declared.outline.RowOutline.{RowOutline}
 use Rattle.msr_input.proofs.Histories.{rows_with, rows_without}
 use Rattle.msr_input.proofs.Records.{few_records}
-use Rattle.msr_compare.specs.declared.tally.Tally.{Tally}
 use Rattle.msr_compare.specs.Moves.{IsGreatestMove}
 use Rattle.msr_compare.specs.Symbols.{Symbol, Holds, symbols_of, row_symbols}
-use Rattle.msr_compare.specs.Sides.{Standing, HasTaken, IsAtEnd, IsDrained, IsTallied, TakesNext, TakesRow, left_to_read, weight}
-use Rattle.msr_compare.proofs.Sides.{Advance, advance, begins_whole, joins_whole, no_move}
+use Rattle.msr_compare.specs.Sides.{Standing, HasTaken, TakesNext, TakesRow, weight}
+use Rattle.msr_compare.proofs.Sides.{advance, no_move}
 
 -- each record has a byte at least, and a source fewer than 2^64
 pub few_come : (start now : Device) (position : Position) (records : List Record) → HaveCome start now position records
@@ -96,6 +92,7 @@ taken_none settings start a b side reading done found answers h going none read 
         samples_are = h.tallied.samples_are;
         few_segments = omega (arith, h.tallied.few_segments, size);
         few_samples = omega (arith, h.tallied.few_samples, size);
+        few_count = h.tallied.few_count;
         at_open = h.tallied.at_open;
         greatest = subst (λ (rs : List Row). IsGreatestMove settings.tolerance rs side.tally.moved) (sym rows)
             h.tallied.greatest;
@@ -143,6 +140,7 @@ taken_row settings start a b side new reading done found next answers h going no
         samples_are = g.samples_are;
         few_segments = omega (arith, g.few_segments, size);
         few_samples = omega (arith, g.few_samples, size);
+        few_count = g.few_count;
         at_open = g.at_open;
         greatest = subst (λ (rs : List Row). IsGreatestMove settings.tolerance rs new.tally.moved) (sym rows)
             (subst (λ (t : ℕ). IsGreatestMove t (rows_of_records h.records ++ next.row ∷ []) new.tally.moved)
@@ -217,15 +215,18 @@ pub readable_end : (settings : Settings) (start now : Device) (reading : RowRead
 readable_end settings start now reading records answers joining given read are wait ended joined tolerance =
     let came = read.came.begins [] (read.came.end ended) in
     let strict = ap (λ (s : Settings). s.strict) are in
-    let equal = ap (λ (s : Settings). s.tolerance) are in
-    (came.0, came.1, record {
-      are_read = record {
-        begins = rw wait at came.2;
-        in_range = subst (λ (t : ℕ). NoneOverruns t records) equal read.in_range;
-        agree = rw strict at read.came.agree;
-      };
-      are_segments = rw tolerance at joined.segments;
-    })
+    let equal = ap (λ (s : Settings). s.tolerance) are in (
+      came.0,
+      came.1,
+      record {
+        are_read = record {
+          begins = rw wait at came.2;
+          in_range = subst (λ (t : ℕ). NoneOverruns t records) equal read.in_range;
+          agree = rw strict at read.came.agree;
+        };
+        are_segments = rw tolerance at joined.segments;
+      },
+    )
 
 -- a side before the first record
 pub taken_first : (settings : Settings) (start : Device) (reading : RowReading) → HasReadRows start start reading [] []
@@ -253,6 +254,7 @@ taken_first settings start reading read following strict bounded = record {
     samples_are = refl;
     few_segments = omega arith;
     few_samples = omega arith;
+    few_count = omega arith;
     at_open = λ segment e. absurd cc;
     greatest = no_move settings.tolerance;
   };

@@ -1,6 +1,5 @@
 -- Where two lists of segments first differ.
 use Rattle.std.specs.Prelude.{◌≡◌, ◌≢◌, ℕ, ◌+◌, List, [], ◌∷◌, ◌++◌, length, ℤ}
-use Rattle.msr_rows.specs.declared.row.Key.{Key}
 use Rattle.msr_segments.specs.declared.joiner.Segment.{Segment}
 use Rattle.msr_compare.specs.declared.comparison.Which.TheVariants.{One, Other}
 use Rattle.msr_compare.specs.declared.comparison.Difference.{Difference}

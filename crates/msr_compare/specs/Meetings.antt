@@ -1,10 +1,16 @@
 -- What is found where what is ahead of two sides is compared.
-use Rattle.std.specs.Prelude.{◌≡◌, ◌≢◌, ℕ, ◌+◌, ◌-◌, ◌^◌, ◌<◌, ◌≤◌, true, List, [], ◌∷◌, ◌++◌, length, map, ℤ, Option, None, Some, Result, Ok, Err}
+use Rattle.std.specs.Prelude.{◌≡◌, ◌≢◌, ◌↔◌, IsErrOf, ℕ, ◌+◌, ◌-◌, ◌^◌, ◌<◌, ◌≤◌, true, List, [], ◌∷◌, ◌++◌, length, map, ℤ, Option, None, Some, Result}
 use Rattle.msr_rows.specs.declared.row.Key.{Key}
-use Rattle.msr_devices.specs.Device.{Device, IsSteady}
+use Rattle.msr_devices.specs.Device.{Device, CountsFew, HasFailed, HasLeft, IsSteady}
 use Rattle.msr_input.specs.Reading.{StopsReading}
 use Rattle.msr_input.specs.declared.settings.Settings.{Settings}
+use Rattle.msr_input.specs.declared.fault.ReadFault.{ReadFault}
+use Rattle.msr_input.specs.declared.fault.ReadFault.TheVariants as fault
+use Rattle.msr_segments.specs.declared.joiner.Segment.{Segment}
+use Rattle.msr_compare.specs.Answers.{CompareAnswers, HasSegments, IsOfFault}
 use Rattle.msr_compare.specs.declared.comparison.Which.TheVariants as which
+use Rattle.msr_compare.specs.declared.comparison.Comparison.{Comparison}
+use Rattle.msr_compare.specs.declared.comparison.Comparison.TheVariants.{Differ}
 use Rattle.msr_compare.specs.declared.comparison.Difference.{Difference}
 use Rattle.msr_compare.specs.declared.comparison.DifferenceKind.{DifferenceKind}
 use Rattle.msr_compare.specs.declared.comparison.DifferenceKind.TheVariants as kind
@@ -16,7 +22,7 @@ use Rattle.msr_compare.specs.declared.meeting.Unequal.{Unequal}
 use Rattle.msr_compare.specs.declared.meeting.Met.{Met}
 use Rattle.msr_compare.specs.declared.meeting.Met.TheVariants as met
 use Rattle.msr_compare.specs.Symbols.{Symbol, Opens, Holds, held_in}
-use Rattle.msr_compare.specs.Sides.{Standing, HasTaken}
+use Rattle.msr_compare.specs.Sides.{Standing, HasTaken, IsDrained}
 
 -- no sample is ahead, but a beginning or nothing
 abbrev pub HoldsNone : List Symbol → Type 0
@@ -178,11 +184,57 @@ StopsMeeting settings start_one one_now start_other other_now one (failing.One w
 StopsMeeting settings start_one one_now start_other other_now one (failing.Other why) =
     StopsReading settings start_other other_now [] why × HasSomeTaken settings start_one one_now one
 
--- why an input was not read to its end
-abbrev pub StopsOne : Settings → Device → Device → CompareFault → Type 0
-StopsOne settings start now (failing.One why) = StopsReading settings start now [] why
-StopsOne settings start now (failing.Other why) = ⊥
+-- both were read to their ends
+pub record HaveFinished (settings : Settings) (start_one one_now start_other other_now : Device) (one other : Standing)
+    (done other_done : List Symbol) (difference : Difference) (comparison : Comparison) : Type 0 where
+  pub told : comparison ≡ Differ difference
+  pub one_drained : IsDrained settings start_one one_now one.ended (done ++ one.ahead)
+  pub other_drained : IsDrained settings start_other other_now other.ended (other_done ++ other.ahead)
 
-abbrev pub StopsOther : Settings → Device → Device → CompareFault → Type 0
-StopsOther settings start now (failing.One why) = ⊥
-StopsOther settings start now (failing.Other why) = StopsReading settings start now [] why
+-- the input that the source has is readable
+pub record IsReadableFrom (settings : Settings) (start : Device) : Type 0 where
+  pub input : List ℕ
+  pub segments : List Segment
+  pub left : HasLeft start input
+  pub has : HasSegments settings input segments
+
+-- why one of them was not; the first one is read first
+abbrev pub StopsFinishing : Settings → Device → Device → Device → Device → CompareFault → Type 0
+StopsFinishing settings start_one one_now start_other other_now (failing.One why) =
+    StopsReading settings start_one one_now [] why × IsSteady start_other other_now
+StopsFinishing settings start_one one_now start_other other_now (failing.Other why) =
+    StopsReading settings start_other other_now [] why × IsSteady start_one one_now × IsReadableFrom settings start_one
+
+-- where the other input is refused, the first one is readable
+abbrev pub ReadableIfRefused : Settings → Device → ReadFault → Type 0
+ReadableIfRefused settings start (fault.Input found) = IsReadableFrom settings start
+ReadableIfRefused settings start fault.Read = Unit {0}
+ReadableIfRefused settings start fault.Memory = Unit {0}
+
+pub record KeepsFault (settings : Settings) (start now : Device) (why told : ReadFault) : Type 0 where
+  pub same : told ≡ why
+  pub steady : IsSteady start now
+  pub readable : ReadableIfRefused settings start why
+
+-- why reading stops if the other input stopped so: the first one comes first
+abbrev pub ReadsFirst : Settings → Device → Device → ReadFault → CompareFault → Type 0
+ReadsFirst settings start now why (failing.One first) = StopsReading settings start now [] first × IsOfFault why
+ReadsFirst settings start now why (failing.Other told) = KeepsFault settings start now why told
+
+-- both sides are before their first records
+pub record BothBegin (start_one start_other : Device) (one other : Standing) : Type 0 where
+  pub settings : Settings
+  pub taken : HaveTaken settings start_one start_one start_other start_other one other
+
+-- What is answered of the inputs that the sources have, and what it tells of the sources.
+pub record IsAnswered (settings : Settings) (start_one one_now start_other other_now : Device)
+    (answer : Result Comparison CompareFault) : Type 0 where
+  pub first : List ℕ
+  pub second : List ℕ
+  pub left : HasLeft start_one first
+  pub other_left : HasLeft start_other second
+  pub answers : CompareAnswers settings first second answer
+  pub read_one : IsErrOf answer (failing.One fault.Read) ↔ HasFailed start_one one_now
+  pub read_other : IsErrOf answer (failing.Other fault.Read) ↔ HasFailed start_other other_now
+  pub few_one : CountsFew start_one one_now
+  pub few_other : CountsFew start_other other_now

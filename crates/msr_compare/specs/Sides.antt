@@ -1,5 +1,5 @@
 -- What is known of one of two inputs while they are compared.
-use Rattle.std.specs.Prelude.{◌≡◌, ℕ, ◌+◌, ◌*◌, ◌≤◌, Bool, true, false, List, [], ◌∷◌, ◌++◌, length, Option, None, Some}
+use Rattle.std.specs.Prelude.{◌≡◌, ℕ, ◌+◌, ◌*◌, ◌^◌, ◌<◌, ◌≤◌, Bool, true, false, List, [], ◌++◌, length, Option, None, Some}
 use Rattle.std.specs.Option.{option_to_list}
 use Rattle.msr_rows.specs.declared.row.Record.{Record}
 use Rattle.msr_devices.specs.Device.{Device, CanCountCall, HasLeft, IsSteady}
@@ -38,6 +38,7 @@ pub record IsTallied (records : List Record) (tolerance : ℕ) (segments : List 
   pub samples_are : tally.samples ≡ samples_in segments
   pub few_segments : tally.segments ≤ length records
   pub few_samples : tally.samples ≤ 65_535 * length records
+  pub few_count : tally.count < 2 ^ 64
   pub at_open : IsOpenIn current tally
   pub greatest : IsGreatestMove tolerance (rows_of_records records) tally.moved
 

@@ -1,5 +1,6 @@
 //! What was read of an input and not yet compared.
 ghost use Rattle.std.specs.Prelude.{◌≡◌, drop};
+
 use msr_rows::{Key, Row};
 use msr_segments::Step;
 use std::marker::Model;
@@ -129,7 +130,7 @@ impl Ahead {
             self.passed = passed;
             self.begins = false;
         } else {
-            let _ = self.row.take();
+            drop(self.row.take());
         }
     }
 }

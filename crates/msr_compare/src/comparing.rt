@@ -1,11 +1,11 @@
 //! Comparing the segments of two inputs.
-ghost use Rattle.std.specs.Prelude.{◌≡◌, ◌↔◌, ◌≤◌, ◌++◌, ℕ, List, IsErrOf, MatchResult};
+ghost use Rattle.std.specs.Prelude.{◌≡◌, ◌↔◌, ◌≤◌, ℕ, List, IsErrOf, MatchResult};
 ghost use Rattle.msr_devices.specs.Device.{Device, CanCountCall, CountsFew, HasFailed, HasLeft};
 ghost use Rattle.msr_input.specs.declared.settings.Settings.{Settings as How};
 ghost use Rattle.msr_compare.specs.Answers.{CompareAnswers};
 ghost use Rattle.msr_compare.specs.Symbols.{Symbol};
-ghost use Rattle.msr_compare.specs.Sides.{HasBegun, HasTaken, IsDrained};
-ghost use Rattle.msr_compare.specs.Meetings.{HaveTaken, HaveMet, StopsMeeting, StopsOne, StopsOther};
+ghost use Rattle.msr_compare.specs.Sides.{HasBegun, HasTaken};
+ghost use Rattle.msr_compare.specs.Meetings.{BothBegin, HaveFinished, HaveMet, HaveTaken, IsAnswered, ReadsFirst, StopsFinishing, StopsMeeting};
 
 use crate::comparison::{Comparison, Difference, SameSegments};
 use crate::fault::CompareFault;
@@ -49,49 +49,66 @@ fn agree<One: Source, Other: Source>(
     }
 }
 
-/// Reads the first input to its end.
-fn drain_one<One: Source>(side: &mut Side, one: &mut One) -> Result<(), CompareFault>
-    requires { HasBegun (One.device one.old) side.old }
-    ensures drained { (settings : How) (start : Device) (done : List Symbol)
-        → HasTaken settings start (One.device one.old) side.old done
+/// Both inputs are read to their ends, after their first difference: a later record may be refused.
+fn finish<One: Source, Other: Source>(
+    one_side: &mut Side,
+    one: &mut One,
+    other_side: &mut Side,
+    other: &mut Other,
+    difference: Difference,
+) -> Result<Comparison, CompareFault>
+    requires one { HasBegun (One.device one.old) one_side.old }
+    requires other { HasBegun (Other.device other.old) other_side.old }
+    ensures finished { (settings : How) (start_one start_other : Device) (done other_done : List Symbol)
+        → HasTaken settings start_one (One.device one.old) one_side.old done
+        → HasTaken settings start_other (Other.device other.old) other_side.old other_done
         → MatchResult result
-        (λ _. IsDrained settings start (One.device one.new) side.old.ended (done ++ side.old.ahead))
-        (StopsOne settings start (One.device one.new)) }
+        (HaveFinished settings start_one (One.device one.new) start_other (Other.device other.new)
+        one_side.old other_side.old done other_done difference)
+        (StopsFinishing settings start_one (One.device one.new) start_other (Other.device other.new)) }
+    ensures few_one { (settings : How) (start : Device) (done : List Symbol)
+        → HasTaken settings start (One.device one.old) one_side.old done
+        → CountsFew start (One.device one.new) }
+    ensures few_other { (settings : How) (start : Device) (done : List Symbol)
+        → HasTaken settings start (Other.device other.old) other_side.old done
+        → CountsFew start (Other.device other.new) }
+{
+    if let Err(fault) = one_side.drain(one) {
+        return Err(CompareFault::One(fault));
+    }
+    if let Err(fault) = other_side.drain(other) {
+        return Err(CompareFault::Other(fault));
+    }
+    Ok(Comparison::Differ(difference))
+}
+
+/// Reading the other input stopped. If it is refused, the first one is read to its end: it may be refused too.
+fn refuse<One: Source>(side: &mut Side, one: &mut One, why: ReadFault) -> CompareFault
+    requires { HasBegun (One.device one.old) side.old }
+    ensures refused { (settings : How) (start : Device) (done : List Symbol)
+        → HasTaken settings start (One.device one.old) side.old done
+        → ReadsFirst settings start (One.device one.new) why result }
     ensures few { (settings : How) (start : Device) (done : List Symbol)
         → HasTaken settings start (One.device one.old) side.old done
         → CountsFew start (One.device one.new) }
 {
-    match side.drain(one) {
-        Ok(()) => Ok(()),
-        Err(fault) => Err(CompareFault::One(fault)),
-    }
-}
-
-/// Reads the other input to its end.
-fn drain_other<Other: Source>(side: &mut Side, other: &mut Other) -> Result<(), CompareFault>
-    requires { HasBegun (Other.device other.old) side.old }
-    ensures drained { (settings : How) (start : Device) (done : List Symbol)
-        → HasTaken settings start (Other.device other.old) side.old done
-        → MatchResult result
-        (λ _. IsDrained settings start (Other.device other.new) side.old.ended (done ++ side.old.ahead))
-        (StopsOther settings start (Other.device other.new)) }
-    ensures few { (settings : How) (start : Device) (done : List Symbol)
-        → HasTaken settings start (Other.device other.old) side.old done
-        → CountsFew start (Other.device other.new) }
-{
-    match side.drain(other) {
-        Ok(()) => Ok(()),
-        Err(fault) => Err(CompareFault::Other(fault)),
+    match why {
+        ReadFault::Input(found) => match side.drain(one) {
+            Ok(()) => CompareFault::Other(ReadFault::Input(found)),
+            Err(first) => CompareFault::One(first),
+        },
+        ReadFault::Read => CompareFault::Other(ReadFault::Read),
+        ReadFault::Memory => CompareFault::Other(ReadFault::Memory),
     }
 }
 
 /// What is told of two sides whose segments are the same.
 fn same_segments(one: &Side, other: &Side) -> SameSegments
     ensures { result ≡ record {
-        segments = one.now.tally.segments;
-        samples = one.now.tally.samples;
-        moved_one = one.now.tally.moved;
-        moved_other = other.now.tally.moved;
+      segments = one.now.tally.segments;
+      samples = one.now.tally.samples;
+      moved_one = one.now.tally.moved;
+      moved_other = other.now.tally.moved;
     } }
 {
     SameSegments {
@@ -99,6 +116,30 @@ fn same_segments(one: &Side, other: &Side) -> SameSegments
         samples: one.tally().samples,
         moved_one: one.tally().moved,
         moved_other: other.tally().moved,
+    }
+}
+
+/// What is answered for two sides before their first records.
+fn answer<One: Source, Other: Source>(
+    one_side: &mut Side,
+    one: &mut One,
+    other_side: &mut Side,
+    other: &mut Other,
+) -> Result<Comparison, CompareFault>
+    requires one { CanCountCall (One.device one.old) }
+    requires other { CanCountCall (Other.device other.old) }
+    requires begins { BothBegin (One.device one.old) (Other.device other.old) one_side.old other_side.old }
+    ensures { (settings : How)
+        → HaveTaken settings (One.device one.old) (One.device one.old) (Other.device other.old) (Other.device other.old)
+        one_side.old other_side.old
+        → IsAnswered settings (One.device one.old) (One.device one.new) (Other.device other.old)
+        (Other.device other.new) result }
+{
+    match agree(one_side, one, other_side, other) {
+        Ok(None) => Ok(Comparison::Same(same_segments(one_side, other_side))),
+        Ok(Some(difference)) => finish(one_side, one, other_side, other, difference),
+        Err(CompareFault::One(why)) => Err(CompareFault::One(why)),
+        Err(CompareFault::Other(why)) => Err(refuse(one_side, one, why)),
     }
 }
 
@@ -129,17 +170,5 @@ pub fn compare<One: Source, Other: Source>(
 {
     let mut one_side = Side::new(alloc, settings);
     let mut other_side = Side::new(alloc, settings);
-    match agree(&mut one_side, one, &mut other_side, other) {
-        Ok(None) => Ok(Comparison::Same(same_segments(&one_side, &other_side))),
-        Ok(Some(difference)) => {
-            drain_one(&mut one_side, one)?;
-            drain_other(&mut other_side, other)?;
-            Ok(Comparison::Differ(difference))
-        }
-        Err(CompareFault::Other(ReadFault::Input(fault))) => {
-            drain_one(&mut one_side, one)?;
-            Err(CompareFault::Other(ReadFault::Input(fault)))
-        }
-        Err(fault) => Err(fault),
-    }
+    answer(&mut one_side, one, &mut other_side, other)
 }

@@ -140,10 +140,7 @@ impl fmt::Display for SameSegments {
         write!(
             f,
             "same segments {} samples {}\nmoved {} {}",
-            self.segments,
-            self.samples,
-            self.moved_one,
-            self.moved_other
+            self.segments, self.samples, self.moved_one, self.moved_other
         )
     }
 }

@@ -57,8 +57,8 @@ fn differs(side: &Side, kind: DifferenceKind) -> Met
 /// Samples are ahead of this side, and none of the other.
 fn holds_more(side: &Side, which: Which) -> Met
     ensures { result ≡ Met.Differ (record {
-        segment = side.now.tally.segments;
-        kind = DifferenceKind.SampleOnlyIn (place_of side.now) which;
+      segment = side.now.tally.segments;
+      kind = DifferenceKind.SampleOnlyIn (place_of side.now) which;
     }) }
 {
     differs(
@@ -116,12 +116,7 @@ fn meet_held(one: &mut Side, other: &mut Side) -> Met
 }
 
 /// Both sides begin a segment.
-fn meet_beginnings(
-    one: &mut Side,
-    other: &mut Side,
-    keys: (Key, Key),
-    starts: (i64, i64),
-) -> Met
+fn meet_beginnings(one: &mut Side, other: &mut Side, keys: (Key, Key), starts: (i64, i64)) -> Met
     requires one { BeginsNext keys.0 starts.0 one.old.ahead }
     requires other { BeginsNext keys.1 starts.1 other.old.ahead }
     ensures { Meets one.old other.old result one.new other.new }

@@ -25,7 +25,7 @@ impl Model for Side {
 
 impl Side {
     ghost use Rattle.std.specs.Prelude.{◌≡◌, ◌≤◌, ◌++◌, List, [], drop, map, OnOk, MatchResult};
-    ghost use Rattle.msr_devices.specs.Device.{Device, CanCountCall, CountsFew};
+    ghost use Rattle.msr_devices.specs.Device.{Device, CanCountCall, CountsFew, IsSteady};
     ghost use Rattle.msr_input.specs.Reading.{StopsReading};
     ghost use Rattle.msr_input.specs.declared.settings.Settings.{Settings as How};
     ghost use Rattle.msr_compare.specs.Symbols.{Symbol, Holds, held_in};
@@ -66,6 +66,7 @@ impl Side {
             (StopsReading settings start (R.device source.new) []) }
         ensures weight { OnOk result (weight (R.device source.new) self.new
             ≤ weight (R.device source.old) self.old) }
+        ensures steady { OnOk result (IsSteady (R.device source.old) (R.device source.new)) }
         ensures few { CountsFew (R.device source.old) (R.device source.new) }
     {
         if self.ended {

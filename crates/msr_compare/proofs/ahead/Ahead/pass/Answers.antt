@@ -1,7 +1,6 @@
-use Rattle.std.proofs.Common.{◌≡◌, ◌+◌, ◌≤◌, arith, length}
+use Rattle.std.proofs.Common.{arith}
 use Rattle.msr_compare.proofs.Aheads.{more_passed, whole_passed}
 use Rattle.msr_compare.proofs.ahead.Ahead.pass.Goals as goal
-use Rattle.msr_compare.proofs.ahead.Ahead.pass.Goals.{in-Some-1, in-None-1}
 
 pub returns-then-passed-len : goal.returns-then-passed-len
 returns-then-passed-len c =
@@ -12,4 +11,4 @@ pub returns-else-passed-len : goal.returns-else-passed-len
 returns-else-passed-len c =
     let all = whole_passed c.self.inside.row c.in-Some.row c.self.inside.begins c.self.inside.passed c.args.count
     c.args.self.now c.self.view_is c.in-Some.is (omega arith) in
-    elim c.match-take.branch [ in-Some-1 w ↦ rw (w.self-is, c.take.ensures.after) all | in-None-1 w ↦ rw (w.self-is, c.take.ensures.after) all ]
+    rw c.take.ensures.after all

@@ -1,7 +1,7 @@
-use Rattle.std.proofs.Common.{◌≡◌, ◌∙◌, ap, sym, false, true}
+use Rattle.std.proofs.Common.{◌≡◌, ◌∙◌, ap, sym, true}
 use Rattle.std.proofs.lemmas.Result.{err_from_is_err_and}
 use Rattle.msr_devices.proofs.Chaining.{steady_can_count, steady_then_few}
-use Rattle.msr_compare.specs.Sides.{Standing, HasTaken, HasBegun}
+use Rattle.msr_compare.specs.Sides.{Standing, HasBegun}
 use Rattle.msr_compare.proofs.Draining.{drained_before, draining, drains_no_more, drains_row, drains_to_end, is_draining, steady_few, still_draining}
 use Rattle.msr_compare.proofs.side.Side.drain.Goals as goal
 

@@ -1,0 +1,95 @@
+-- What comparing two inputs prints, and how it stops.
+use Rattle.std.specs.Prelude.{◌≡◌, ℕ, ⊤, List, [], ◌++◌, codes, false, take, Result, Ok, Err}
+use Rattle.msr_devices.specs.Device.{Device, Takes}
+use Rattle.msr_options.specs.Choice.{Choice}
+use Rattle.msr_input.specs.declared.settings.Settings.{Settings}
+use Rattle.msr_input.specs.declared.fault.ReadFault.{ReadFault}
+use Rattle.msr_input.specs.declared.fault.ReadFault.TheVariants as read
+use Rattle.msr_compare.specs.Answers.{CompareAnswers}
+use Rattle.msr_compare.specs.Texts.{comparison_text}
+use Rattle.msr_compare.specs.declared.comparison.Comparison.{Comparison}
+use Rattle.msr_compare.specs.declared.fault.CompareFault.{CompareFault}
+use Rattle.msr_compare.specs.declared.fault.CompareFault.TheVariants.{One, Other}
+use Rattle.msr_tool.specs.declared.fault.ToolFault.{ToolFault}
+use Rattle.msr_tool.specs.declared.fault.ToolFault.TheVariants as fault
+use Rattle.msr_arguments.specs.declared.task.Comparing.{Comparing}
+use Rattle.msr_command.specs.declared.comparing.Names.{Names}
+use Rattle.msr_command.specs.declared.task_fault.TaskFault.{TaskFault}
+use Rattle.msr_command.specs.declared.task_fault.TaskFault.TheVariants.{CannotOpen, Input, SameFile, SameOutput, Overlap, Closed, Tool}
+
+-- the names of both inputs that a comparison is asked for
+abbrev pub names_of : Comparing → Names
+names_of asked = record { one = asked.one; other = asked.other }
+
+-- both inputs are read with the tolerance of the options, and never strictly
+abbrev pub compare_settings : Choice → Settings
+compare_settings choice = record { tolerance = choice.tolerance; strict = false }
+
+-- what an answer prints
+abbrev pub comparison_lines : Comparison → List ℕ
+comparison_lines comparison = comparison_text comparison ++ codes "\n"
+
+-- the answer was printed, or else a part of it, or there was no memory for its text
+abbrev pub TellsComparison : Comparison → (out0 out : Device) → Result (Unit {0}) ToolFault → Type 0
+TellsComparison comparison out0 out (Ok told) = Takes out0 out (comparison_lines comparison)
+TellsComparison comparison out0 out (Err (fault.Input found)) = ⊥
+TellsComparison comparison out0 out (Err (fault.Report line)) = ⊥
+TellsComparison comparison out0 out (Err fault.Read) = ⊥
+TellsComparison comparison out0 out (Err fault.Write) = (n : ℕ) × Takes out0 out (take n (comparison_lines comparison))
+TellsComparison comparison out0 out (Err fault.Memory) = Takes out0 out []
+
+-- the file with this name is told to have this fault
+abbrev pub IsNamed : (name : List ℕ) → ReadFault → TaskFault → Type 0
+IsNamed name why (CannotOpen file error) = ⊥
+IsNamed name why (Input file found) = (file.now ≡ name) × (found ≡ why)
+IsNamed name why SameFile = ⊥
+IsNamed name why SameOutput = ⊥
+IsNamed name why Overlap = ⊥
+IsNamed name why Closed = ⊥
+IsNamed name why (Tool stop) = ⊥
+
+-- the task stops so at this fault of the file with this name; memory that was refused has no name
+abbrev pub StopsNamed : (name : List ℕ) → ReadFault → TaskFault → Type 0
+StopsNamed name (read.Input found) stop = IsNamed name (read.Input found) stop
+StopsNamed name read.Read stop = IsNamed name read.Read stop
+StopsNamed name read.Memory stop = stop ≡ Tool fault.Memory
+
+-- the task stops so at this fault of one of its files
+abbrev pub StopsAt : Names → CompareFault → TaskFault → Type 0
+StopsAt names (One why) stop = StopsNamed names.one.now why stop
+StopsAt names (Other why) stop = StopsNamed names.other.now why stop
+
+-- The inputs have this answer, and it was printed.
+pub record IsAnswered (choice : Choice) (first second printed : List ℕ) (comparison : Comparison) : Type 0 where
+  pub answer : CompareAnswers (compare_settings choice) first second (Ok comparison)
+  pub lines : printed ≡ comparison_lines comparison
+
+-- The inputs have some answer, and a part of it was printed.
+pub record IsAnsweredInPart (choice : Choice) (first second printed : List ℕ) : Type 0 where
+  pub rest : List ℕ
+  pub comparison : Comparison
+  pub answered : IsAnswered choice first second (printed ++ rest) comparison
+
+-- One of the inputs stops the task so, by its name.
+pub record IsAtFault (choice : Choice) (names : Names) (first second : List ℕ) (stop : TaskFault) : Type 0 where
+  pub fault : CompareFault
+  pub answer : CompareAnswers (compare_settings choice) first second (Err fault)
+  pub stops : StopsAt names fault stop
+
+-- an input could not be opened, or is the output, or is at fault
+abbrev pub IsUncompared : Choice → Names → (first second : List ℕ) → TaskFault → Type 0
+IsUncompared choice names first second (CannotOpen name why) = ⊤
+IsUncompared choice names first second (Input name found) = IsAtFault choice names first second (Input name found)
+IsUncompared choice names first second SameFile = ⊤
+IsUncompared choice names first second SameOutput = ⊥
+IsUncompared choice names first second Overlap = ⊥
+IsUncompared choice names first second Closed = ⊥
+IsUncompared choice names first second (Tool fault) = ⊥
+
+-- what a fault says that no input has
+abbrev pub StopsComparison : Choice → (first second printed : List ℕ) → ToolFault → Type 0
+StopsComparison choice first second printed (fault.Input found) = ⊥
+StopsComparison choice first second printed (fault.Report line) = ⊥
+StopsComparison choice first second printed fault.Read = ⊥
+StopsComparison choice first second printed fault.Write = IsAnsweredInPart choice first second printed
+StopsComparison choice first second printed fault.Memory = printed ≡ []

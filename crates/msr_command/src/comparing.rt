@@ -1,0 +1,123 @@
+//! The task of comparing two files.
+ghost use Rattle.std.specs.Prelude.{◌≡◌, ◌≤◌};
+ghost use Rattle.msr_devices.specs.Device.{CanCountCall};
+ghost use Rattle.msr_command.specs.Comparing.{StopsAt, StopsNamed, TellsComparison, compare_settings, names_of};
+ghost use Rattle.msr_command.specs.Ends.{Compares, ComparesNamed};
+
+use crate::done::Done;
+use crate::files::{open_file, standard_input};
+use crate::task_fault::TaskFault;
+use msr_arguments::Comparing;
+use msr_compare::{CompareFault, Comparison, compare};
+use msr_devices::write_all;
+use msr_input::{ReadFault, Settings};
+use msr_tool::{FromRead, Options, Sink, Source, ToolFault};
+use std::alloc::Global;
+use std::rt::Files;
+
+/// The names of both inputs.
+#[derive(Clone, Copy)]
+pub(crate) struct Names<'a> {
+    pub one: &'a str,
+    pub other: &'a str,
+}
+
+/// How both inputs are read with these options: never strictly.
+fn compare_settings(options: Options) -> Settings
+    ensures same { result ≡ compare_settings options }
+    ensures in_range { (1 ≤ result.tolerance) × (result.tolerance ≤ 1_000_000) }
+{
+    Settings {
+        tolerance: options.tolerance(),
+        strict: false,
+    }
+}
+
+/// What the task ends with at that fault of the file with this name.
+fn stop_named(name: &str, fault: ReadFault) -> TaskFault<'_>
+    ensures { StopsNamed name.now fault result }
+{
+    match fault {
+        ReadFault::Input(_) | ReadFault::Read => TaskFault::Input(name, fault),
+        ReadFault::Memory => TaskFault::Tool(ToolFault::Memory),
+    }
+}
+
+/// What the task ends with at that fault of one of the files with these names.
+fn stop_at<'a>(names: Names<'a>, fault: CompareFault) -> TaskFault<'a>
+    ensures { StopsAt names.entry fault result }
+{
+    match fault {
+        CompareFault::One(fault) => stop_named(names.one, fault),
+        CompareFault::Other(fault) => stop_named(names.other, fault),
+    }
+}
+
+/// Prints the answer.
+fn tell<O: Sink>(alloc: Global, comparison: Comparison, output: &mut O) -> Result<(), ToolFault>
+    requires { CanCountCall (O.device output.old) }
+    ensures { TellsComparison comparison (O.device output.old) (O.device output.new) result }
+{
+    let lines = format!(in alloc; "{comparison}\n")?;
+    write_all(output, lines.as_bytes())?;
+    Ok(())
+}
+
+/// Compares the sources of the files with these names, and prints the answer.
+fn compare_sources<'a, One: Source, Other: Source, O: Sink>(
+    alloc: Global,
+    options: Options,
+    names: Names<'a>,
+    one: &mut One,
+    other: &mut Other,
+    output: &mut O,
+) -> Result<Done, TaskFault<'a>>
+    requires one { CanCountCall (One.device one.old) }
+    requires other { CanCountCall (Other.device other.old) }
+    requires output { CanCountCall (O.device output.old) }
+    ensures { Compares options names.entry (One.device one.old) (Other.device other.old)
+        (O.device output.old) (O.device output.new) result }
+{
+    match compare(alloc, one, other, compare_settings(options)) {
+        Ok(comparison) => {
+            tell(alloc, comparison, output)?;
+            Ok(Done::Compared(comparison))
+        }
+        Err(fault) => Err(stop_at(names, fault)),
+    }
+}
+
+/// Opens both inputs before either is read.
+pub(crate) fn compare_files<'a, R: Files, I: Source, O: Sink>(
+    rt: &R,
+    alloc: Global,
+    asked: Comparing<'a>,
+    input: &mut I,
+    output: &mut O,
+) -> Result<Done, TaskFault<'a>>
+    requires input { CanCountCall (I.device input.old) }
+    requires output { CanCountCall (O.device output.old) }
+    ensures { ComparesNamed asked.entry.options (names_of asked.entry) (I.device input.old) (O.device output.old) (O.device output.new) result }
+{
+    let Comparing {
+        options,
+        one: first,
+        other: second,
+    } = asked;
+    let names = Names {
+        one: first,
+        other: second,
+    };
+    if first == "-" {
+        standard_input(rt)?;
+        let mut other = FromRead::new(open_file(rt, second)?.file);
+        return compare_sources(alloc, options, names, input, &mut other, output);
+    }
+    let mut one = FromRead::new(open_file(rt, first)?.file);
+    if second == "-" {
+        standard_input(rt)?;
+        return compare_sources(alloc, options, names, &mut one, input, output);
+    }
+    let mut other = FromRead::new(open_file(rt, second)?.file);
+    compare_sources(alloc, options, names, &mut one, &mut other, output)
+}

@@ -1,0 +1,5 @@
+//! Tests of comparing two inputs.
+#![tactic(auto)]
+
+#[cfg(test)]
+mod answers;
