@@ -1,2 +1,2 @@
 pub mod RecordLengths
-pub mod ChoiceLemmas
+pub mod KindLemmas

@@ -1,5 +1,5 @@
 pub mod RecordLength
 pub mod Lengths
 pub mod Codes
-pub mod Choices
+pub mod Kinds
 pub mod Forms

@@ -1,6 +1,6 @@
 //! The kinds of records.
 ghost use Rattle.std.specs.Prelude.{◌≡◌, ◌↔◌, Some};
-ghost use Rattle.msr_kinds.specs.Choices.{contains};
+ghost use Rattle.msr_kinds.specs.Kinds.{contains};
 ghost use Rattle.msr_kinds.specs.Codes.{code_of};
 
 /// How a record stores its samples (SEED 2.4, blockette 1000: encoding format).

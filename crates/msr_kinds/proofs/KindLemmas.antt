@@ -1,6 +1,6 @@
 -- What each choice of kinds has.
 use Rattle.std.proofs.Common.{refl}
-use Rattle.msr_kinds.specs.Choices.{IsAmong}
+use Rattle.msr_kinds.specs.Kinds.{IsAmong}
 use Rattle.msr_kinds.specs.declared.kinds.Kind.TheVariants.{Int32}
 use Rattle.msr_kinds.specs.declared.kinds.Kinds.{Kinds}
 use Rattle.msr_kinds.specs.declared.kinds.Kinds.TheVariants.{All, WithoutInt24}
