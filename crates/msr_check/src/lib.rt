@@ -4,7 +4,7 @@
 ghost use Rattle.std.specs.Prelude.{◌≡◌, ◌<◌, ◌↔◌, length, IsTrue, IsFalse};
 ghost use Rattle.msr_kinds.specs.Lengths.{bytes_of};
 ghost use Rattle.msr_words.specs.Fit.{Fits, IsRun};
-ghost use Rattle.msr_check.specs.Held.{Holds};
+ghost use Rattle.msr_check.specs.HoldsBoth.{HoldsBoth};
 ghost use Rattle.msr_words.specs.Packing.{NoneHolds, IsPacking, IsSeparating, IsLeast};
 
 use msr_kinds::{Kind, Length};
@@ -21,7 +21,7 @@ fn holds_both(
 ) -> bool
     requires order { first < second }
     requires within { second < length samples.now }
-    ensures { IsTrue result ↔ Holds kind (bytes_of record_length) samples.now first second }
+    ensures { IsTrue result ↔ HoldsBoth kind (bytes_of record_length) samples.now first second }
 {
     let most = first.min(kind.look_back());
     for back in 0..most + 1 {

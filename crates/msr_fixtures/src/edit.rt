@@ -18,7 +18,7 @@ pub enum Edit<'a> {
     /// The hour, the minute, the second and its ten thousandths, of the start.
     Clock(u8, u8, u8, u16),
     /// The number of samples.
-    Samples(u16),
+    SampleCount(u16),
     /// The factor and the multiplier of the sample rate.
     Rate(i16, i16),
     /// The activity flags.
@@ -112,7 +112,7 @@ fn edit_one(order: Order, bytes: &mut [u8], edit: Edit<'_>) {
         Edit::Clock(hour, minute, second, fract) => {
             put_clock(order, bytes, [hour, minute, second], fract);
         }
-        Edit::Samples(count) => put_number(order, bytes, 30, count),
+        Edit::SampleCount(count) => put_number(order, bytes, 30, count),
         Edit::Rate(factor, multiplier) => {
             put_signed(order, bytes, 32, factor);
             put_signed(order, bytes, 34, multiplier);

@@ -70,7 +70,7 @@ pub fn steim_record(edits: &[Edit<'_>]) -> [u8; 256] {
 
 /// The record of 48 samples of 0 as numbers of 32 bits, after some edits.
 pub fn int32_record(edits: &[Edit<'_>]) -> [u8; 256] {
-    let mut bytes = record(&[Edit::Samples(48), Edit::Encoding(3), Edit::Frames(0)]);
+    let mut bytes = record(&[Edit::SampleCount(48), Edit::Encoding(3), Edit::Frames(0)]);
     edit_all(Order::Big, &mut bytes, edits);
     bytes
 }

@@ -30,7 +30,7 @@ pub const REFUSALS: [(usize, &[Edit<'static>], &str); 22] = [
     (256, &[Edit::Encoding(4)], "15 OtherEncoding 4"),
     (256, &[Edit::DataAt(63)], "16 BadDataOffset"),
     (256, &[Edit::Encoding(2)], "12 DataShort"),
-    (256, &[Edit::Samples(302)], "12 DataShort"),
+    (256, &[Edit::SampleCount(302)], "12 DataShort"),
     (
         256,
         &[

@@ -56,7 +56,7 @@ type Row = (&'static str, &'static [Edit<'static>], Header);
 const SECOND: &[Edit<'static>] = &[
     Edit::Sequence(*b"000002"),
     Edit::Clock(0, 0, 15, 500),
-    Edit::Samples(1),
+    Edit::SampleCount(1),
     Edit::Frames(1),
 ];
 
@@ -83,10 +83,14 @@ fn given_rows() -> [Row; 4] {
     [
         ("as it is", &[], header()),
         ("the record after it", SECOND, second),
-        ("Steim-1", &[Edit::Samples(87), Edit::Encoding(10)], steim1),
+        (
+            "Steim-1",
+            &[Edit::SampleCount(87), Edit::Encoding(10)],
+            steim1,
+        ),
         (
             "integers",
-            &[Edit::Samples(2), Edit::Encoding(3), Edit::Frames(0)],
+            &[Edit::SampleCount(2), Edit::Encoding(3), Edit::Frames(0)],
             integers,
         ),
     ]

@@ -80,14 +80,14 @@ fn reverses() -> [(&'static str, Reverse); 4] {
         (
             "no samples, rate or known encoding",
             (
-                &[Edit::Samples(0), Edit::Rate(0, 1), Edit::Encoding(0)],
+                &[Edit::SampleCount(0), Edit::Rate(0, 1), Edit::Encoding(0)],
                 true,
                 &[],
             ),
         ),
         (
             "no samples, and data after the end",
-            (&[Edit::Samples(0), Edit::DataAt(65535)], true, &[]),
+            (&[Edit::SampleCount(0), Edit::DataAt(65535)], true, &[]),
         ),
     ]
 }
@@ -132,7 +132,7 @@ fn plain_records() -> [(&'static str, Plain); 4] {
             "16 bits",
             (
                 &[
-                    Edit::Samples(2),
+                    Edit::SampleCount(2),
                     Edit::Encoding(1),
                     Edit::Bytes(64, &[0x80, 0, 0x7f, 0xff]),
                 ],
@@ -144,7 +144,7 @@ fn plain_records() -> [(&'static str, Plain); 4] {
             "16 bits, little-endian",
             (
                 &[
-                    Edit::Samples(2),
+                    Edit::SampleCount(2),
                     Edit::Encoding(1),
                     Edit::DataOrder(0),
                     Edit::Bytes(64, &[0, 0x80, 0xff, 0x7f]),
@@ -157,7 +157,7 @@ fn plain_records() -> [(&'static str, Plain); 4] {
             "24 bits",
             (
                 &[
-                    Edit::Samples(2),
+                    Edit::SampleCount(2),
                     Edit::Encoding(2),
                     Edit::Bytes(64, &[0x80, 0, 0, 0x7f, 0xff, 0xff]),
                 ],
@@ -169,7 +169,7 @@ fn plain_records() -> [(&'static str, Plain); 4] {
             "24 bits, little-endian",
             (
                 &[
-                    Edit::Samples(2),
+                    Edit::SampleCount(2),
                     Edit::Encoding(2),
                     Edit::DataOrder(0),
                     Edit::Bytes(64, &[0, 0, 0x80, 0xff, 0xff, 0x7f]),
@@ -208,7 +208,7 @@ fn are_the_same(big: &Row, little: &Row) -> bool {
 #[test]
 fn headers_of_rows(rt: HostRuntime) -> Result<(), Fail> {
     let alloc = rt.alloc();
-    let numbers = &[Edit::Samples(48), Edit::Encoding(3), Edit::Frames(0)];
+    let numbers = &[Edit::SampleCount(48), Edit::Encoding(3), Edit::Frames(0)];
     let big = row_of(alloc, &record(numbers)).ok_or("big-endian")?;
     let little = row_of(alloc, &little_record(numbers)).ok_or("little-endian")?;
     expect(are_the_same(&big, &little), "the other order")?;

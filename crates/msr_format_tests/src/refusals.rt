@@ -31,7 +31,7 @@ const OTHERS: [Refusal; 14] = [
         "8 BadExponent",
     ),
     (256, &[Edit::Exponent(20)], "10 RecordCut"),
-    (256, &[Edit::Samples(65535)], "12 DataShort"),
+    (256, &[Edit::SampleCount(65535)], "12 DataShort"),
     (256, &[Edit::DataAt(256)], "12 DataShort"),
     (
         256,
@@ -45,7 +45,7 @@ const OTHERS: [Refusal; 14] = [
         &[
             Edit::Day(2100, 365),
             Edit::Clock(23, 59, 59, 0),
-            Edit::Samples(302),
+            Edit::SampleCount(302),
         ],
         "12 DataShort",
     ),
@@ -53,7 +53,7 @@ const OTHERS: [Refusal; 14] = [
 
 /// Refusals of the record of 48 integers.
 const OF_INTEGERS: [Refusal; 3] = [
-    (256, &[Edit::Samples(49)], "12 DataShort"),
+    (256, &[Edit::SampleCount(49)], "12 DataShort"),
     (256, &[Edit::DataAt(63)], "16 BadDataOffset"),
     (
         256,

@@ -4,9 +4,9 @@ use msr_steim::{BadCode, Version, group_width, is_group, read_word, write_word};
 use std::test::Fail;
 
 /// Differences, and the code and the word that hold them.
-type Held = (Version, &'static [i32], u8, u32);
+type WordRow = (Version, &'static [i32], u8, u32);
 
-fn words() -> [(&'static str, Held); 11] {
+fn words() -> [(&'static str, WordRow); 11] {
     [
         ("1 of 32 bits", (Version::One, &[-1], 3, 0xffff_ffff)),
         (
@@ -52,12 +52,12 @@ fn words() -> [(&'static str, Held); 11] {
     ]
 }
 
-fn is_written(held: Held) -> bool {
+fn is_written(held: WordRow) -> bool {
     let (version, differences, code, word) = held;
     write_word(version, differences) == Some((code, word))
 }
 
-fn is_read(held: Held) -> bool {
+fn is_read(held: WordRow) -> bool {
     let (version, differences, code, word) = held;
     if code > 3 {
         return false;
@@ -78,8 +78,8 @@ fn words_both_ways() -> Result<(), Fail> {
 
 #[test]
 fn three_differences_are_read_as_four() -> Result<(), Fail> {
-    let three: Held = (Version::One, &[1, 2, -3], 1, 0x0102_fd00);
-    let four: Held = (Version::One, &[1, 2, -3, 0], 1, 0x0102_fd00);
+    let three: WordRow = (Version::One, &[1, 2, -3], 1, 0x0102_fd00);
+    let four: WordRow = (Version::One, &[1, 2, -3, 0], 1, 0x0102_fd00);
     expect(is_written(three), "written")?;
     expect(is_read(four), "read")
 }

@@ -99,13 +99,13 @@ fn written_steim2_records(rt: HostRuntime) -> Result<(), Fail> {
     let next = record(&[
         Edit::Sequence(*b"000002"),
         Edit::Clock(0, 0, 15, 500),
-        Edit::Samples(1),
+        Edit::SampleCount(1),
         Edit::Frames(1),
         ONE_ZERO,
     ]);
     let third = record(&[
         Edit::Clock(0, 1, 40, 3333),
-        Edit::Samples(1),
+        Edit::SampleCount(1),
         Edit::Micros(33),
         Edit::Frames(1),
         ONE_ZERO,
@@ -173,7 +173,7 @@ fn is_written_plain(alloc: Global, row: Plain) -> bool {
         kind,
     };
     let bytes = record(&[
-        Edit::Samples(2),
+        Edit::SampleCount(2),
         Edit::Encoding(encoding),
         Edit::Frames(0),
         Edit::Bytes(64, area),

@@ -8,7 +8,7 @@ use Rattle.msr_words.specs.declared.kinds.Run.{Run}
 use Rattle.msr_words.specs.Packing.{IsCanonical}
 use Rattle.msr_packer.proofs.Canonical.{one_packing}
 use Rattle.msr_rows.specs.declared.row.Row.{Row}
-use Rattle.msr_record.specs.Written.{IsWritten}
+use Rattle.msr_record.specs.Written.{IsWrittenRecord}
 use Rattle.msr_rows.proofs.OneAnswer.{rows_equal}
 use Rattle.msr_record.proofs.OneWritten.{written_once}
 use Rattle.msr_segments.specs.declared.joiner.Segment.{Segment}
@@ -28,8 +28,8 @@ one_written size n (cut ∷ cuts) rows more bytes text first second =
     let v = second.2 in
     let row : w.row ≡ v.row = one_row cut.segment cut.run w.row v.row w.is_record.of_run v.is_record.of_run in
     let before = sample_before cut.segment.samples cut.run.start in
-    let other : IsWritten v.first cut.segment.key w.row.start n before w.row.samples cut.run.kind size =
-    subst (λ (r : Row). IsWritten v.first cut.segment.key r.start n before r.samples cut.run.kind size)
+    let other : IsWrittenRecord v.first cut.segment.key w.row.start n before w.row.samples cut.run.kind size =
+    subst (λ (r : Row). IsWrittenRecord v.first cut.segment.key r.start n before r.samples cut.run.kind size)
     (sym row) v.is_record.written in
     let same : w.first ≡ v.first =
     written_once w.first v.first cut.segment.key w.row.start n before w.row.samples cut.run.kind size

@@ -13,7 +13,7 @@ use Rattle.msr_words.specs.Fit.{Fits, IsRun}
 use Rattle.msr_words.specs.Packing.{IsCanonical}
 use Rattle.msr_kinds.specs.RecordLength.{IsRecordLength}
 use Rattle.msr_packer.specs.Blocks.{Holding, Packs, pushed}
-use Rattle.msr_packer.specs.Held.{Shows, before_place}
+use Rattle.msr_packer.specs.HeldSamples.{Shows, before_place}
 use Rattle.msr_packer.specs.declared.held.Piece.{Piece}
 use Rattle.msr_packer.proofs.PackingsExist.{HasRest}
 use Rattle.msr_packer.proofs.Holding.{begins_all, begins_rest}

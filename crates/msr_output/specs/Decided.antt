@@ -4,7 +4,7 @@ use Rattle.std.specs.List.{flat_map}
 use Rattle.std.specs.Option.{option_to_list}
 use Rattle.msr_words.specs.declared.kinds.Run.{Run}
 use Rattle.msr_packer.specs.Blocks.{HoldsFew}
-use Rattle.msr_packer.specs.Held.{BeginsAll, LeavesFew}
+use Rattle.msr_packer.specs.HeldSamples.{BeginsAll, LeavesFew}
 use Rattle.msr_rows.specs.declared.row.Row.{Row}
 use Rattle.msr_segments.specs.declared.joiner.Segment.{Segment}
 use Rattle.msr_output.specs.Opened.{Opened}

@@ -8,7 +8,7 @@ use Rattle.msr_words.specs.Packing.{IsPacking, IsLeast, IsSeparating, IsCanonica
 use Rattle.msr_kinds.specs.RecordLength.{IsRecordLength}
 use Rattle.msr_words.specs.declared.kinds.Run.{Run}
 use Rattle.msr_rows.specs.Records.{IsRowOf, IsRecordOf, RowIsInTime}
-use Rattle.msr_record.specs.Written.{IsWritten, IsWritableKey}
+use Rattle.msr_record.specs.Written.{IsWrittenRecord, IsWritableKey}
 use Rattle.msr_rows.specs.declared.row.Row.{Row}
 use Rattle.msr_segments.specs.Segments.{AreSegments, SegmentIsInTime}
 use Rattle.msr_segments.specs.declared.joiner.Segment.{Segment}
@@ -51,7 +51,7 @@ pub record IsRowOfRun (segment : Segment) (run : Run) (row : Row) : Type 0 where
 pub record IsRecordOfRun (size number : ℕ) (segment : Segment) (run : Run) (row : Row) (bytes : List ℕ) : Type 0 where
   pub of_run : IsRowOfRun segment run row
   pub size_is : length bytes ≡ size
-  pub written : IsWritten bytes segment.key row.start number
+  pub written : IsWrittenRecord bytes segment.key row.start number
       (sample_before segment.samples run.start) row.samples run.kind size
   pub decodes : (rest : List ℕ) → IsRowOf (bytes ++ rest) row
   pub reads : (rest : List ℕ) → RowIsInTime row

@@ -5,7 +5,7 @@ ghost use Rattle.msr_words.specs.declared.kinds.Run.{Run};
 ghost use Rattle.msr_kinds.specs.Lengths.{bytes_of};
 ghost use Rattle.msr_words.specs.Packing.{IsCanonical};
 ghost use Rattle.msr_packer.specs.Blocks.{HoldsFew, left_of, pushed};
-ghost use Rattle.msr_packer.specs.Held.{Shows, pieces_of, runs_of, separators_of};
+ghost use Rattle.msr_packer.specs.HeldSamples.{Shows, pieces_of, runs_of, separators_of};
 ghost use Rattle.msr_packer.specs.declared.held.Piece.{Piece};
 ghost use Rattle.msr_rows.specs.Correction.{is_pending};
 ghost use Rattle.msr_record.specs.Written.{IsKey};
@@ -54,12 +54,12 @@ fn number_after_this(number: u32) -> u32
 }
 
 /// A key has fields of the widths of a header's, and a rate of which neither part is 0.
-fn has_widths(key: Key)
+fn key_has_header_widths(key: Key)
     ensures { IsKey key }
 {}
 
 /// If no sample is there yet, the times are those of the start.
-fn begins_in_time(key: &Key, start: i64)
+fn empty_span_is_in_time(key: &Key, start: i64)
     requires { IsInstant start }
     ensures { SpanIsInTime (span_of key.now start 0) }
 {
@@ -102,8 +102,8 @@ impl OpenSegment {
         ensures start { result.start ≡ start }
         ensures count { pushed result.packer ≡ 0 }
     {
-        has_widths(key);
-        begins_in_time(&key, start);
+        key_has_header_widths(key);
+        empty_span_is_in_time(&key, start);
         OpenSegment {
             key,
             start,

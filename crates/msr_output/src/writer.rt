@@ -2,7 +2,7 @@
 use crate::opened::OpenSegment;
 use msr_devices::{Sink, WriteBuffer, WriteFault};
 use msr_kinds::Length;
-use msr_record::{Key, are_32_bit};
+use msr_record::{Key, samples_have_32_bits};
 use msr_report::SegmentLine;
 use std::alloc::Global;
 use std::marker::Model;
@@ -106,7 +106,7 @@ impl SegmentWriter {
         ensures number { OnOk result (pushed segment.new.packer ≡ pushed segment.old.packer + length samples.now) }
         ensures few { CountsFew (W.device sink.old) (W.device sink.new) }
     {
-        are_32_bit(samples);
+        samples_have_32_bits(samples);
         segment.push(samples)?;
         self.number = segment.encode_runs(self.alloc, false, self.number, &mut self.buffer.bytes)?;
         self.buffer.flush_full(sink)?;

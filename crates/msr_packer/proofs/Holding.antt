@@ -13,9 +13,9 @@ use Rattle.msr_words.specs.Lemmas.KindLaws.{back_step_any, short_any, size_any}
 use Rattle.msr_words.specs.Packing.{IsCanonical, IsStep, Joins}
 use Rattle.msr_words.proofs.Runs.{length-run_points}
 use Rattle.msr_packer.specs.SoFar.{IsSoFar}
-use Rattle.msr_packer.specs.Held.{BeginsAll, GivesPiece, Holds, InsideIfAny, IsCurrent, IsNext, IsSound, IsWindow, LeavesFew, Shows, StandsAt, Stays, before_place, frontier_of, piece_of, pieces_of, runs_of, samples_of, separators_of, start_of}
-use Rattle.msr_packer.specs.declared.held.Current.{Current}
-use Rattle.msr_packer.specs.declared.held.Held.{Held}
+use Rattle.msr_packer.specs.HeldSamples.{BeginsAll, GivesPiece, HoldsRest, InsideIfAny, IsRunToCut, IsNext, IsSound, IsWindow, LeavesFew, Shows, StandsAt, Stays, before_place, frontier_of, piece_of, pieces_of, runs_of, samples_of, separators_of, start_of}
+use Rattle.msr_packer.specs.declared.held.RunToCut.{RunToCut}
+use Rattle.msr_packer.specs.declared.held.HeldSamples.{HeldSamples}
 use Rattle.msr_packer.specs.declared.held.Piece.{Piece}
 use Rattle.msr_packer.proofs.PackingsExist.{HasRest, has_packing, rest_of}
 use Rattle.msr_packer.proofs.Least.{forth, goes_on, last_one, one_more}
@@ -32,8 +32,8 @@ run_size bytes samples a b kind run =
 -- ---- samples that follow, and samples that are not needed any more
 
 pub current_in_order : (bytes : ℕ) → 256 ≤ bytes
-    → (samples : List ℤ) (runs : List Run) (separators : List ℕ) (offset : ℕ) (c : Current)
-    → IsCurrent bytes samples runs separators offset c → (c.start ≤ c.frontier) × (c.frontier < c.end)
+    → (samples : List ℤ) (runs : List Run) (separators : List ℕ) (offset : ℕ) (c : RunToCut)
+    → IsRunToCut bytes samples runs separators offset c → (c.start ≤ c.frontier) × (c.frontier < c.end)
 current_in_order bytes enough samples runs separators offset c is =
     let s = is.so_far in
     let before = s.step.before in
@@ -41,7 +41,7 @@ current_in_order bytes enough samples runs separators offset c is =
     (omega arith, omega arith)
 
 pub window_more : (bytes : ℕ) → 256 ≤ bytes → (samples more : List ℤ) (runs : List Run) (separators : List ℕ)
-    (held : List ℤ) (offset : ℕ) (current : Option Current)
+    (held : List ℤ) (offset : ℕ) (current : Option RunToCut)
     → IsWindow bytes samples runs separators held offset current → Stays current (length held)
     → IsWindow bytes (samples ++ more) runs separators (held ++ more) offset current
 window_more bytes enough samples more runs separators held offset current w stays = record {
@@ -50,7 +50,7 @@ window_more bytes enough samples more runs separators held offset current w stay
   at = at_more current w.at stays;
 }
   where
-    at_more : (current : Option Current) → StandsAt bytes samples runs separators offset current
+    at_more : (current : Option RunToCut) → StandsAt bytes samples runs separators offset current
         → Stays current (length held) → StandsAt bytes (samples ++ more) runs separators offset current
     at_more None at stays = at
     at_more (Some c) at stays =
@@ -69,7 +69,7 @@ window_more bytes enough samples more runs separators held offset current w stay
 
 -- the samples before the one before the run are not needed
 pub window_less : (bytes : ℕ) (samples : List ℤ) (runs : List Run) (separators : List ℕ) (held : List ℤ)
-    (offset k : ℕ) (c d : Current) → IsWindow bytes samples runs separators held offset (Some c) → k < c.start
+    (offset k : ℕ) (c d : RunToCut) → IsWindow bytes samples runs separators held offset (Some c) → k < c.start
     → d.frontier + k ≡ c.frontier → d.start + k ≡ c.start → d.end + k ≡ c.end → d.whole ≡ c.whole → d.short ≡ c.short
     → IsWindow bytes samples runs separators (drop k held) (offset + k) (Some d)
 window_less bytes samples runs separators held offset k c d w small frontier start end whole short =
@@ -94,14 +94,14 @@ window_less bytes samples runs separators held offset k c d w small frontier sta
 -- ---- the step from the frontier, and the piece before it
 
 pub record Gives (bytes : ℕ) (samples : List ℤ) (runs : List Run) (separators : List ℕ) (offset : ℕ)
-    (current : Option Current) (h a : ℕ) (kind : Kind) : Type 0 where
+    (current : Option RunToCut) (h a : ℕ) (kind : Kind) : Type 0 where
   pub so_far : IsSoFar bytes samples (runs ++ runs_of (pieces_of (piece_of offset current a)))
       (separators ++ separators_of (pieces_of (piece_of offset current a))) (offset + frontier_of current)
       (offset + h) (offset + a) kind
   pub one_before : (offset ≡ 0) ⊎ (1 ≤ a)
 
 -- the kind of the run that is cut where the next one starts
-cut_kind : (bytes : ℕ) (samples : List ℤ) (offset : ℕ) (c : Current) (a : ℕ) (b : Bool) → eqb a c.end ≡ b
+cut_kind : (bytes : ℕ) (samples : List ℤ) (offset : ℕ) (c : RunToCut) (a : ℕ) (b : Bool) → eqb a c.end ≡ b
     → a ≤ c.end → c.end ≤ a + 1
     → IsFirstKind bytes (run_points samples (offset + c.start) (offset + c.end)) c.whole
     → IsFirstKind bytes (run_points samples (offset + c.start) (offset + c.end - 1)) c.short
@@ -115,7 +115,7 @@ cut_kind bytes samples offset c a false e low high whole short =
     subst (λ n. IsFirstKind bytes (run_points samples (offset + c.start) n) c.short) end short
 
 pub gives : (bytes : ℕ) → 256 ≤ bytes → (samples : List ℤ) (runs : List Run) (separators : List ℕ) (held : List ℤ)
-    (offset : ℕ) (current : Option Current) (h a : ℕ) (kind : Kind)
+    (offset : ℕ) (current : Option RunToCut) (h a : ℕ) (kind : Kind)
     → IsWindow bytes samples runs separators held offset current → frontier_of current < length held
     → IsStep (FitsAny bytes) held (frontier_of current) h a → IsRun (Fits kind bytes) held a h
     → Gives bytes samples runs separators offset current h a kind
@@ -173,7 +173,7 @@ gives bytes enough samples runs separators held offset (Some c) h a kind w more 
 
 -- the window with the next step
 pub window_next : (bytes : ℕ) → 256 ≤ bytes → (samples : List ℤ) (runs : List Run) (separators : List ℕ)
-    (held : List ℤ) (offset : ℕ) (current : Option Current) (next : Current)
+    (held : List ℤ) (offset : ℕ) (current : Option RunToCut) (next : RunToCut)
     → IsWindow bytes samples runs separators held offset current → IsNext bytes held current next
     → IsWindow bytes samples (runs ++ runs_of (pieces_of (piece_of offset current next.start)))
     (separators ++ separators_of (pieces_of (piece_of offset current next.start))) held offset (Some next)
@@ -207,7 +207,7 @@ window_next bytes enough samples runs separators held offset current d w next =
 
 -- whatever samples follow, the runs so far begin their packing
 pub begins_all : (bytes : ℕ) → 256 ≤ bytes → (samples : List ℤ) (runs : List Run) (separators : List ℕ)
-    (held : List ℤ) (offset : ℕ) (current : Option Current)
+    (held : List ℤ) (offset : ℕ) (current : Option RunToCut)
     → IsWindow bytes samples runs separators held offset current → Stays current (length held)
     → BeginsAll bytes samples runs separators
 begins_all bytes enough samples runs separators held offset None w stays more =
@@ -223,12 +223,12 @@ begins_all bytes enough samples runs separators held offset (Some c) w stays mor
 
 -- where the samples begin that were not given
 pub record Leaves (samples : List ℤ) (runs : List Run) (held : List ℤ) (offset : ℕ)
-    (current : Option Current) : Type 0 where
+    (current : Option RunToCut) : Type 0 where
   pub joined : Joins 0 runs (offset + start_of current)
   pub from_there : drop (start_of current) held ≡ drop (offset + start_of current) samples
 
 pub leaves : (bytes : ℕ) (samples : List ℤ) (runs : List Run) (separators : List ℕ) (held : List ℤ) (offset : ℕ)
-    (current : Option Current) → IsWindow bytes samples runs separators held offset current
+    (current : Option RunToCut) → IsWindow bytes samples runs separators held offset current
     → Leaves samples runs held offset current
 leaves bytes samples runs separators held offset None w =
     let none = w.at in
@@ -245,7 +245,7 @@ leaves bytes samples runs separators held offset (Some c) w = record {
 
 -- and that of all samples, if none follows
 pub begins_rest : (bytes : ℕ) → 256 ≤ bytes → (samples : List ℤ) (runs : List Run) (separators : List ℕ)
-    (held : List ℤ) (offset : ℕ) (current : Option Current)
+    (held : List ℤ) (offset : ℕ) (current : Option RunToCut)
     → IsWindow bytes samples runs separators held offset current → HasRest bytes samples runs separators
 begins_rest bytes enough samples runs separators held offset None w =
     let none = w.at in
@@ -257,7 +257,7 @@ begins_rest bytes enough samples runs separators held offset (Some c) w =
 
 -- if a longest run at most is held after the frontier
 pub leaves_few : (bytes : ℕ) (samples : List ℤ) (runs : List Run) (separators : List ℕ) (held : List ℤ)
-    (offset : ℕ) (current : Option Current) → IsWindow bytes samples runs separators held offset current
+    (offset : ℕ) (current : Option RunToCut) → IsWindow bytes samples runs separators held offset current
     → length held ≤ frontier_of current + most_any bytes → LeavesFew bytes samples runs
 leaves_few bytes samples runs separators held offset None w few =
     let none = w.at in
@@ -272,7 +272,7 @@ leaves_few bytes samples runs separators held offset (Some c) w few =
 
 -- nothing was held
 pub ends_empty : (bytes : ℕ) (samples : List ℤ) (runs : List Run) (separators : List ℕ) (held : List ℤ)
-    (offset : ℕ) (current : Option Current) → IsWindow bytes samples runs separators held offset current
+    (offset : ℕ) (current : Option RunToCut) → IsWindow bytes samples runs separators held offset current
     → length held ≡ 0 → IsCanonical bytes samples (runs ++ []) (separators ++ [])
 ends_empty bytes samples runs separators held offset None w empty =
     let none = w.at in
@@ -287,7 +287,7 @@ ends_empty bytes samples runs separators held offset (Some c) w empty =
 
 -- the piece of the last step is the last of the packing, if no sample stands after it
 pub ends_with : (bytes : ℕ) (samples : List ℤ) (runs : List Run) (separators : List ℕ) (held : List ℤ) (offset : ℕ)
-    (current : Option Current) → IsWindow bytes samples runs separators held offset current
+    (current : Option RunToCut) → IsWindow bytes samples runs separators held offset current
     → length held ≤ frontier_of current
     → IsCanonical bytes samples (runs ++ runs_of (pieces_of (piece_of offset current (length held))))
     (separators ++ separators_of (pieces_of (piece_of offset current (length held))))
@@ -337,7 +337,7 @@ before_in_window samples o (suc a) (inr h) =
 
 -- the samples of the next piece, with the one before them
 pub shows_next : (bytes : ℕ) (samples : List ℤ) (runs : List Run) (separators : List ℕ) (held : List ℤ)
-    (offset : ℕ) (current : Option Current) (a : ℕ) → IsWindow bytes samples runs separators held offset current
+    (offset : ℕ) (current : Option RunToCut) (a : ℕ) → IsWindow bytes samples runs separators held offset current
     → IfSome (piece_of offset current a) (Shows samples (slice_range held (start_of current) a)
     (before_place held (start_of current)))
 shows_next bytes samples runs separators held offset None a w = tt
@@ -353,13 +353,15 @@ shown_if_any samples shown before None shows none = none refl
 shown_if_any samples shown before (Some piece) shows none = shows.run
 
 -- if no piece was given, the same runs and separators were
-pub holds_still : (old mid : Held) (samples : List ℤ) (runs : List Run) (separators : List ℕ)
-    → GivesPiece old mid None → Holds samples runs separators old → Holds samples runs separators mid
+pub holds_still : (old mid : HeldSamples) (samples : List ℤ) (runs : List Run) (separators : List ℕ)
+    → GivesPiece old mid None → HoldsRest samples runs separators old → HoldsRest samples runs separators mid
 holds_still old mid samples runs separators first h =
-    subst (λ xs. Holds samples xs separators mid) (append-nil runs)
-    (subst (λ xs. Holds samples (runs ++ []) xs mid) (append-nil separators) (first.holds samples runs separators h))
+    subst (λ xs. HoldsRest samples xs separators mid) (append-nil runs)
+    (subst (λ xs. HoldsRest samples (runs ++ []) xs mid) (append-nil separators)
+    (first.holds samples runs separators h))
 
-pub gives_again : (old mid new : Held) (piece : Option Piece) → GivesPiece old mid None → GivesPiece mid new piece
+pub gives_again : (old mid new : HeldSamples) (piece : Option Piece) → GivesPiece old mid None
+    → GivesPiece mid new piece
     → GivesPiece old new piece
 gives_again old mid new piece first second = record {
   sound = second.sound;
@@ -394,27 +396,27 @@ stepped bytes enough held g h a kind inside step reached =
       few = run_size bytes held a h kind reached;
     }
 
-pub next_stepped : (bytes : ℕ) → 256 ≤ bytes → (held : List ℤ) (current : Option Current) (next : Current)
+pub next_stepped : (bytes : ℕ) → 256 ≤ bytes → (held : List ℤ) (current : Option RunToCut) (next : RunToCut)
     → IsNext bytes held current next → Stepped bytes (frontier_of current) next.end next.start
 next_stepped bytes enough held current next is =
     rw is.frontier at (stepped bytes enough held next.frontier next.end next.start next.whole is.inside is.step
     (is.step.reached.0, is.step.reached.1, is.whole.0))
 
-pub start_before : (bytes number : ℕ) (current : Option Current) (a : ℕ) → InsideIfAny bytes number current
+pub start_before : (bytes number : ℕ) (current : Option RunToCut) (a : ℕ) → InsideIfAny bytes number current
     → frontier_of current ≤ a + 1 → start_of current ≤ a
 start_before bytes number None a inside near = omega arith
 start_before bytes number (Some c) a inside near = let before = inside.before in let on = inside.on in omega arith
 
-pub stays_at : (current : Option Current) (number h : ℕ) → frontier_of current ≡ h → h < number → Stays current number
+pub stays_at : (current : Option RunToCut) (number h : ℕ) → frontier_of current ≡ h → h < number → Stays current number
 stays_at None number h is less = tt
 stays_at (Some c) number h is less = omega arith
 
-pub stays_more : (held more : List ℤ) (current : Option Current) → Stays current (length held)
+pub stays_more : (held more : List ℤ) (current : Option RunToCut) → Stays current (length held)
     → Stays current (length (held ++ more))
 stays_more held more None stays = tt
 stays_more held more (Some c) stays = omega (arith, length-append held more)
 
-pub sound_more : (old new : Held) (more : List ℤ) → IsSound old → new.record_length ≡ old.record_length
+pub sound_more : (old new : HeldSamples) (more : List ℤ) → IsSound old → new.record_length ≡ old.record_length
     → new.current ≡ old.current → new.from ≡ old.from → new.to ≡ old.to
     → new.samples.items ≡ old.samples.items ++ more → new.offset + length new.samples.items < 2 ^ 64 → IsSound new
 sound_more old new more s same current from to items number =
@@ -428,7 +430,7 @@ sound_more old new more s same current from to items number =
       within = omega arith;
     }
   where
-    inside_more : (current : Option Current) → InsideIfAny (bytes_of old.record_length)
+    inside_more : (current : Option RunToCut) → InsideIfAny (bytes_of old.record_length)
         (length old.samples.items) current → InsideIfAny (bytes_of old.record_length) (length new.samples.items) current
     inside_more None inside = tt
     inside_more (Some c) inside =

@@ -4,26 +4,26 @@ use Rattle.msr_words.specs.declared.kinds.Run.{Run}
 use Rattle.msr_kinds.specs.Lengths.{bytes_of}
 use Rattle.msr_words.specs.Packing.{IsCanonical}
 use Rattle.msr_packer.specs.Blocks.{Holding, LeftAt, Packs, PacksLast, holding_of}
-use Rattle.msr_packer.specs.Held.{GivesPiece, Holds, IsWindow, Stays, pieces_of, runs_of, separators_of}
-use Rattle.msr_packer.specs.declared.held.Held.{Held}
+use Rattle.msr_packer.specs.HeldSamples.{GivesPiece, HoldsRest, IsWindow, Stays, pieces_of, runs_of, separators_of}
+use Rattle.msr_packer.specs.declared.held.HeldSamples.{HeldSamples}
 use Rattle.msr_packer.specs.declared.held.Piece.{Piece}
 use Rattle.msr_packer.proofs.PackingsExist.{HasRest}
 use Rattle.msr_packer.proofs.Holding.{begins_rest, holds_still, stays_more, window_more}
 
 module _ (bytes : ℕ) (samples : List ℤ) (runs : List Run) (separators : List ℕ) where
   -- in records of the packer's length, and back
-  pub holds_in : (held : Held) → bytes_of held.record_length ≡ bytes
+  pub holds_in : (held : HeldSamples) → bytes_of held.record_length ≡ bytes
       → IsWindow bytes samples runs separators held.samples.items held.offset held.current
-      → Holds samples runs separators held
+      → HoldsRest samples runs separators held
   holds_in held size w = subst
       (λ b. IsWindow b samples runs separators held.samples.items held.offset held.current) (sym size) w
 
-  pub held_in : (held : Held) → bytes_of held.record_length ≡ bytes → Holds samples runs separators held
+  pub held_in : (held : HeldSamples) → bytes_of held.record_length ≡ bytes → HoldsRest samples runs separators held
       → IsWindow bytes samples runs separators held.samples.items held.offset held.current
   held_in held size w = subst
       (λ b. IsWindow b samples runs separators held.samples.items held.offset held.current) size w
 
-module _ (bytes : ℕ) (samples : List ℤ) (runs : List Run) (separators : List ℕ) (old new : Held) where
+module _ (bytes : ℕ) (samples : List ℤ) (runs : List Run) (separators : List ℕ) (old new : HeldSamples) where
   -- ---- a piece was given
 
   pub packs_next : (ended : Bool) (piece : Option Piece) → GivesPiece old new piece
@@ -58,7 +58,7 @@ module _ (bytes : ℕ) (samples : List ℤ) (runs : List Run) (separators : List
   -- ---- samples were pushed
 
   pub packs_held : (ended : Bool) → new.record_length ≡ old.record_length
-      → (Holds samples runs separators old → Holds samples runs separators new)
+      → (HoldsRest samples runs separators old → HoldsRest samples runs separators new)
       → (Stays old.current (length old.samples.items) → Stays new.current (length new.samples.items))
       → Packs bytes samples runs separators (holding_of old ended)
       → Packs bytes samples runs separators (holding_of new ended)
@@ -88,8 +88,9 @@ module _ (bytes : ℕ) (samples : List ℤ) (runs : List Run) (separators : List
 
   -- ---- all pieces were given
 
-  pub packs_all : (mid : Held) (piece : Option Piece) → GivesPiece old mid None → new.record_length ≡ mid.record_length
-      → ((samples : List ℤ) (runs : List Run) (separators : List ℕ) → Holds samples runs separators mid
+  pub packs_all : (mid : HeldSamples) (piece : Option Piece) → GivesPiece old mid None
+      → new.record_length ≡ mid.record_length
+      → ((samples : List ℤ) (runs : List Run) (separators : List ℕ) → HoldsRest samples runs separators mid
       → IsCanonical (bytes_of mid.record_length) samples (runs ++ runs_of (pieces_of piece))
       (separators ++ separators_of (pieces_of piece)))
       → PacksLast bytes samples runs separators (holding_of old false)
@@ -106,9 +107,9 @@ module _ (bytes : ℕ) (samples : List ℤ) (runs : List Run) (separators : List
       }
 
 -- the same, after the samples were forgotten that no step needs any more
-pub packs_pushed : (bytes : ℕ) (samples : List ℤ) (runs : List Run) (separators : List ℕ) (old held new : Held)
+pub packs_pushed : (bytes : ℕ) (samples : List ℤ) (runs : List Run) (separators : List ℕ) (old held new : HeldSamples)
     (more : List ℤ) (ended : Bool) → held.record_length ≡ old.record_length
-    → (Holds samples runs separators old → Holds samples runs separators held)
+    → (HoldsRest samples runs separators old → HoldsRest samples runs separators held)
     → Stays held.current (length held.samples.items) → new.record_length ≡ held.record_length
     → new.offset ≡ held.offset → new.current ≡ held.current → new.samples.items ≡ held.samples.items ++ more
     → Packs bytes samples runs separators (holding_of old ended)

@@ -5,10 +5,10 @@ use Rattle.msr_kinds.specs.declared.kinds.Kind.TheVariants.{Int16, Int24, Int32,
 use Rattle.msr_words.specs.Segment.{run_points}
 use Rattle.msr_words.specs.Fit.{Fits, FitsAny, IsRun}
 use Rattle.msr_words.specs.Packing.{IsStep}
-use Rattle.msr_packer.specs.declared.step.Step.{Step}
+use Rattle.msr_packer.specs.declared.step.StepRun.{StepRun}
 use Rattle.msr_packer.specs.Steps.{Among, IsStepAmong, NotLess, every_kind}
 
-pub not_shorter : (result than : Step) → NotLess result than → than.end ≤ result.end
+pub not_shorter : (result than : StepRun) → NotLess result than → than.end ≤ result.end
 not_shorter result than not = elim not.further [
   | inl more ↦ omega arith
   | inr same ↦ let e = same.0 in omega arith
@@ -22,14 +22,14 @@ each_kind Int16 = inr (inr (inr (inl refl)))
 each_kind Steim2 = inr (inr (inr (inr (inl refl))))
 
 -- of two steps that reach as far, the better one starts no earlier
-not_later : (result than : Step) → NotLess result than → result.end ≤ than.end → (s : ℕ)
+not_later : (result than : StepRun) → NotLess result than → result.end ≤ than.end → (s : ℕ)
     → (result.end ≡ than.end → s ≤ than.start) → s ≤ result.start
 not_later result than not le s late = elim not.further [
   | inl more ↦ absurd (omega arith)
   | inr same ↦ let l = late (sym same.0) in let up = same.1 in omega arith
 ]
 
-pub starts_here : (step other result : Step) (g : ℕ) → step.start ≡ g → other.start ≡ g
+pub starts_here : (step other result : StepRun) (g : ℕ) → step.start ≡ g → other.start ≡ g
     → (result ≡ step) ⊎ (result ≡ other) → result.start ≡ g
 starts_here step other result g here there either = elim either [
   | inl e ↦ subst (λ r. r.start ≡ g) (sym e) here
@@ -75,7 +75,7 @@ module _ (bytes : ℕ) (samples : List ℤ) (g : ℕ) where
     }
 
   -- the better of a step and the step of one kind more
-  pub one_more : (kind : Kind) (tried : List Kind) (step other result : Step)
+  pub one_more : (kind : Kind) (tried : List Kind) (step other result : StepRun)
       → IsStepAmong tried bytes samples g step → IsStepAmong (kind ∷ []) bytes samples g other →
       (result ≡ step) ⊎ (result ≡ other) → NotLess result step → NotLess result other
       → IsStepAmong (kind ∷ tried) bytes samples g result
@@ -106,7 +106,7 @@ module _ (bytes : ℕ) (samples : List ℤ) (g : ℕ) where
 
   -- The better of a step and one from the frontier itself, if each run of one kind more ends no later than that one, or
   -- than a run from the frontier that the step's kinds know.
-  pub one_covered : (kind : Kind) (tried : List Kind) (step other result : Step) (known : Kind) (e : ℕ)
+  pub one_covered : (kind : Kind) (tried : List Kind) (step other result : StepRun) (known : Kind) (e : ℕ)
       → other.start ≡ g → IsStepAmong tried bytes samples g step
       → IsRun (Fits other.kind bytes) samples other.start other.end →
       Among tried known → IsRun (Fits known bytes) samples g e
@@ -155,7 +155,7 @@ module _ (bytes : ℕ) (samples : List ℤ) (g : ℕ) where
           (omega arith) run_known) in omega arith)
 
   -- a step from the frontier itself that is no shorter than any run of one kind more
-  pub skipped : (kind : Kind) (tried : List Kind) (step : Step) → step.start ≡ g
+  pub skipped : (kind : Kind) (tried : List Kind) (step : StepRun) → step.start ≡ g
       → IsStepAmong tried bytes samples g step →
       ((s b : ℕ) → s ≤ g → IsRun (Fits kind bytes) samples s b → b ≤ step.end)
       → IsStepAmong (kind ∷ tried) bytes samples g step
@@ -171,7 +171,7 @@ module _ (bytes : ℕ) (samples : List ℤ) (g : ℕ) where
   }
 
   -- the same kinds in another order
-  pub reordered : (kinds tried : List Kind) → ((kind : Kind) → Among kinds kind → Among tried kind) → (step : Step)
+  pub reordered : (kinds tried : List Kind) → ((kind : Kind) → Among kinds kind → Among tried kind) → (step : StepRun)
       → IsStepAmong tried bytes samples g step → IsStepAmong kinds bytes samples g step
   reordered kinds tried each step is = record {
     before = is.before;
@@ -182,7 +182,7 @@ module _ (bytes : ℕ) (samples : List ℤ) (g : ℕ) where
   }
 
   -- with records of all kinds
-  pub all_kinds : (step : Step) → IsStepAmong every_kind bytes samples g step
+  pub all_kinds : (step : StepRun) → IsStepAmong every_kind bytes samples g step
       → IsStep (FitsAny bytes) samples g step.end step.start
   all_kinds step is = record {
     before = is.before;

@@ -8,36 +8,36 @@ use Rattle.msr_words.specs.Laws.{most_any}
 use Rattle.msr_words.specs.Lemmas.KindLaws.{back_step_any, empty_kind}
 use Rattle.msr_words.specs.Packing.{IsStep}
 use Rattle.msr_words.proofs.Runs.{run_points_none}
-use Rattle.msr_packer.specs.Live.{Follows, IsDecided, IsLive, IsTracked, kind_of_tracker}
-use Rattle.msr_packer.specs.Held.{InsideIfAny, frontier_of, start_of}
+use Rattle.msr_packer.specs.Growing.{Follows, IsDecided, IsGrowing, IsTracked, kind_of_tracker}
+use Rattle.msr_packer.specs.HeldSamples.{InsideIfAny, frontier_of, start_of}
 use Rattle.msr_packer.specs.Steps.{end_of}
-use Rattle.msr_packer.specs.declared.live.KindTracker.{KindTracker}
-use Rattle.msr_packer.specs.declared.live.Live.{Live}
-use Rattle.msr_packer.specs.declared.held.Current.{Current}
-use Rattle.msr_packer.specs.declared.step.Found.{Found}
+use Rattle.msr_packer.specs.declared.growing.KindTracker.{KindTracker}
+use Rattle.msr_packer.specs.declared.growing.GrowingRun.{GrowingRun}
+use Rattle.msr_packer.specs.declared.held.RunToCut.{RunToCut}
+use Rattle.msr_packer.specs.declared.step.StepWithEnds.{StepWithEnds}
 use Rattle.msr_packer.proofs.Holding.{run_size}
 use Rattle.msr_packer.proofs.Windows.{near_by_one, run_points_stay, run_points_window, run_stays, run_was}
 
 -- ---- the run that takes the samples after the frontier
 
-pub live_run : (bytes : ℕ) (samples : List ℤ) (g n : ℕ) (live : Live) → n ≤ length samples
-    → IsLive bytes samples g n live → IsRun (FitsAny bytes) samples live.start n
-live_run bytes samples g n live within is = let b = is.before in let p = is.past in
-    (omega arith, within, (kind_of_tracker live.tracker, is.tracked.fits))
+pub growing_run : (bytes : ℕ) (samples : List ℤ) (g n : ℕ) (growing : GrowingRun) → n ≤ length samples
+    → IsGrowing bytes samples g n growing → IsRun (FitsAny bytes) samples growing.start n
+growing_run bytes samples g n growing within is = let b = is.before in let p = is.past in
+    (omega arith, within, (kind_of_tracker growing.tracker, is.tracked.fits))
 
 -- so the step from there reaches the last sample
-pub live_reaches : (bytes : ℕ) (samples : List ℤ) (g n h a : ℕ) (live : Live) → n ≤ length samples
-    → IsLive bytes samples g n live → IsStep (FitsAny bytes) samples g h a → n ≤ h
-live_reaches bytes samples g n h a live within is step =
-    step.furthest live.start n is.before (live_run bytes samples g n live within is)
+pub growing_reaches : (bytes : ℕ) (samples : List ℤ) (g n h a : ℕ) (growing : GrowingRun) → n ≤ length samples
+    → IsGrowing bytes samples g n growing → IsStep (FitsAny bytes) samples g h a → n ≤ h
+growing_reaches bytes samples g n h a growing within is step =
+    step.furthest growing.start n is.before (growing_run bytes samples g n growing within is)
 
 -- samples that follow change nothing of those before
-pub live_more : (bytes : ℕ) (samples more : List ℤ) (g n : ℕ) (live : Live) → n ≤ length samples
-    → IsLive bytes samples g n live → IsLive bytes (samples ++ more) g n live
-live_more bytes samples more g n live within is =
+pub growing_more : (bytes : ℕ) (samples more : List ℤ) (g n : ℕ) (growing : GrowingRun) → n ≤ length samples
+    → IsGrowing bytes samples g n growing → IsGrowing bytes (samples ++ more) g n growing
+growing_more bytes samples more g n growing within is =
     let b = is.before in
     let p = is.past in
-    let same = run_points_stay samples more live.start n (omega arith) within in
+    let same = run_points_stay samples more growing.start n (omega arith) within in
     record {
       before = is.before;
       near = is.near;
@@ -49,20 +49,21 @@ live_more bytes samples more g n live within is =
     }
 
 -- nor do samples that are taken away before its start
-pub live_less : (bytes : ℕ) (held : List ℤ) (g g' k : ℕ) (live live' : Live)
-    → IsLive bytes held g (length held) live → k < live.start → g' + k ≡ g → live'.start + k ≡ live.start
-    → live'.tracker ≡ live.tracker
-    → IsLive bytes (drop k held) g' (length (drop k held)) live'
-live_less bytes held g g' k live live' is small frontier start tracker =
+pub growing_less : (bytes : ℕ) (held : List ℤ) (g g' k : ℕ) (growing growing' : GrowingRun)
+    → IsGrowing bytes held g (length held) growing → k < growing.start → g' + k ≡ g → growing'.start + k ≡ growing.start
+    → growing'.tracker ≡ growing.tracker
+    → IsGrowing bytes (drop k held) g' (length (drop k held)) growing'
+growing_less bytes held g g' k growing growing' is small frontier start tracker =
     let b = is.before in
     let n = is.near in
     let p = is.past in
     let l = length-drop k held in
-    let s : k + live'.start ≡ live.start = omega arith in
+    let s : k + growing'.start ≡ growing.start = omega arith in
     let e : k + length (drop k held) ≡ length held = omega arith in
-    let same : run_points (drop k held) live'.start (length (drop k held)) ≡ run_points held live.start (length held) =
-    run_points_window held k live'.start (length (drop k held)) (inr (omega arith))
-    ∙ ap (λ x. run_points held x (k + length (drop k held))) s ∙ ap (run_points held live.start) e in
+    let same : run_points (drop k held) growing'.start (length (drop k held))
+    ≡ run_points held growing.start (length held) =
+    run_points_window held k growing'.start (length (drop k held)) (inr (omega arith))
+    ∙ ap (λ x. run_points held x (k + length (drop k held))) s ∙ ap (run_points held growing.start) e in
     record {
       before = omega arith;
       near = omega arith;
@@ -82,10 +83,11 @@ begun bytes enough samples start tracker follows = record {
 }
 
 -- when the step is found that ends with the samples
-pub live_of : (bytes : ℕ) → 256 ≤ bytes → (samples : List ℤ) (g h a : ℕ) (live : Live) → g ≤ h → h ≡ length samples
-    → IsStep (FitsAny bytes) samples g h a → live.start ≡ a
-    → IsTracked bytes samples a (length samples) live.tracker → IsLive bytes samples g (length samples) live
-live_of bytes enough samples g h a live order all step start tracked =
+pub growing_of : (bytes : ℕ) → 256 ≤ bytes → (samples : List ℤ) (g h a : ℕ) (growing : GrowingRun) → g ≤ h
+    → h ≡ length samples
+    → IsStep (FitsAny bytes) samples g h a → growing.start ≡ a
+    → IsTracked bytes samples a (length samples) growing.tracker → IsGrowing bytes samples g (length samples) growing
+growing_of bytes enough samples g h a growing order all step start tracked =
     let near = near_by_one (FitsAny bytes) (back_step_any bytes) samples g h a order step in
     let before = step.before in
     record {
@@ -96,25 +98,26 @@ live_of bytes enough samples g h a live order all step start tracked =
     }
 
 -- so a longest run at most is held after the frontier
-pub live_few : (bytes : ℕ) (held : List ℤ) (g : ℕ) (live : Live) → IsLive bytes held g (length held) live
+pub growing_few : (bytes : ℕ) (held : List ℤ) (g : ℕ) (growing : GrowingRun)
+    → IsGrowing bytes held g (length held) growing
     → length held ≤ g + most_any bytes
-live_few bytes held g live is =
+growing_few bytes held g growing is =
     let b = is.before in
-    let any = live_run bytes held g (length held) live (omega arith) is in
-    let size = run_size bytes held live.start (length held) (kind_of_tracker live.tracker)
+    let any = growing_run bytes held g (length held) growing (omega arith) is in
+    let size = run_size bytes held growing.start (length held) (kind_of_tracker growing.tracker)
     (any.0, any.1, is.tracked.fits) in
     omega arith
 
 -- samples that are taken away, if any
-pub live_forgets : (bytes : ℕ) (held : List ℤ) (g g' k : ℕ) (live live' : Live)
-    → IsLive bytes held g (length held) live → (k ≡ 0) ⊎ (k < live.start) → g' + k ≡ g
-    → live'.start + k ≡ live.start → live'.tracker ≡ live.tracker
-    → IsLive bytes (drop k held) g' (length (drop k held)) live'
-live_forgets bytes held g g' k live live' is (inr small) frontier start tracker =
-    live_less bytes held g g' k live live' is small frontier start tracker
-live_forgets bytes held g g' k live live' is (inl none) frontier start tracker =
+pub growing_forgets : (bytes : ℕ) (held : List ℤ) (g g' k : ℕ) (growing growing' : GrowingRun)
+    → IsGrowing bytes held g (length held) growing → (k ≡ 0) ⊎ (k < growing.start) → g' + k ≡ g
+    → growing'.start + k ≡ growing.start → growing'.tracker ≡ growing.tracker
+    → IsGrowing bytes (drop k held) g' (length (drop k held)) growing'
+growing_forgets bytes held g g' k growing growing' is (inr small) frontier start tracker =
+    growing_less bytes held g g' k growing growing' is small frontier start tracker
+growing_forgets bytes held g g' k growing growing' is (inl none) frontier start tracker =
     let here : g' ≡ g = omega arith in
-    let from : live'.start ≡ live.start = omega arith in
+    let from : growing'.start ≡ growing.start = omega arith in
     rw none (record {
       before = omega (arith, is.before);
       near = omega (arith, is.near);
@@ -122,7 +125,7 @@ live_forgets bytes held g g' k live live' is (inl none) frontier start tracker =
       tracked = rw (from, tracker) is.tracked;
     })
 
-pub may_forget : (bytes number : ℕ) (current : Option Current) (from : ℕ) → InsideIfAny bytes number current
+pub may_forget : (bytes number : ℕ) (current : Option RunToCut) (from : ℕ) → InsideIfAny bytes number current
     → frontier_of current ≤ from + 1 → (start_of current - 1 ≡ 0) ⊎ (start_of current - 1 < from)
 may_forget bytes number None from inside near = inl (omega arith)
 may_forget bytes number (Some c) from inside near = elim (cases_lt 1 c.start) [
@@ -133,7 +136,7 @@ may_forget bytes number (Some c) from inside near = elim (cases_lt 1 c.start) [
 -- ---- the step that some samples decide
 
 -- the samples after the one that decides it change nothing
-pub decided_sooner : (bytes : ℕ) (front more : List ℤ) (g n : ℕ) (found : Found) → found.step.end < length front
+pub decided_sooner : (bytes : ℕ) (front more : List ℤ) (g n : ℕ) (found : StepWithEnds) → found.step.end < length front
     → IsDecided bytes (front ++ more) g n found → IsDecided bytes front g n found
 decided_sooner bytes front more g n found inside is = record {
   step = record {
@@ -155,7 +158,7 @@ decided_sooner bytes front more g n found inside is = record {
 }
 
 -- a step that is decided is decided by the samples up to the one after its end
-pub decided_there : (bytes : ℕ) (held : List ℤ) (g n : ℕ) (found : Found) → IsDecided bytes held g n found
+pub decided_there : (bytes : ℕ) (held : List ℤ) (g n : ℕ) (found : StepWithEnds) → IsDecided bytes held g n found
     → IsDecided bytes (take (found.step.end + 1) held) g n found
 decided_there bytes held g n found is =
     let end = found.step.end + 1 in

@@ -4,9 +4,9 @@ use Rattle.msr_words.specs.declared.kinds.Run.{Run}
 use Rattle.msr_words.specs.Laws.{most_any}
 use Rattle.msr_kinds.specs.Lengths.{bytes_of}
 use Rattle.msr_words.specs.Packing.{IsCanonical}
-use Rattle.msr_packer.specs.Held.{BeginsAll, IsWindow, LeavesFew, Stays, before_shown, frontier_of, shown_by}
-use Rattle.msr_packer.specs.declared.held.Current.{Current}
-use Rattle.msr_packer.specs.declared.held.Held.{Held}
+use Rattle.msr_packer.specs.HeldSamples.{BeginsAll, IsWindow, LeavesFew, Stays, before_shown, frontier_of, shown_by}
+use Rattle.msr_packer.specs.declared.held.RunToCut.{RunToCut}
+use Rattle.msr_packer.specs.declared.held.HeldSamples.{HeldSamples}
 
 -- What a packer of blocks shows: the length of its records, the samples that it holds and how many stand before them,
 -- the step whose piece comes next, the samples of the piece that was given last with the one before them, and whether
@@ -15,12 +15,12 @@ pub record Holding : Type 0 where
   pub size : ℕ
   pub held : List ℤ
   pub offset : ℕ
-  pub current : Option Current
+  pub current : Option RunToCut
   pub shown : List ℤ
   pub before : Option ℤ
   pub ended : Bool
 
-abbrev pub holding_of : Held → Bool → Holding
+abbrev pub holding_of : HeldSamples → Bool → Holding
 holding_of held ended = record {
   size = bytes_of held.record_length;
   held = held.samples.items;

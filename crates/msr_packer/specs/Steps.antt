@@ -7,7 +7,7 @@ use Rattle.msr_words.specs.Fit.{Fits, IsRun, rank}
 use Rattle.msr_words.specs.Laws.{IsNarrow}
 use Rattle.msr_words.specs.Segment.{run_points}
 use Rattle.msr_packer.specs.declared.step.Ends.{Ends}
-use Rattle.msr_packer.specs.declared.step.Step.{Step}
+use Rattle.msr_packer.specs.declared.step.StepRun.{StepRun}
 
 -- the kind is one of these
 abbrev pub Among : List Kind → Kind → Type 0
@@ -16,7 +16,7 @@ Among (first ∷ kinds) kind = (kind ≡ first) ⊎ Among kinds kind
 
 -- with records of these kinds the step reaches as far as any run that starts at or before the frontier g, from the last
 -- start that does
-pub record IsStepAmong (kinds : List Kind) (bytes : ℕ) (samples : List ℤ) (g : ℕ) (step : Step) : Type 0 where
+pub record IsStepAmong (kinds : List Kind) (bytes : ℕ) (samples : List ℤ) (g : ℕ) (step : StepRun) : Type 0 where
   pub before : step.start ≤ g
   pub past : g ≤ step.end
   pub reached : IsRun (Fits step.kind bytes) samples step.start step.end
@@ -26,7 +26,7 @@ pub record IsStepAmong (kinds : List Kind) (bytes : ℕ) (samples : List ℤ) (g
       → s ≤ step.start
 
 -- a step reaches at least as far as another, and starts no earlier if it reaches as far
-pub record NotLess (step other : Step) : Type 0 where
+pub record NotLess (step other : StepRun) : Type 0 where
   pub further : (other.end < step.end) ⊎ ((other.end ≡ step.end) × (other.start ≤ step.start))
 
 -- the differences of the samples a to b-1 are narrow

@@ -5,19 +5,19 @@ use Rattle.msr_words.specs.Laws.{most_any}
 use Rattle.msr_kinds.specs.Lengths.{bytes_of}
 use Rattle.msr_words.specs.Packing.{Joins, IsCanonical}
 use Rattle.msr_packer.specs.Blocks.{Holding, HoldsFew, Packs}
-use Rattle.msr_packer.specs.Held.{BeginsAll, IsSound, LeavesFew, Stays, frontier_of, runs_of, separators_of}
-use Rattle.msr_packer.specs.Live.{IsLive}
-use Rattle.msr_packer.specs.declared.held.Held.{Held}
+use Rattle.msr_packer.specs.HeldSamples.{BeginsAll, IsSound, LeavesFew, Stays, frontier_of, runs_of, separators_of}
+use Rattle.msr_packer.specs.Growing.{IsGrowing}
+use Rattle.msr_packer.specs.declared.held.HeldSamples.{HeldSamples}
 use Rattle.msr_packer.specs.declared.held.Piece.{Piece}
-use Rattle.msr_packer.specs.declared.live.Live.{Live}
+use Rattle.msr_packer.specs.declared.growing.GrowingRun.{GrowingRun}
 
 -- All samples after the frontier were taken, so that its step is not decided. At most two longest runs are held, a
 -- sample before them and one after.
-pub record IsStreaming (held : Held) (live : Live) : Type 0 where
+pub record IsStreaming (held : HeldSamples) (growing : GrowingRun) : Type 0 where
   pub sound : IsSound held
   pub stays : Stays held.current (length held.samples.items)
-  pub is_live : IsLive (bytes_of held.record_length) held.samples.items (frontier_of held.current)
-      (length held.samples.items) live
+  pub is_growing : IsGrowing (bytes_of held.record_length) held.samples.items (frontier_of held.current)
+      (length held.samples.items) growing
   pub few : length held.samples.items ≤ 2 * most_any (bytes_of held.record_length) + 2
 
 -- After these samples were pushed to a packer of records of `bytes` bytes, these runs and

@@ -6,9 +6,9 @@ ghost use Rattle.msr_words.specs.Laws.{most_any};
 ghost use Rattle.msr_kinds.specs.Lengths.{bytes_of};
 ghost use Rattle.msr_words.specs.Packing.{IsCanonical};
 ghost use Rattle.msr_packer.specs.Blocks.{BlocksBeginAll, BlocksEnd, BlocksLeaveFew, HoldsFew, LastBlocksBegin, Packs, PacksLast, left_of, pushed};
-ghost use Rattle.msr_packer.specs.Held.{Shows, pieces_of, runs_of, separators_of};
+ghost use Rattle.msr_packer.specs.HeldSamples.{Shows, pieces_of, runs_of, separators_of};
 
-use crate::held::{Held, Piece};
+use crate::held::{HeldSamples, Piece};
 use msr_kinds::Length;
 use msr_words::{AnyKind, Tracker};
 use std::alloc::{AllocError, Global};
@@ -19,14 +19,14 @@ use std::marker::Model;
 /// step is found once, over all that is held.
 #[derive(Drop)]
 pub struct BlockPacker {
-    held: Held,
+    held: HeldSamples,
     /// Whether all pieces were given.
     ended: bool,
 }
 
 impl Model for BlockPacker {
     ghost use Rattle.msr_packer.specs.Blocks.{Holding, holding_of};
-    ghost use Rattle.msr_packer.specs.Held.{IsSound};
+    ghost use Rattle.msr_packer.specs.HeldSamples.{IsSound};
 
     ghost Value = { Holding };
 
@@ -43,7 +43,7 @@ impl BlockPacker {
         ensures count { pushed result ≡ 0 }
     {
         BlockPacker {
-            held: Held::empty(alloc, record_length),
+            held: HeldSamples::empty(alloc, record_length),
             ended: false,
         }
     }

@@ -6,11 +6,11 @@ ghost use Rattle.msr_words.specs.Fit.{Fits, FitsAny, IsRun};
 ghost use Rattle.msr_words.specs.Laws.{most_any};
 ghost use Rattle.msr_kinds.specs.Lengths.{bytes_of};
 ghost use Rattle.msr_words.specs.Packing.{IsCanonical, IsStep};
-ghost use Rattle.msr_packer.specs.Held.{GivesPiece, HasPlaces, Holds, IsNext, IsSound, Shows, Stays, before_shown, frontier_of, piece_of, pieces_of, runs_of, separators_of, shown_by, start_of};
+ghost use Rattle.msr_packer.specs.HeldSamples.{GivesPiece, HasPlaces, HoldsRest, IsNext, IsSound, Shows, Stays, before_shown, frontier_of, piece_of, pieces_of, runs_of, separators_of, shown_by, start_of};
 ghost use Rattle.msr_packer.specs.Steps.{AreEnds};
 
 use crate::kind_of;
-use crate::step::{Found, next_step};
+use crate::step::{StepWithEnds, next_step};
 use msr_kinds::{Kind, Length};
 use msr_words::Run;
 use std::alloc::Global;
@@ -39,7 +39,7 @@ impl Default for Piece {
 /// A step with the kinds of its run. The run is cut where the next one starts: at `end`, and then its kind is `whole`,
 /// or one sample before, and then it is `short`.
 #[derive(Clone, Copy, Debug)]
-pub(crate) struct Current {
+pub(crate) struct RunToCut {
     pub frontier: usize,
     pub start: usize,
     pub end: usize,
@@ -48,7 +48,7 @@ pub(crate) struct Current {
 }
 
 /// The frontier of the next step.
-pub(crate) fn frontier_of(current: Option<Current>) -> usize
+pub(crate) fn frontier_of(current: Option<RunToCut>) -> usize
     ensures { result ≡ frontier_of current }
 {
     match current {
@@ -58,7 +58,7 @@ pub(crate) fn frontier_of(current: Option<Current>) -> usize
 }
 
 /// Where the samples begin that were not given yet.
-pub(crate) fn start_of(current: Option<Current>) -> usize
+pub(crate) fn start_of(current: Option<RunToCut>) -> usize
     ensures { result ≡ start_of current }
 {
     match current {
@@ -68,7 +68,7 @@ pub(crate) fn start_of(current: Option<Current>) -> usize
 }
 
 /// The kind of the last step.
-pub(crate) fn likely_of(current: Option<Current>) -> Kind {
+pub(crate) fn likely_of(current: Option<RunToCut>) -> Kind {
     match current {
         Some(current) => current.whole,
         None => Kind::Steim2,
@@ -76,7 +76,7 @@ pub(crate) fn likely_of(current: Option<Current>) -> Kind {
 }
 
 /// The piece that ends where the next run starts.
-pub(crate) fn piece_of(offset: u64, current: Option<Current>, next: usize) -> Option<Piece>
+pub(crate) fn piece_of(offset: u64, current: Option<RunToCut>, next: usize) -> Option<Piece>
     requires { HasPlaces offset next current }
     ensures { result ≡ piece_of offset current next }
 {
@@ -95,14 +95,14 @@ pub(crate) fn piece_of(offset: u64, current: Option<Current>, next: usize) -> Op
     })
 }
 
-impl Current {
+impl RunToCut {
     /// The next step, as it was found, with the kinds of its run.
     pub(crate) fn of(
         samples: &[i32],
         record_length: Length,
-        current: Option<Current>,
-        found: Found,
-    ) -> Current
+        current: Option<RunToCut>,
+        found: StepWithEnds,
+    ) -> RunToCut
         requires inside { frontier_of current < length samples.now }
         requires step { IsStep (FitsAny (bytes_of record_length)) samples.now
             (frontier_of current) found.step.end found.step.start }
@@ -114,7 +114,7 @@ impl Current {
     {
         let frontier = frontier_of(current);
         let end = found.step.end;
-        Current {
+        RunToCut {
             frontier,
             start: found.step.start,
             end,
@@ -124,7 +124,11 @@ impl Current {
     }
 
     /// The next step.
-    pub(crate) fn next(samples: &[i32], record_length: Length, current: Option<Current>) -> Current
+    pub(crate) fn next(
+        samples: &[i32],
+        record_length: Length,
+        current: Option<RunToCut>,
+    ) -> RunToCut
         requires { frontier_of current < length samples.now }
         ensures { IsNext (bytes_of record_length) samples.now current result }
     {
@@ -134,7 +138,7 @@ impl Current {
             frontier_of(current),
             likely_of(current),
         );
-        Current::of(samples, record_length, current, found)
+        RunToCut::of(samples, record_length, current, found)
     }
 }
 
@@ -151,29 +155,29 @@ pub(crate) fn remove_front(held: &mut Vec<i32>, count: usize)
 /// The last samples of a segment, with the step whose piece comes next. It shows the samples of the piece that was
 /// given last.
 #[derive(Drop)]
-pub(crate) struct Held {
+pub(crate) struct HeldSamples {
     pub record_length: Length,
     pub samples: Vec<i32>,
     /// How many samples of the segment stand before those that are held.
     pub offset: u64,
-    pub current: Option<Current>,
+    pub current: Option<RunToCut>,
     /// Where the samples begin that are shown.
     pub from: usize,
     /// Where they end.
     pub to: usize,
 }
 
-impl Held {
+impl HeldSamples {
     /// Holds no samples yet. It takes no memory.
-    pub(crate) fn empty(alloc: Global, record_length: Length) -> Held
+    pub(crate) fn empty(alloc: Global, record_length: Length) -> HeldSamples
         ensures size { result.record_length ≡ record_length }
-        ensures none { Holds [] [] [] result }
+        ensures none { HoldsRest [] [] [] result }
         ensures sound { IsSound result }
         ensures current { IsNone result.current }
         ensures samples { result.samples.items ≡ [] }
         ensures shown { shown_by result ≡ [] }
     {
-        Held {
+        HeldSamples {
             record_length,
             samples: Vec::new(alloc),
             offset: 0,
@@ -184,7 +188,7 @@ impl Held {
     }
 
     /// Goes on to the next step, and gives the piece before it, which is shown.
-    pub(crate) fn go_on(&mut self, step: Current) -> Option<Piece>
+    pub(crate) fn go_on(&mut self, step: RunToCut) -> Option<Piece>
         requires sound { IsSound self.old }
         requires next { IsNext (bytes_of self.old.record_length) self.old.samples.items self.old.current step }
         ensures given { GivesPiece self.old self.new result }
@@ -221,7 +225,7 @@ impl Held {
         if self.samples.len() - frontier_of(self.current) <= beyond {
             return None;
         }
-        let step = Current::next(self.samples.as_slice(), self.record_length, self.current);
+        let step = RunToCut::next(self.samples.as_slice(), self.record_length, self.current);
         self.go_on(step)
     }
 
@@ -252,11 +256,11 @@ impl Held {
         ensures offset { self.new.offset ≡ self.old.offset }
         ensures current { self.new.current ≡ self.old.current }
         ensures canonical { (samples : List ℤ) (runs : List Run) (separators : List ℕ)
-            → Holds samples runs separators self.old
+            → HoldsRest samples runs separators self.old
             → IsCanonical (bytes_of self.old.record_length) samples (runs ++ runs_of (pieces_of result))
             (separators ++ separators_of (pieces_of result)) }
         ensures shows { (samples : List ℤ) (runs : List Run) (separators : List ℕ)
-            → Holds samples runs separators self.old
+            → HoldsRest samples runs separators self.old
             → IfSome result (Shows samples (shown_by self.new) (before_shown self.new)) }
     {
         let end = self.samples.len();
@@ -277,8 +281,8 @@ impl Held {
         requires { IsSound self.old }
         ensures sound { IsSound self.new }
         ensures holds { (samples : List ℤ) (runs : List Run) (separators : List ℕ)
-            → Holds samples runs separators self.old
-            → Holds samples runs separators self.new }
+            → HoldsRest samples runs separators self.old
+            → HoldsRest samples runs separators self.new }
         ensures stays { Stays self.old.current (length self.old.samples.items)
             → Stays self.new.current (length self.new.samples.items) }
         ensures size { self.new.record_length ≡ self.old.record_length }
@@ -302,7 +306,7 @@ impl Held {
         }
         remove_front(&mut self.samples, count);
         self.offset += count as u64;
-        self.current = Some(Current {
+        self.current = Some(RunToCut {
             frontier: current.frontier - count,
             start: current.start - count,
             end: current.end - count,
@@ -317,8 +321,8 @@ impl Held {
         requires { IsSound self.old }
         ensures sound { IsSound self.new }
         ensures holds { (samples : List ℤ) (runs : List Run) (separators : List ℕ)
-            → Holds samples runs separators self.old
-            → Holds samples runs separators self.new }
+            → HoldsRest samples runs separators self.old
+            → HoldsRest samples runs separators self.new }
         ensures stays { Stays self.old.current (length self.old.samples.items)
             → Stays self.new.current (length self.new.samples.items) }
         ensures size { self.new.record_length ≡ self.old.record_length }

@@ -3,8 +3,8 @@
 
 mod blocks;
 mod existence;
+mod growing;
 mod held;
-mod live;
 mod steim1;
 mod step;
 mod stream;
@@ -14,20 +14,20 @@ ghost use Rattle.msr_words.specs.declared.kinds.Run.{Run};
 ghost use Rattle.msr_kinds.specs.Lengths.{bytes_of};
 ghost use Rattle.msr_words.specs.Segment.{run_points};
 ghost use Rattle.msr_words.specs.Fit.{Fits, IsRun, IsFirstKind};
-ghost use Rattle.msr_packer.specs.Held.{pieces_of, runs_of, separators_of};
+ghost use Rattle.msr_packer.specs.HeldSamples.{pieces_of, runs_of, separators_of};
 ghost use Rattle.msr_packer.specs.Steps.{AreEnds};
 ghost use Rattle.msr_words.specs.Packing.{IsPacking, IsSeparating, IsLeast, IsCanonical};
 
 pub use blocks::{BlockPacker, blocks_begin_all, blocks_end, blocks_leave_few, last_blocks_begin};
 pub use existence::{packing_exists, step_of_window};
 pub use held::Piece;
-use held::{Current, frontier_of, piece_of};
+use held::{RunToCut, frontier_of, piece_of};
 use msr_kinds::{Kind, Length};
 pub use msr_words::Run;
 use msr_words::first_kind;
 use std::alloc::{AllocError, Global};
-use step::Found;
-pub use stream::{Last, StreamPacker, Taken, pieces_begin_all, stream_leaves_few};
+use step::StepWithEnds;
+pub use stream::{Last, Pushed, StreamPacker, pieces_begin_all, stream_leaves_few};
 
 /// Runs that join to a segment, and samples that show that no packing has fewer.
 #[derive(Debug, Drop, PartialEq, Eq)]
@@ -42,7 +42,7 @@ fn kind_of(
     samples: &[i32],
     record_length: Length,
     frontier: usize,
-    found: Found,
+    found: StepWithEnds,
     end: usize,
 ) -> Kind
     requires before { found.step.start ≤ frontier }
@@ -101,7 +101,7 @@ pub fn pack(alloc: Global, samples: &[i32], record_length: Length) -> Result<Pac
     };
     let mut current = None;
     while frontier_of(current) < samples.len() {
-        let next = Current::next(samples, record_length, current);
+        let next = RunToCut::next(samples, record_length, current);
         packing.add(piece_of(0, current, next.start))?;
         current = Some(next);
     }

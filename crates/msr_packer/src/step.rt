@@ -20,15 +20,15 @@ use msr_words::{
 
 /// One record more: it starts at `start`, reaches to `end`, and is of that kind.
 #[derive(Clone, Copy, Debug, PartialEq, Eq)]
-pub(crate) struct Step {
+pub(crate) struct StepRun {
     pub start: usize,
     pub end: usize,
     pub kind: Kind,
 }
 
-impl Step {
+impl StepRun {
     /// The step that reaches further; of two that reach as far, the one that starts later.
-    fn or(self, other: Step) -> Step
+    fn or(self, other: StepRun) -> StepRun
         ensures one { (result ≡ self) ⊎ (result ≡ other) }
         ensures first { NotLess result self }
         ensures second { NotLess result other }
@@ -53,8 +53,8 @@ pub(crate) struct Ends {
 
 /// A step, with the ends that tell the kind of its run when that is cut.
 #[derive(Clone, Copy, Debug, PartialEq, Eq)]
-pub(crate) struct Found {
-    pub step: Step,
+pub(crate) struct StepWithEnds {
+    pub step: StepRun,
     pub ends: Ends,
 }
 
@@ -266,12 +266,12 @@ fn begins_with_four(samples: &[i32], start: usize) -> bool
 
 /// The step from a frontier with records of Steim-1, if the end of its run from there is known. One that starts
 /// before the frontier can reach further only if its first difference shares a word with three others.
-fn steim1_step(samples: &[i32], record_length: Length, frontier: usize, end: usize) -> Step
+fn steim1_step(samples: &[i32], record_length: Length, frontier: usize, end: usize) -> StepRun
     requires within { frontier ≤ length samples.now }
     requires end { IsEnd FirstSteim (bytes_of record_length) samples.now frontier end }
     ensures { IsStepAmong (FirstSteim ∷ []) (bytes_of record_length) samples.now frontier result }
 {
-    let here = Step {
+    let here = StepRun {
         start: frontier,
         end,
         kind: Kind::Steim1,
@@ -284,7 +284,7 @@ fn steim1_step(samples: &[i32], record_length: Length, frontier: usize, end: usi
     }
     let before = steim1_reach(samples, record_length, frontier - 1);
     if before > end {
-        return Step {
+        return StepRun {
             start: frontier - 1,
             end: before,
             kind: Kind::Steim1,
@@ -313,9 +313,9 @@ fn with_wide_integers(
     samples: &[i32],
     record_length: Length,
     frontier: usize,
-    step: Step,
+    step: StepRun,
     ends: Ends,
-) -> Found
+) -> StepWithEnds
     requires within { frontier ≤ length samples.now }
     requires step { IsStepAmong longer_kinds (bytes_of record_length) samples.now frontier step }
     requires ends { AreEndsAmong longer_kinds (bytes_of record_length) samples.now frontier step.end ends }
@@ -326,18 +326,18 @@ fn with_wide_integers(
 {
     let reached = ends.steim2.max(ends.steim1).max(ends.int16);
     let int24 = integers_end(samples, record_length, frontier, reached, Kind::Int24, 24);
-    let by_int24 = Step {
+    let by_int24 = StepRun {
         start: frontier,
         end: int24,
         kind: Kind::Int24,
     };
     let int32 = int32_end(samples, record_length, frontier);
-    let by_int32 = Step {
+    let by_int32 = StepRun {
         start: frontier,
         end: int32,
         kind: Kind::Int32,
     };
-    Found {
+    StepWithEnds {
         step: step.or(by_int24).or(by_int32),
         ends: Ends {
             steim2: ends.steim2,
@@ -351,7 +351,7 @@ fn with_wide_integers(
 
 /// The step from a frontier with records of integers alone, if those of 16 bits reach so far that too many of the
 /// differences up to there are of more than 10 bits for a record of differences.
-fn integers_alone(samples: &[i32], record_length: Length, frontier: usize) -> Option<Found>
+fn integers_alone(samples: &[i32], record_length: Length, frontier: usize) -> Option<StepWithEnds>
     requires { frontier ≤ length samples.now }
     ensures step { IfSome result (λ found. IsStep
         (FitsAny (bytes_of record_length)) samples.now frontier found.step.end found.step.start) }
@@ -368,7 +368,7 @@ fn integers_alone(samples: &[i32], record_length: Length, frontier: usize) -> Op
     if !has_more_wide(samples, frontier, int16 - 1, 2 * words) {
         return None;
     }
-    let by_int16 = Step {
+    let by_int16 = StepRun {
         start: frontier,
         end: int16,
         kind: Kind::Int16,
@@ -390,7 +390,7 @@ pub(crate) fn next_step(
     record_length: Length,
     frontier: usize,
     likely: Kind,
-) -> Found
+) -> StepWithEnds
     requires { frontier ≤ length samples.now }
     ensures step { IsStep (FitsAny (bytes_of record_length)) samples.now frontier result.step.end result.step.start }
     ensures kind { IsRun (Fits result.step.kind
@@ -407,7 +407,7 @@ pub(crate) fn next_step(
 }
 
 /// The step from a frontier, over all kinds.
-pub(crate) fn step_from(samples: &[i32], record_length: Length, frontier: usize) -> Found
+pub(crate) fn step_from(samples: &[i32], record_length: Length, frontier: usize) -> StepWithEnds
     requires { frontier ≤ length samples.now }
     ensures step { IsStep (FitsAny (bytes_of record_length)) samples.now frontier result.step.end result.step.start }
     ensures kind { IsRun (Fits result.step.kind
@@ -416,12 +416,12 @@ pub(crate) fn step_from(samples: &[i32], record_length: Length, frontier: usize)
 {
     let reach = steim2_reach(samples, record_length, frontier);
     let int16 = integers_end(samples, record_length, frontier, reach.end, Kind::Int16, 16);
-    let by_steim2 = Step {
+    let by_steim2 = StepRun {
         start: frontier,
         end: reach.end,
         kind: Kind::Steim2,
     };
-    let by_int16 = Step {
+    let by_int16 = StepRun {
         start: frontier,
         end: int16,
         kind: Kind::Int16,

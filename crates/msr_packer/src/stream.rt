@@ -5,11 +5,11 @@ ghost use Rattle.msr_words.specs.declared.kinds.Run.{Run};
 ghost use Rattle.msr_words.specs.Laws.{most_any};
 ghost use Rattle.msr_kinds.specs.Lengths.{bytes_of};
 ghost use Rattle.msr_packer.specs.Blocks.{pushed};
-ghost use Rattle.msr_packer.specs.Held.{Holds, frontier_of, pieces_of, runs_of, samples_of, separators_of};
+ghost use Rattle.msr_packer.specs.HeldSamples.{HoldsRest, frontier_of, pieces_of, runs_of, samples_of, separators_of};
 ghost use Rattle.msr_packer.specs.Stream.{IsEnd, IsStreaming, PiecesBeginAll, StreamLeavesFew, Streams};
 
-use crate::held::{Current, Held, Piece, frontier_of, likely_of, remove_front, start_of};
-use crate::live::Live;
+use crate::growing::GrowingRun;
+use crate::held::{HeldSamples, Piece, RunToCut, frontier_of, likely_of, remove_front, start_of};
 use arrayvec::ArrayVec;
 use msr_kinds::Length;
 use msr_words::{AnyKind, Tracker};
@@ -18,7 +18,7 @@ use std::marker::Model;
 
 /// How many of the pushed samples were taken, and the piece that the last of them decided, if it did.
 #[derive(Clone, Copy, Debug, PartialEq, Eq)]
-pub struct Taken {
+pub struct Pushed {
     pub count: usize,
     pub piece: Option<Piece>,
 }
@@ -45,11 +45,12 @@ fn both(first: Option<Piece>, last: Option<Piece>) -> ArrayVec<Piece, 2>
 }
 
 /// Removes the samples that no step needs any more. No samples are shown afterwards.
-fn forget(held: &mut Held, live: &mut Live)
-    requires { IsStreaming held.old live.old }
-    ensures streaming { IsStreaming held.new live.new }
-    ensures holds { (samples : List ℤ) (runs : List Run) (separators : List ℕ) → Holds samples runs separators held.old
-        → Holds samples runs separators held.new }
+fn forget(held: &mut HeldSamples, growing: &mut GrowingRun)
+    requires { IsStreaming held.old growing.old }
+    ensures streaming { IsStreaming held.new growing.new }
+    ensures holds { (samples : List ℤ) (runs : List Run) (separators : List ℕ)
+        → HoldsRest samples runs separators held.old
+        → HoldsRest samples runs separators held.new }
     ensures size { held.new.record_length ≡ held.old.record_length }
     ensures number { held.new.offset + length held.new.samples.items ≡ held.old.offset + length held.old.samples.items }
     ensures near { frontier_of held.new.current ≤ most_any (bytes_of held.new.record_length) + 1 }
@@ -59,7 +60,7 @@ fn forget(held: &mut Held, live: &mut Live)
     ensures to { held.new.to ≡ 0 }
     ensures first { IsNone held.new.current → IsNone held.old.current }
 {
-    live.start -= held.unneeded();
+    growing.start -= held.unneeded();
     held.forget();
 }
 
@@ -67,9 +68,9 @@ fn forget(held: &mut Held, live: &mut Live)
 /// decided.
 #[derive(Drop)]
 pub struct StreamPacker {
-    held: Held,
+    held: HeldSamples,
     /// A run that all samples so far fit.
-    live: Live,
+    growing: GrowingRun,
 }
 
 impl Model for StreamPacker {
@@ -81,7 +82,7 @@ impl Model for StreamPacker {
 
     ghost view = { λ p. holding_of p.held false };
 
-    ghost invariant = { λ p. IsStreaming p.held p.live };
+    ghost invariant = { λ p. IsStreaming p.held p.growing };
 }
 
 impl StreamPacker {
@@ -92,8 +93,8 @@ impl StreamPacker {
         ensures count { pushed result ≡ 0 }
     {
         StreamPacker {
-            held: Held::empty(alloc, record_length),
-            live: Live::empty(record_length),
+            held: HeldSamples::empty(alloc, record_length),
+            growing: GrowingRun::empty(record_length),
         }
     }
 
@@ -122,7 +123,7 @@ impl StreamPacker {
     /// Takes samples up to the one that decides the next step, or all of them if none does, as if
     /// each was pushed alone; at most the last of these pushes gives a piece. If memory is refused
     /// none was taken, and no samples are shown.
-    pub fn push_some(&mut self, samples: &[i32]) -> Result<Taken, AllocError>
+    pub fn push_some(&mut self, samples: &[i32]) -> Result<Pushed, AllocError>
         requires { pushed self.old + length samples.now < 2 ^ 64 }
         ensures given { (bytes : ℕ) (before : List ℤ) (runs : List Run) (separators : List ℕ)
             → Streams bytes before runs separators self.old
@@ -144,7 +145,7 @@ impl StreamPacker {
         ensures count { MatchResult result (λ taken. pushed self.new ≡ pushed self.old + taken.count)
             (λ _. pushed self.new ≡ pushed self.old) }
     {
-        forget(&mut self.held, &mut self.live);
+        forget(&mut self.held, &mut self.growing);
         let record_length = self.held.record_length;
         let frontier = frontier_of(self.held.current);
         let from = self.held.samples.len();
@@ -155,20 +156,20 @@ impl StreamPacker {
         let likely = likely_of(self.held.current);
         let seen = self.held.samples.as_slice();
         let Some(found) = self
-            .live
+            .growing
             .decide(seen, record_length, frontier, from, likely)
         else {
-            return Ok(Taken { count, piece: None });
+            return Ok(Pushed { count, piece: None });
         };
         // the sample after the step is the one that decides it
         let end = found.step.end + 1;
         self.held.samples.truncate(end);
         let seen = self.held.samples.as_slice();
-        let next = Current::of(seen, record_length, self.held.current, found);
-        self.live = Live::first(seen, record_length, next.end);
+        let next = RunToCut::of(seen, record_length, self.held.current, found);
+        self.growing = GrowingRun::first(seen, record_length, next.end);
         let piece = self.held.go_on(next);
         let count = end - from;
-        Ok(Taken { count, piece })
+        Ok(Pushed { count, piece })
     }
 
     /// The samples of the piece that the last push gave, none if it gave none.

@@ -63,9 +63,9 @@ fn height_is_right(record_length: Length, row: Height) -> bool {
 }
 
 /// A difference, and how many like it a record of 256 bytes holds as Steim-1 and as Steim-2.
-type Step = (i64, usize, usize);
+type StepRow = (i64, usize, usize);
 
-fn steps() -> [(&'static str, Step); 20] {
+fn steps() -> [(&'static str, StepRow); 20] {
     [
         ("zero", (0, 172, 301)),
         ("the greatest of 4 bits", (7, 172, 301)),
@@ -91,7 +91,7 @@ fn steps() -> [(&'static str, Step); 20] {
 }
 
 /// The samples are 0, which 48 places of 32 bits and 96 of 16 bits hold whatever the difference.
-fn step_is_right(record_length: Length, row: Step) -> bool {
+fn step_is_right(record_length: Length, row: StepRow) -> bool {
     let (difference, steim1, steim2) = row;
     taken::<Int32>(record_length, 0, difference) == 48
         && taken::<Steim1>(record_length, 0, difference) == steim1

@@ -11,7 +11,7 @@ use std::alloc::{AllocError, Global};
 use std::test::Fail;
 
 /// Edits of the record of 48 samples: without samples,
-const EMPTY: &[Edit<'static>] = &[Edit::Samples(0)];
+const EMPTY: &[Edit<'static>] = &[Edit::SampleCount(0)];
 
 /// where those samples end, 2.4 seconds later, and a second after that;
 const NEXT: &[Edit<'static>] = &[Edit::Clock(0, 0, 2, 4000)];
@@ -26,7 +26,7 @@ const AT_THE_END: &[Edit<'static>] = &[Edit::Day(2100, 365), Edit::Clock(23, 59,
 /// one sample of 0 as Steim-2, whose reverse constant is 1, and the same so late that it is out of time.
 const MISMATCHED: &[Edit<'static>] = &[
     Edit::Clock(0, 0, 10, 0),
-    Edit::Samples(1),
+    Edit::SampleCount(1),
     Edit::Encoding(11),
     Edit::Frames(3),
     Edit::Bytes(64, &[0x01, 0x00, 0x00, 0x00]),
@@ -36,7 +36,7 @@ const MISMATCHED: &[Edit<'static>] = &[
 const MISMATCHED_LATE: &[Edit<'static>] = &[
     Edit::Day(2100, 365),
     Edit::Clock(23, 59, 60, 0),
-    Edit::Samples(1),
+    Edit::SampleCount(1),
     Edit::Encoding(11),
     Edit::Frames(3),
     Edit::Bytes(64, &[0x01, 0x00, 0x00, 0x00]),
@@ -258,7 +258,7 @@ fn reverse_constants_that_do_not_agree(rt: HostRuntime) -> Result<(), Fail> {
     let differs = two(&first, &int32_record(MISMATCHED));
     let late = two(&first, &int32_record(MISMATCHED_LATE));
     let cut = int32_record(&[
-        Edit::Samples(65535),
+        Edit::SampleCount(65535),
         Edit::Encoding(11),
         Edit::Bytes(75, &[0x01]),
     ]);

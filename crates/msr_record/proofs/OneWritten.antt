@@ -12,7 +12,7 @@ use Rattle.msr_words.proofs.WrittenDivision.{one_chosen}
 use Rattle.msr_words.specs.Segment.{differences}
 use Rattle.msr_kinds.specs.declared.kinds.Kind.{Kind}
 use Rattle.msr_kinds.specs.declared.kinds.Kind.TheVariants.{Int16, Int24, Int32, Steim1, Steim2}
-use Rattle.msr_record.specs.Written.{AreFrames, AreNumbers, IsWritten, IsWrittenArea, frame_count, header_for}
+use Rattle.msr_record.specs.Written.{AreFrames, AreNumbers, IsWrittenRecord, IsWrittenArea, frame_count, header_for}
 use Rattle.msr_rows.specs.declared.row.Key.{Key}
 
 not_below : (d e : ℕ) → 2 ^ d ≡ 2 ^ e → d < e → ⊥
@@ -54,8 +54,8 @@ bytes_one : (key : Key) (t u : BTime) (m k sequence count d e f g : ℕ) (kind :
 bytes_one key t u m k sequence count d e f g kind a b p q r s x = rw (p, q, r, s, x) refl
 
 pub written_once : (bytes others : List ℕ) (key : Key) (start : ℤ) (sequence : ℕ) (before : Option ℤ)
-    (samples : List ℤ) (kind : Kind) (size : ℕ) → IsWritten bytes key start sequence before samples kind size
-    → IsWritten others key start sequence before samples kind size → bytes ≡ others
+    (samples : List ℤ) (kind : Kind) (size : ℕ) → IsWrittenRecord bytes key start sequence before samples kind size
+    → IsWrittenRecord others key start sequence before samples kind size → bytes ≡ others
 written_once bytes others key start sequence before samples kind size p q =
     let time = split_one start p.time q.time p.micros q.micros p.split q.split in
     let exponent = exponent_one p.power.exponent q.power.exponent (sym p.power.power ∙ q.power.power) in

@@ -84,8 +84,8 @@ IsWrittenArea Steim2 before samples size frames area = AreFrames Two before samp
 
 -- The bytes are those of the written record of these samples, the first difference being taken from the
 -- sample before them, if there is one.
-pub record IsWritten (bytes : List ℕ) (key : Key) (start : ℤ) (sequence : ℕ) (before : Option ℤ) (samples : List ℤ)
-    (kind : Kind) (size : ℕ) : Type 0 where
+pub record IsWrittenRecord (bytes : List ℕ) (key : Key) (start : ℤ) (sequence : ℕ) (before : Option ℤ)
+    (samples : List ℤ) (kind : Kind) (size : ℕ) : Type 0 where
   pub time : BTime
   pub micros : ℕ
   pub frames : ℕ
@@ -103,7 +103,7 @@ pub record AppendsRecord (old new : List ℕ) (key : Key) (start : ℤ) (sequenc
   pub bytes : List ℕ
   pub joined : new ≡ old ++ bytes
   pub size_is : length bytes ≡ size
-  pub written : IsWritten bytes key start sequence before samples kind size
+  pub written : IsWrittenRecord bytes key start sequence before samples kind size
   pub row : (rest : List ℕ) → IsRowOf (bytes ++ rest)
       (record { key = key; start = start; kind = kind; samples = samples })
   pub found : (rest : List ℕ) → IsInTime key.rate start (length samples)

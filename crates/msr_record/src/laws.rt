@@ -1,7 +1,7 @@
 //! What holds of written records.
 ghost use Rattle.std.specs.Prelude.{◌≡◌, ℕ, ℤ, List, Option};
 ghost use Rattle.msr_kinds.specs.declared.kinds.Kind.{Kind};
-ghost use Rattle.msr_record.specs.Written.{IsWritten, RunHasRecord};
+ghost use Rattle.msr_record.specs.Written.{IsWrittenRecord, RunHasRecord};
 ghost use Rattle.msr_rows.specs.declared.row.Key.{Key};
 
 /// What is written is determined: one text of bytes for a key, a start, a sequence number, a run with
@@ -9,8 +9,8 @@ ghost use Rattle.msr_rows.specs.declared.row.Key.{Key};
 pub fn one_written()
     ensures { (bytes others : List ℕ) (key : Key) (start : ℤ) (sequence : ℕ) (before : Option ℤ) (samples : List ℤ)
         (kind : Kind) (size : ℕ)
-        → IsWritten bytes key start sequence before samples kind size
-        → IsWritten others key start sequence before samples kind size → bytes ≡ others }
+        → IsWrittenRecord bytes key start sequence before samples kind size
+        → IsWrittenRecord others key start sequence before samples kind size → bytes ≡ others }
 {}
 
 /// Each run that fits a record of a kind has one written record of it.

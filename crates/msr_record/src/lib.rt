@@ -12,4 +12,4 @@ pub use msr_rows::{
     own_bytes_decide, reverse_in, rows_are_writable, view_record,
 };
 pub use writing::encode_record;
-pub use written_area::are_32_bit;
+pub use written_area::samples_have_32_bits;

@@ -52,7 +52,7 @@ struct WrittenRun<'a> {
 
 /// What a written header has beside what the run says: time, number of samples, length, frames.
 #[derive(Drop)]
-struct DataTold {
+struct FieldsOfData {
     time: BTime,
     micros: u8,
     count: u16,
@@ -61,10 +61,10 @@ struct DataTold {
 }
 
 /// The header of a written record.
-fn header_for(run: &WrittenRun<'_>, told: DataTold) -> Header
-    requires { told.micros < 100 }
-    ensures header { result ≡ header_for run.now.key.now told.time told.micros run.now.sequence told.count run.now.kind
-        told.exponent told.frames }
+fn header_for(run: &WrittenRun<'_>, fields: FieldsOfData) -> Header
+    requires { fields.micros < 100 }
+    ensures header { result ≡ header_for run.now.key.now fields.time fields.micros run.now.sequence fields.count
+        run.now.kind fields.exponent fields.frames }
     ensures rate { (run.now.key.now.rate.factor ≢ pos 0) × (run.now.key.now.rate.multiplier ≢ pos 0) }
 {
     let key = run.key;
@@ -76,8 +76,8 @@ fn header_for(run: &WrittenRun<'_>, told: DataTold) -> Header
         location: key.location,
         channel: key.channel,
         network: key.network,
-        time: told.time,
-        samples: told.count,
+        time: fields.time,
+        samples: fields.count,
         factor: key.rate.factor(),
         multiplier: key.rate.multiplier(),
         activity: key.activity,
@@ -87,11 +87,11 @@ fn header_for(run: &WrittenRun<'_>, told: DataTold) -> Header
         data_at: 64,
         encoding: run.kind.code(),
         data_order: Order::Big,
-        exponent: told.exponent,
+        exponent: fields.exponent,
         timing: Some(Timing {
             quality: key.timing,
-            micros: told.micros as i8,
-            frames: told.frames,
+            micros: fields.micros as i8,
+            frames: fields.frames,
         }),
         chain_end: 64,
     }
@@ -136,7 +136,7 @@ fn fill_record(
     let exponent = record_length.exponent();
     let header = header_for(
         run,
-        DataTold {
+        FieldsOfData {
             time,
             micros,
             count,

@@ -18,7 +18,7 @@ use msr_steim::Version;
 use std::alloc::{AllocError, Global};
 
 /// Each sample has 32 bits. A proof knows the range of a number in a slice only once it was read, so this reads each.
-pub fn are_32_bit(run: &[i32])
+pub fn samples_have_32_bits(run: &[i32])
     ensures { All (FitsSigned w32) run.now }
 {
     for sample in run {
@@ -95,7 +95,7 @@ pub(crate) fn fill_area(
     ensures carried { OnOk result (Carries kind Order.Big area.new run.now) }
     ensures reverse { OnOk result (ReverseAgrees kind Order.Big area.new run.now) }
 {
-    are_32_bit(run);
+    samples_have_32_bits(run);
     match kind {
         Kind::Int16 => {
             fill_plain(Width::Two, run, area);

@@ -19,7 +19,8 @@ one_more lines i line within item =
     ap (λ (x : SegmentLine). take i lines ++ x ∷ []) item ∙ sym (take_more lines i line within)
 
 -- the first lines and these segments: a prefix of their text was taken, and the rest waits
-pub record IsWritten (old new : Device) (report : Report) (lines : List SegmentLine) (waits : List ℕ) : Type 0 where
+pub record IsWrittenReport (old new : Device) (report : Report) (lines : List SegmentLine)
+    (waits : List ℕ) : Type 0 where
   pub segments : List ℕ
   pub are : AreSegmentTexts lines segments
   pub taken : List ℕ
@@ -57,8 +58,8 @@ passed front text taken waits more pushed took left whole is passes =
 
 pub written_more : (old new next : Device) (report : Report) (lines : List SegmentLine) (line : SegmentLine)
     (waits text pushed left : List ℕ)
-    → IsWritten old new report lines waits → IsSegmentText line text → pushed ≡ waits ++ text
-    → Passes new next pushed [] left → IsWritten old next report (lines ++ line ∷ []) left
+    → IsWrittenReport old new report lines waits → IsSegmentText line text → pushed ≡ waits ++ text
+    → Passes new next pushed [] left → IsWrittenReport old next report (lines ++ line ∷ []) left
 written_more old new next report lines line waits text pushed left w is_text is p = record {
   segments = w.segments ++ text;
   are = segments_append lines (line ∷ []) w.segments text w.are (one_segment line text is_text);
@@ -72,19 +73,20 @@ written_more old new next report lines line waits text pushed left w is_text is 
 pub written_next : (old new next : Device) (report : Report) (i : ℕ) (line : SegmentLine)
     (waits text pushed left : List ℕ)
     → i < length report.segments.items → line ≡ get_or report.segments.items i line
-    → IsWritten old new report (take i report.segments.items) waits → IsSegmentText line text
+    → IsWrittenReport old new report (take i report.segments.items) waits → IsSegmentText line text
     → pushed ≡ waits ++ text → Passes new next pushed [] left
-    → IsWritten old next report (take (i + 1) report.segments.items) left
+    → IsWrittenReport old next report (take (i + 1) report.segments.items) left
 written_next old new next report i line waits text pushed left within item w is_text is p =
     let items = report.segments.items in
-    let P : List SegmentLine → Type 0 = λ l. IsWritten old next report l left in
+    let P : List SegmentLine → Type 0 = λ l. IsWrittenReport old next report l left in
     subst P (one_more items i line within item) (written_more old new next report
     (take i items) line waits text pushed left w is_text is p)
 
 -- When some segments are written, a prefix of the report's text is taken.
 pub written_front : (old new : Device) (report : Report) (lines others : List SegmentLine) (waits : List ℕ)
     → lines ++ others ≡ report.segments.items → (others_text : List ℕ) → AreSegmentTexts others others_text
-    → IsWritten old new report lines waits → (text : List ℕ) × (IsReportText report text × TakesPrefix old new text)
+    → IsWrittenReport old new report lines waits
+    → (text : List ℕ) × (IsReportText report text × TakesPrefix old new text)
 written_front old new report lines others waits all more are w =
     let end = end_line (length report.segments.items) (records_of report.segments.items) in
     let P : List SegmentLine → Type 0 = λ l. AreSegmentTexts l (w.segments ++ more) in (
@@ -111,7 +113,7 @@ written_front old new report lines others waits all more are w =
 
 -- the same of the first i segments of a proper report
 pub written_front_of : (old new : Device) (report : Report) (i : ℕ) (waits : List ℕ)
-    → IsProper report → IsWritten old new report (take i report.segments.items) waits
+    → IsProper report → IsWrittenReport old new report (take i report.segments.items) waits
     → (text : List ℕ) × (IsReportText report text × TakesPrefix old new text)
 written_front_of old new report i waits proper w =
     let others = drop i report.segments.items in
@@ -124,7 +126,7 @@ pub written_end : (old new next : Device) (report : Report) (lines : List Segmen
     (segments records : ℕ)
     → lines ≡ report.segments.items → segments ≡ length report.segments.items
     → records ≡ records_of report.segments.items
-    → IsWritten old new report lines waits → pushed ≡ waits ++ end_line segments records
+    → IsWrittenReport old new report lines waits → pushed ≡ waits ++ end_line segments records
     → Passes new next pushed [] left
     → (text : List ℕ) × (IsReportText report text
     × ((taken : List ℕ) × (Takes old next taken × (text ≡ taken ++ left))))

@@ -1,12 +1,12 @@
-//! msr_certificate: reports that come little by little, and those at fault: which line is told, and that reading stops
-//! there.
-use msr_certificate::{
-    ReportFault, line_has_form, one_report, read_report, report_has_form, report_of,
-    text_is_read_back,
-};
+//! msr_report_reader: reports that come little by little, and those at fault: which line is told, and that reading
+//! stops there.
 use msr_devices::{Behavior, TestSource};
 use msr_fixtures::{START, key_at};
 use msr_report::{Counts, Report, SegmentLine};
+use msr_report_reader::{
+    ReportFault, line_has_form, one_report, read_report, report_has_form, report_of,
+    text_is_read_back,
+};
 use msr_time::Rate;
 use std::alloc::{AllocError, Global};
 use std::test::Fail;

@@ -1,11 +1,11 @@
 //! msr_verdict: packed records that come little by little, and a source that fails.
 use crate::reading::REPORT;
 use crate::writing::SECOND;
-use msr_certificate::report_of;
 use msr_devices::{Behavior, TestSource};
 use msr_fixtures::{record, steim_record};
 use msr_input::ReadFault;
 use msr_report::Report;
+use msr_report_reader::report_of;
 use msr_verdict::{Verdict, shown_is_fewest, verify_packed};
 use std::alloc::{AllocError, Global};
 use std::process::Abort;

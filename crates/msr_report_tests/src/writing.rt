@@ -21,7 +21,7 @@ use std::test::Fail;
 pub const SECOND: &[Edit<'static>] = &[
     Edit::Sequence(*b"000002"),
     Edit::Clock(0, 0, 15, 500),
-    Edit::Samples(1),
+    Edit::SampleCount(1),
     Edit::Frames(1),
     Edit::Bytes(64, &[0x02, 0x00, 0x00, 0x00]),
     Edit::Bytes(76, &[0x40, 0x00, 0x00, 0x00]),

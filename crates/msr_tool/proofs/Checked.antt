@@ -3,9 +3,9 @@ use Rattle.std.proofs.Common.{ℕ, List, Result, Ok, Err}
 use Rattle.msr_devices.specs.Device.{Device, HasLeft}
 use Rattle.msr_devices.proofs.Chaining.{left_of}
 use Rattle.msr_report.specs.declared.report.Report.{Report}
-use Rattle.msr_certificate.specs.Reading.{ReadsReport}
-use Rattle.msr_certificate.specs.declared.fault.ReportFault.{ReportFault}
-use Rattle.msr_certificate.specs.declared.fault.ReportFault.TheVariants as report
+use Rattle.msr_report_reader.specs.Reading.{ReadsReport}
+use Rattle.msr_report_reader.specs.declared.fault.ReportFault.{ReportFault}
+use Rattle.msr_report_reader.specs.declared.fault.ReportFault.TheVariants as report
 use Rattle.msr_input.specs.declared.fault.ReadFault.{ReadFault}
 use Rattle.msr_input.specs.declared.fault.ReadFault.TheVariants as read
 use Rattle.msr_verdict.specs.Packed.{VerifyAnswers}

@@ -17,8 +17,8 @@ use Rattle.msr_input.specs.Reading.{IsWritable}
 use Rattle.msr_input.specs.Rows.{StepsTo}
 use Rattle.msr_input.specs.Steps.{CanJoin}
 use Rattle.msr_input.specs.declared.row_reader.NextRow.{NextRow}
-use Rattle.msr_certificate.specs.Form.{IsFormLine, form_line}
-use Rattle.msr_certificate.proofs.SegmentsRead.{all_more}
+use Rattle.msr_report_reader.specs.Form.{IsFormLine, form_line}
+use Rattle.msr_report_reader.proofs.SegmentsRead.{all_more}
 use Rattle.msr_output.specs.Opened.{Opened, CanGoOn, HasBegun, count_of}
 use Rattle.msr_output.specs.Output.{Packed, segment_of_packed, count_of_runs}
 use Rattle.msr_output.specs.Writing.{Writing, IsLineOf, HasWritten, HasWrittenPrefix, WritesSegment, StopsWriting}

@@ -12,7 +12,7 @@ use Rattle.msr_base.specs.declared.counts.Counts.{Counts}
 use Rattle.msr_report.specs.declared.report.Report.{Report}
 use Rattle.msr_report.specs.declared.report.SegmentLine.{SegmentLine}
 use Rattle.msr_report.specs.Proper.{IsProperLine}
-use Rattle.msr_certificate.specs.Form.{IsFirst}
+use Rattle.msr_report_reader.specs.Form.{IsFirst}
 use Rattle.msr_input.specs.Input.{AllAgree, NoneOverruns, rows_of_records}
 use Rattle.msr_input.specs.Reading.{GaveReadable, HoldsRecord, IsWritable, StopsReading}
 use Rattle.msr_input.specs.Records.{HaveComeShort}
@@ -28,7 +28,7 @@ use Rattle.msr_tool.specs.Settings.{settings_of}
 use Rattle.msr_tool.specs.Writing.{Lined, GoesOn, HasLined, LinesMore, LinesAll, StopsLining, current_with, ended_with}
 use Rattle.msr_tool.specs.Answer.{AreLinesOf}
 use Rattle.msr_tool.specs.Fault.{fault_of_reading}
-use Rattle.msr_tool.specs.Live.{IsLive}
+use Rattle.msr_tool.specs.KeepingUp.{HasKeptUp}
 use Rattle.msr_tool.specs.declared.fault.ToolFault.{ToolFault}
 use Rattle.msr_tool.specs.declared.fault.ToolFault.TheVariants as fault
 use Rattle.msr_tool.proofs.Lines.{calm_lined, lined_decided, records_of_lines}
@@ -177,11 +177,11 @@ abbrev pub IsReady : RowReading → Lined → Type 0
 IsReady reading so_far = HoldsRecord reading.position.waiting ⊎ (so_far.writing.waiting ≡ [])
 
 -- a reader that fails when nothing waits
-live_so : (choice : Choice) (source0 source source' sink0 sink : Device) (reading reading' : RowReading)
+kept_up_so : (choice : Choice) (source0 source source' sink0 sink : Device) (reading reading' : RowReading)
     (so_far : Lined) (u : UnderWay choice source0 source sink0 sink reading so_far) → so_far.writing.waiting ≡ []
     → HaveComeShort source0 source' u.rows.records reading'.position.waiting
-    → (HoldsRecord reading'.position.waiting → ⊥) → IsLive choice source0 source' sink0 sink
-live_so choice source0 source source' sink0 sink reading reading' so_far u none came short =
+    → (HoldsRecord reading'.position.waiting → ⊥) → HasKeptUp choice source0 source' sink0 sink
+kept_up_so choice source0 source source' sink0 sink reading reading' so_far u none came short =
     let left = left_of source' in
     let begun = came.begins left.0 left.1 in
     let wrote = lined_decided sink0 sink so_far u.packed u.joining.current u.goes_on u.encoded none u.lined in
@@ -217,20 +217,20 @@ read_fault read.Read e = refl
 read_fault read.Memory e = absurd cc
 
 -- when a read failed, nothing waited
-pub live : (choice : Choice) (source0 source source' sink0 sink : Device) (reading reading' : RowReading)
+pub kept_up : (choice : Choice) (source0 source source' sink0 sink : Device) (reading reading' : RowReading)
     (so_far : Lined) (why : ReadFault) (u : UnderWay choice source0 source sink0 sink reading so_far)
     → IsReady reading so_far → fault_of_reading why ≡ fault.Read
     → StopsReading (settings_of choice) source0 source'
     (map segment_of_packed u.packed ++ option_to_list u.joining.current) why
     → (HoldsRecord reading.position.waiting → source' ≡ source)
     → (why ≡ read.Read → HaveComeShort source0 source' u.rows.records reading'.position.waiting)
-    → (why ≡ read.Read → HoldsRecord reading'.position.waiting → ⊥) → IsLive choice source0 source' sink0 sink
-live choice source0 source source' sink0 sink reading reading' so_far why u (inl holds) e stops unread came short =
+    → (why ≡ read.Read → HoldsRecord reading'.position.waiting → ⊥) → HasKeptUp choice source0 source' sink0 sink
+kept_up choice source0 source source' sink0 sink reading reading' so_far why u (inl holds) e stops unread came short =
     let is = read_fault why e in
     let failed = subst (λ (w : ReadFault). StopsReading (settings_of choice) source0 source'
     (map segment_of_packed u.packed ++ option_to_list u.joining.current) w) is stops in
     absurd (steady_sound source0 source u.rows.has_read.came.steady
     (subst (λ (d : Device). HasFailed source0 d) (unread holds) failed.1))
-live choice source0 source source' sink0 sink reading reading' so_far why u (inr none) e stops unread came short =
+kept_up choice source0 source source' sink0 sink reading reading' so_far why u (inr none) e stops unread came short =
     let is = read_fault why e in
-    live_so choice source0 source source' sink0 sink reading reading' so_far u none (came is) (short is)
+    kept_up_so choice source0 source source' sink0 sink reading reading' so_far u none (came is) (short is)

@@ -5,8 +5,8 @@ use Rattle.msr_words.specs.Packing.{IsSeparating}
 use Rattle.msr_segments.specs.Segments.{Part, segment_of, IsDivision}
 use Rattle.msr_report.specs.declared.report.SegmentLine.{SegmentLine}
 use Rattle.msr_report.specs.declared.report.Report.{Report}
-use Rattle.msr_certificate.specs.Form.{Form, FormLine, form_line, form_of}
-use Rattle.msr_certificate.specs.Laws.{NoLineAtFault, OneReport}
+use Rattle.msr_report_reader.specs.Form.{Form, FormLine, form_line, form_of}
+use Rattle.msr_report_reader.specs.Laws.{NoLineAtFault, OneReport}
 use Rattle.msr_input.specs.Input.{AreRead, ReadableHasNoFault, rows_of_records}
 use Rattle.msr_verdict.specs.Packed.{IsFull, IsShownBy, AreShownBy, ShowsLeast, ShownIsReadable, settings_by}
 use Rattle.msr_verdict.specs.declared.verdict.Verdict.TheVariants.{Least, NotShown}

@@ -8,7 +8,7 @@ use Rattle.msr_segments.specs.declared.joiner.Segment.{Segment}
 use Rattle.msr_report.specs.Proper.{IsProper}
 use Rattle.msr_report.specs.declared.report.SegmentLine.{SegmentLine}
 use Rattle.msr_report.specs.declared.report.Report.{Report}
-use Rattle.msr_certificate.specs.Form.{IsForm, form_of}
+use Rattle.msr_report_reader.specs.Form.{IsForm, form_of}
 use Rattle.msr_input.specs.declared.fault.Fault.{Fault}
 use Rattle.msr_input.specs.Input.{AreRead, IsReadable, IsFirstFault, rows_of_records, counts_of}
 use Rattle.msr_output.specs.Writing.{IsLineOf}

@@ -2,8 +2,8 @@
 use Rattle.std.specs.Prelude.{ℕ, List, Result, Ok, Err}
 use Rattle.msr_report.specs.declared.report.Report.{Report}
 use Rattle.msr_devices.specs.Device.{Device, HasLeft}
-use Rattle.msr_certificate.specs.Fault.{IsFaultLine}
-use Rattle.msr_certificate.specs.Reading.{IsReadFrom}
+use Rattle.msr_report_reader.specs.Fault.{IsFaultLine}
+use Rattle.msr_report_reader.specs.Reading.{IsReadFrom}
 use Rattle.msr_input.specs.declared.fault.ReadFault.{ReadFault}
 use Rattle.msr_input.specs.declared.fault.ReadFault.TheVariants as read
 use Rattle.msr_verdict.specs.Packed.{VerifyAnswers}

@@ -1,6 +1,6 @@
 -- The tool's fault when reading or writing stops.
-use Rattle.msr_certificate.specs.declared.fault.ReportFault.{ReportFault}
-use Rattle.msr_certificate.specs.declared.fault.ReportFault.TheVariants as report
+use Rattle.msr_report_reader.specs.declared.fault.ReportFault.{ReportFault}
+use Rattle.msr_report_reader.specs.declared.fault.ReportFault.TheVariants as report
 use Rattle.msr_input.specs.declared.fault.ReadFault.{ReadFault}
 use Rattle.msr_input.specs.declared.fault.ReadFault.TheVariants as read
 use Rattle.msr_devices.specs.declared.fault.WriteFault.{WriteFault}

@@ -2,7 +2,7 @@ pub mod Settings
 pub mod Fault
 pub mod Answer
 pub mod Writing
-pub mod Live
+pub mod KeepingUp
 pub mod Listing
 pub mod ListWriting
 pub mod Laws

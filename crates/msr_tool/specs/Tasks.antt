@@ -4,7 +4,7 @@ use Rattle.std.specs.Prelude.{◌≡◌, ◌⊎◌, ℕ, List, [], ◌++◌, cod
 use Rattle.msr_devices.specs.Device.{Device, HasLeft, Takes}
 use Rattle.msr_report.specs.Text.{IsReportText}
 use Rattle.msr_report.specs.declared.report.Report.{Report}
-use Rattle.msr_certificate.specs.Fault.{IsFaultLine}
+use Rattle.msr_report_reader.specs.Fault.{IsFaultLine}
 use Rattle.msr_input.specs.declared.fault.ReadFault.TheVariants as read
 use Rattle.msr_verdict.specs.Texts.{text_of}
 use Rattle.msr_verdict.specs.declared.verdict.Verdict.{Verdict}

@@ -11,7 +11,7 @@ use Rattle.msr_segments.specs.declared.joiner.Segment.{Segment}
 use Rattle.msr_input.specs.Reading.{IsWritable}
 use Rattle.msr_input.specs.declared.row_reader.NextRow.{NextRow}
 use Rattle.msr_report.specs.declared.report.SegmentLine.{SegmentLine}
-use Rattle.msr_certificate.specs.Form.{IsFormLine, form_line}
+use Rattle.msr_report_reader.specs.Form.{IsFormLine, form_line}
 use Rattle.msr_output.specs.Opened.{Opened, CanGoOn, HasBegun, count_of, longer_by}
 use Rattle.msr_output.specs.Output.{Packed, segment_of_packed}
 use Rattle.msr_output.specs.Writing.{Writing, HasWritten, HasWrittenAll, HasWrittenPrefix}

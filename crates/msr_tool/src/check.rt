@@ -4,8 +4,8 @@ ghost use Rattle.msr_devices.specs.Device.{CanCountCall, CountsFew, HasFailed, H
 ghost use Rattle.msr_tool.specs.Checking.{CheckAnswers, GivesReport};
 
 use crate::fault::ToolFault;
-use msr_certificate::read_report;
 use msr_devices::Source;
+use msr_report_reader::read_report;
 use msr_verdict::{Verdict, verify_packed};
 use std::alloc::Global;
 

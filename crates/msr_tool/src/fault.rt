@@ -3,9 +3,9 @@ ghost use Rattle.std.specs.Prelude.{◌≡◌};
 ghost use Rattle.msr_tool.specs.Fault.{fault_of_reading, fault_of_report, fault_of_writing};
 ghost use Rattle.msr_tool.specs.declared.fault.ToolFault.TheVariants.{Write, Memory};
 
-use msr_certificate::ReportFault;
 use msr_devices::{SinkFault, WriteFault};
 use msr_input::{Fault, ReadFault};
+use msr_report_reader::ReportFault;
 use std::alloc::{AllocError, AllocFailed};
 use thiserror::Error;
 

@@ -20,7 +20,6 @@ pub use laws::{
     repacked_is_shown, strict_writes_the_same,
 };
 pub use list::list_segments;
-pub use msr_certificate::{ReportFault, read_report};
 pub use msr_devices::{
     Behavior, FromRead, FromWrite, Sink, Source, TestSink, TestSource, WriteFault,
 };
@@ -28,6 +27,7 @@ pub use msr_input::Fault;
 pub use msr_kinds::Length;
 pub use msr_options::Options;
 pub use msr_report::{Counts, Report, SegmentLine};
+pub use msr_report_reader::{ReportFault, read_report};
 pub use msr_rows::{FaultKind, Key};
 pub use msr_verdict::Verdict;
 pub use repacking::{feed, repack};

@@ -1,11 +1,11 @@
 //! A writer of segments with their lines, which takes the rows.
 use crate::fault::ToolFault;
-use msr_certificate::line_has_form;
 use msr_devices::Sink;
 use msr_input::{NextRecord, NextRow};
 use msr_kinds::Length;
 use msr_output::{OpenSegment, SegmentWriter};
 use msr_report::SegmentLine;
+use msr_report_reader::line_has_form;
 use msr_rows::Row;
 use msr_segments::Step;
 use std::alloc::Global;

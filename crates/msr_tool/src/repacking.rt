@@ -3,7 +3,7 @@ ghost use Rattle.std.specs.Prelude.{◌≡◌, ◌↔◌, List, ℕ, IsErrOf, fa
 ghost use Rattle.msr_devices.specs.Device.{CanCountCall, CountsFew, HasFailed, HasLeft, Takes};
 ghost use Rattle.msr_input.specs.Reading.{HoldsRecord};
 ghost use Rattle.msr_tool.specs.Answer.{Answers};
-ghost use Rattle.msr_tool.specs.Live.{IsLive};
+ghost use Rattle.msr_tool.specs.KeepingUp.{HasKeptUp};
 
 use crate::fault::ToolFault;
 use crate::lined_writer::LinedWriter;
@@ -21,7 +21,7 @@ enum Flush {
     /// When they are 64 KiB or more.
     Full,
     /// Before each read of the source, too.
-    Live,
+    BeforeReads,
 }
 
 /// Reads all records of the source, joins their rows into segments, and writes each segment again in the fewest
@@ -68,20 +68,20 @@ pub fn feed<R: Source, W: Sink>(
     ensures write { IsErrOf result ToolFault.Write ↔ HasFailed (W.device sink.old) (W.device sink.new) }
 
     // When a read fails, which may be any, all was written but at most two longest runs of samples at the end.
-    ensures live { IsErrOf result ToolFault.Read
-        → IsLive options (R.device source.old) (R.device source.new) (W.device sink.old) (W.device sink.new) }
+    ensures kept_up { IsErrOf result ToolFault.Read
+        → HasKeptUp options (R.device source.old) (R.device source.new) (W.device sink.old) (W.device sink.new) }
     ensures few_source { CountsFew (R.device source.old) (R.device source.new) }
     ensures few_sink { CountsFew (W.device sink.old) (W.device sink.new) }
 {
-    repack_with(alloc, source, sink, options, Flush::Live)
+    repack_with(alloc, source, sink, options, Flush::BeforeReads)
 }
 
 /// Whether what waits is to be written now, since the next step may read.
 fn must_flush(flush: Flush, reader: &RowReader) -> bool
     ensures full { flush ≡ Flush.Full → result ≡ false }
-    ensures live { flush ≡ Flush.Live → (result ≡ false ↔ HoldsRecord reader.now.position.waiting) }
+    ensures before_reads { flush ≡ Flush.BeforeReads → (result ≡ false ↔ HoldsRecord reader.now.position.waiting) }
 {
-    flush == Flush::Live && !reader.holds_record()
+    flush == Flush::BeforeReads && !reader.holds_record()
 }
 
 fn repack_with<R: Source, W: Sink>(
@@ -101,8 +101,8 @@ fn repack_with<R: Source, W: Sink>(
     // A failure of a device is answered as such, and nothing else is.
     ensures read { IsErrOf result ToolFault.Read ↔ HasFailed (R.device source.old) (R.device source.new) }
     ensures write { IsErrOf result ToolFault.Write ↔ HasFailed (W.device sink.old) (W.device sink.new) }
-    ensures live { flush ≡ Flush.Live → IsErrOf result ToolFault.Read
-        → IsLive options (R.device source.old) (R.device source.new) (W.device sink.old) (W.device sink.new) }
+    ensures kept_up { flush ≡ Flush.BeforeReads → IsErrOf result ToolFault.Read
+        → HasKeptUp options (R.device source.old) (R.device source.new) (W.device sink.old) (W.device sink.new) }
     ensures few_source { CountsFew (R.device source.old) (R.device source.new) }
     ensures few_sink { CountsFew (W.device sink.old) (W.device sink.new) }
 {

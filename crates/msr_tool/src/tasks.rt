@@ -3,7 +3,7 @@ ghost use Rattle.std.specs.Prelude.{◌≡◌, ◌⊎◌, ◌↔◌, ℕ, IsErrO
 ghost use Rattle.msr_devices.specs.Device.{CanCountCall, CountsFew, HasFailed};
 ghost use Rattle.msr_input.specs.declared.fault.Fault.{Fault as FirstFault};
 ghost use Rattle.msr_tool.specs.Checking.{GivesReport};
-ghost use Rattle.msr_tool.specs.Live.{IsLive};
+ghost use Rattle.msr_tool.specs.KeepingUp.{HasKeptUp};
 ghost use Rattle.msr_tool.specs.Tasks.{Reports, Tells};
 
 use crate::check::check_packed;
@@ -78,7 +78,7 @@ pub fn feed_and_report<R: Source, W: Sink, T: Sink>(
     ensures untold_at_write { HasFailed (W.device records.old) (W.device records.new) → text.new ≡ text.old }
 
     // When a read fails, all was written but at most two longest runs of samples at the end.
-    ensures live { IsErrOf result ToolFault.Read → IsLive options (R.device source.old) (R.device source.new)
+    ensures kept_up { IsErrOf result ToolFault.Read → HasKeptUp options (R.device source.old) (R.device source.new)
         (W.device records.old) (W.device records.new) }
     ensures few_source { CountsFew (R.device source.old) (R.device source.new) }
     ensures few_records { CountsFew (W.device records.old) (W.device records.new) }

@@ -11,7 +11,7 @@ const RECORDS: [Edits<'static>; 5] = [
     &[],
     &[Edit::Sequence(*b"000002"), Edit::Clock(0, 0, 15, 500)],
     &[Edit::Sequence(*b"000003"), Edit::Clock(0, 0, 30, 1000)],
-    &[Edit::Sequence(*b"000004"), Edit::Samples(0)],
+    &[Edit::Sequence(*b"000004"), Edit::SampleCount(0)],
     &[Edit::Sequence(*b"000005"), Edit::Clock(0, 0, 45, 1500)],
 ];
 

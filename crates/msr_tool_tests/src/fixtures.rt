@@ -29,7 +29,7 @@ pub fn edited(alloc: Global, records: &[Edits]) -> Result<Vec<u8>, AllocError> {
 /// A record of 4096 bytes before its samples, which are numbers of 32 bits.
 fn long_header(count: u16) -> [u8; 64] {
     header_bytes(&[
-        Edit::Samples(count),
+        Edit::SampleCount(count),
         Edit::Encoding(3),
         Edit::Exponent(12),
         Edit::Frames(0),
@@ -48,7 +48,7 @@ pub fn packed_zeros(alloc: Global) -> Result<Vec<u8>, AllocError> {
     let second = record(&[
         Edit::Sequence(*b"000002"),
         Edit::Clock(0, 0, 15, 500),
-        Edit::Samples(1),
+        Edit::SampleCount(1),
         Edit::Frames(1),
         Edit::Bytes(64, &[0x02, 0x00, 0x00, 0x00]),
         Edit::Bytes(76, &[0x40, 0x00, 0x00, 0x00]),
@@ -77,7 +77,7 @@ pub fn packed_swings(alloc: Global) -> Result<Vec<u8>, AllocError> {
     let first = record_of_words(
         [0xb1, 0xe0, 0x4e, 0x20],
         &[
-            Edit::Samples(85),
+            Edit::SampleCount(85),
             Edit::Encoding(10),
             Edit::Bytes(64, &[0x02, 0xaa, 0xaa, 0xaa]),
             Edit::Bytes(68, &[0x00, 0x0f, 0x42, 0x40, 0x00, 0x0f, 0x42, 0x40]),
@@ -92,7 +92,7 @@ pub fn packed_swings(alloc: Global) -> Result<Vec<u8>, AllocError> {
         &[
             Edit::Sequence(*b"000002"),
             Edit::Clock(0, 0, 4, 2500),
-            Edit::Samples(88),
+            Edit::SampleCount(88),
             Edit::Encoding(10),
             Edit::Bytes(64, &[0x01, 0xaa, 0xaa, 0xaa]),
             Edit::Bytes(68, &[0x00, 0x0f, 0x42, 0x40, 0x00, 0x0f, 0x42, 0x40]),

@@ -44,9 +44,9 @@ read 3 empty 0 mismatched 0
 
 /// 100 samples at 0, 5.0007 and 10.0014 seconds.
 pub const LISTED: [Edits<'static>; 3] = [
-    &[Edit::Samples(100)],
-    &[Edit::Clock(0, 0, 5, 7), Edit::Samples(100)],
-    &[Edit::Clock(0, 0, 10, 14), Edit::Samples(100)],
+    &[Edit::SampleCount(100)],
+    &[Edit::Clock(0, 0, 5, 7), Edit::SampleCount(100)],
+    &[Edit::Clock(0, 0, 10, 14), Edit::SampleCount(100)],
 ];
 
 #[test]

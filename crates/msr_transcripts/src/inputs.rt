@@ -6,7 +6,7 @@ use std::alloc::{AllocError, Global};
 /// 302 samples of 32 bits from 2020-01-01 00:00:00 on, 20 a second, in a record of 4096 bytes.
 fn header() -> [u8; 64] {
     header_bytes(&[
-        Edit::Samples(302),
+        Edit::SampleCount(302),
         Edit::Encoding(3),
         Edit::Exponent(12),
         Edit::Frames(0),
@@ -24,7 +24,7 @@ pub fn zeros(alloc: Global) -> Result<Vec<u8>, AllocError> {
 pub fn mismatched(alloc: Global) -> Result<Vec<u8>, AllocError> {
     let mut first = [0; 76];
     first[..64].copy_from_slice(&header_bytes(&[
-        Edit::Samples(1),
+        Edit::SampleCount(1),
         Edit::Exponent(12),
         Edit::Frames(0),
     ]));
@@ -51,7 +51,7 @@ fn short_record(number: [u8; 6], second: u8) -> [u8; 512] {
     record[..64].copy_from_slice(&header_bytes(&[
         Edit::Sequence(number),
         Edit::Clock(0, 0, second, 0),
-        Edit::Samples(100),
+        Edit::SampleCount(100),
         Edit::Encoding(1),
         Edit::Exponent(9),
         Edit::Frames(0),

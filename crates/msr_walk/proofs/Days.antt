@@ -14,7 +14,7 @@ use Rattle.msr_walk.specs.Entries.{IsDayOf, IsOutcomeOf}
 use Rattle.msr_walk.specs.declared.outcome.Outcome.{Outcome}
 use Rattle.msr_walk.specs.declared.outcome.Outcome.TheVariants.{Done, Same, Skipped, Refused, NotShown as Unshown, Larger as Grown}
 use Rattle.msr_walk.specs.declared.outcome.DayFault.{DayFault}
-use Rattle.msr_walk.specs.declared.outcome.DayFault.TheVariants.{CannotOpen, Gone, Listing, NotShown, Larger, Taken, Tool}
+use Rattle.msr_walk.specs.declared.outcome.DayFault.TheVariants.{CannotOpen, Gone, Listing, NotShown, Larger, ClaimedByAnother, Tool}
 use Rattle.msr_walk.specs.declared.outcome.Repacked.{Repacked}
 
 pub day_stops : (choice : Choice) (source records0 records text0 text : Device) (why : ToolFault) →
@@ -58,7 +58,7 @@ day_unkept asked source records0 records text0 text repacked Gone does is = absu
 day_unkept asked source records0 records text0 text repacked Listing does is = absurd is.1
 day_unkept asked source records0 records text0 text repacked NotShown does is = record { check = is.0; unshown = is.1 }
 day_unkept asked source records0 records text0 text repacked (Larger counts) does is = absurd is.1
-day_unkept asked source records0 records text0 text repacked Taken does is = absurd is.1
+day_unkept asked source records0 records text0 text repacked ClaimedByAnother does is = absurd is.1
 day_unkept asked source records0 records text0 text repacked (Tool why) does is = rw is.1 (record {
   input = does.input;
   written = does.written;
@@ -97,7 +97,7 @@ outcome_of asked path channel (Refused Gone) day is = absurd is.is
 outcome_of asked path channel (Refused Listing) day is = absurd is.is
 outcome_of asked path channel (Refused NotShown) day is = absurd is.is
 outcome_of asked path channel (Refused (Larger repacked)) day is = absurd is.is
-outcome_of asked path channel (Refused Taken) day is = day
+outcome_of asked path channel (Refused ClaimedByAnother) day is = day
 outcome_of asked path channel (Refused (Tool why)) day is = record { day = day; outcome_is = is }
 outcome_of asked path channel Unshown day is = record { day = day; outcome_is = is }
 outcome_of asked path channel (Grown repacked) day is = record { day = day; outcome_is = is }

@@ -1,7 +1,7 @@
 -- What is said of a day file that was repacked, or refused.
 use Rattle.std.specs.Prelude.{◌≡◌, ◌≢◌, ◌<◌, ◌*◌, ℕ, ⊤, Bool, false, IsTrue, List, Result, Ok, Err}
 use Rattle.msr_devices.specs.Device.{Device, HasLeft, Takes}
-use Rattle.msr_certificate.specs.Reading.{IsReadFrom}
+use Rattle.msr_report_reader.specs.Reading.{IsReadFrom}
 use Rattle.msr_report.specs.Proper.{records_of}
 use Rattle.msr_report.specs.declared.report.Report.{Report}
 use Rattle.msr_tool.specs.Checking.{CheckAnswers, IsChecked}
@@ -19,7 +19,7 @@ use Rattle.msr_totals.specs.Totals.{saturated}
 use Rattle.msr_walk.specs.declared.outcome.Outcome.{Outcome}
 use Rattle.msr_walk.specs.declared.outcome.Outcome.TheVariants.{Done, Same, Skipped, Refused, NotShown as Unshown, Larger as Grown}
 use Rattle.msr_walk.specs.declared.outcome.DayFault.{DayFault}
-use Rattle.msr_walk.specs.declared.outcome.DayFault.TheVariants.{CannotOpen, Gone, Listing, NotShown, Larger, Taken, Tool}
+use Rattle.msr_walk.specs.declared.outcome.DayFault.TheVariants.{CannotOpen, Gone, Listing, NotShown, Larger, ClaimedByAnother, Tool}
 use Rattle.msr_walk.specs.declared.outcome.Repacked.{Repacked}
 
 -- What is asked of one day: what is of all, but for the length if each day's own is asked for.
@@ -85,7 +85,7 @@ IsUnkept CannotOpen = ⊤
 IsUnkept Gone = ⊥
 IsUnkept Listing = ⊥
 IsUnkept NotShown = IsUnshown
-IsUnkept Taken = ⊥
+IsUnkept ClaimedByAnother = ⊥
 IsUnkept (Larger repacked) = ⊥
 IsUnkept (Tool fault) = fault ≡ Memory
 
@@ -129,7 +129,7 @@ IsRepackedDay asked (Err Gone) = ⊥
 IsRepackedDay asked (Err Listing) = ⊥
 IsRepackedDay asked (Err NotShown) = IsNotShown asked
 IsRepackedDay asked (Err (Larger repacked)) = IsLarger asked repacked
-IsRepackedDay asked (Err Taken) = ⊤
+IsRepackedDay asked (Err ClaimedByAnother) = ⊤
 IsRepackedDay asked (Err (Tool fault)) = HasAnswer asked.options (Err fault)
 
 -- Some text is that of a report of these options, and the counts are those of this report, with the bytes of the records
@@ -166,7 +166,7 @@ IsDayOutcome asked (Refused Gone) = ⊥
 IsDayOutcome asked (Refused Listing) = ⊥
 IsDayOutcome asked (Refused NotShown) = ⊥
 IsDayOutcome asked (Refused (Larger repacked)) = ⊥
-IsDayOutcome asked (Refused Taken) = ⊤
+IsDayOutcome asked (Refused ClaimedByAnother) = ⊤
 IsDayOutcome asked (Refused (Tool fault)) = HasAnswer asked.options (Err fault)
 IsDayOutcome asked Unshown = IsNotShown asked
 IsDayOutcome asked (Grown repacked) = IsLarger asked repacked

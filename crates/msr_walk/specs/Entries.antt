@@ -12,7 +12,7 @@ use Rattle.msr_walk.specs.Day.{IsOutcomeOfDay}
 use Rattle.msr_walk.specs.Paths.{channel_of, shown_path}
 use Rattle.msr_walk.specs.declared.outcome.Outcome.{Outcome}
 use Rattle.msr_walk.specs.declared.outcome.Outcome.TheVariants.{Done, Same, Skipped, Refused, NotShown as Unshown, Larger as Grown}
-use Rattle.msr_walk.specs.declared.outcome.DayFault.TheVariants.{CannotOpen, Gone, Listing, NotShown, Larger, Taken, Tool}
+use Rattle.msr_walk.specs.declared.outcome.DayFault.TheVariants.{CannotOpen, Gone, Listing, NotShown, Larger, ClaimedByAnother, Tool}
 use Rattle.msr_walk.specs.declared.outcome.Repacked.{Repacked}
 use Rattle.msr_walk.specs.declared.tally.Tally.{Tally}
 
@@ -49,7 +49,7 @@ IsOutcomeOf asked path channel (Refused Gone) = ⊤
 IsOutcomeOf asked path channel (Refused Listing) = ⊤
 IsOutcomeOf asked path channel (Refused NotShown) = ⊥
 IsOutcomeOf asked path channel (Refused (Larger repacked)) = ⊥
-IsOutcomeOf asked path channel (Refused Taken) = IsDayOf path channel
+IsOutcomeOf asked path channel (Refused ClaimedByAnother) = IsDayOf path channel
 IsOutcomeOf asked path channel (Refused (Tool fault)) = IsToldOfDay asked path channel (Refused (Tool fault))
 IsOutcomeOf asked path channel Unshown = IsToldOfDay asked path channel Unshown
 IsOutcomeOf asked path channel (Grown repacked) = IsToldOfDay asked path channel (Grown repacked)

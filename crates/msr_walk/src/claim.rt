@@ -40,7 +40,7 @@ pub(crate) enum ClaimFault {
     /// Its file, or the folder of it, could not be made or looked at.
     CannotOpen,
     /// Another walk has the day.
-    Taken,
+    ClaimedByAnother,
     Memory,
 }
 
@@ -120,7 +120,7 @@ where
         }
         clear(rt, alloc, day)?;
     }
-    Err(ClaimFault::Taken)
+    Err(ClaimFault::ClaimedByAnother)
 }
 
 /// Makes the file of a claim; `None` if there is one, or another walk took it for one that was left before it was
@@ -182,7 +182,7 @@ where
         return Ok(());
     };
     if file.lock() != Lock::Ours {
-        return Err(ClaimFault::Taken);
+        return Err(ClaimFault::ClaimedByAnother);
     }
     let Some(id) = leads_to(rt, path, &file) else {
         return Ok(());

@@ -178,7 +178,7 @@ impl Day {
         settle(&report)?;
         files.hold(rt, alloc, asked.check)?;
         if !claim.is_ours(rt, self.claim()) {
-            return Err(DayFault::Taken);
+            return Err(DayFault::ClaimedByAnother);
         }
         files.keep(rt)?;
         Ok(repacked)
@@ -298,7 +298,9 @@ impl Day {
         let claim = match claim_day(rt, alloc, self) {
             Ok(claim) => claim,
             Err(ClaimFault::CannotOpen) => return Ok(Outcome::Refused(DayFault::CannotOpen)),
-            Err(ClaimFault::Taken) => return Ok(Outcome::Refused(DayFault::Taken)),
+            Err(ClaimFault::ClaimedByAnother) => return Ok(Outcome::Refused(
+                DayFault::ClaimedByAnother,
+            )),
             Err(ClaimFault::Memory) => return Err(AllocError),
         };
         let outcome = self.do_claimed(rt, alloc, asked, &claim);
@@ -377,7 +379,7 @@ fn refused(refusal: DayFault) -> Outcome
         DayFault::CannotOpen
         | DayFault::Gone
         | DayFault::Listing
-        | DayFault::Taken
+        | DayFault::ClaimedByAnother
         | DayFault::Tool(_) => Outcome::Refused(refusal),
     }
 }

@@ -29,7 +29,7 @@ pub(crate) enum DayFault {
     Gone,
     /// Another walk has the day.
     #[error("another walk is at work")]
-    Taken,
+    ClaimedByAnother,
     /// The file was not repacked.
     #[error("{0}")]
     Tool(ToolFault),

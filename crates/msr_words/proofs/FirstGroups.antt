@@ -8,7 +8,7 @@ use Rattle.msr_steim.specs.Area.{differences}
 use Rattle.msr_steim.specs.Word.{AreGroups, FitsBits, IsGroup, IsGroupAt}
 use Rattle.msr_words.specs.Division.{CanDivide}
 use Rattle.msr_words.specs.Canonical.{DividesFrom, IsCanonicalDivision}
-use Rattle.msr_words.specs.FirstGroup.{AreGiven, AreSizes, IsBest, IsCanonicalFirst, IsFirstGroup, IsLeast}
+use Rattle.msr_words.specs.FirstGroup.{AreGiven, AreSizes, IsBest, IsCanonicalFirst, IsFirstGroup, IsFewestGroups}
 use Rattle.msr_words.specs.Lemmas.LeastCounts.{a_group_has_few}
 use Rattle.msr_words.specs.Lemmas.SteimLaws.{head_group, none_divides, one_has_few, size_law, tail_groups}
 use Rattle.msr_words.proofs.WrittenDivision.{at_place_is, divides_can, group_fits, starts_with, with_first}
@@ -27,14 +27,15 @@ at_end false g is three = absurd (is.1 three)
 none_left : (ds : List ℤ) → CanDivide One 0 ds → length ds ≡ 0
 none_left ds can = let few = size_law One 0 ds can in omega arith
 
-all_left : (ds : List ℤ) (number : ℕ) → IsLeast ds number → length ds ≡ 0 → number ≡ 0
+all_left : (ds : List ℤ) (number : ℕ) → IsFewestGroups ds number → length ds ≡ 0 → number ≡ 0
 all_left ds number is none =
     let few = is.fewest 0 (subst (CanDivide One 0) (sym (nil_from_length ds none)) (none_divides One 0)) in omega arith
 
 module _ (d : ℤ) (ds : List ℤ) (all one two three pair triple four size after : ℕ) (fits : FitsBits 32 d)
     (best : IsBest all one two three pair triple four size after)
-    (all_is : IsLeast ds all) (one_is : 1 ≤ length ds → IsLeast (drop 1 ds) one)
-    (two_is : 2 ≤ length ds → IsLeast (drop 2 ds) two) (three_is : 3 ≤ length ds → IsLeast (drop 3 ds) three)
+    (all_is : IsFewestGroups ds all) (one_is : 1 ≤ length ds → IsFewestGroups (drop 1 ds) one)
+    (two_is : 2 ≤ length ds → IsFewestGroups (drop 2 ds) two)
+    (three_is : 3 ≤ length ds → IsFewestGroups (drop 3 ds) three)
     (two_group : pair < 32768 ↔ (2 ≤ length (d ∷ ds)) × IsGroup One (take 2 (d ∷ ds)))
     (three_group : triple < 128 ↔ (3 ≤ length (d ∷ ds)) × IsGroup One (take 3 (d ∷ ds)))
     (four_group : four < 128 ↔ (4 ≤ length (d ∷ ds)) × IsGroup One (take 4 (d ∷ ds))) where
@@ -90,13 +91,13 @@ module _ (d : ℤ) (ds : List ℤ) (all one two three pair triple four size afte
       absurd (omega arith)
 
   with_this : (k a : ℕ) → size ≡ k → after ≡ a → k ≤ length (d ∷ ds)
-      → IsGroupAt One (eqb k (length (d ∷ ds))) (take k (d ∷ ds)) → IsLeast (drop k (d ∷ ds)) a
+      → IsGroupAt One (eqb k (length (d ∷ ds))) (take k (d ∷ ds)) → IsFewestGroups (drop k (d ∷ ds)) a
       → IsFirstGroup (d ∷ ds) size after
   with_this k a size_is after_is within group left = record {
     within = omega arith;
     group = subst (λ n. IsGroupAt One (eqb n (length (d ∷ ds))) (take n (d ∷ ds))) (sym size_is) group;
-    left = subst (λ n. IsLeast (drop n (d ∷ ds)) after) (sym size_is)
-        (subst (IsLeast (drop k (d ∷ ds))) (sym after_is) left);
+    left = subst (λ n. IsFewestGroups (drop n (d ∷ ds)) after) (sym size_is)
+        (subst (IsFewestGroups (drop k (d ∷ ds))) (sym after_is) left);
     best = no_better;
   }
 
@@ -113,8 +114,8 @@ module _ (d : ℤ) (ds : List ℤ) (all one two three pair triple four size afte
       | inr b ↦ elim b [
         | inl e ↦
             let g = three_group.0 e.1 in
-            let left : IsLeast (drop 2 ds) two = two_is (omega (arith, g.0)) in
-            let none : IsLeast (drop 2 ds) 0 = subst (IsLeast (drop 2 ds)) e.2 left in
+            let left : IsFewestGroups (drop 2 ds) two = two_is (omega (arith, g.0)) in
+            let none : IsFewestGroups (drop 2 ds) 0 = subst (IsFewestGroups (drop 2 ds)) e.2 left in
             let l = length-drop 2 ds in
             let no_more : length (drop 2 ds) ≡ 0 = none_left (drop 2 ds) none.can in
             let last : eqb 3 (length (d ∷ ds)) ≡ true = eq-eqb 3 (length (d ∷ ds)) (omega (arith, g.0)) in
@@ -168,7 +169,7 @@ module _ (ds : List ℤ) (size after : ℕ) (first : IsFirstGroup ds size after)
       let b = first.best (length g) (length gs) d.within d.group (fewer (length gs) (drop (length g) ds) d.can) in
       omega (arith, b.0)
 
-  pub least_of : IsLeast ds (after + 1)
+  pub least_of : IsFewestGroups ds (after + 1)
   least_of = record {
     can = divides_can One (after + 1) size ds divides;
     fewest = λ n can. fewest n can.groups can.are_groups can.join can.few;

@@ -10,7 +10,7 @@ use Rattle.msr_steim.specs.Word.{FitsBits, IsGroup, IsGroupAt, IsInnerGroup}
 use Rattle.msr_words.specs.Bounds.{BeginsWithFour, IsBeforeFour}
 use Rattle.msr_words.specs.Canonical.{DividesFrom}
 use Rattle.msr_words.specs.Division.{CanDivide}
-use Rattle.msr_words.specs.FirstGroup.{IsCanonicalFirst, IsLeast, IsSizeAt}
+use Rattle.msr_words.specs.FirstGroup.{IsCanonicalFirst, IsFewestGroups, IsSizeAt}
 use Rattle.msr_words.specs.Steim1Reach.{BeginsWithThree, IsOfBitsAt}
 use Rattle.msr_words.specs.Lemmas.LeastCounts.{a_group_has_few}
 use Rattle.msr_words.specs.Lemmas.SteimLaws.{all_more, none_divides, one_has_few}
@@ -154,7 +154,7 @@ fits_from zero ds fits = fits
 fits_from (suc n) [] fits = tt
 fits_from (suc n) (d ∷ ds) fits = fits_from n ds fits.1
 
-some_least : (ds : List ℤ) → AllByRecursion (FitsBits 32) ds → (number : ℕ) × IsLeast ds number
+some_least : (ds : List ℤ) → AllByRecursion (FitsBits 32) ds → (number : ℕ) × IsFewestGroups ds number
 some_least ds fits =
     let found = has_division One (length ds) ds (divide_singly ds fits) in (
       length found.groups,

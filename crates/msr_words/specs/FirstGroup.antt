@@ -5,7 +5,7 @@ use Rattle.msr_steim.specs.Word.{FitsBits, IsGroupAt}
 use Rattle.msr_words.specs.Division.{CanDivide}
 
 -- the least number of groups of these differences
-pub record IsLeast (ds : List ℤ) (number : ℕ) : Type 0 where
+pub record IsFewestGroups (ds : List ℤ) (number : ℕ) : Type 0 where
   pub can : CanDivide One number ds
   pub fewest : (n : ℕ) → CanDivide One n ds → number ≤ n
 
@@ -14,7 +14,7 @@ pub record IsLeast (ds : List ℤ) (number : ℕ) : Type 0 where
 pub record IsFirstGroup (ds : List ℤ) (size after : ℕ) : Type 0 where
   pub within : size ≤ length ds
   pub group : IsGroupAt One (size == length ds) (take size ds)
-  pub left : IsLeast (drop size ds) after
+  pub left : IsFewestGroups (drop size ds) after
   pub best : (other n : ℕ) → other ≤ length ds → IsGroupAt One (other == length ds) (take other ds)
       → CanDivide One n (drop other ds) → (after ≤ n) × (n ≤ after → other ≤ size)
 

@@ -1,5 +1,5 @@
 use Rattle.std.proofs.Common.{arith, ◌-◌, refl}
-use Rattle.msr_check.proofs.Held.{none_held, held, none_from_more}
+use Rattle.msr_check.proofs.HoldsBoth.{none_held, held, none_from_more}
 use Rattle.msr_check.proofs.holds_both.Goals as goal
 
 pub returns-then-run_fits : goal.returns-then-run_fits

@@ -1,4 +1,4 @@
-use Rattle.msr_check.proofs.Held.{NoneFrom}
+use Rattle.msr_check.proofs.HoldsBoth.{NoneFrom}
 use Rattle.msr_check.proofs.holds_both.Given as goal
 
 abbrev pub invariant-loop-back : goal.invariant-loop-back

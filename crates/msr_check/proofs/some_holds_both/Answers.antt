@@ -1,4 +1,4 @@
-use Rattle.msr_check.proofs.Held.{none_says}
+use Rattle.msr_check.proofs.HoldsBoth.{none_says}
 use Rattle.msr_check.proofs.some_holds_both.Goals as goal
 
 pub returns : goal.returns

@@ -1,5 +1,5 @@
 use Rattle.std.proofs.Common.{rules, ◌^◌, arith, length, ◌<◌, ◌≤◌}
-use Rattle.msr_packer.specs.Held.{frontier_of}
+use Rattle.msr_packer.specs.HeldSamples.{frontier_of}
 use Rattle.msr_packer.proofs.Holding.{ends_with, next_stepped, window_next}
 use Rattle.msr_packer.proofs.Least.{found}
 use Rattle.msr_packer.proofs.pack.Goals as goal

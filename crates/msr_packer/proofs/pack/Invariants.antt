@@ -1,6 +1,6 @@
 -- Where the runs so far leave the packing.
 use Rattle.std.proofs.Common.{◌-◌, length}
-use Rattle.msr_packer.specs.Held.{InsideIfAny, IsWindow, frontier_of}
+use Rattle.msr_packer.specs.HeldSamples.{InsideIfAny, IsWindow, frontier_of}
 use Rattle.msr_packer.proofs.pack.Given as goal
 
 abbrev pub invariant-loop-record_length : goal.invariant-loop-record_length

@@ -2,7 +2,7 @@ use Rattle.std.proofs.Common.{arith, refl, ◌-◌, [], ◌∷◌, inl, inr}
 use Rattle.msr_kinds.specs.declared.kinds.Kind.TheVariants.{Int16, Steim1, Steim2}
 use Rattle.msr_words.specs.Lemmas.KindLaws.{int16_by_bits}
 use Rattle.msr_words.proofs.WordRoom.{wide_of_steim1, wide_of_steim2}
-use Rattle.msr_packer.specs.declared.step.Step.{Step}
+use Rattle.msr_packer.specs.declared.step.StepRun.{StepRun}
 use Rattle.msr_packer.specs.Steps.{longer_kinds}
 use Rattle.msr_packer.proofs.StepsByKinds.{reordered, skipped}
 use Rattle.msr_packer.proofs.EndsByKind.{empty_run, longer_ends, longest_step, none_with_wide}
@@ -18,7 +18,7 @@ with_wide_integers-requires c =
     let g = c.args.frontier in
     let e16 = c.furthest_integers-int16.result in
     let is = c.furthest_integers-int16.ensures in
-    let by_int16 : Step = record { start = c.args.frontier; end = c.furthest_integers-int16.result; kind = Int16 } in
+    let by_int16 : StepRun = record { start = c.args.frontier; end = c.furthest_integers-int16.result; kind = Int16 } in
     let up = is.fits.0 in
     let same = c.data_words-words.ensures.same in
     let wide = rw same at c.has_more_wide.ensures c.if-not-has_more_wide.false in

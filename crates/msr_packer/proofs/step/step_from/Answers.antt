@@ -1,7 +1,7 @@
 use Rattle.std.proofs.Common.{arith, refl, inl, inr, [], ◌∷◌}
 use Rattle.msr_kinds.specs.declared.kinds.Kind.TheVariants.{Int16, Steim1, Steim2}
 use Rattle.msr_words.specs.Lemmas.KindLaws.{int16_by_bits}
-use Rattle.msr_packer.specs.declared.step.Step.{Step}
+use Rattle.msr_packer.specs.declared.step.StepRun.{StepRun}
 use Rattle.msr_packer.proofs.StepsByKinds.{not_shorter, one_covered, one_more, skipped, starts_here}
 use Rattle.msr_packer.proofs.EndsByKind.{empty_run, longer_ends, longest_step}
 use Rattle.msr_packer.proofs.step.step_from.Goals as goal
@@ -14,8 +14,8 @@ with_wide_integers-requires-clause-step c =
     let bytes = c.args.record_length.bytes in
     let samples = c.args.samples.now in
     let g = c.args.frontier in
-    let by_steim2 : Step = record { start = c.args.frontier; end = c.steim2_reach-reach.result.end; kind = Steim2 } in
-    let by_int16 : Step = record { start = c.args.frontier; end = c.integers_end-int16.result; kind = Int16 } in
+    let by_steim2 : StepRun = record { start = c.args.frontier; end = c.steim2_reach-reach.result.end; kind = Steim2 } in
+    let by_int16 : StepRun = record { start = c.args.frontier; end = c.integers_end-int16.result; kind = Int16 } in
     let one = longest_step bytes samples g Steim2 c.steim2_reach-reach.result.end refl
     (record { fits = c.steim2_reach-reach.ensures.fits; furthest = c.steim2_reach-reach.ensures.furthest }) in
     let two = one_covered bytes samples g Int16 (Steim2 ∷ []) by_steim2 by_int16 c.or-best.result Steim2
@@ -49,8 +49,8 @@ with_wide_integers-requires-2-clause-step c =
     let bytes = c.args.record_length.bytes in
     let samples = c.args.samples.now in
     let g = c.args.frontier in
-    let by_steim2 : Step = record { start = c.args.frontier; end = c.steim2_reach-reach.result.end; kind = Steim2 } in
-    let by_int16 : Step = record { start = c.args.frontier; end = c.integers_end-int16.result; kind = Int16 } in
+    let by_steim2 : StepRun = record { start = c.args.frontier; end = c.steim2_reach-reach.result.end; kind = Steim2 } in
+    let by_int16 : StepRun = record { start = c.args.frontier; end = c.integers_end-int16.result; kind = Int16 } in
     let one = longest_step bytes samples g Steim2 c.steim2_reach-reach.result.end refl
     (record { fits = c.steim2_reach-reach.ensures.fits; furthest = c.steim2_reach-reach.ensures.furthest }) in
     let two = one_covered bytes samples g Int16 (Steim2 ∷ []) by_steim2 by_int16 c.or-best.result Steim2

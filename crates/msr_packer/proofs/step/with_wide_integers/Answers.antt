@@ -2,7 +2,7 @@
 use Rattle.std.proofs.Common.{arith, refl, ◌≡◌, ◌∷◌, max}
 use Rattle.msr_kinds.specs.declared.kinds.Kind.TheVariants.{Int24, Int32}
 use Rattle.msr_words.specs.Lemmas.KindLaws.{int24_by_bits}
-use Rattle.msr_packer.specs.declared.step.Step.{Step}
+use Rattle.msr_packer.specs.declared.step.StepRun.{StepRun}
 use Rattle.msr_packer.specs.Steps.{longer_kinds}
 use Rattle.msr_packer.proofs.StepsByKinds.{all_kinds, not_shorter, one_covered, one_more}
 use Rattle.msr_packer.proofs.EndsByKind.{all_ends, longest_step, reached_by}
@@ -26,8 +26,8 @@ returns c =
     let bytes = c.args.record_length.bytes in
     let samples = c.args.samples.now in
     let g = c.args.frontier in
-    let by_int24 : Step = record { start = c.args.frontier; end = c.integers_end-int24.result; kind = Int24 } in
-    let by_int32 : Step = record { start = c.args.frontier; end = c.int32_end-int32.result; kind = Int32 } in
+    let by_int24 : StepRun = record { start = c.args.frontier; end = c.integers_end-int24.result; kind = Int24 } in
+    let by_int32 : StepRun = record { start = c.args.frontier; end = c.int32_end-int32.result; kind = Int32 } in
     let greatest : c.max-reached.result ≡ max (max c.args.ends.steim2 c.args.ends.steim1) c.args.ends.int16 =
     omega (arith, c.max.ensures, c.max-reached.ensures) in
     let r = reached_by bytes samples g c.args.step.end c.max-reached.result c.args.ends greatest c.requires.ends in

@@ -1,6 +1,6 @@
 use Rattle.std.proofs.Common.{◌∙◌, ◌-◌, ap, arith, length, length-drop, refl}
-use Rattle.msr_packer.specs.Held.{frontier_of, start_of}
-use Rattle.msr_packer.proofs.Streaming.{live_few, live_forgets, may_forget}
+use Rattle.msr_packer.specs.HeldSamples.{frontier_of, start_of}
+use Rattle.msr_packer.proofs.Streaming.{growing_few, growing_forgets, may_forget}
 use Rattle.msr_packer.proofs.stream.forget.Goals as goal
 
 pub returns-clause-streaming : goal.returns-clause-streaming
@@ -11,15 +11,15 @@ returns-clause-streaming c =
     let value = c.unneeded.ensures in
     let f = c.forget.ensures in
     let may = may_forget held.record_length.bytes
-    (length held.samples.items) held.current c.args.live.now.start s.sound.inside s.is_live.near in
+    (length held.samples.items) held.current c.args.growing.now.start s.sound.inside s.is_growing.near in
     let long = ap length f.samples ∙ length-drop count held.samples.items in
     let few = s.few in
     record {
       sound = f.sound;
       stays = f.stays s.stays;
-      is_live = rw (f.size, f.samples)
-          (live_forgets held.record_length.bytes held.samples.items (frontier_of held.current)
-          (frontier_of c.forget.new.self.current) count c.args.live.now _ s.is_live may f.frontier
+      is_growing = rw (f.size, f.samples)
+          (growing_forgets held.record_length.bytes held.samples.items (frontier_of held.current)
+          (frontier_of c.forget.new.self.current) count c.args.growing.now _ s.is_growing may f.frontier
           (omega arith) refl);
       few = rw f.size (omega arith);
     }
@@ -30,7 +30,7 @@ returns-clause-behind c =
     let count = start_of held.current - 1 in
     let f = c.forget.ensures in
     let long = ap length f.samples ∙ length-drop count held.samples.items in
-    let few = live_few held.record_length.bytes held.samples.items
-    (frontier_of held.current) c.args.live.now c.requires.is_live in
+    let few = growing_few held.record_length.bytes held.samples.items
+    (frontier_of held.current) c.args.growing.now c.requires.is_growing in
     let frontier = f.frontier in
     rw f.size (omega arith)

@@ -3,8 +3,8 @@ use Rattle.std.proofs.lemmas.Result.{err_from_is_err_and}
 use Rattle.std.specs.Option.{option_to_list}
 use Rattle.msr_kinds.specs.Lengths.{bytes_of}
 use Rattle.msr_segments.specs.Spans.{Following}
-use Rattle.msr_certificate.specs.Form.{IsFirst}
-use Rattle.msr_certificate.proofs.Forms.{is_length}
+use Rattle.msr_report_reader.specs.Form.{IsFirst}
+use Rattle.msr_report_reader.proofs.Forms.{is_length}
 use Rattle.msr_devices.proofs.Chaining.{calm_same, steady_can_count, steady_then_few}
 use Rattle.msr_input.specs.Reading.{StopsReading}
 use Rattle.msr_output.specs.Output.{segment_of_packed}
@@ -15,7 +15,7 @@ use Rattle.msr_tool.specs.declared.fault.ToolFault.TheVariants as fault
 use Rattle.msr_tool.proofs.Lines.{can_take_row, prefix_lined}
 use Rattle.msr_tool.proofs.RowsSoFar.{RecordMore, more_read, no_rows, record_more, rows_end, rows_read, rows_stop}
 use Rattle.msr_tool.proofs.StoppedRepacks.{read_failed, write_failed, read_tells_source, write_tells_source, write_tells_sink, write_unread, ok_tells, as_answer}
-use Rattle.msr_tool.proofs.RepackUnderWay.{UnderWay, done, flush_stops, flushed, live, more}
+use Rattle.msr_tool.proofs.RepackUnderWay.{UnderWay, done, flush_stops, flushed, kept_up, more}
 use Rattle.msr_tool.proofs.repacking.repack_with.Given as given
 use Rattle.msr_tool.proofs.repacking.repack_with.Goals as goal
 use Rattle.msr_tool.proofs.repacking.repack_with.Goals.{After-must_flush, After-take, In_err-next}
@@ -36,7 +36,7 @@ records-init g c =
         calm = calm_same (g.W.Sink.device c.args.sink.now);
         encoded = rw c.new-writer.ensures.last tt;
       };
-      ready = λ is_live. inr c.new-writer.ensures.none_wait;
+      ready = λ is_before_reads. inr c.new-writer.ensures.none_wait;
     }
 
 -- why no record was read
@@ -109,18 +109,18 @@ returns-in_err-next-clause-read g c =
     rw (p.1, p.2) (read_tells_source _ (g.R.Source.device c.args.source.now)
     (g.R.Source.device c.next_record.new.source) _ why stops)
 
-pub returns-in_err-next-clause-live : goal.returns-in_err-next-clause-live
-returns-in_err-next-clause-live g c =
+pub returns-in_err-next-clause-kept_up : goal.returns-in_err-next-clause-kept_up
+returns-in_err-next-clause-kept_up g c =
     let p = err_from_is_err_and c.from_residual.result c.from_residual.ensures.1 in
     let u = c.records.invariant.under in
     let why = c.in_err-next.field-0.0 in
-    let stops = why_stopped g (goal.at.returns-in_err-next-clause-live g c).In_err-next in
-    rw (p.1, p.2) (λ is_live e.
+    let stops = why_stopped g (goal.at.returns-in_err-next-clause-kept_up g c).In_err-next in
+    rw (p.1, p.2) (λ is_before_reads e.
     let same : fault_of_reading why ≡ fault.Read = cc in
-    live c.args.options (g.R.Source.device c.args.source.now) (g.R.Source.device c.records.source)
+    kept_up c.args.options (g.R.Source.device c.args.source.now) (g.R.Source.device c.records.source)
     (g.R.Source.device c.next_record.new.source) (g.W.Sink.device c.args.sink.now)
     (g.W.Sink.device c.records.sink) c.records.reader c.next_record.new.self c.records.writer why u
-    (c.records.invariant.ready is_live) same stops c.in_err-next.ensures.unread
+    (c.records.invariant.ready is_before_reads) same stops c.in_err-next.ensures.unread
     (λ read. c.in_err-next.ensures.failed
     (g.R.Source.device c.args.source.now) u.rows.records u.rows.answers u.rows.has_read
     (rw read refl)) (λ read. c.in_err-next.ensures.awaited (rw read refl)))
@@ -169,11 +169,11 @@ returns-in_err-take-clause-write g c =
     (g.W.Sink.device c.take.new.sink) c.in_err-take.field-0.0
     (c.in_err-take.ensures.written (g.W.Sink.device c.args.sink.now) u.packed u.joining.current u.lined))
 
-pub returns-in_err-take-clause-live : goal.returns-in_err-take-clause-live
-returns-in_err-take-clause-live g c =
+pub returns-in_err-take-clause-kept_up : goal.returns-in_err-take-clause-kept_up
+returns-in_err-take-clause-kept_up g c =
     let p = err_from_is_err_and c.from_residual-in_err-take.result c.from_residual-in_err-take.ensures.1 in
     let u = c.records.invariant.under in
-    rw (p.1, p.2) (λ live. write_unread _ _ (g.W.Sink.device c.args.sink.now)
+    rw (p.1, p.2) (λ kept_up. write_unread _ _ (g.W.Sink.device c.args.sink.now)
     (g.W.Sink.device c.take.new.sink) c.in_err-take.field-0.0
     (c.in_err-take.ensures.written (g.W.Sink.device c.args.sink.now) u.packed u.joining.current u.lined))
 
@@ -210,12 +210,12 @@ returns-in_err-flush-clause-write g c =
     (c.in_err-flush.ensures.written
     (g.W.Sink.device c.args.sink.now) taken.packed taken.joining.current taken.lined))
 
-pub returns-in_err-flush-clause-live : goal.returns-in_err-flush-clause-live
-returns-in_err-flush-clause-live g c =
+pub returns-in_err-flush-clause-kept_up : goal.returns-in_err-flush-clause-kept_up
+returns-in_err-flush-clause-kept_up g c =
     let p = err_from_is_err_and c.from_residual-in_err-flush.result c.from_residual-in_err-flush.ensures.1 in
-    let at = goal.at.returns-in_err-flush-clause-live g c in
+    let at = goal.at.returns-in_err-flush-clause-kept_up g c in
     let taken = one_taken g at.After-must_flush (one_read g at.After-take) in
-    rw (p.1, p.2) (λ live. write_unread _ _ (g.W.Sink.device c.args.sink.now)
+    rw (p.1, p.2) (λ kept_up. write_unread _ _ (g.W.Sink.device c.args.sink.now)
     (g.W.Sink.device c.flush.new.sink) c.in_err-flush.field-0.0
     (c.in_err-flush.ensures.written
     (g.W.Sink.device c.args.sink.now) taken.packed taken.joining.current taken.lined))
@@ -252,14 +252,18 @@ records-preserved-in-Continue-branch-4 g c =
           (c.in_ok-flush.ensures.written
           (g.W.Sink.device c.args.sink.now) taken.packed taken.joining.current
           taken.lined) c.flush.ensures.last c.flush.ensures.size;
-      ready = λ is_live. inr c.in_ok-flush.ensures.none_wait;
+      ready = λ is_before_reads. inr c.in_ok-flush.ensures.none_wait;
     }
 
 pub records-preserved : goal.records-preserved
 records-preserved g c =
     let at = goal.at.records-preserved g c in
     let taken = one_taken g at.After-must_flush (one_read g at.After-take) in
-    record { under = taken; ready = λ is_live. inl ((c.must_flush.ensures.live is_live).0 c.if-must_flush.false) }
+    record {
+      under = taken;
+      ready = λ is_before_reads. inl
+          ((c.must_flush.ensures.before_reads is_before_reads).0 c.if-must_flush.false);
+    }
 
 pub returns-in_err-segments-clause-answer : goal.returns-in_err-segments-clause-answer
 returns-in_err-segments-clause-answer g c =
@@ -292,11 +296,11 @@ returns-in_err-segments-clause-write g c =
     (g.W.Sink.device c.finish.new.sink) c.in_err-segments.field-0.0
     (c.in_err-segments.ensures.written (g.W.Sink.device c.args.sink.now) u.packed u.joining.current u.lined))
 
-pub returns-in_err-segments-clause-live : goal.returns-in_err-segments-clause-live
-returns-in_err-segments-clause-live g c =
+pub returns-in_err-segments-clause-kept_up : goal.returns-in_err-segments-clause-kept_up
+returns-in_err-segments-clause-kept_up g c =
     let p = err_from_is_err_and c.from_residual-in_err-segments.result c.from_residual-in_err-segments.ensures.1 in
     let u = c.records.invariant.under in
-    rw (p.1, p.2) (λ live. write_unread _ _ (g.W.Sink.device c.args.sink.now)
+    rw (p.1, p.2) (λ kept_up. write_unread _ _ (g.W.Sink.device c.args.sink.now)
     (g.W.Sink.device c.finish.new.sink) c.in_err-segments.field-0.0
     (c.in_err-segments.ensures.written (g.W.Sink.device c.args.sink.now) u.packed u.joining.current u.lined))
 

@@ -15,7 +15,11 @@ returns-clause-can c =
       segment = empty_segment c.args.key c.args.start;
       runs = [];
       is_open = record { key = refl; start = to_z-of_z fits; gives = rw c.new-2.ensures.items c.new.ensures.none };
-      writable = record { is_key = c.has_widths.ensures; quality = c.requires.quality; normal = c.requires.normal };
+      writable = record {
+        is_key = c.key_has_header_widths.ensures;
+        quality = c.requires.quality;
+        normal = c.requires.normal;
+      };
       size = record { exponent = size.exponent; power = size.power; least = size.from; most = size.to };
-      in_time = rw (to_z-of_z fits) at c.begins_in_time.ensures;
+      in_time = rw (to_z-of_z fits) at c.empty_span_is_in_time.ensures;
     }

@@ -12,7 +12,7 @@ returns-in_err-push-clause-written g c = λ start packed before h.
     let p = err_from_is_err_and c.from_residual.result c.from_residual.ensures.1 in
     let power = rw h.size at c.requires.can.size in
     let writable = writable_longer c.args.segment.now before h.runs c.args.samples.now h.is_open
-    c.requires.can.writable h.samples c.are_32_bit.ensures c.requires.in_time in
+    c.requires.can.writable h.samples c.samples_have_32_bits.ensures c.requires.in_time in
     rw (p.1, p.2) (refused_longer start _ _ packed before c.args.samples.now c.args.segment.now power writable h)
 
 pub encode_runs-requires-clause-can : goal.encode_runs-requires-clause-can
@@ -34,9 +34,9 @@ returns-in_err-self-inside-clause-written g c = λ start packed before h.
     let was = rw (← c.self.view_is) at h in
     let power = rw was.size at c.requires.can.size in
     let writable = writable_longer c.args.segment.now before h.runs c.args.samples.now h.is_open
-    c.requires.can.writable h.samples c.are_32_bit.ensures c.requires.in_time in
+    c.requires.can.writable h.samples c.samples_have_32_bits.ensures c.requires.in_time in
     let begun = begun_longer start _ w packed before c.args.samples.now c.args.segment.now c.push.new.self
-    (enough_bytes w.size power) was c.are_32_bit.ensures c.push.ensures.size
+    (enough_bytes w.size power) was c.samples_have_32_bits.ensures c.push.ensures.size
     (c.in_ok-push.ensures.taken before was.runs was.is_open) in
     rw (p.1, p.2, ← c.self.view_is) (refused_now start _ w packed
     (longer_by before c.args.samples.now) c.push.new.self power writable begun)
@@ -52,9 +52,9 @@ returns-in_err-flush_full-clause-written g c = λ start packed before h.
     let was = rw (← c.self.view_is) at h in
     let power = rw was.size at c.requires.can.size in
     let writable = writable_longer c.args.segment.now before h.runs c.args.samples.now h.is_open
-    c.requires.can.writable h.samples c.are_32_bit.ensures c.requires.in_time in
+    c.requires.can.writable h.samples c.samples_have_32_bits.ensures c.requires.in_time in
     let begun = begun_longer start _ w packed before c.args.samples.now c.args.segment.now c.push.new.self
-    (enough_bytes w.size power) was c.are_32_bit.ensures c.push.ensures.size
+    (enough_bytes w.size power) was c.samples_have_32_bits.ensures c.push.ensures.size
     (c.in_ok-push.ensures.taken before was.runs was.is_open) in
     let a = c.in_ok-self-inside.ensures.appends (longer_by before c.args.samples.now) begun.runs begun.is_open in
     rw (p.1, p.2, ← c.self.view_is) (begun_failed start _ _ w packed
@@ -72,7 +72,7 @@ returns-clause-written g c = λ start packed before h.
     let was = rw (← c.self.view_is) at h in
     let power = rw was.size at c.requires.can.size in
     let begun = begun_longer start _ w packed before c.args.samples.now c.args.segment.now c.push.new.self
-    (enough_bytes w.size power) was c.are_32_bit.ensures c.push.ensures.size
+    (enough_bytes w.size power) was c.samples_have_32_bits.ensures c.push.ensures.size
     (c.in_ok-push.ensures.taken before was.runs was.is_open) in
     let a = c.in_ok-self-inside.ensures.appends (longer_by before c.args.samples.now) begun.runs begun.is_open in
     begun_more start _ _ w packed

@@ -1,6 +1,6 @@
 use Rattle.std.proofs.lemmas.Result.{err_from_is_err_and}
 use Rattle.std.proofs.Common.{refl}
-use Rattle.msr_packer.specs.declared.held.Held.{Held}
+use Rattle.msr_packer.specs.declared.held.HeldSamples.{HeldSamples}
 use Rattle.msr_packer.proofs.InBlocks.{packs_held, packs_more}
 use Rattle.msr_packer.proofs.blocks.BlockPacker.push_all.Goals as goal
 
@@ -23,7 +23,7 @@ returns-clause-taken c = λ bytes before runs separators p.
     c.make_room.ensures.size (c.make_room.ensures.holds before runs separators) c.make_room.ensures.stays
     (rw (← c.self.view_is) at p) in
     let room = c.make_room.new.self in
-    let new : Held = record {
+    let new : HeldSamples = record {
       record_length = room.record_length;
       samples = c.extend_from_slice.new.self;
       offset = room.offset;

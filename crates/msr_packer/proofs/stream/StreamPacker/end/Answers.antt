@@ -1,11 +1,11 @@
 use Rattle.std.proofs.Common.{◌+◌, ◌++◌, ◌≤◌, ap, append_assoc, arith, inl, inr, length}
 use Rattle.std.proofs.lemmas.Bool.{cases_lt}
 use Rattle.std.proofs.lemmas.List.{map-append}
-use Rattle.msr_packer.specs.Held.{frontier_of, pieces_of, runs_of, separators_of, start_of}
+use Rattle.msr_packer.specs.HeldSamples.{frontier_of, pieces_of, runs_of, separators_of, start_of}
 use Rattle.msr_packer.specs.declared.held.Piece.{Piece}
 use Rattle.msr_packer.proofs.Holding.{leaves}
 use Rattle.msr_packer.proofs.InBlocks.{holds_in}
-use Rattle.msr_packer.proofs.Streaming.{live_run}
+use Rattle.msr_packer.proofs.Streaming.{growing_run}
 use Rattle.msr_packer.proofs.stream.StreamPacker.end.Goals as goal
 
 pub last_piece-last-requires-clause-end : goal.last_piece-last-requires-clause-end
@@ -18,9 +18,9 @@ last_piece-last-requires-clause-end c =
     elim (cases_lt (frontier_of held.current) (length held.samples.items)) as
     (λ _. length c.step_past-first.new.self.samples.items ≤ frontier_of c.step_past-first.new.self.current) [
       | inl more ↦
-          let run = live_run held.record_length.bytes held.samples.items (frontier_of held.current)
-          (length held.samples.items) c.self.inside.live (omega arith) t.is_live in
-          let far = e.furthest c.self.inside.live.start (length held.samples.items) t.is_live.before
+          let run = growing_run held.record_length.bytes held.samples.items (frontier_of held.current)
+          (length held.samples.items) c.self.inside.growing (omega arith) t.is_growing in
+          let far = e.furthest c.self.inside.growing.start (length held.samples.items) t.is_growing.before
           (omega arith) run in
           omega arith
       | inr done ↦ omega arith

@@ -1,10 +1,10 @@
 use Rattle.std.proofs.Common.{rules, ◌≡◌, ◌+◌, ◌-◌, ◌++◌, ◌∙◌, length, take, arith, refl, ap, append-nil, inl, length-append, length-take, false}
 use Rattle.std.proofs.lemmas.Result.{err_from_is_err_and}
-use Rattle.msr_packer.specs.Held.{Stays, frontier_of}
-use Rattle.msr_packer.specs.declared.held.Held.{Held}
+use Rattle.msr_packer.specs.HeldSamples.{Stays, frontier_of}
+use Rattle.msr_packer.specs.declared.held.HeldSamples.{HeldSamples}
 use Rattle.msr_packer.proofs.Holding.{shown_if_any, sound_more, stays_at}
 use Rattle.msr_packer.proofs.InBlocks.{holds_in, packs_held, packs_next, packs_pushed}
-use Rattle.msr_packer.proofs.Streaming.{decided_there, held_there, live_few, live_more}
+use Rattle.msr_packer.proofs.Streaming.{decided_there, held_there, growing_few, growing_more}
 use Rattle.msr_packer.proofs.stream.StreamPacker.push_some.Goals as goal
 
 pub returns-in_err-extend_from_slice-clause-given : goal.returns-in_err-extend_from_slice-clause-given
@@ -22,13 +22,13 @@ returns-in_err-extend_from_slice-clause-given c = λ bytes before runs separator
       few = rw items t.few;
     })
 
-pub decide-requires-clause-live : goal.decide-requires-clause-live
-decide-requires-clause-live c =
+pub decide-requires-clause-growing : goal.decide-requires-clause-growing
+decide-requires-clause-growing c =
     let held = c.forget.new.held in
     let from : c.len-from.result ≡ length held.samples.items = search rules in
-    let more = live_more held.record_length.bytes held.samples.items (take c.min-count.result c.args.samples.now)
-    (frontier_of held.current) (length held.samples.items) c.forget.new.live
-    (omega arith) c.forget.ensures.streaming.is_live in
+    let more = growing_more held.record_length.bytes held.samples.items (take c.min-count.result c.args.samples.now)
+    (frontier_of held.current) (length held.samples.items) c.forget.new.growing
+    (omega arith) c.forget.ensures.streaming.is_growing in
     rw (
       c.as_slice-seen.ensures.value,
       c.in_ok-extend_from_slice.ensures.items,
@@ -41,7 +41,7 @@ returns-in_default-clause-given c = λ bytes before runs separators s.
     let own = c.self.inside.held in
     let held = c.forget.new.held in
     let t = c.forget.ensures.streaming in
-    let new : Held = record {
+    let new : HeldSamples = record {
       record_length = held.record_length;
       samples = c.extend_from_slice.new.self;
       offset = held.offset;
@@ -52,9 +52,9 @@ returns-in_default-clause-given c = λ bytes before runs separators s.
     let m = packs_pushed bytes before runs separators own held new (take c.min-count.result c.args.samples.now) false
     c.forget.ensures.size (c.forget.ensures.holds before runs separators) t.stays refl refl refl
     c.in_ok-extend_from_slice.ensures.items (rw (← c.self.view_is) at s).packs in
-    let live = rw (c.as_slice-seen.ensures.value, c.frontier_of-frontier.ensures) at c.in_default.ensures.open refl in
-    let behind = live_few held.record_length.bytes new.samples.items
-    (frontier_of held.current) c.decide.new.self live in
+    let growing = rw (c.as_slice-seen.ensures.value, c.frontier_of-frontier.ensures) at c.in_default.ensures.open refl in
+    let behind = growing_few held.record_length.bytes new.samples.items
+    (frontier_of held.current) c.decide.new.self growing in
     let near = c.forget.ensures.near in
     rw (append-nil runs, append-nil separators) (record { packs = m; behind = behind; few = omega arith })
 
@@ -65,9 +65,9 @@ returns-in_default-clause-all c = λ _.
     let frontier = c.frontier_of-frontier.ensures in
     let most = c.most.ensures in
     let count = c.min-count.ensures in
-    let live = rw (c.as_slice-seen.ensures.value, c.frontier_of-frontier.ensures) at c.in_default.ensures.open refl in
-    let behind = live_few held.record_length.bytes c.extend_from_slice.new.self.items
-    (frontier_of held.current) c.decide.new.self live in
+    let growing = rw (c.as_slice-seen.ensures.value, c.frontier_of-frontier.ensures) at c.in_default.ensures.open refl in
+    let behind = growing_few held.record_length.bytes c.extend_from_slice.new.self.items
+    (frontier_of held.current) c.decide.new.self growing in
     let before = c.forget.ensures.behind in
     let items = ap length c.in_ok-extend_from_slice.ensures.items in
     let whole = length-append held.samples.items (take c.min-count.result c.args.samples.now) in
@@ -136,7 +136,7 @@ returns-clause-given c = λ bytes before runs separators s.
     c.truncate.new.self.items c.min-count.result c.len-from.result (found.step.end + 1)
     c.in_ok-extend_from_slice.ensures.items c.truncate.ensures.items from (omega arith) (omega arith) in
     let all = ap length c.in_ok-extend_from_slice.ensures.items in
-    let mid : Held = record {
+    let mid : HeldSamples = record {
       record_length = held.record_length;
       samples = c.truncate.new.self;
       offset = held.offset;
@@ -157,9 +157,9 @@ returns-clause-given c = λ bytes before runs separators s.
     let n = packs_next bytes
     (before ++ taken) runs separators mid c.go_on-piece.new.self false c.go_on-piece.result g.given
     (λ _. stays) m in
-    let live = rw (c.as_slice-seen-2.ensures.value, c.of-next.ensures.end) at c.first-self-inside.ensures in
-    let behind = live_few held.record_length.bytes c.truncate.new.self.items found.step.end
-    c.first-self-inside.result live in
+    let growing = rw (c.as_slice-seen-2.ensures.value, c.of-next.ensures.end) at c.first-self-inside.ensures in
+    let behind = growing_few held.record_length.bytes c.truncate.new.self.items found.step.end
+    c.first-self-inside.result growing in
     let same = ap length g.given.held in
     let near = c.forget.ensures.near in
     let frontier = c.frontier_of-frontier.ensures in
@@ -187,7 +187,7 @@ returns-clause-shown c = λ bytes before runs separators s.
     let now = held_there held.samples.items c.args.samples.now c.extend_from_slice.new.self.items
     c.truncate.new.self.items c.min-count.result c.len-from.result (found.step.end + 1)
     c.in_ok-extend_from_slice.ensures.items c.truncate.ensures.items from (omega arith) (omega arith) in
-    let mid : Held = record {
+    let mid : HeldSamples = record {
       record_length = held.record_length;
       samples = c.truncate.new.self;
       offset = held.offset;

@@ -1,0 +1,18 @@
+use Rattle.std.proofs.Common.{◌≡◌, ◌<◌, ap, arith, refl}
+use Rattle.msr_packer.specs.HeldSamples.{start_of}
+use Rattle.msr_packer.proofs.Holding.{window_less}
+use Rattle.msr_packer.proofs.held.HeldSamples.forget.Goals as goal
+
+pub returns-clause-holds : goal.returns-clause-holds
+returns-clause-holds c = λ samples runs separators h.
+    let w = rw c.in-Some.is at h in
+    let inside = rw c.in-Some.is at c.requires.inside in
+    let first = inside.before in
+    let second = inside.on in
+    let value = c.unneeded-count.ensures in
+    let start : start_of c.args.self.now.current ≡ c.in-Some.current.start = ap start_of c.in-Some.is in
+    let some : 0 < c.unneeded-count.result = let never = c.if-count-eq0.false in grind arith in
+    rw c.remove_front.ensures
+    (window_less c.args.self.now.record_length.bytes samples runs separators c.args.self.now.samples.items
+    c.args.self.now.offset c.unneeded-count.result c.in-Some.current _ w (omega arith) (omega arith)
+    (omega arith) (omega arith) refl refl)

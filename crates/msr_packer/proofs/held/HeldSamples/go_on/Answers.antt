@@ -1,0 +1,56 @@
+use Rattle.std.proofs.Common.{◌≤◌, arith, length, refl}
+use Rattle.msr_packer.specs.HeldSamples.{start_of}
+use Rattle.msr_packer.proofs.Holding.{next_stepped, shows_next, start_before, window_next}
+use Rattle.msr_packer.proofs.held.HeldSamples.go_on.Goals as goal
+
+pub piece_of-piece-requires : goal.piece_of-piece-requires
+piece_of-piece-requires c =
+    let sound = c.requires.sound in
+    let s = next_stepped c.args.self.now.record_length.bytes c.args.self.now.record_length.least
+    c.args.self.now.samples.items c.args.self.now.current c.args.step c.requires.next in
+    let within = c.requires.next.step.reached.1 in
+    let order = c.requires.next.step.reached.0 in
+    record {
+      bytes = c.args.self.now.record_length.bytes;
+      number = length c.args.self.now.samples.items;
+      inside = sound.inside;
+      within = omega arith;
+      counted = sound.number;
+    }
+
+pub returns-clause-given : goal.returns-clause-given
+returns-clause-given c =
+    let bytes = c.args.self.now.record_length.bytes in
+    let enough = c.args.self.now.record_length.least in
+    let held = c.args.self.now.samples.items in
+    let next = c.requires.next in
+    let step = c.args.step in
+    let s = next_stepped bytes enough held c.args.self.now.current step next in
+    let on = s.on in
+    let few = s.few in
+    let frontier = next.frontier in
+    let before = next.step.before in
+    let within = next.step.reached.1 in
+    let reached = next.step.reached.0 in
+    let from = c.start_of-self.ensures in
+    let later : start_of c.args.self.now.current ≤ step.start =
+    start_before bytes (length held) c.args.self.now.current step.start c.requires.sound.inside s.near in
+    record {
+      sound = record {
+        number = c.requires.sound.number;
+        inside = record { before = omega arith; on = omega arith; within = omega arith; short = omega arith };
+        order = omega arith;
+        within = omega arith;
+      };
+      size = refl;
+      held = refl;
+      offset = refl;
+      holds = λ samples runs separators w.
+          rw c.piece_of-piece.ensures
+          (window_next bytes enough samples runs separators held c.args.self.now.offset c.args.self.now.current
+          step w next);
+      shows = λ samples runs separators w.
+          rw (c.piece_of-piece.ensures, from)
+          (shows_next bytes samples runs separators held c.args.self.now.offset c.args.self.now.current
+          step.start w);
+    }

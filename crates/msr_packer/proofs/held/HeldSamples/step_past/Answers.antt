@@ -1,0 +1,39 @@
+use Rattle.std.proofs.Common.{ap, arith, length}
+use Rattle.msr_packer.specs.HeldSamples.{frontier_of}
+use Rattle.msr_packer.proofs.Holding.{if_some, next_stepped, stays_at}
+use Rattle.msr_packer.proofs.held.HeldSamples.step_past.Goals as goal
+
+pub returns-clause-stays : goal.returns-clause-stays
+returns-clause-stays c = λ enough stays.
+    let s = next_stepped c.args.self.now.record_length.bytes c.args.self.now.record_length.least
+    c.args.self.now.samples.items c.args.self.now.current c.next-step.result
+    (rw c.as_slice.ensures.value at c.next-step.ensures) in
+    let few = s.few in
+    let near = s.near in
+    let end = ap frontier_of c.go_on.ensures.current in
+    stays_at c.go_on.new.self.current (length c.args.self.now.samples.items) c.next-step.result.end end (omega arith)
+
+pub returns-clause-order : goal.returns-clause-order
+returns-clause-order c =
+    let s = next_stepped c.args.self.now.record_length.bytes c.args.self.now.record_length.least
+    c.args.self.now.samples.items c.args.self.now.current c.next-step.result
+    (rw c.as_slice.ensures.value at c.next-step.ensures) in
+    let on = s.on in
+    let end = ap frontier_of c.go_on.ensures.current in
+    omega arith
+
+pub returns-clause-furthest : goal.returns-clause-furthest
+returns-clause-furthest c = λ start end le more run.
+    let is = rw c.as_slice.ensures.value at c.next-step.ensures in
+    let far = (rw is.frontier at is.step).furthest start end le run in
+    let end' = ap frontier_of c.go_on.ensures.current in
+    omega arith
+
+pub returns-clause-fewer : goal.returns-clause-fewer
+returns-clause-fewer c =
+    let s = next_stepped c.args.self.now.record_length.bytes c.args.self.now.record_length.least
+    c.args.self.now.samples.items c.args.self.now.current c.next-step.result
+    (rw c.as_slice.ensures.value at c.next-step.ensures) in
+    let on = s.on in
+    let end = ap frontier_of c.go_on.ensures.current in
+    if_some c.go_on.result (frontier_of c.args.self.now.current) (frontier_of c.go_on.new.self.current) (omega arith)

@@ -1,0 +1,184 @@
+//! A run that all samples so far fit, with its tracker: while the tracker does not refuse, the step from the frontier
+//! is not decided, and need not be looked for.
+
+ghost use Rattle.std.specs.Prelude.{◌≡◌, ℕ, ◌+◌, ◌<◌, ◌≤◌, ◌-ℤ◌, [], length, pos, slice_index_or, IfSome, IsNone};
+ghost use Rattle.msr_kinds.specs.Lengths.{bytes_of};
+ghost use Rattle.msr_words.specs.Fit.{Fits, IsRun};
+ghost use Rattle.msr_words.specs.Segment.{difference_at, run_points};
+ghost use Rattle.msr_packer.specs.Growing.{Follows, IsDecided, IsGrowing, IsTracked, kind_of_tracker};
+
+use crate::step::{StepWithEnds, next_step};
+use msr_kinds::{Kind, Length};
+use msr_words::{Int16, Int24, Int32, Steim1, Steim2, Tracker};
+
+/// A tracker of one of the kinds.
+#[derive(Clone, Copy, Debug)]
+pub(crate) enum KindTracker {
+    Steim2(Steim2),
+    Steim1(Steim1),
+    Int16(Int16),
+    Int24(Int24),
+    Int32(Int32),
+}
+
+/// The sample from which the difference of this one is taken: the one before it, or the first itself.
+fn sample_before(samples: &[i32], at: usize) -> i32
+    requires { at ≤ length samples.now }
+    ensures { at < length samples.now → difference_at samples.now at ≡ slice_index_or samples.now at (pos 0) -ℤ result }
+{
+    if at > 0 {
+        return samples[at - 1];
+    }
+    if samples.is_empty() { 0 } else { samples[0] }
+}
+
+/// The difference of a sample from the one before it.
+fn difference_between(before: i32, sample: i32) -> i64
+    ensures { result ≡ sample -ℤ before }
+{
+    sample as i64 - before as i64
+}
+
+/// The tracker after the samples from one on, if it takes them all.
+fn all_taken<C: Tracker + Drop>(mut tracker: C, samples: &[i32], from: usize) -> Option<C>
+    requires { from ≤ length samples.now }
+    ensures all { (bytes start : ℕ) → start ≤ from → C.follows bytes (run_points samples.now start from) tracker
+        → C.fits bytes (run_points samples.now start from)
+        → IfSome result (λ t. C.follows bytes (run_points samples.now start (length samples.now)) t
+        × C.fits bytes (run_points samples.now start (length samples.now))) }
+    ensures none { (bytes start : ℕ) → start ≤ from → C.follows bytes (run_points samples.now start from) tracker
+        → C.fits bytes (run_points samples.now start from)
+        → IsNone result → C.fits bytes (run_points samples.now start (length samples.now)) → ⊥ }
+{
+    let mut last = sample_before(samples, from);
+    for at in from..samples.len() {
+        let sample = samples[at];
+        if !tracker.push(sample, difference_between(last, sample)) {
+            return None;
+        }
+        last = sample;
+    }
+    Some(tracker)
+}
+
+impl KindTracker {
+    /// A tracker that nothing was pushed to.
+    fn new(kind: Kind, record_length: Length) -> KindTracker
+        ensures follows { Follows (bytes_of record_length) [] result }
+        ensures kind { kind_of_tracker result ≡ kind }
+    {
+        match kind {
+            Kind::Steim2 => KindTracker::Steim2(Steim2::start(record_length)),
+            Kind::Steim1 => KindTracker::Steim1(Steim1::start(record_length)),
+            Kind::Int16 => KindTracker::Int16(Int16::start(record_length)),
+            Kind::Int24 => KindTracker::Int24(Int24::start(record_length)),
+            Kind::Int32 => KindTracker::Int32(Int32::start(record_length)),
+        }
+    }
+
+    /// The tracker after the samples from one on, if it takes them all.
+    fn after(self, samples: &[i32], from: usize) -> Option<KindTracker>
+        requires { from ≤ length samples.now }
+        ensures all { (bytes start : ℕ) → start ≤ from → IsTracked bytes samples.now start from self
+            → IfSome result (IsTracked bytes samples.now start (length samples.now)) }
+        ensures none { (bytes start : ℕ) → start ≤ from → IsTracked bytes samples.now start from self
+            → IsNone result → Fits (kind_of_tracker self) bytes
+            (run_points samples.now start (length samples.now)) → ⊥ }
+    {
+        match self {
+            KindTracker::Steim2(tracker) => {
+                Some(KindTracker::Steim2(all_taken(tracker, samples, from)?))
+            }
+            KindTracker::Steim1(tracker) => {
+                Some(KindTracker::Steim1(all_taken(tracker, samples, from)?))
+            }
+            KindTracker::Int16(tracker) => Some(KindTracker::Int16(all_taken(
+                tracker, samples, from,
+            )?)),
+            KindTracker::Int24(tracker) => Some(KindTracker::Int24(all_taken(
+                tracker, samples, from,
+            )?)),
+            KindTracker::Int32(tracker) => Some(KindTracker::Int32(all_taken(
+                tracker, samples, from,
+            )?)),
+        }
+    }
+}
+
+/// A run from `start` on that all samples fit so far, with its tracker.
+#[derive(Clone, Copy, Debug)]
+pub(crate) struct GrowingRun {
+    pub start: usize,
+    pub tracker: KindTracker,
+}
+
+impl GrowingRun {
+    /// The run from `start` to the last sample, with a tracker of a kind that it fits.
+    fn of(samples: &[i32], record_length: Length, start: usize, kind: Kind) -> GrowingRun
+        requires { IsRun (Fits kind (bytes_of record_length)) samples.now start (length samples.now) }
+        ensures start { result.start ≡ start }
+        ensures tracked { IsTracked (bytes_of record_length) samples.now start (length samples.now) result.tracker }
+    {
+        let begun = KindTracker::new(kind, record_length);
+        match begun.after(samples, start) {
+            Some(tracker) => GrowingRun { start, tracker },
+            None => GrowingRun {
+                start,
+                tracker: begun,
+            },
+        }
+    }
+
+    /// The run of the one sample after a frontier: of Steim-2 if the sample fits that, else of Int32.
+    pub(crate) fn first(samples: &[i32], record_length: Length, frontier: usize) -> GrowingRun
+        requires { length samples.now ≡ frontier + 1 }
+        ensures { IsGrowing (bytes_of record_length) samples.now frontier (length samples.now) result }
+    {
+        let begun = KindTracker::new(Kind::Steim2, record_length);
+        match begun.after(samples, frontier) {
+            Some(tracker) => GrowingRun {
+                start: frontier,
+                tracker,
+            },
+            None => GrowingRun::of(samples, record_length, frontier, Kind::Int32),
+        }
+    }
+
+    /// An empty run at the start of a segment.
+    pub(crate) fn empty(record_length: Length) -> GrowingRun
+        ensures { IsGrowing (bytes_of record_length) [] 0 0 result }
+    {
+        GrowingRun {
+            start: 0,
+            tracker: KindTracker::new(Kind::Steim2, record_length),
+        }
+    }
+
+    /// The step from the frontier, if the samples from `from` on decide it. Else the run stays, or is one of
+    /// another kind that all samples fit.
+    pub(crate) fn decide(
+        &mut self,
+        samples: &[i32],
+        record_length: Length,
+        frontier: usize,
+        from: usize,
+        likely: Kind,
+    ) -> Option<StepWithEnds>
+        requires within { from ≤ length samples.now }
+        requires growing { IsGrowing (bytes_of record_length) samples.now frontier from self.old }
+        ensures open { IsNone result → IsGrowing (bytes_of record_length) samples.now frontier
+            (length samples.now) self.new }
+        ensures decided { IfSome result (IsDecided (bytes_of record_length) samples.now frontier from) }
+    {
+        if let Some(tracker) = self.tracker.after(samples, from) {
+            self.tracker = tracker;
+            return None;
+        }
+        let found = next_step(samples, record_length, frontier, likely);
+        if found.step.end < samples.len() {
+            return Some(found);
+        }
+        *self = GrowingRun::of(samples, record_length, found.step.start, found.step.kind);
+        None
+    }
+}

@@ -1,0 +1,89 @@
+-- Decimal numbers in a text, and what stands after a word.
+use Rattle.std.proofs.Common.{◌≡◌, ◌≢◌, ◌∙◌, ap, sym, refl, rules, arith, ℕ, ◌&&◌, ◌==◌, ◌<◌, suc, ℤ, pos, negsuc, ◌^◌, Bool, true, false, List, [], ◌∷◌, ◌++◌, length, take, drop, decimal, Option, Some, None, MatchOption, IfSome, IsSomeAnd, Bor}
+use Rattle.std.specs.Char.{is_ascii_digit}
+use Rattle.std.specs.List.{prefix_len}
+use Rattle.std.specs.Str.{all_ascii_digits}
+use Rattle.std.proofs.lemmas.Str.Parse.{IsNumeralModel, numerals_by_fold}
+use Rattle.std.proofs.lemmas.Fmt.{digits_decimal, decimal_nonempty}
+use Rattle.std.proofs.lemmas.Bool.Decides.{nat_tests}
+use Rattle.std.specs.Fmt.{signed_decimal}
+use Rattle.std.specs.Int.RustNames.{FitsSigned}
+use Rattle.std.specs.Int.{w32}
+use lib.Signed.{mag}
+use Rattle.std.proofs.lemmas.List.{append_cancel_left}
+use Rattle.std.proofs.Math.Seq.{take-append_seam, drop-append_seam}
+use Rattle.msr_report_reader.specs.Fields.{EndsNumber, signed_len, number_after}
+
+pub own : IsNumeralModel (λ ds. all_ascii_digits ds ≡ true) (number_after 0)
+own = numerals_by_fold _ (search rules) number_after (search rules)
+
+pub decimal_is_digits : (n : ℕ) → n < 2 ^ 64 → all_ascii_digits (decimal n) ≡ true
+decimal_is_digits n small = digits_decimal own n small
+
+-- what follows a word
+pub after_found : (s p : List ℕ) (r : Option (Bor (List ℕ)))
+    → MatchOption r ((rest : List ℕ) → s ≢ p ++ rest) (λ x. s ≡ p ++ x.now) → IfSome r (λ x. s ≡ p ++ x.now)
+after_found s p None h = tt
+after_found s p (Some x) h = h
+
+pub after_only : (s p : List ℕ) (r : Option (Bor (List ℕ)))
+    → MatchOption r ((rest : List ℕ) → s ≢ p ++ rest) (λ x. s ≡ p ++ x.now) → (rest : List ℕ) → s ≡ p ++ rest
+    → IsSomeAnd r (λ x. x.now ≡ rest)
+after_only s p None h rest is = h rest is
+after_only s p (Some x) h rest is = append_cancel_left p x.now rest (sym h ∙ is)
+
+pub both_true : (a b : Bool) → (a && b) ≡ true → (a ≡ true) × (b ≡ true)
+both_true true b h = (refl, h)
+both_true false b h = absurd (cc)
+
+pub digits_front : (a rest : List ℕ) → all_ascii_digits a ≡ true → EndsNumber rest
+    → prefix_len is_ascii_digit (a ++ rest) ≡ length a
+digits_front [] [] all ends = refl
+digits_front [] (b ∷ bs) all ends = rw ends refl
+digits_front (d ∷ a) rest all ends =
+    let both : (is_ascii_digit d ≡ true) × (all_ascii_digits a ≡ true) =
+    both_true (is_ascii_digit d) (all_ascii_digits a) all in
+    rw (both.0, digits_front a rest both.1 ends) (omega arith)
+
+pub parts : (text a rest front back : List ℕ) (count : ℕ) → count ≡ prefix_len is_ascii_digit text
+    → front ≡ take count text → back ≡ drop count text
+    → text ≡ a ++ rest → all_ascii_digits a ≡ true → EndsNumber rest → (front ≡ a) × (back ≡ rest)
+parts text a rest front back count is_count is_front is_back is all ends =
+    let many : count ≡ length a = is_count ∙ ap (prefix_len is_ascii_digit) is ∙ digits_front a rest all ends in
+    (rw (is_front, is, many) (take-append_seam a rest), rw (is_back, is, many) (drop-append_seam a rest))
+
+-- the same with a `-` before it
+not_minus : (d : ℕ) → is_ascii_digit d ≡ true → (d == 45) ≡ false
+not_minus d h = grind (arith, nat_tests)
+
+signed_front_digits : (a rest : List ℕ) → 0 < length a → all_ascii_digits a ≡ true → EndsNumber rest
+    → signed_len (a ++ rest) ≡ length a
+signed_front_digits [] rest some all ends = absurd (omega arith)
+signed_front_digits (d ∷ a) rest some all ends =
+    let both : (is_ascii_digit d ≡ true) × (all_ascii_digits a ≡ true) =
+    both_true (is_ascii_digit d) (all_ascii_digits a) all in
+    rw (not_minus d both.0) (digits_front (d ∷ a) rest all ends)
+
+pub short : (z : ℤ) → FitsSigned w32 z → mag z < 2 ^ 63
+short (pos n) fits = omega (arith, fits)
+short (negsuc n) fits = omega (arith, fits)
+
+signed_front : (z : ℤ) (rest : List ℕ) → mag z < 2 ^ 63 → EndsNumber rest
+    → signed_len (signed_decimal z ++ rest) ≡ length (signed_decimal z)
+signed_front (pos n) rest small ends =
+    let fits : n < 2 ^ 64 = omega arith in
+    signed_front_digits (decimal n) rest (decimal_nonempty n fits) (decimal_is_digits n fits) ends
+signed_front (negsuc n) rest small ends =
+    let fits : suc n < 2 ^ 64 = omega arith in
+    rw (digits_front (decimal (suc n)) rest (decimal_is_digits (suc n) fits) ends) (omega arith)
+
+pub signed_parts : (text : List ℕ) (z : ℤ) (rest front back : List ℕ) (count : ℕ) → count ≡ signed_len text
+    → front ≡ take count text → back ≡ drop count text
+    → text ≡ signed_decimal z ++ rest → FitsSigned w32 z → EndsNumber rest → (front ≡ signed_decimal z) × (back ≡ rest)
+signed_parts text z rest front back count is_count is_front is_back is fits ends =
+    let many : count ≡ length (signed_decimal z) = is_count ∙ ap signed_len is
+    ∙ signed_front z rest (short z fits) ends in (
+      rw (is_front, is, many) (take-append_seam (signed_decimal z) rest),
+      rw (is_back, is, many)
+          (drop-append_seam (signed_decimal z) rest),
+    )

@@ -1,0 +1,160 @@
+use Rattle.std.proofs.Common.{◌≡◌, ◌≢◌, ◌∙◌, ap, sym, to_z-of_z, FitsSigned, ◌++◌, ◌∷◌, codes, decimal, refl, rules, arith, Fits, w8, slice_index, List, ℕ, pos}
+use Rattle.std.specs.Int.{w16, w32}
+use Rattle.msr_time.specs.SampleRate.{SampleRate}
+use Rattle.std.specs.Fmt.{signed_decimal}
+use Rattle.msr_report_reader.specs.Fields.{name_then, rate_then, flags_then}
+use Rattle.msr_report_reader.proofs.keys.channel_key.Goals as goal
+
+pub returns-in_err-factor-clause-only : goal.returns-in_err-factor-clause-only
+returns-in_err-factor-clause-only c key rest is_key ends is =
+    let after_correction : List ℕ = codes " timing " ++ (decimal key.timing ++ rest) in
+    let after_flags : List ℕ = codes " correction " ++ (signed_decimal key.correction ++ after_correction) in
+    let after_rate : List ℕ = flags_then key.activity key.clock key.data_quality after_flags in
+    let after_quality : List ℕ = rate_then key.rate.factor key.rate.multiplier after_rate in
+    let name = c.in_ok-name.ensures.only key.network key.station key.location key.channel key.quality after_quality
+    is_key.network is_key.station is_key.location is_key.channel is_key.quality is in
+    absurd (c.in_err-factor.ensures.only key.rate.factor key.rate.multiplier after_rate is_key.factor
+    is_key.multiplier refl name)
+
+pub returns-in_err-rate-clause-only : goal.returns-in_err-rate-clause-only
+returns-in_err-rate-clause-only c key rest is_key ends is =
+    let after_correction : List ℕ = codes " timing " ++ (decimal key.timing ++ rest) in
+    let after_flags : List ℕ = codes " correction " ++ (signed_decimal key.correction ++ after_correction) in
+    let after_rate : List ℕ = flags_then key.activity key.clock key.data_quality after_flags in
+    let after_quality : List ℕ = rate_then key.rate.factor key.rate.multiplier after_rate in
+    let name = c.in_ok-name.ensures.only key.network key.station key.location key.channel key.quality after_quality
+    is_key.network is_key.station is_key.location is_key.channel is_key.quality is in
+    let rate = c.in_ok-factor.ensures.only key.rate.factor key.rate.multiplier after_rate is_key.factor
+    is_key.multiplier refl name in
+    let factor : c.in_ok-factor.factor ≢ pos 0 = λ zero. is_key.some_factor (sym rate.0 ∙ zero) in
+    let multiplier : c.in_ok-factor.multiplier ≢ pos 0 = λ zero. is_key.some_multiplier (sym rate.1 ∙ zero) in
+    let fits_factor : FitsSigned w16 c.in_ok-factor.factor = rw rate.0 is_key.factor in
+    let fits_multiplier : FitsSigned w16 c.in_ok-factor.multiplier = rw rate.1 is_key.multiplier in
+    absurd (c.in_err-rate.ensures (
+      λ zero. factor (sym (to_z-of_z fits_factor) ∙ zero),
+      λ zero. multiplier
+          (sym (to_z-of_z fits_multiplier) ∙ zero),
+    ))
+
+pub returns-in_err-activity-clause-only : goal.returns-in_err-activity-clause-only
+returns-in_err-activity-clause-only c key rest is_key ends is =
+    let after_correction : List ℕ = codes " timing " ++ (decimal key.timing ++ rest) in
+    let after_flags : List ℕ = codes " correction " ++ (signed_decimal key.correction ++ after_correction) in
+    let after_rate : List ℕ = flags_then key.activity key.clock key.data_quality after_flags in
+    let after_quality : List ℕ = rate_then key.rate.factor key.rate.multiplier after_rate in
+    let name = c.in_ok-name.ensures.only key.network key.station key.location key.channel key.quality after_quality
+    is_key.network is_key.station is_key.location is_key.channel is_key.quality is in
+    let rate = c.in_ok-factor.ensures.only key.rate.factor key.rate.multiplier after_rate is_key.factor
+    is_key.multiplier refl name in
+    absurd (c.in_err-activity.ensures.only key.activity key.clock key.data_quality after_flags is_key.activity
+    is_key.clock is_key.data_quality rate.2)
+
+pub returns-in_err-correction-clause-only : goal.returns-in_err-correction-clause-only
+returns-in_err-correction-clause-only c key rest is_key ends is =
+    let after_correction : List ℕ = codes " timing " ++ (decimal key.timing ++ rest) in
+    let after_flags : List ℕ = codes " correction " ++ (signed_decimal key.correction ++ after_correction) in
+    let after_rate : List ℕ = flags_then key.activity key.clock key.data_quality after_flags in
+    let after_quality : List ℕ = rate_then key.rate.factor key.rate.multiplier after_rate in
+    let name = c.in_ok-name.ensures.only key.network key.station key.location key.channel key.quality after_quality
+    is_key.network is_key.station is_key.location is_key.channel is_key.quality is in
+    let rate = c.in_ok-factor.ensures.only key.rate.factor key.rate.multiplier after_rate is_key.factor
+    is_key.multiplier refl name in
+    let flags = c.in_ok-activity.ensures.only key.activity key.clock key.data_quality after_flags is_key.activity
+    is_key.clock is_key.data_quality rate.2 in
+    absurd (c.in_err-correction.ensures.only key.correction after_correction is_key.correction refl flags.3)
+
+pub returns-in_err-timing-clause-only : goal.returns-in_err-timing-clause-only
+returns-in_err-timing-clause-only c key rest is_key ends is =
+    let after_correction : List ℕ = codes " timing " ++ (decimal key.timing ++ rest) in
+    let after_flags : List ℕ = codes " correction " ++ (signed_decimal key.correction ++ after_correction) in
+    let after_rate : List ℕ = flags_then key.activity key.clock key.data_quality after_flags in
+    let after_quality : List ℕ = rate_then key.rate.factor key.rate.multiplier after_rate in
+    let name = c.in_ok-name.ensures.only key.network key.station key.location key.channel key.quality after_quality
+    is_key.network is_key.station is_key.location is_key.channel is_key.quality is in
+    let rate = c.in_ok-factor.ensures.only key.rate.factor key.rate.multiplier after_rate is_key.factor
+    is_key.multiplier refl name in
+    let flags = c.in_ok-activity.ensures.only key.activity key.clock key.data_quality after_flags is_key.activity
+    is_key.clock is_key.data_quality rate.2 in
+    let correction = c.in_ok-correction.ensures.only key.correction after_correction is_key.correction refl flags.3 in
+    absurd (c.in_err-timing.ensures.only key.timing rest is_key.timing ends correction.1)
+
+pub returns-clause-only : goal.returns-clause-only
+returns-clause-only c key rest is_key ends is =
+    let after_correction : List ℕ = codes " timing " ++ (decimal key.timing ++ rest) in
+    let after_flags : List ℕ = codes " correction " ++ (signed_decimal key.correction ++ after_correction) in
+    let after_rate : List ℕ = flags_then key.activity key.clock key.data_quality after_flags in
+    let after_quality : List ℕ = rate_then key.rate.factor key.rate.multiplier after_rate in
+    let name = c.in_ok-name.ensures.only key.network key.station key.location key.channel key.quality after_quality
+    is_key.network is_key.station is_key.location is_key.channel is_key.quality is in
+    let rate = c.in_ok-factor.ensures.only key.rate.factor key.rate.multiplier after_rate is_key.factor
+    is_key.multiplier refl name in
+    let flags = c.in_ok-activity.ensures.only key.activity key.clock key.data_quality after_flags is_key.activity
+    is_key.clock is_key.data_quality rate.2 in
+    let correction = c.in_ok-correction.ensures.only key.correction after_correction is_key.correction refl flags.3 in
+    let timing = c.in_ok-timing.ensures.only key.timing rest is_key.timing ends correction.1 in
+    timing.1
+
+pub returns-clause-found : goal.returns-clause-found
+returns-clause-found c =
+    let behind_correction = c.in_ok-correction.ensures.found
+    ∙ ap (λ (l : List ℕ). codes " correction " ++
+    (signed_decimal c.in_ok-correction.correction ++ l)) c.in_ok-timing.ensures.found in
+    let behind_flags = c.in_ok-activity.ensures.found
+    ∙ ap (flags_then c.in_ok-activity.activity c.in_ok-activity.clock c.in_ok-activity.data_quality)
+    behind_correction in
+    let behind_rate = c.in_ok-factor.ensures.found
+    ∙ ap (rate_then c.in_ok-factor.factor c.in_ok-factor.multiplier) behind_flags in
+    let behind_name = c.in_ok-name.ensures.found
+    ∙ ap (λ (l : List ℕ). codes "segment "
+    ++ name_then c.in_ok-name.name.network c.in_ok-name.name.station c.in_ok-name.name.location
+    c.in_ok-name.name.channel (32 ∷ (c.in_ok-name.quality ∷ l))) behind_rate in
+    let fits_factor : FitsSigned w16 c.in_ok-factor.factor = search rules in
+    let fits_multiplier : FitsSigned w16 c.in_ok-factor.multiplier = search rules in
+    let factor : c.in_ok-rate.rate.factor ≡ c.in_ok-factor.factor =
+    ap (λ (r : SampleRate). r.factor) c.in_ok-rate.ensures.1 ∙ to_z-of_z fits_factor in
+    let multiplier : c.in_ok-rate.rate.multiplier ≡ c.in_ok-factor.multiplier =
+    ap (λ (r : SampleRate). r.multiplier) c.in_ok-rate.ensures.1 ∙ to_z-of_z fits_multiplier in
+    let fits_correction : FitsSigned w32 c.in_ok-correction.correction = search rules in
+    rw (factor, multiplier, to_z-of_z fits_correction) behind_name
+
+pub returns-clause-is_key : goal.returns-clause-is_key
+returns-clause-is_key c =
+    let fits_factor : FitsSigned w16 c.in_ok-factor.factor = search rules in
+    let fits_multiplier : FitsSigned w16 c.in_ok-factor.multiplier = search rules in
+    let factor : c.in_ok-rate.rate.factor ≡ c.in_ok-factor.factor =
+    ap (λ (r : SampleRate). r.factor) c.in_ok-rate.ensures.1 ∙ to_z-of_z fits_factor in
+    let multiplier : c.in_ok-rate.rate.multiplier ≡ c.in_ok-factor.multiplier =
+    ap (λ (r : SampleRate). r.multiplier) c.in_ok-rate.ensures.1 ∙ to_z-of_z fits_multiplier in
+    let fits_correction : FitsSigned w32 c.in_ok-correction.correction = search rules in
+    record {
+      network = record {
+        many = search rules;
+        each =
+            λ k. let f : Fits w8 (slice_index c.in_ok-name.name.network k) = search rules in omega (arith, f);
+      };
+      station = record {
+        many = search rules;
+        each =
+            λ k. let f : Fits w8 (slice_index c.in_ok-name.name.station k) = search rules in omega (arith, f);
+      };
+      location = record {
+        many = search rules;
+        each =
+            λ k. let f : Fits w8 (slice_index c.in_ok-name.name.location k) = search rules in omega (arith, f);
+      };
+      channel = record {
+        many = search rules;
+        each =
+            λ k. let f : Fits w8 (slice_index c.in_ok-name.name.channel k) = search rules in omega (arith, f);
+      };
+      quality = c.in_ok-name.ensures.quality;
+      factor = rw factor fits_factor;
+      multiplier = rw multiplier fits_multiplier;
+      some_factor = λ zero. c.in_ok-rate.ensures.0.0 (to_z-of_z fits_factor ∙ sym factor ∙ zero);
+      some_multiplier = λ zero. c.in_ok-rate.ensures.0.1 (to_z-of_z fits_multiplier ∙ sym multiplier ∙ zero);
+      activity = search rules;
+      clock = search rules;
+      data_quality = search rules;
+      correction = rw (to_z-of_z fits_correction) fits_correction;
+      timing = search rules;
+    }

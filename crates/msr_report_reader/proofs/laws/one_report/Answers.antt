@@ -1,0 +1,5 @@
+use Rattle.msr_report_reader.proofs.OneForm.{one_report}
+use Rattle.msr_report_reader.proofs.laws.one_report.Goals as goal
+
+pub returns : goal.returns
+returns c = one_report

@@ -1,0 +1,61 @@
+use Rattle.std.proofs.Common.{◌∙◌, ap, arith, to_z-of_z, FitsSigned, w64, ◌++◌, ◌∷◌, codes, decimal, refl, List, ℕ}
+use Rattle.jiff_core.proofs.SignedLemmas.{signed_arith}
+use Rattle.msr_report_reader.specs.Form.{key_then}
+use Rattle.msr_report_reader.proofs.lines.opening.Goals as goal
+
+pub returns-in_default-clause-only : goal.returns-in_default-clause-only
+returns-in_default-clause-only c key start samples records rest is_key fits_samples fits_records opening =
+    let after_samples : List ℕ = codes " records " ++ (decimal records ++ (10 ∷ rest)) in
+    let after_start : List ℕ = codes " samples " ++ (decimal samples ++ after_samples) in
+    let after_key : List ℕ = codes " start " ++ (opening.word ++ after_start) in
+    absurd (c.in_default.ensures.only key after_key is_key refl opening.is)
+
+pub returns-in_err-start-clause-only : goal.returns-in_err-start-clause-only
+returns-in_err-start-clause-only c key start samples records rest is_key fits_samples fits_records opening =
+    let after_samples : List ℕ = codes " records " ++ (decimal records ++ (10 ∷ rest)) in
+    let after_start : List ℕ = codes " samples " ++ (decimal samples ++ after_samples) in
+    let after_key : List ℕ = codes " start " ++ (opening.word ++ after_start) in
+    let first = c.in-Some.ensures.only key after_key is_key refl opening.is in
+    absurd (c.in_err-start.ensures.only start opening.word after_start opening.time first)
+
+pub returns-in_err-samples-clause-only : goal.returns-in_err-samples-clause-only
+returns-in_err-samples-clause-only c key start samples records rest is_key fits_samples fits_records opening =
+    let after_samples : List ℕ = codes " records " ++ (decimal records ++ (10 ∷ rest)) in
+    let after_start : List ℕ = codes " samples " ++ (decimal samples ++ after_samples) in
+    let after_key : List ℕ = codes " start " ++ (opening.word ++ after_start) in
+    let first = c.in-Some.ensures.only key after_key is_key refl opening.is in
+    let second = c.in_ok-start.ensures.only start opening.word after_start opening.time first in
+    absurd (c.in_err-samples.ensures.only samples after_samples fits_samples refl second.1)
+
+pub returns-in_err-records-clause-only : goal.returns-in_err-records-clause-only
+returns-in_err-records-clause-only c key start samples records rest is_key fits_samples fits_records opening =
+    let after_samples : List ℕ = codes " records " ++ (decimal records ++ (10 ∷ rest)) in
+    let after_start : List ℕ = codes " samples " ++ (decimal samples ++ after_samples) in
+    let after_key : List ℕ = codes " start " ++ (opening.word ++ after_start) in
+    let first = c.in-Some.ensures.only key after_key is_key refl opening.is in
+    let second = c.in_ok-start.ensures.only start opening.word after_start opening.time first in
+    let third = c.in_ok-samples.ensures.only samples after_samples fits_samples refl second.1 in
+    absurd (c.in_err-records.ensures.only records rest fits_records third.1)
+
+pub returns-clause-only : goal.returns-clause-only
+returns-clause-only c key start samples records rest is_key fits_samples fits_records opening =
+    let after_samples : List ℕ = codes " records " ++ (decimal records ++ (10 ∷ rest)) in
+    let after_start : List ℕ = codes " samples " ++ (decimal samples ++ after_samples) in
+    let after_key : List ℕ = codes " start " ++ (opening.word ++ after_start) in
+    let first = c.in-Some.ensures.only key after_key is_key refl opening.is in
+    let second = c.in_ok-start.ensures.only start opening.word after_start opening.time first in
+    let third = c.in_ok-samples.ensures.only samples after_samples fits_samples refl second.1 in
+    c.in_ok-records.ensures.only records rest fits_records third.1
+
+pub returns-clause-found : goal.returns-clause-found
+returns-clause-found c =
+    let word = c.in_ok-start.ensures.found in
+    let fits : FitsSigned w64 c.in_ok-start.start = omega (arith, signed_arith, c.in_ok-start.ensures.range) in
+    record {
+      word = word.0;
+      time = rw (to_z-of_z fits) word.1.0;
+      is = c.in-Some.ensures.found ∙ ap (key_then c.in-Some.key)
+          (word.1.1 ∙ ap (λ (l : List ℕ). codes " start " ++ (word.0 ++ l))
+          (c.in_ok-samples.ensures.found ∙ ap (λ (l : List ℕ). codes " samples "
+          ++ (decimal c.in_ok-samples.samples ++ l)) c.in_ok-records.ensures.found));
+    }

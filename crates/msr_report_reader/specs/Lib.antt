@@ -1,0 +1,9 @@
+pub mod Fields
+pub mod Form
+pub mod Fault
+pub mod LastLine
+pub mod Rest
+pub mod TextFault
+pub mod Draft
+pub mod Reading
+pub mod Laws

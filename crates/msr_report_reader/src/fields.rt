@@ -1,0 +1,215 @@
+//! The fields at the start of a text: each reader answers the field and the text after it.
+ghost use Rattle.std.specs.Prelude.{◌≡◌, ◌<◌, ◌≤◌, ◌^◌, ◌++◌, ◌∷◌, [], ℕ, ℤ, List, IfSome, IsSomeAnd, true, false, length};
+ghost use Rattle.std.specs.Fmt.{decimal, signed_decimal, digit_glyph};
+ghost use Rattle.std.specs.Int.{w16, w32};
+ghost use Rattle.std.specs.Int.RustNames.{FitsSigned};
+ghost use Rattle.std.specs.Char.{is_ascii_digit};
+ghost use Rattle.std.specs.List.{prefix_len};
+ghost use Rattle.msr_report.specs.Text.{hex_text, byte_text, field_text};
+ghost use Rattle.msr_report_reader.specs.Fields.{EndsNumber, signed_len};
+
+use itoa::Buffer;
+use std::str;
+
+/// The text after the given word.
+pub(crate) fn after<'a>(text: &'a [u8], word: &[u8]) -> Option<&'a [u8]>
+    ensures found { IfSome result (λ rest. text.now ≡ word.now ++ rest.now) }
+    ensures only { (rest : List ℕ) → text.now ≡ word.now ++ rest → IsSomeAnd result (λ x. x.now ≡ rest) }
+{
+    text.strip_prefix(word)
+}
+
+/// Whether a text that begins with this one may begin with the word.
+pub(crate) fn may_begin(text: &[u8], word: &[u8]) -> bool
+    ensures { (more rest : List ℕ) → text.now ++ more ≡ word.now ++ rest → result ≡ true }
+{
+    text.starts_with(word) | word.starts_with(text)
+}
+
+/// Whether a text that begins with this one may begin with a number.
+pub(crate) fn may_be_number(text: &[u8]) -> bool
+    ensures { (n : ℕ) (more rest : List ℕ) → n < 2 ^ 64 → text.now ++ more ≡ decimal n ++ rest → result ≡ true }
+{
+    let Some((byte, _)) = text.split_first() else {
+        return true;
+    };
+    byte.is_ascii_digit()
+}
+
+/// How many digits the text begins with.
+fn count_digits(text: &[u8]) -> usize
+    ensures within { result ≤ length text.now }
+    ensures count { result ≡ prefix_len is_ascii_digit text.now }
+{
+    let mut count = 0;
+    while count < text.len() && text[count].is_ascii_digit() {
+        count += 1;
+    }
+    count
+}
+
+/// The number that the digits are the decimal of, with no leading zeros.
+fn number_of(digits: &[u8]) -> Option<u64>
+    ensures found { IfSome result (λ n. digits.now ≡ decimal n) }
+    ensures only { (n : ℕ) → n < 2 ^ 64 → digits.now ≡ decimal n → IsSomeAnd result (λ x. x ≡ n) }
+{
+    let Ok(word) = str::from_utf8(digits) else {
+        return None;
+    };
+    let Ok(n) = word.parse::<u64>() else {
+        return None;
+    };
+    let mut buffer = Buffer::new();
+    if buffer.format(n) == word {
+        Some(n)
+    } else {
+        None
+    }
+}
+
+/// A number in decimal.
+pub(crate) fn number(text: &[u8]) -> Option<(u64, &[u8])>
+    ensures found { IfSome result (λ x. text.now ≡ decimal x.0 ++ x.1.now) }
+    ensures only { (n : ℕ) (rest : List ℕ) → n < 2 ^ 64 → EndsNumber rest → text.now ≡ decimal n ++ rest
+        → IsSomeAnd result (λ x. (x.0 ≡ n) × (x.1.now ≡ rest)) }
+{
+    let (digits, rest) = text.split_at(count_digits(text));
+    let n = number_of(digits)?;
+    Some((n, rest))
+}
+
+/// A lower-case hexadecimal digit.
+fn hex_digit(byte: u8) -> Option<u8>
+    ensures found { IfSome result (λ n. (n < 16) × (byte ≡ digit_glyph false n)) }
+    ensures only { (n : ℕ) → n < 16 → byte ≡ digit_glyph false n → IsSomeAnd result (λ x. x ≡ n) }
+{
+    match byte {
+        b'0'..=b'9' => Some(byte - b'0'),
+        b'a'..=b'f' => Some(byte - b'a' + 10),
+        _ => None,
+    }
+}
+
+/// Two lower-case hexadecimal digits.
+pub(crate) fn hex_byte(text: &[u8]) -> Option<(u8, &[u8])>
+    ensures found { IfSome result (λ x. text.now ≡ hex_text x.0 ++ x.1.now) }
+    ensures only { (n : ℕ) (rest : List ℕ) → n < 256 → text.now ≡ hex_text n ++ rest
+        → IsSomeAnd result (λ x. (x.0 ≡ n) × (x.1.now ≡ rest)) }
+{
+    let [high, low, rest @ ..] = text else {
+        return None;
+    };
+    let high = hex_digit(*high)?;
+    let low = hex_digit(*low)?;
+    Some((high * 16 + low, rest))
+}
+
+/// A byte of a name.
+fn name_byte(text: &[u8]) -> Option<(u8, &[u8])>
+    ensures found { IfSome result (λ x. text.now ≡ byte_text x.0 ++ x.1.now) }
+    ensures only { (b : ℕ) (rest : List ℕ) → b < 256 → text.now ≡ byte_text b ++ rest
+        → IsSomeAnd result (λ x. (x.0 ≡ b) × (x.1.now ≡ rest)) }
+{
+    let (first, rest) = text.split_first()?;
+    match *first {
+        b'_' => Some((b' ', rest)),
+        b'%' => {
+            let (byte, rest) = hex_byte(rest)?;
+            if byte.is_ascii_alphanumeric() || byte == b' ' {
+                return None;
+            }
+            Some((byte, rest))
+        }
+        byte if byte.is_ascii_alphanumeric() => Some((byte, rest)),
+        _ => None,
+    }
+}
+
+/// Two bytes of a name.
+pub(crate) fn two_bytes(text: &[u8]) -> Option<([u8; 2], &[u8])>
+    ensures found { IfSome result (λ x. text.now ≡ field_text x.0 ++ x.1.now) }
+    ensures only { (a b : ℕ) (rest : List ℕ) → a < 256 → b < 256 → text.now ≡ byte_text a ++ (byte_text b ++ rest)
+        → IsSomeAnd result (λ x. (x.0 ≡ a ∷ b ∷ []) × (x.1.now ≡ rest)) }
+{
+    let (first, text) = name_byte(text)?;
+    let (second, text) = name_byte(text)?;
+    Some(([first, second], text))
+}
+
+/// Three bytes of a name.
+pub(crate) fn three_bytes(text: &[u8]) -> Option<([u8; 3], &[u8])>
+    ensures found { IfSome result (λ x. text.now ≡ field_text x.0 ++ x.1.now) }
+    ensures only { (a b c : ℕ) (rest : List ℕ) → a < 256 → b < 256 → c < 256
+        → text.now ≡ byte_text a ++ (byte_text b ++ (byte_text c ++ rest))
+        → IsSomeAnd result (λ x. (x.0 ≡ a ∷ b ∷ c ∷ []) × (x.1.now ≡ rest)) }
+{
+    let ([first, second], text) = two_bytes(text)?;
+    let (third, text) = name_byte(text)?;
+    Some(([first, second, third], text))
+}
+
+/// Five bytes of a name.
+pub(crate) fn five_bytes(text: &[u8]) -> Option<([u8; 5], &[u8])>
+    ensures found { IfSome result (λ x. text.now ≡ field_text x.0 ++ x.1.now) }
+    ensures only { (a b c d e : ℕ) (rest : List ℕ) → a < 256 → b < 256 → c < 256 → d < 256 → e < 256
+        → text.now ≡ byte_text a ++ (byte_text b ++ (byte_text c ++ (byte_text d ++ (byte_text e ++ rest))))
+        → IsSomeAnd result (λ x. (x.0 ≡ a ∷ b ∷ c ∷ d ∷ e ∷ []) × (x.1.now ≡ rest)) }
+{
+    let ([first, second, third], text) = three_bytes(text)?;
+    let ([fourth, fifth], text) = two_bytes(text)?;
+    Some(([first, second, third, fourth, fifth], text))
+}
+
+/// The number, with a `-` before a negative one, that the word is the decimal of.
+fn signed_of(word: &[u8]) -> Option<i32>
+    ensures found { IfSome result (λ z. word.now ≡ signed_decimal z) }
+    ensures only { (z : ℤ) → FitsSigned w32 z → word.now ≡ signed_decimal z → IsSomeAnd result (λ x. x ≡ z) }
+{
+    let Ok(word) = str::from_utf8(word) else {
+        return None;
+    };
+    let Ok(z) = word.parse::<i32>() else {
+        return None;
+    };
+    let mut buffer = Buffer::new();
+    if buffer.format(z) == word {
+        Some(z)
+    } else {
+        None
+    }
+}
+
+/// How many bytes a `-` and digits are that the text begins with.
+fn count_signed(text: &[u8]) -> usize
+    ensures within { result ≤ length text.now }
+    ensures count { result ≡ signed_len text.now }
+{
+    match text {
+        [b'-', digits @ ..] => 1 + count_digits(digits),
+        _ => count_digits(text),
+    }
+}
+
+/// A number in decimal, with a `-` before a negative one.
+pub(crate) fn signed(text: &[u8]) -> Option<(i32, &[u8])>
+    ensures found { IfSome result (λ x. text.now ≡ signed_decimal x.0 ++ x.1.now) }
+    ensures only { (z : ℤ) (rest : List ℕ) → FitsSigned w32 z → EndsNumber rest → text.now ≡ signed_decimal z ++ rest
+        → IsSomeAnd result (λ x. (x.0 ≡ z) × (x.1.now ≡ rest)) }
+{
+    let (word, rest) = text.split_at(count_signed(text));
+    let z = signed_of(word)?;
+    Some((z, rest))
+}
+
+/// A number of 16 bits in decimal, with a `-` before a negative one.
+pub(crate) fn signed_16(text: &[u8]) -> Option<(i16, &[u8])>
+    ensures found { IfSome result (λ x. text.now ≡ signed_decimal x.0 ++ x.1.now) }
+    ensures only { (z : ℤ) (rest : List ℕ) → FitsSigned w16 z → EndsNumber rest → text.now ≡ signed_decimal z ++ rest
+        → IsSomeAnd result (λ x. (x.0 ≡ z) × (x.1.now ≡ rest)) }
+{
+    let (z, rest) = signed(text)?;
+    if z < -32_768 || z > 32_767 {
+        return None;
+    }
+    Some((z as i16, rest))
+}

@@ -1,0 +1,211 @@
+//! What the records of a segment have in common, at the start of a text.
+ghost use Rattle.std.specs.Prelude.{◌≡◌, ◌<◌, ◌++◌, ◌∷◌, ℕ, ℤ, List, IfSome, IsSomeAnd, IsTrue, codes};
+ghost use Rattle.std.specs.Fmt.{decimal, signed_decimal};
+ghost use Rattle.std.specs.Int.{w16, w32};
+ghost use Rattle.std.specs.Int.RustNames.{FitsSigned};
+ghost use Rattle.msr_report.specs.Text.{hex_text, field_text};
+ghost use Rattle.msr_report_reader.specs.Fields.{EndsNumber, AreBytes, name_then, rate_then, flags_then};
+ghost use Rattle.msr_header.specs.Reading.{is_quality};
+ghost use Rattle.msr_rows.specs.declared.row.Key.{Key as ChannelKey};
+ghost use Rattle.msr_report_reader.specs.Form.{IsKey, key_then};
+
+use crate::fields::{
+    after, five_bytes, hex_byte, number, signed, signed_16, three_bytes, two_bytes,
+};
+use msr_rows::Key;
+use msr_time::Rate;
+
+/// Two bytes of a name and a dot.
+fn two_and_dot(text: &[u8]) -> Option<([u8; 2], &[u8])>
+    ensures found { IfSome result (λ x. text.now ≡ field_text x.0 ++ (46 ∷ x.1.now)) }
+    ensures only { (bytes rest : List ℕ) → AreBytes 2 bytes → text.now ≡ field_text bytes ++ (46 ∷ rest)
+        → IsSomeAnd result (λ x. (x.0 ≡ bytes) × (x.1.now ≡ rest)) }
+{
+    let (bytes, text) = two_bytes(text)?;
+    let text = after(text, b".")?;
+    Some((bytes, text))
+}
+
+/// Five bytes of a name and a dot.
+fn five_and_dot(text: &[u8]) -> Option<([u8; 5], &[u8])>
+    ensures found { IfSome result (λ x. text.now ≡ field_text x.0 ++ (46 ∷ x.1.now)) }
+    ensures only { (bytes rest : List ℕ) → AreBytes 5 bytes → text.now ≡ field_text bytes ++ (46 ∷ rest)
+        → IsSomeAnd result (λ x. (x.0 ≡ bytes) × (x.1.now ≡ rest)) }
+{
+    let (bytes, text) = five_bytes(text)?;
+    let text = after(text, b".")?;
+    Some((bytes, text))
+}
+
+/// The name of a channel.
+#[derive(Clone, Copy)]
+struct ChannelName {
+    network: [u8; 2],
+    station: [u8; 5],
+    location: [u8; 2],
+    channel: [u8; 3],
+}
+
+/// Network, station, location and channel, with dots between them.
+fn channel_name(text: &[u8]) -> Option<(ChannelName, &[u8])>
+    ensures found { IfSome result (λ x. text.now ≡ name_then x.0.network x.0.station x.0.location x.0.channel x.1.now) }
+    ensures only { (network station location channel rest : List ℕ)
+        → AreBytes 2 network → AreBytes 5 station → AreBytes 2 location → AreBytes 3 channel
+        → text.now ≡ name_then network station location channel rest
+        → IsSomeAnd result (λ x. x.1.now ≡ rest) }
+{
+    let (network, text) = two_and_dot(text)?;
+    let (station, text) = five_and_dot(text)?;
+    let (location, text) = two_and_dot(text)?;
+    let (channel, text) = three_bytes(text)?;
+    let name = ChannelName {
+        network,
+        station,
+        location,
+        channel,
+    };
+    Some((name, text))
+}
+
+/// Two numbers with a space between them.
+fn two_numbers(text: &[u8]) -> Option<(i16, i16, &[u8])>
+    ensures found { IfSome result (λ x. text.now ≡ signed_decimal x.0 ++ (32 ∷ (signed_decimal x.1 ++ x.2.now))) }
+    ensures only { (factor multiplier : ℤ) (rest : List ℕ) → FitsSigned w16 factor → FitsSigned w16 multiplier
+        → EndsNumber rest
+        → text.now ≡ signed_decimal factor ++ (32 ∷ (signed_decimal multiplier ++ rest))
+        → IsSomeAnd result (λ x. (x.0 ≡ factor) × (x.1 ≡ multiplier) × (x.2.now ≡ rest)) }
+{
+    let (factor, text) = signed_16(text)?;
+    let text = after(text, b" ")?;
+    let (multiplier, text) = signed_16(text)?;
+    Some((factor, multiplier, text))
+}
+
+/// The factor and the multiplier of a rate.
+fn rate(text: &[u8]) -> Option<(i16, i16, &[u8])>
+    ensures found { IfSome result (λ x. text.now ≡ rate_then x.0 x.1 x.2.now) }
+    ensures only { (factor multiplier : ℤ) (rest : List ℕ) → FitsSigned w16 factor → FitsSigned w16 multiplier
+        → EndsNumber rest
+        → text.now ≡ rate_then factor multiplier rest
+        → IsSomeAnd result (λ x. (x.0 ≡ factor) × (x.1 ≡ multiplier) × (x.2.now ≡ rest)) }
+{
+    let text = after(text, b" rate ")?;
+    two_numbers(text)
+}
+
+/// A space and two hexadecimal digits.
+fn spaced_byte(text: &[u8]) -> Option<(u8, &[u8])>
+    ensures found { IfSome result (λ x. text.now ≡ 32 ∷ (hex_text x.0 ++ x.1.now)) }
+    ensures only { (n : ℕ) (rest : List ℕ) → n < 256 → text.now ≡ 32 ∷ (hex_text n ++ rest)
+        → IsSomeAnd result (λ x. (x.0 ≡ n) × (x.1.now ≡ rest)) }
+{
+    let text = after(text, b" ")?;
+    hex_byte(text)
+}
+
+/// The activity, clock and data quality flags.
+fn flags(text: &[u8]) -> Option<(u8, u8, u8, &[u8])>
+    ensures found { IfSome result (λ x. text.now ≡ flags_then x.0 x.1 x.2 x.3.now) }
+    ensures only { (activity clock quality : ℕ) (rest : List ℕ) → activity < 256 → clock < 256 → quality < 256
+        → text.now ≡ flags_then activity clock quality rest
+        → IsSomeAnd result (λ x. (x.0 ≡ activity) × (x.1 ≡ clock) × (x.2 ≡ quality) × (x.3.now ≡ rest)) }
+{
+    let text = after(text, b" flags")?;
+    let (activity, text) = spaced_byte(text)?;
+    let (clock, text) = spaced_byte(text)?;
+    let (quality, text) = spaced_byte(text)?;
+    Some((activity, clock, quality, text))
+}
+
+/// The time correction.
+fn correction(text: &[u8]) -> Option<(i32, &[u8])>
+    ensures found { IfSome result (λ x. text.now ≡ codes " correction " ++ (signed_decimal x.0 ++ x.1.now)) }
+    ensures only { (z : ℤ) (rest : List ℕ) → FitsSigned w32 z → EndsNumber rest
+        → text.now ≡ codes " correction " ++ (signed_decimal z ++ rest)
+        → IsSomeAnd result (λ x. (x.0 ≡ z) × (x.1.now ≡ rest)) }
+{
+    let text = after(text, b" correction ")?;
+    signed(text)
+}
+
+/// The timing quality.
+fn timing(text: &[u8]) -> Option<(u8, &[u8])>
+    ensures found { IfSome result (λ x. text.now ≡ codes " timing " ++ (decimal x.0 ++ x.1.now)) }
+    ensures only { (n : ℕ) (rest : List ℕ) → n < 256 → EndsNumber rest
+        → text.now ≡ codes " timing " ++ (decimal n ++ rest)
+        → IsSomeAnd result (λ x. (x.0 ≡ n) × (x.1.now ≡ rest)) }
+{
+    let text = after(text, b" timing ")?;
+    let (n, text) = number(text)?;
+    if n > 255 {
+        return None;
+    }
+    Some((n as u8, text))
+}
+
+/// The word `segment`, the name and the quality.
+fn named(text: &[u8]) -> Option<(ChannelName, u8, &[u8])>
+    ensures found { IfSome result (λ x. text.now ≡ codes "segment "
+        ++ name_then x.0.network x.0.station x.0.location x.0.channel (32 ∷ (x.1 ∷ x.2.now))) }
+    ensures quality { IfSome result (λ x. IsTrue (is_quality x.1)) }
+    ensures only { (network station location channel : List ℕ) (quality : ℕ) (rest : List ℕ)
+        → AreBytes 2 network → AreBytes 5 station → AreBytes 2 location → AreBytes 3 channel
+        → IsTrue (is_quality quality)
+        → text.now ≡ codes "segment " ++ name_then network station location channel (32 ∷ (quality ∷ rest))
+        → IsSomeAnd result (λ x. x.2.now ≡ rest) }
+{
+    let text = after(text, b"segment ")?;
+    let (name, text) = channel_name(text)?;
+    let text = after(text, b" ")?;
+    let (quality, text) = quality(text)?;
+    Some((name, quality, text))
+}
+
+/// The quality indicator.
+fn quality(text: &[u8]) -> Option<(u8, &[u8])>
+    ensures found { IfSome result (λ x. text.now ≡ x.0 ∷ x.1.now) }
+    ensures quality { IfSome result (λ x. IsTrue (is_quality x.0)) }
+    ensures only { (quality : ℕ) (rest : List ℕ) → IsTrue (is_quality quality) → text.now ≡ quality ∷ rest
+        → IsSomeAnd result (λ x. (x.0 ≡ quality) × (x.1.now ≡ rest)) }
+{
+    let (first, rest) = text.split_first()?;
+    match *first {
+        b'D' | b'R' | b'Q' | b'M' => Some((*first, rest)),
+        _ => None,
+    }
+}
+
+/// What a segment's line says up to the timing quality.
+pub(crate) fn channel_key(text: &[u8]) -> Option<(Key, &[u8])>
+    ensures found { IfSome result (λ x. text.now ≡ key_then x.0 x.1.now) }
+    ensures is_key { IfSome result (λ x. IsKey x.0) }
+    ensures only { (key : ChannelKey) (rest : List ℕ) → IsKey key → EndsNumber rest → text.now ≡ key_then key rest
+        → IsSomeAnd result (λ x. x.1.now ≡ rest) }
+{
+    let (name, quality, text) = named(text)?;
+    let (factor, multiplier, text) = rate(text)?;
+    let rate = Rate::new(factor, multiplier)?;
+    let (activity, clock, data_quality, text) = flags(text)?;
+    let (correction, text) = correction(text)?;
+    let (timing, text) = timing(text)?;
+    let ChannelName {
+        network,
+        station,
+        location,
+        channel,
+    } = name;
+    let key = Key {
+        network,
+        station,
+        location,
+        channel,
+        quality,
+        rate,
+        activity,
+        clock,
+        data_quality,
+        correction,
+        timing,
+    };
+    Some((key, text))
+}

@@ -1,0 +1,171 @@
+//! The lines of a report at the start of a text: each reader answers what the line says and the text after it.
+ghost use Rattle.std.specs.Prelude.{◌≡◌, ◌<◌, ◌≤◌, ◌^◌, ◌++◌, ◌∷◌, ℕ, ℤ, List, IfSome, IsSomeAnd, codes};
+ghost use Rattle.std.specs.Fmt.{decimal};
+ghost use Rattle.msr_time.specs.Instant.{IsInstant};
+ghost use Rattle.msr_kinds.specs.Lengths.{bytes_of};
+ghost use Rattle.msr_kinds.specs.RecordLength.{IsRecordLength};
+ghost use Rattle.msr_report.specs.Text.{IsTimeText};
+ghost use Rattle.msr_rows.specs.declared.row.Key.{Key as ChannelKey};
+ghost use Rattle.msr_report_reader.specs.Fields.{EndsNumber};
+ghost use Rattle.msr_report_reader.specs.Form.{IsKey, IsOpening};
+
+use crate::fields::{after, number};
+use crate::keys::channel_key;
+use crate::times::instant;
+use msr_kinds::Length;
+use msr_report::Counts;
+use msr_rows::Key;
+
+/// The start of a segment.
+fn start(text: &[u8]) -> Option<(i64, &[u8])>
+    ensures range { IfSome result (λ x. IsInstant x.0) }
+    ensures found { IfSome result (λ x. (word : List ℕ)
+        × (IsTimeText x.0 word × (text.now ≡ codes " start " ++ (word ++ x.1.now)))) }
+    ensures only { (t : ℤ) (word rest : List ℕ) → IsTimeText t word → text.now ≡ codes " start " ++ (word ++ rest)
+        → IsSomeAnd result (λ x. (x.0 ≡ t) × (x.1.now ≡ rest)) }
+{
+    let text = after(text, b" start ")?;
+    instant(text)
+}
+
+/// The number of a segment's samples.
+fn samples(text: &[u8]) -> Option<(u64, &[u8])>
+    ensures found { IfSome result (λ x. text.now ≡ codes " samples " ++ (decimal x.0 ++ x.1.now)) }
+    ensures only { (n : ℕ) (rest : List ℕ) → n < 2 ^ 64 → EndsNumber rest
+        → text.now ≡ codes " samples " ++ (decimal n ++ rest)
+        → IsSomeAnd result (λ x. (x.0 ≡ n) × (x.1.now ≡ rest)) }
+{
+    let text = after(text, b" samples ")?;
+    number(text)
+}
+
+/// The number that stands after the word and ends the line.
+fn numbered<'a>(text: &'a [u8], word: &[u8]) -> Option<(u64, &'a [u8])>
+    ensures found { IfSome result (λ x. text.now ≡ word.now ++ (decimal x.0 ++ (10 ∷ x.1.now))) }
+    ensures only { (n : ℕ) (rest : List ℕ) → n < 2 ^ 64 → text.now ≡ word.now ++ (decimal n ++ (10 ∷ rest))
+        → IsSomeAnd result (λ x. (x.0 ≡ n) × (x.1.now ≡ rest)) }
+{
+    let text = after(text, word)?;
+    let (n, text) = number(text)?;
+    let text = after(text, b"\n")?;
+    Some((n, text))
+}
+
+/// The first line.
+pub(crate) fn title(text: &[u8]) -> Option<&[u8]>
+    ensures found { IfSome result (λ x. text.now ≡ codes "msrepack 1" ++ (10 ∷ x.now)) }
+    ensures only { (rest : List ℕ) → text.now ≡ codes "msrepack 1" ++ (10 ∷ rest)
+        → IsSomeAnd result (λ x. x.now ≡ rest) }
+{
+    after(text, b"msrepack 1\n")
+}
+
+/// The line of the length.
+pub(crate) fn record_length(text: &[u8]) -> Option<(Length, &[u8])>
+    ensures found { IfSome result (λ x. text.now ≡ codes "length " ++ (decimal (bytes_of x.0) ++ (10 ∷ x.1.now))) }
+    ensures is_length { IfSome result (λ x. IsRecordLength (bytes_of x.0)) }
+    ensures only { (n : ℕ) (rest : List ℕ) → IsRecordLength n → text.now ≡ codes "length " ++ (decimal n ++ (10 ∷ rest))
+        → IsSomeAnd result (λ x. x.1.now ≡ rest) }
+{
+    let (bytes, text) = numbered(text, b"length ")?;
+    let Ok(bytes) = u32::try_from(bytes) else {
+        return None;
+    };
+    let length = Length::new(bytes)?;
+    Some((length, text))
+}
+
+/// The line of the tolerance.
+pub(crate) fn tolerance(text: &[u8]) -> Option<(u32, &[u8])>
+    ensures found { IfSome result (λ x. text.now ≡ codes "tolerance " ++ (decimal x.0 ++ (10 ∷ x.1.now))) }
+    ensures range { IfSome result (λ x. (1 ≤ x.0) × (x.0 ≤ 1_000_000)) }
+    ensures only { (n : ℕ) (rest : List ℕ) → 1 ≤ n → n ≤ 1_000_000
+        → text.now ≡ codes "tolerance " ++ (decimal n ++ (10 ∷ rest))
+        → IsSomeAnd result (λ x. x.1.now ≡ rest) }
+{
+    let (n, text) = numbered(text, b"tolerance ")?;
+    if n < 1 || n > 1_000_000 {
+        return None;
+    }
+    Some((n as u32, text))
+}
+
+/// The number that stands after the word.
+pub(crate) fn counted<'a>(text: &'a [u8], word: &[u8]) -> Option<(u64, &'a [u8])>
+    ensures found { IfSome result (λ x. text.now ≡ word.now ++ (decimal x.0 ++ x.1.now)) }
+    ensures only { (n : ℕ) (rest : List ℕ) → n < 2 ^ 64 → EndsNumber rest → text.now ≡ word.now ++ (decimal n ++ rest)
+        → IsSomeAnd result (λ x. (x.0 ≡ n) × (x.1.now ≡ rest)) }
+{
+    let text = after(text, word)?;
+    number(text)
+}
+
+/// The line of the counts.
+pub(crate) fn counts(text: &[u8]) -> Option<(Counts, &[u8])>
+    ensures found { IfSome result (λ x. text.now ≡ codes "read "
+        ++ (decimal x.0.read ++ (codes " empty " ++ (decimal x.0.empty
+        ++ (codes " mismatched " ++ (decimal x.0.mismatched ++ (10 ∷ x.1.now))))))) }
+    ensures only { (read empty mismatched : ℕ) (rest : List ℕ) → read < 2 ^ 64 → empty < 2 ^ 64 → mismatched < 2 ^ 64
+        → text.now ≡ codes "read " ++ (decimal read ++
+        (codes " empty " ++ (decimal empty ++ (codes " mismatched " ++ (decimal mismatched ++ (10 ∷ rest))))))
+        → IsSomeAnd result (λ x. x.1.now ≡ rest) }
+{
+    let (read, text) = counted(text, b"read ")?;
+    let (empty, text) = counted(text, b" empty ")?;
+    let (mismatched, text) = numbered(text, b" mismatched ")?;
+    let counts = Counts {
+        read,
+        empty,
+        mismatched,
+    };
+    Some((counts, text))
+}
+
+/// The two numbers of the last line.
+pub(crate) fn end(text: &[u8]) -> Option<(u64, u64, &[u8])>
+    ensures found { IfSome result (λ x. text.now ≡ codes "end "
+        ++ (decimal x.0 ++ (codes " segments " ++ (decimal x.1 ++ (codes " records" ++ (10 ∷ x.2.now)))))) }
+    ensures only { (segments records : ℕ) (rest : List ℕ) → segments < 2 ^ 64 → records < 2 ^ 64
+        → text.now ≡ codes "end " ++ (decimal segments
+        ++ (codes " segments " ++ (decimal records ++ (codes " records" ++ (10 ∷ rest)))))
+        → IsSomeAnd result (λ x. (x.0 ≡ segments) × (x.1 ≡ records) × (x.2.now ≡ rest)) }
+{
+    let (segments, text) = counted(text, b"end ")?;
+    let (records, text) = counted(text, b" segments ")?;
+    let text = after(text, b" records\n")?;
+    Some((segments, records, text))
+}
+
+/// What the first line of a segment says.
+#[derive(Clone, Copy)]
+pub(crate) struct FirstLine {
+    pub key: Key,
+    pub start: i64,
+    pub samples: u64,
+    pub records: u64,
+}
+
+/// The first line of a segment.
+pub(crate) fn opening(text: &[u8]) -> Option<(FirstLine, &[u8])>
+    ensures is_key { IfSome result (λ x. IsKey x.0.key) }
+    ensures range { IfSome result (λ x. IsInstant x.0.start) }
+    ensures found { IfSome result (λ x. IsOpening x.0.key x.0.start x.0.samples x.0.records x.1.now text.now) }
+    ensures only { (key : ChannelKey) (start : ℤ) (samples records : ℕ) (rest : List ℕ) → IsKey key
+        → samples < 2 ^ 64 → records < 2 ^ 64
+        → IsOpening key start samples records rest text.now
+        → IsSomeAnd result (λ x. (x.0.records ≡ records) × (x.1.now ≡ rest)) }
+{
+    let Some((key, text)) = channel_key(text) else {
+        return None;
+    };
+    let (start, text) = start(text)?;
+    let (samples, text) = samples(text)?;
+    let (records, text) = numbered(text, b" records ")?;
+    let line = FirstLine {
+        key,
+        start,
+        samples,
+        records,
+    };
+    Some((line, text))
+}
