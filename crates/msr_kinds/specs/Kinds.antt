@@ -13,5 +13,5 @@ contains WithoutInt24 Int24 = false
 contains WithoutInt24 kind = true
 
 -- the kind is one of the choice
-abbrev pub IsAmong : Kinds → Kind → Type 0
-IsAmong kinds kind = IsTrue (contains kinds kind)
+abbrev pub IsChosen : Kinds → Kind → Type 0
+IsChosen kinds kind = IsTrue (contains kinds kind)

@@ -12,7 +12,7 @@ use Rattle.msr_kinds.specs.declared.kinds.Kind.{Kind}
 use Rattle.msr_kinds.specs.declared.kinds.Kind.TheVariants.{Int16, Int24, Int32, Steim1, Steim2}
 use Rattle.msr_kinds.specs.declared.forms.Form.{Form}
 use Rattle.msr_kinds.specs.declared.kinds.Kinds.{Kinds}
-use Rattle.msr_kinds.specs.Kinds.{IsAmong, contains}
+use Rattle.msr_kinds.specs.Kinds.{IsChosen, contains}
 use Rattle.msr_kinds.specs.Lengths.{bytes_of}
 use Rattle.msr_words.specs.Division.{CanDivide}
 use Rattle.msr_words.specs.Canonical.{DividesFrom, IsCanonicalDivision}
@@ -221,15 +221,15 @@ pub fits_decided : (kind : Kind) (bytes : ℕ) (run : List (ℤ × ℤ)) → Dec
 fits_decided kind bytes run = both_decided (length run ≤ most_counted) (HasRoom kind bytes run)
     (most_decided (length run) most_counted) (room_decided kind bytes run)
 
-among_decided : (kinds : Kinds) (kind : Kind) → Decided (IsAmong kinds kind)
-among_decided kinds kind = elim (contains kinds kind) as (λ among. Decided (IsTrue among)) [
+chosen_decided : (kinds : Kinds) (kind : Kind) → Decided (IsChosen kinds kind)
+chosen_decided kinds kind = elim (contains kinds kind) as (λ chosen. Decided (IsTrue chosen)) [
   | true ↦ inl refl
   | false ↦ inr (λ h. cc)
 ]
 
 pub in_decided : (kind : Kind) (form : Form) (run : List (ℤ × ℤ)) → Decided (FitsIn kind form run)
-in_decided kind form run = both_decided (IsAmong form.kinds kind) (Fits kind (bytes_of form.length) run)
-    (among_decided form.kinds kind) (fits_decided kind (bytes_of form.length) run)
+in_decided kind form run = both_decided (IsChosen form.kinds kind) (Fits kind (bytes_of form.length) run)
+    (chosen_decided form.kinds kind) (fits_decided kind (bytes_of form.length) run)
 
 -- the kind that is tried first
 pub record HasFirstKind (form : Form) (run : List (ℤ × ℤ)) : Type 0 where

@@ -94,8 +94,8 @@ pub taken_in : (kind : Kind) (form : Form) (run : List (ℤ × ℤ)) (kinds : Ki
     → (IsTrue fits ↔ Fits kind (bytes_of form.length) run) → (IsTrue answer ↔ FitsIn kind form run)
 taken_in kind form run kinds fits answer same is says = rw (is, same) (both (contains form.kinds kind) fits says)
   where
-    both : (among fits : Bool) → (IsTrue fits ↔ Fits kind (bytes_of form.length) run)
-        → (IsTrue (among && fits) ↔ IsTrue among × Fits kind (bytes_of form.length) run)
+    both : (chosen fits : Bool) → (IsTrue fits ↔ Fits kind (bytes_of form.length) run)
+        → (IsTrue (chosen && fits) ↔ IsTrue chosen × Fits kind (bytes_of form.length) run)
     both true fits says = (λ t. (refl, says.0 t), λ h. says.1 h.1)
     both false fits says = (λ t. absurd cc, λ h. absurd (let no = h.0 in cc))
 

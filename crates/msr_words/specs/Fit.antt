@@ -6,7 +6,7 @@ use Rattle.msr_steim.specs.Word.{FitsBits}
 use Rattle.msr_kinds.specs.declared.kinds.Kind.{Kind}
 use Rattle.msr_kinds.specs.declared.kinds.Kind.TheVariants.{Int16, Int24, Int32, Steim1, Steim2}
 use Rattle.msr_kinds.specs.declared.forms.Form.{Form}
-use Rattle.msr_kinds.specs.Kinds.{IsAmong}
+use Rattle.msr_kinds.specs.Kinds.{IsChosen}
 use Rattle.msr_kinds.specs.Lengths.{bytes_of}
 use Rattle.msr_words.specs.Division.{CanDivide}
 use Rattle.msr_kinds.specs.RecordLength.{words_of}
@@ -52,7 +52,7 @@ Fits kind bytes run = (length run ≤ most_counted) × HasRoom kind bytes run
 
 -- the form has records of that kind, and the run fits one of them
 abbrev pub FitsIn : Kind → Form → List (ℤ × ℤ) → Type 0
-FitsIn kind form run = IsAmong form.kinds kind × Fits kind (bytes_of form.length) run
+FitsIn kind form run = IsChosen form.kinds kind × Fits kind (bytes_of form.length) run
 
 -- it fits a record of some kind that the form has
 abbrev pub FitsAny : Form → List (ℤ × ℤ) → Type 0

@@ -19,7 +19,7 @@ use Rattle.msr_words.specs.Fit.{FitsIntegers, FitsInt32, FitsSteim, HasRoom, Fit
 use Rattle.msr_kinds.specs.RecordLength.{words_of}
 use Rattle.msr_kinds.specs.declared.forms.Form.{Form}
 use Rattle.msr_kinds.specs.Lengths.{bytes_of}
-use Rattle.msr_kinds.proofs.KindLemmas.{int32_is_among}
+use Rattle.msr_kinds.proofs.KindLemmas.{int32_is_chosen}
 
 -- if each part after a cut fits by itself, none of the samples before it is needed; and the other way round
 pub back_step_by_suffix : (fits : List (ℤ × ℤ) → Type 0) → SuffixLaw fits → BackStepLaw 0 fits
@@ -252,7 +252,7 @@ back_step_any form front back h =
 pub empty_any : (form : Form) → FitsAny form []
 empty_any form =
     let least = form.length.least in
-    (Int32, (int32_is_among form.kinds, empty_kind Int32 (bytes_of form.length) (omega arith)))
+    (Int32, (int32_is_chosen form.kinds, empty_kind Int32 (bytes_of form.length) (omega arith)))
 
 within_any : (kind : Kind) (form : Form) → most_in kind form ≤ most_any form
 within_any Int16 form = omega arith
@@ -272,7 +272,7 @@ size_any form run h =
 pub short_any : (form : Form) → FitsShort (FitsAny form)
 short_any form run short =
     let least = form.length.least in
-    (Int32, (int32_is_among form.kinds, (omega arith, omega arith)))
+    (Int32, (int32_is_chosen form.kinds, (omega arith, omega arith)))
 
 -- the laws of the trackers
 pub kind_laws : (kind : Kind) → TrackerLaws
