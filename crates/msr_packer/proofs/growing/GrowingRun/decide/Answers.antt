@@ -1,4 +1,6 @@
-use Rattle.std.proofs.Common.{◌≡◌, arith, length}
+use Rattle.std.proofs.Common.{◌≡◌, arith, inl, inr, length, subst}
+use Rattle.std.proofs.lemmas.Bool.{cases_lt}
+use Rattle.msr_packer.specs.Growing.{IsTracked}
 use Rattle.msr_packer.proofs.Streaming.{growing_of, growing_reaches}
 use Rattle.msr_packer.proofs.growing.GrowingRun.decide.Goals as goal
 
@@ -8,7 +10,7 @@ returns-then-found-samples-clause-decided c = record {
   kind = c.next_step-found.ensures.kind;
   ends = c.next_step-found.ensures.ends;
   before_last = omega arith;
-  past = growing_reaches c.args.record_length.bytes c.args.samples.now c.args.frontier c.args.from
+  past = growing_reaches c.args.form c.args.samples.now c.args.frontier c.args.from
       c.next_step-found.result.step.end c.next_step-found.result.step.start c.args.self.now c.requires.within
       c.requires.growing c.next_step-found.ensures.step;
 }
@@ -19,6 +21,19 @@ returns-clause-open c = λ e.
     let within = step.reached.1 in
     let past = c.requires.growing.past in
     let same : c.next_step-found.result.step.end ≡ length c.args.samples.now = omega arith in
-    growing_of c.args.record_length.bytes c.args.record_length.least c.args.samples.now c.args.frontier
+    growing_of c.args.form c.args.samples.now c.args.frontier
     c.next_step-found.result.step.end c.next_step-found.result.step.start c.of.result
     (omega arith) same step c.of.ensures.start c.of.ensures.tracked
+
+-- the tracker took all samples up to the n-th, and not all of these: so one is left
+pub next_step-found-requires : goal.next_step-found-requires
+next_step-found-requires c =
+    let past = c.requires.growing.past in
+    elim (cases_lt c.args.from (length c.args.samples.now)) [
+      | inl less ↦ omega arith
+      | inr all ↦
+          let same : c.args.from ≡ length c.args.samples.now = omega arith in
+          let tracked = subst (λ n. IsTracked c.args.form c.args.samples.now c.args.self.now.start n
+          c.args.self.now.tracker) same c.requires.growing.tracked in
+          absurd ?
+    ]
