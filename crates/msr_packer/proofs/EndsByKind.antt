@@ -153,7 +153,7 @@ module _ (form : Form) (samples : List ℤ) (g : ℕ) where
       let least = form.length.least in
       record {
         fits = empty_run (bytes_of form.length) samples g kind (omega arith) within;
-        chosen = λ on. omega arith;
+        chosen = λ on. absurd (omega arith);
         furthest = λ b run. absurd (not run.2.0);
       }
 

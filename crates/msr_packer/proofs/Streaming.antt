@@ -6,7 +6,7 @@ use Rattle.msr_kinds.specs.declared.forms.Form.{Form}
 use Rattle.msr_kinds.specs.Kinds.{IsChosen}
 use Rattle.msr_kinds.specs.Lengths.{bytes_of}
 use Rattle.msr_words.specs.Segment.{run_points}
-use Rattle.msr_words.specs.Fit.{FitsIn, FitsAny, IsRun}
+use Rattle.msr_words.specs.Fit.{Fits, FitsIn, FitsAny, IsRun}
 use Rattle.msr_words.specs.Laws.{most_any}
 use Rattle.msr_words.specs.Lemmas.KindLaws.{back_step_any, empty_any, empty_kind}
 use Rattle.msr_words.specs.Packing.{IsStep}

@@ -12,7 +12,7 @@ use Rattle.msr_packer.proofs.kind_of.Goals as goal
 -- a kind that the form has, and that does not reach the cut, ends before it
 ends_before : (answer : Bool) (chosen : Type 0) (cut end : ℕ) → (IsTrue answer ↔ chosen × (cut ≤ end))
     → answer ≡ false → chosen → end < cut
-ends_before answer chosen cut end says no has = elim (cases_lt end cut) [
+ends_before answer chosen cut end says not has = elim (cases_lt end cut) [
   | inl less ↦ less
   | inr reaches ↦ absurd (let yes = says.1 (has, reaches) in cc)
 ]
@@ -48,7 +48,7 @@ pub returns-then-reaches-2 : goal.returns-then-reaches-2
 returns-then-reaches-2 c =
     let here : c.args.frontier ≡ c.args.found.step.start = omega arith in
     let order = c.requires.fits.0 in
-    let reaches = c.reaches-2.ensures.0 c.if-reaches-2.true in
+    let reaches = c.reaches-else-reaches.ensures.0 c.if-reaches-2.true in
     subst (λ a. IsFirstKind c.args.form (run_points c.args.samples.now a c.args.end) Steim1) here
     (first_by_ends c.args.form c.args.samples.now c.args.frontier c.args.found.step.end
     c.args.found.ends c.requires.ends c.args.end c.requires.near (omega arith) c.requires.fits.1 Steim1 reaches.0 before
@@ -67,7 +67,7 @@ pub returns-then-reaches-3 : goal.returns-then-reaches-3
 returns-then-reaches-3 c =
     let here : c.args.frontier ≡ c.args.found.step.start = omega arith in
     let order = c.requires.fits.0 in
-    let reaches = c.reaches-3.ensures.0 c.if-reaches-3.true in
+    let reaches = c.reaches-else-reaches-2.ensures.0 c.if-reaches-3.true in
     subst (λ a. IsFirstKind c.args.form (run_points c.args.samples.now a c.args.end) Int16) here
     (first_by_ends c.args.form c.args.samples.now c.args.frontier c.args.found.step.end
     c.args.found.ends c.requires.ends c.args.end c.requires.near (omega arith) c.requires.fits.1 Int16 reaches.0 before
@@ -77,8 +77,8 @@ returns-then-reaches-3 c =
         → end_of c.args.found.ends other < c.args.end
     before Steim2 lower has = ends_before c.reaches.result (IsChosen c.args.form.kinds Steim2) c.args.end
         c.args.found.ends.steim2 c.reaches.ensures c.if-reaches.false has
-    before Steim1 lower has = ends_before c.reaches-2.result (IsChosen c.args.form.kinds Steim1) c.args.end
-        c.args.found.ends.steim1 c.reaches-2.ensures c.if-reaches-2.false has
+    before Steim1 lower has = ends_before c.reaches-else-reaches.result (IsChosen c.args.form.kinds Steim1) c.args.end
+        c.args.found.ends.steim1 c.reaches-else-reaches.ensures c.if-reaches-2.false has
     before Int16 lower has = omega arith
     before Int24 lower has = omega arith
     before Int32 lower has = omega arith
@@ -87,7 +87,7 @@ pub returns-then-reaches-4 : goal.returns-then-reaches-4
 returns-then-reaches-4 c =
     let here : c.args.frontier ≡ c.args.found.step.start = omega arith in
     let order = c.requires.fits.0 in
-    let reaches = c.reaches-4.ensures.0 c.if-reaches-4.true in
+    let reaches = c.reaches-else-reaches-3.ensures.0 c.if-reaches-4.true in
     subst (λ a. IsFirstKind c.args.form (run_points c.args.samples.now a c.args.end) Int24) here
     (first_by_ends c.args.form c.args.samples.now c.args.frontier c.args.found.step.end
     c.args.found.ends c.requires.ends c.args.end c.requires.near (omega arith) c.requires.fits.1 Int24 reaches.0 before
@@ -97,10 +97,10 @@ returns-then-reaches-4 c =
         → end_of c.args.found.ends other < c.args.end
     before Steim2 lower has = ends_before c.reaches.result (IsChosen c.args.form.kinds Steim2) c.args.end
         c.args.found.ends.steim2 c.reaches.ensures c.if-reaches.false has
-    before Steim1 lower has = ends_before c.reaches-2.result (IsChosen c.args.form.kinds Steim1) c.args.end
-        c.args.found.ends.steim1 c.reaches-2.ensures c.if-reaches-2.false has
-    before Int16 lower has = ends_before c.reaches-3.result (IsChosen c.args.form.kinds Int16) c.args.end
-        c.args.found.ends.int16 c.reaches-3.ensures c.if-reaches-3.false has
+    before Steim1 lower has = ends_before c.reaches-else-reaches.result (IsChosen c.args.form.kinds Steim1) c.args.end
+        c.args.found.ends.steim1 c.reaches-else-reaches.ensures c.if-reaches-2.false has
+    before Int16 lower has = ends_before c.reaches-else-reaches-2.result (IsChosen c.args.form.kinds Int16) c.args.end
+        c.args.found.ends.int16 c.reaches-else-reaches-2.ensures c.if-reaches-3.false has
     before Int24 lower has = omega arith
     before Int32 lower has = omega arith
 
@@ -119,10 +119,10 @@ returns-else-reaches-4 c =
         → end_of c.args.found.ends other < c.args.end
     before Steim2 lower has = ends_before c.reaches.result (IsChosen c.args.form.kinds Steim2) c.args.end
         c.args.found.ends.steim2 c.reaches.ensures c.if-reaches.false has
-    before Steim1 lower has = ends_before c.reaches-2.result (IsChosen c.args.form.kinds Steim1) c.args.end
-        c.args.found.ends.steim1 c.reaches-2.ensures c.if-reaches-2.false has
-    before Int16 lower has = ends_before c.reaches-3.result (IsChosen c.args.form.kinds Int16) c.args.end
-        c.args.found.ends.int16 c.reaches-3.ensures c.if-reaches-3.false has
-    before Int24 lower has = ends_before c.reaches-4.result (IsChosen c.args.form.kinds Int24) c.args.end
-        c.args.found.ends.int24 c.reaches-4.ensures c.if-reaches-4.false has
+    before Steim1 lower has = ends_before c.reaches-else-reaches.result (IsChosen c.args.form.kinds Steim1) c.args.end
+        c.args.found.ends.steim1 c.reaches-else-reaches.ensures c.if-reaches-2.false has
+    before Int16 lower has = ends_before c.reaches-else-reaches-2.result (IsChosen c.args.form.kinds Int16) c.args.end
+        c.args.found.ends.int16 c.reaches-else-reaches-2.ensures c.if-reaches-3.false has
+    before Int24 lower has = ends_before c.reaches-else-reaches-3.result (IsChosen c.args.form.kinds Int24) c.args.end
+        c.args.found.ends.int24 c.reaches-else-reaches-3.ensures c.if-reaches-4.false has
     before Int32 lower has = omega arith

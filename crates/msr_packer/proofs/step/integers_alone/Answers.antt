@@ -50,8 +50,8 @@ with_wide_integers-requires c =
         ]
       ]) by_int16 three;
       ends = longer_ends form samples g e16 g g e16 (empty_run bytes samples g Steim2 (omega arith) (omega arith))
-          (λ on. omega arith) (empty_run bytes samples g Steim1 (omega arith) (omega arith))
-          (λ on. omega arith) is.fits (λ _. chosen)
+          (λ on. absurd (omega arith)) (empty_run bytes samples g Steim1 (omega arith) (omega arith))
+          (λ on. absurd (omega arith)) is.fits (λ _. chosen)
           (λ c near run. let less = none2 g c (omega arith) (run.0, run.1, run.2.1) in absurd (omega arith))
           (λ c near run. let less = none1 g c (omega arith) (run.0, run.1, run.2.1) in absurd (omega arith))
           (λ c near run. inl (is.furthest c (run.0, run.1, run.2.1))) _ refl refl refl;

@@ -39,7 +39,7 @@ with_wide_integers-requires-clause-ends c =
     let two = c.steim2_end-reach.ensures.end in
     longer_ends c.args.form c.args.samples.now g c.or-best.result.end
     c.steim2_end-reach.result.end g c.integers_end-int16.result two.fits two.chosen
-    (empty_run c.args.form.length.bytes c.args.samples.now g Steim1 (omega arith) (omega arith)) (λ on. omega arith)
+    (empty_run c.args.form.length.bytes c.args.samples.now g Steim1 (omega arith) (omega arith)) (λ on. absurd (omega arith))
     c.integers_end-int16.ensures.fits c.integers_end-int16.ensures.chosen
     (λ e near run. two.furthest e run)
     (λ e near run. elim (c.steim1_is_short.ensures.short c.if-steim1_is_short.true g e (omega arith) run) [

@@ -4,7 +4,7 @@ use Rattle.msr_packer.proofs.blocks.BlockPacker.next_piece.Goals as goal
 
 pub returns-clause-given : goal.returns-clause-given
 returns-clause-given c = λ form samples runs separators p.
-    let most = c.most-most.ensures in
+    let most = c.longest_run-most.ensures in
     packs_next form samples runs separators c.self.inside.held c.next_piece.new.self c.self.inside.ended
     c.next_piece.result c.next_piece.ensures.given (c.next_piece.ensures.stays (omega arith))
     (rw (← c.self.view_is) at p)

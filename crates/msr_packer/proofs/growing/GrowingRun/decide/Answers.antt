@@ -1,6 +1,9 @@
-use Rattle.std.proofs.Common.{◌≡◌, arith, inl, inr, length, subst}
+use Rattle.std.proofs.Common.{◌≡◌, arith, inl, inr, length, refl, subst}
 use Rattle.std.proofs.lemmas.Bool.{cases_lt}
-use Rattle.msr_packer.specs.Growing.{IsTracked}
+use Rattle.msr_kinds.specs.Lengths.{bytes_of}
+use Rattle.msr_words.specs.Fit.{Fits}
+use Rattle.msr_words.specs.Segment.{run_points}
+use Rattle.msr_packer.specs.Growing.{kind_of_tracker}
 use Rattle.msr_packer.proofs.Streaming.{growing_of, growing_reaches}
 use Rattle.msr_packer.proofs.growing.GrowingRun.decide.Goals as goal
 
@@ -25,15 +28,17 @@ returns-clause-open c = λ e.
     c.next_step-found.result.step.end c.next_step-found.result.step.start c.of.result
     (omega arith) same step c.of.ensures.start c.of.ensures.tracked
 
--- the tracker took all samples up to the n-th, and not all of these: so one is left
+-- the samples up to the n-th fit, and all of them do not: so one is left
 pub next_step-found-requires : goal.next_step-found-requires
 next_step-found-requires c =
+    let before = c.requires.growing.before in
     let past = c.requires.growing.past in
     elim (cases_lt c.args.from (length c.args.samples.now)) [
       | inl less ↦ omega arith
       | inr all ↦
           let same : c.args.from ≡ length c.args.samples.now = omega arith in
-          let tracked = subst (λ n. IsTracked c.args.form c.args.samples.now c.args.self.now.start n
-          c.args.self.now.tracker) same c.requires.growing.tracked in
-          absurd ?
+          absurd (c.in_default.ensures.none c.args.form c.args.self.now.start (omega arith)
+          c.requires.growing.tracked refl
+          (subst (λ n. Fits (kind_of_tracker c.args.self.now.tracker) (bytes_of c.args.form.length)
+          (run_points c.args.samples.now c.args.self.now.start n)) same c.requires.growing.tracked.fits.1))
     ]
