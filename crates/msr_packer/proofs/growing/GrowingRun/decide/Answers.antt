@@ -1,7 +1,7 @@
 use Rattle.std.proofs.Common.{◌≡◌, arith, inl, inr, length, refl, subst}
 use Rattle.std.proofs.lemmas.Bool.{cases_lt}
 use Rattle.msr_kinds.specs.Lengths.{bytes_of}
-use Rattle.msr_words.specs.Fit.{Fits}
+use Rattle.msr_words.specs.Fit.{Fits, FitsIn, IsRun}
 use Rattle.msr_words.specs.Segment.{run_points}
 use Rattle.msr_packer.specs.Growing.{kind_of_tracker}
 use Rattle.msr_packer.proofs.Streaming.{growing_of, growing_reaches}
@@ -42,3 +42,12 @@ next_step-found-requires c =
           (subst (λ n. Fits (kind_of_tracker c.args.self.now.tracker) (bytes_of c.args.form.length)
           (run_points c.args.samples.now c.args.self.now.start n)) same c.requires.growing.tracked.fits.1))
     ]
+
+-- the run to the end of the step is one to the last sample
+pub of-requires : goal.of-requires
+of-requires c =
+    let run = c.next_step-found.ensures.kind in
+    let within = run.1 in
+    let same : c.next_step-found.result.step.end ≡ length c.args.samples.now = omega arith in
+    subst (IsRun (FitsIn c.next_step-found.result.step.kind c.args.form) c.args.samples.now
+    c.next_step-found.result.step.start) same run

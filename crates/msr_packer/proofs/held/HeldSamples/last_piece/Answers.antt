@@ -1,6 +1,17 @@
-use Rattle.std.proofs.Common.{rules, ◌≡◌, length}
+use Rattle.std.proofs.Common.{rules, ◌≡◌, arith, length}
 use Rattle.msr_packer.proofs.Holding.{ends_with, shows_next}
 use Rattle.msr_packer.proofs.held.HeldSamples.last_piece.Goals as goal
+
+pub piece_of-requires : goal.piece_of-requires
+piece_of-requires c =
+    let end : c.len-end.result ≡ length c.args.self.now.samples.items = search rules in
+    record {
+      form = c.args.self.now.form;
+      number = length c.args.self.now.samples.items;
+      inside = c.requires.sound.inside;
+      within = omega arith;
+      counted = c.requires.sound.number;
+    }
 
 pub returns-clause-canonical : goal.returns-clause-canonical
 returns-clause-canonical c = λ samples runs separators w.
