@@ -140,8 +140,8 @@ abbrev HasSamples : Packed → Type 0
 HasSamples packed = 1 ≤ length packed.segment.samples
 
 -- the rows of all segments' records are the segments, cut
-all_cut : (form : Form) (n : ℕ) (segments : List Segment) (packed : List Packed) (before rows : List Row) (bytes : List ℕ)
-    → All HasSamples packed → All (IsPacked form) packed → AreCuts segments before
+all_cut : (form : Form) (n : ℕ) (segments : List Segment) (packed : List Packed) (before rows : List Row)
+    (bytes : List ℕ) → All HasSamples packed → All (IsPacked form) packed → AreCuts segments before
     → AreWritten (bytes_of form.length) n (flat_map cuts_of packed) rows bytes
     → AreCuts (segments ++ map segment_of_packed packed) (before ++ rows)
 all_cut form n segments [] before rows bytes some packings cuts are =

@@ -76,6 +76,8 @@ pub output_once : (form : Form) (packed others : List Packed) (rows more : List 
 output_once form packed others rows more bytes text e first second =
     let same : packed ≡ others = all_packed form packed others e first.packings second.packings in
     let records : AreWritten (bytes_of form.length) 1 (flat_map cuts_of packed) more text =
-    subst (λ (p : List Packed). AreWritten (bytes_of form.length) 1 (flat_map cuts_of p) more text) (sym same) second.records in
-    let both = one_written (bytes_of form.length) 1 (flat_map cuts_of packed) rows more bytes text first.records records in
+    subst (λ (p : List Packed). AreWritten (bytes_of form.length) 1 (flat_map cuts_of p) more text)
+    (sym same) second.records in
+    let both = one_written (bytes_of form.length) 1 (flat_map cuts_of packed) rows more bytes text
+    first.records records in
     (same, both.0, both.1)

@@ -172,7 +172,8 @@ begun_longer start now w packed segment more opened other h fits form is_open =
       is_open = is_open;
       samples = All-append (FitsSigned w32) segment.samples more h.samples fits;
       packings = h.packings;
-      records = records_longer (bytes_of w.form.length) 1 (flat_map cuts_of packed) segment more h.runs h.rows h.bytes within h.records;
+      records = records_longer (bytes_of w.form.length) 1 (flat_map cuts_of packed) segment more h.runs h.rows
+          h.bytes within h.records;
       next = h.next ∙ number_longer 1 (flat_map cuts_of packed) segment (longer_by segment more) h.runs;
       takes = h.takes;
       whole = h.whole;
@@ -304,7 +305,8 @@ refused_longer start now w packed segment more opened writable h =
     let b = begins_all w.form segment.samples h.runs opened.separators opened.packer.held
     opened.packer.offset opened.packer.current p.holds p.stays more in
     begun_refused start now w packed segment (longer_by segment more) opened writable h
-    (records_longer (bytes_of w.form.length) 1 (flat_map cuts_of packed) segment more h.runs h.rows h.bytes within h.records)
+    (records_longer (bytes_of w.form.length) 1 (flat_map cuts_of packed) segment more h.runs h.rows h.bytes within
+    h.records)
     (record { others = b.0; places = b.1; canonical = b.2 })
 
 pub refused_now : (start now : Device) (w : Writing) (packed : List Packed) (segment : Segment) (opened : Opened)

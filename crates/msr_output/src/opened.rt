@@ -143,7 +143,8 @@ impl OpenSegment {
         ensures { (segment : Segment) (separator : ℕ) → self.now.key ≡ segment.key → self.now.start ≡ segment.start
             → Shows segment.samples self.now.packer.shown self.now.packer.before
             (record { run = run; separator = separator })
-            → OnOk result (AppendsRecordOfRun (bytes_of self.now.form.length) number segment run out.old.items out.new.items) }
+            → OnOk result (AppendsRecordOfRun (bytes_of self.now.form.length) number segment run
+            out.old.items out.new.items) }
     {
         let first = self.key.rate.nominal(self.start, run.start).unwrap();
         encode_record(

@@ -244,7 +244,8 @@ prefix_written start now w packed None None goes h =
 prefix_written start now w packed None (Some opened) goes h = absurd h
 prefix_written start now w packed (Some segment) None goes h = absurd h
 prefix_written start now w packed (Some segment) (Some opened) goes h =
-    (refused_now start now w packed segment opened (writable_now opened goes.can segment h.runs h.is_open h.samples) h).0
+    (refused_now start now w packed segment opened
+    (writable_now opened goes.can segment h.runs h.is_open h.samples) h).0
 
 -- what was written so far is a prefix of the output of all segments, with the one that has not ended
 pub prefix_lined : (start now : Device) (lined : Lined) (packed : List Packed) (current : Option Segment)

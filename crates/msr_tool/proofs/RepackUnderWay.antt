@@ -152,7 +152,8 @@ done choice source0 sink0 sink segments lines counts report gave can wrote least
             most = rw same_tolerance most;
             lines = rw same_lines (proper_lines all lines writable wrote.are_lines);
             records = rw (same_lines, records_of_lines all lines wrote.are_lines)
-                (few_runs (bytes_of form.length) (count_of_runs all) (length bytes) (rw wrote.same_form some) count wrote.written.short);
+                (few_runs (bytes_of form.length) (count_of_runs all) (length bytes) (rw wrote.same_form some) count
+                wrote.written.short);
           };
           is_form = record { first = is_first; segments = rw same_lines wrote.forms };
         };

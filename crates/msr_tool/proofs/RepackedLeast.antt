@@ -55,8 +55,8 @@ separating_same a b same samples separators is =
       };
     }
 
-same_shown : (a b : RecordForm) → AreSame a b → (part : Part) (line other : SegmentLine) → form_line line ≡ form_line other
-    → IsShownBy a part line → IsShownBy b part other
+same_shown : (a b : RecordForm) → AreSame a b → (part : Part) (line other : SegmentLine)
+    → form_line line ≡ form_line other → IsShownBy a part line → IsShownBy b part other
 same_shown a b forms part line other same is =
     let separators : line.separators.items ≡ other.separators.items = ap (λ (l : FormLine). l.separators) same in
     record {

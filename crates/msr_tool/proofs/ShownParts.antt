@@ -54,7 +54,8 @@ record AreRuns (a : ℕ) (runs : List Run) (end : ℕ) (rows : List Row) : Type 
 
 are_runs : (form : Form) (n : ℕ) (segment : Segment) (runs : List Run) (a : ℕ) (rows : List Row) (bytes : List ℕ)
     → All (IsFitting form segment.samples) runs → Joins a runs (length segment.samples)
-    → AreWritten (bytes_of form.length) n (cuts_at segment runs) rows bytes → AreRuns a runs (length segment.samples) rows
+    → AreWritten (bytes_of form.length) n (cuts_at segment runs) rows bytes
+    → AreRuns a runs (length segment.samples) rows
 are_runs form n segment [] a rows bytes fitting joined are =
     subst (λ (r : List Row). AreRuns a [] (length segment.samples) r) (sym are.0)
     (record { same = refl; size = omega (arith, joined) })

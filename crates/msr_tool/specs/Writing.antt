@@ -79,7 +79,8 @@ pub record LinesMore (start now : Device) (lined : Lined) (packed : List Packed)
   pub after : HasLined start now lined all current
 
 -- all of the output of these segments was written, and each has its line
-pub record LinesAll (form : Form) (start now : Device) (segments : List Segment) (lines : List SegmentLine) : Type 0 where
+pub record LinesAll (form : Form) (start now : Device) (segments : List Segment)
+    (lines : List SegmentLine) : Type 0 where
   pub packed : List Packed
   pub rows : List Row
   pub writing : Writing

@@ -39,7 +39,8 @@ pub record Agreeing (form : Form) (lines : List SegmentLine) (records : List Rec
   pub runs : c.runs ≡ runs_of_rows 0 (open_rows last)
 
 -- Whatever follows, the records and parts so far are not shown by these lines.
-pub record Disagreeing (form : Form) (lines : List SegmentLine) (records : List Record) (parts : List Part) : Type 0 where
+pub record Disagreeing (form : Form) (lines : List SegmentLine) (records : List Record)
+    (parts : List Part) : Type 0 where
   pub none : (more : List Record) (rest : List Part) → All (IsFull (bytes_of form.length)) (records ++ more)
       → AreShownBy form (parts ++ rest) lines → ⊥
 
@@ -208,7 +209,8 @@ add_row form lines records parts last found row old new h full k = record {
       let d = h.differs (sym k.agrees ∙ f) in
       record {
         none = λ more rest all are. d.none (found ∷ more) rest
-            (subst (λ (rs : List Record). All (IsFull (bytes_of form.length)) rs) (append_assoc records (found ∷ []) more) all) are;
+            (subst (λ (rs : List Record). All (IsFull (bytes_of form.length)) rs)
+            (append_assoc records (found ∷ []) more) all) are;
       };
 }
 
@@ -218,7 +220,9 @@ add_none : (form : Form) (lines : List SegmentLine) (records : List Record) (par
     → IsCompared form lines (records ++ found ∷ []) parts last new
 add_none form lines records parts last found new other f = record {
   agrees = λ t. absurd (both_ways new.agrees f t);
-  differs = λ _. record { none = λ more rest all are. other (all_within (IsFull (bytes_of form.length)) records more found all) };
+  differs = λ _. record {
+    none = λ more rest all are. other (all_within (IsFull (bytes_of form.length)) records more found all);
+  };
 }
 
 -- the record that was read has the length and the row that are told of it
@@ -236,7 +240,8 @@ some_told None (Some row) e some = absurd cc
 some_told (Some next) row e some = (next, refl)
 
 not_full : (form : Form) (found : Record) (next : NextRecord) → next.length ≡ found.length
-    → row_told next.row ≡ found.row → ((row : NextRow) → HasFullRow (bytes_of form.length) next row → ⊥) → IsFull (bytes_of form.length) found → ⊥
+    → row_told next.row ≡ found.row → ((row : NextRow) → HasFullRow (bytes_of form.length) next row → ⊥)
+    → IsFull (bytes_of form.length) found → ⊥
 not_full form found next length_is row_is other full =
     let row = some_told next.row found.row row_is full.some in
     other row.0 (record { length_is = length_is ∙ full.length_is; row_is = row.1 })
@@ -264,7 +269,8 @@ compare_more : (form : Form) (lines : List SegmentLine) (records : List Record) 
     (last : Option Part) (found : Record) (next : NextRecord) (row : Option NextRow) (before after : Compared)
     → IsCompared form lines records parts last before → next.length ≡ found.length
     → row_told next.row ≡ found.row
-    → MatchOption row ((told : NextRow) → HasFullRow (bytes_of form.length) next told → ⊥) (HasFullRow (bytes_of form.length) next)
+    → MatchOption row ((told : NextRow) → HasFullRow (bytes_of form.length) next told → ⊥)
+    (HasFullRow (bytes_of form.length) next)
     → TakesRow form lines before row after
     → IsCompared form lines (records ++ found ∷ []) (parts_with next.row parts last) (last_with next.row last) after
 compare_more form lines records parts last found next None before after h length_is row_is other takes =
@@ -281,7 +287,8 @@ pub follows_step : (form : Form) (lines : List SegmentLine) (old new : Following
     (found : Record) (next : NextRecord) (row : Option NextRow) (before after : Compared)
     → Follows form lines old records before → next.length ≡ found.length → row_told next.row ≡ found.row
     → StepsTo old next.row new
-    → MatchOption row ((told : NextRow) → HasFullRow (bytes_of form.length) next told → ⊥) (HasFullRow (bytes_of form.length) next)
+    → MatchOption row ((told : NextRow) → HasFullRow (bytes_of form.length) next told → ⊥)
+    (HasFullRow (bytes_of form.length) next)
     → TakesRow form lines before row after → Follows form lines new (records ++ found ∷ []) after
 follows_step form lines old new records found next row before after h length_is row_is step is takes =
     let rows : rows_of_records records ++ option_to_list (row_told next.row)
