@@ -2,30 +2,24 @@
 #![tactic(auto)]
 
 ghost use Rattle.std.specs.Prelude.{◌≡◌, ◌<◌, ◌↔◌, length, IsTrue, IsFalse};
-ghost use Rattle.msr_kinds.specs.Lengths.{bytes_of};
-ghost use Rattle.msr_words.specs.Fit.{Fits, IsRun};
+ghost use Rattle.msr_kinds.specs.Forms.{all_kinds};
+ghost use Rattle.msr_words.specs.Fit.{FitsIn, IsRun};
 ghost use Rattle.msr_check.specs.HoldsBoth.{HoldsBoth};
 ghost use Rattle.msr_words.specs.Packing.{NoneHolds, IsPacking, IsSeparating, IsLeast};
 
-use msr_kinds::{Kind, Length};
+use msr_kinds::{Form, Kind, Length};
 use msr_words::{Fitting, Run, run_fits};
 
-/// Whether some run of that kind that fits holds both samples. It is enough to try the starts that the kind needs,
-/// at and before the first sample, and the end after the second.
-fn holds_both(
-    kind: Kind,
-    samples: &[i32],
-    record_length: Length,
-    first: usize,
-    second: usize,
-) -> bool
+/// Whether some run of that kind, which the form has, holds both samples. It is enough to try the starts that the kind
+/// needs, at and before the first sample, and the end after the second.
+fn holds_both(kind: Kind, samples: &[i32], form: Form, first: usize, second: usize) -> bool
     requires order { first < second }
     requires within { second < length samples.now }
-    ensures { IsTrue result ↔ HoldsBoth kind (bytes_of record_length) samples.now first second }
+    ensures { IsTrue result ↔ HoldsBoth kind form samples.now first second }
 {
     let most = first.min(kind.look_back());
     for back in 0..most + 1 {
-        if run_fits(kind, samples, first - back, second + 1, record_length) {
+        if run_fits(kind, samples, first - back, second + 1, form) {
             return true;
         }
     }
@@ -33,48 +27,57 @@ fn holds_both(
 }
 
 /// Whether some run of some kind that fits holds both samples.
-fn some_holds_both(samples: &[i32], record_length: Length, first: usize, second: usize) -> bool
+fn some_holds_both(samples: &[i32], form: Form, first: usize, second: usize) -> bool
     requires order { first < second }
     requires within { second < length samples.now }
-    ensures { IsFalse result ↔ NoneHolds (bytes_of record_length) samples.now first second }
+    ensures { IsFalse result ↔ NoneHolds form samples.now first second }
 {
-    holds_both(Kind::Steim2, samples, record_length, first, second)
-        | holds_both(Kind::Steim1, samples, record_length, first, second)
-        | holds_both(Kind::Int16, samples, record_length, first, second)
-        | holds_both(Kind::Int24, samples, record_length, first, second)
-        | holds_both(Kind::Int32, samples, record_length, first, second)
+    holds_both(Kind::Steim2, samples, form, first, second)
+        | holds_both(Kind::Steim1, samples, form, first, second)
+        | holds_both(Kind::Int16, samples, form, first, second)
+        | holds_both(Kind::Int24, samples, form, first, second)
+        | holds_both(Kind::Int32, samples, form, first, second)
 }
 
 /// Whether the first sample stands before the second, and no run that fits holds both.
-fn none_between(samples: &[i32], record_length: Length, first: u64, second: u64) -> bool
+fn none_between(samples: &[i32], form: Form, first: u64, second: u64) -> bool
     requires { second < length samples.now }
-    ensures { IsTrue result ↔ (first < second) × NoneHolds (bytes_of record_length) samples.now first second }
+    ensures { IsTrue result ↔ (first < second) × NoneHolds form samples.now first second }
 {
-    first < second && !some_holds_both(samples, record_length, first as usize, second as usize)
+    first < second && !some_holds_both(samples, form, first as usize, second as usize)
 }
 
-/// Whether the list is of sample numbers of the segment, strictly rising, and no run that fits holds two of them.
+/// Whether the list is of sample numbers of the segment, strictly rising, and no run that fits a record of that length,
+/// of any kind, holds two of them.
 pub fn separates(samples: &[i32], record_length: Length, separators: &[u64]) -> bool
-    ensures { IsTrue result ↔ IsSeparating (bytes_of record_length) samples.now separators.now }
+    ensures { IsTrue result ↔ IsSeparating (all_kinds record_length) samples.now separators.now }
+{
+    separates_in(samples, Form::all_kinds(record_length), separators)
+}
+
+/// The same for records of that form.
+pub fn separates_in(samples: &[i32], form: Form, separators: &[u64]) -> bool
+    ensures { IsTrue result ↔ IsSeparating form samples.now separators.now }
 {
     for (i, separator) in separators.iter().enumerate() {
         if *separator >= samples.len() as u64 {
             return false;
         }
-        if i > 0 && !none_between(samples, record_length, separators[i - 1], *separator) {
+        if i > 0 && !none_between(samples, form, separators[i - 1], *separator) {
             return false;
         }
     }
     true
 }
 
-/// Whether the runs join to the whole segment, none is empty, and each fits a record of the kind that it names.
-fn is_packing(samples: &[i32], record_length: Length, runs: &[Run]) -> bool
-    ensures { IsTrue result ↔ IsPacking (bytes_of record_length) samples.now runs.now }
+/// Whether the runs join to the whole segment, none is empty, and each fits a record of the kind that it names, which
+/// the form has.
+fn is_packing(samples: &[i32], form: Form, runs: &[Run]) -> bool
+    ensures { IsTrue result ↔ IsPacking form samples.now runs.now }
 {
     let mut at: u64 = 0;
     for run in runs {
-        if run.start != at || !is_run(samples, record_length, run) {
+        if run.start != at || !is_run(samples, form, run) {
             return false;
         }
         at = run.end;
@@ -82,10 +85,10 @@ fn is_packing(samples: &[i32], record_length: Length, runs: &[Run]) -> bool
     at == samples.len() as u64
 }
 
-/// Whether the run is not empty, lies in the segment, and fits a record of its kind.
-fn is_run(samples: &[i32], record_length: Length, run: &Run) -> bool
+/// Whether the run is not empty, lies in the segment, and fits a record of its kind, which the form has.
+fn is_run(samples: &[i32], form: Form, run: &Run) -> bool
     ensures { IsTrue result ↔ (run.now.start < run.now.end)
-        × IsRun (Fits run.now.kind (bytes_of record_length)) samples.now run.now.start run.now.end }
+        × IsRun (FitsIn run.now.kind form) samples.now run.now.start run.now.end }
 {
     run.start < run.end
         && run.end <= samples.len() as u64
@@ -94,18 +97,29 @@ fn is_run(samples: &[i32], record_length: Length, run: &Run) -> bool
             samples,
             run.start as usize,
             run.end as usize,
-            record_length,
+            form,
         )
 }
 
-/// Whether the runs are a packing, the list is separating, and both have the same size; if so, the packing is least.
+/// Whether the runs are a packing into records of that length, of any kinds, the list is separating, and both have the
+/// same size; if so, the packing is least.
 pub fn shows_least(samples: &[i32], record_length: Length, runs: &[Run], separators: &[u64]) -> bool
-    ensures exact { IsTrue result ↔ IsPacking (bytes_of record_length) samples.now runs.now
-        × IsSeparating (bytes_of record_length) samples.now separators.now × (length runs.now ≡ length separators.now) }
-    ensures least { IsTrue result → IsLeast (bytes_of record_length) samples.now runs.now }
+    ensures exact { IsTrue result ↔ IsPacking (all_kinds record_length) samples.now runs.now
+        × IsSeparating (all_kinds record_length) samples.now separators.now
+        × (length runs.now ≡ length separators.now) }
+    ensures least { IsTrue result → IsLeast (all_kinds record_length) samples.now runs.now }
+{
+    shows_least_in(samples, Form::all_kinds(record_length), runs, separators)
+}
+
+/// The same for records of that form.
+pub fn shows_least_in(samples: &[i32], form: Form, runs: &[Run], separators: &[u64]) -> bool
+    ensures exact { IsTrue result ↔ IsPacking form samples.now runs.now
+        × IsSeparating form samples.now separators.now × (length runs.now ≡ length separators.now) }
+    ensures least { IsTrue result → IsLeast form samples.now runs.now }
 {
     if runs.len() != separators.len() {
         return false;
     }
-    is_packing(samples, record_length, runs) && separates(samples, record_length, separators)
+    is_packing(samples, form, runs) && separates_in(samples, form, separators)
 }

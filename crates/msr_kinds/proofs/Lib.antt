@@ -1,1 +1,2 @@
 pub mod RecordLengths
+pub mod KindLemmas

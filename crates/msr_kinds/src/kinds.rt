@@ -1,5 +1,6 @@
 //! The kinds of records.
 ghost use Rattle.std.specs.Prelude.{◌≡◌, ◌↔◌, Some};
+ghost use Rattle.msr_kinds.specs.Kinds.{contains};
 ghost use Rattle.msr_kinds.specs.Codes.{code_of};
 
 /// How a record stores its samples (SEED 2.4, blockette 1000: encoding format).
@@ -39,6 +40,27 @@ impl Kind {
             10 => Some(Kind::Steim1),
             11 => Some(Kind::Steim2),
             _ => None,
+        }
+    }
+}
+
+/// A choice of kinds: those of which records are written. Each choice has 32-bit integers, which fit every run of one
+/// sample.
+#[derive(Clone, Copy, Debug, PartialEq, Eq)]
+pub enum Kinds {
+    All,
+    /// All but 24-bit integers, which libmseed 2 and the tools built on it do not read.
+    WithoutInt24,
+}
+
+impl Kinds {
+    /// Whether the kind is one of them.
+    pub fn contains(self, kind: Kind) -> bool
+        ensures { result ≡ contains self kind }
+    {
+        match self {
+            Kinds::All => true,
+            Kinds::WithoutInt24 => kind != Kind::Int24,
         }
     }
 }

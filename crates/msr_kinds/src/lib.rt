@@ -1,8 +1,10 @@
-//! How a record stores its samples, and how long a written record is.
+//! How a record stores its samples, and how long it is.
 #![tactic(auto)]
 
+mod forms;
 mod kinds;
 mod lengths;
 
-pub use kinds::Kind;
+pub use forms::Form;
+pub use kinds::{Kind, Kinds};
 pub use lengths::Length;

@@ -26,7 +26,7 @@ pub written_some : (start old now : Device) (w : Writing) (packed : List Packed)
     → HasWritten start old w packed rows
     → Passes old now w.waiting [] left
     → IsCalm old now
-    → HasWritten start now (record { size = w.size; number = w.number; waiting = left }) packed rows
+    → HasWritten start now (record { form = w.form; number = w.number; waiting = left }) packed rows
 written_some start old now w packed rows left h p calm = record {
   bytes = h.bytes;
   taken = h.taken ++ p.taken;
@@ -65,7 +65,7 @@ written_all start old now w packed rows h p calm =
 -- or the sink failed before
 pub stopped_all : (start old now : Device) (w : Writing) (packed : List Packed) (rows : List Row) (left : List ℕ)
     → HasWritten start old w packed rows → Passes old now w.waiting [] left → HasFailed old now
-    → StopsWriting w.size start now (map segment_of_packed packed) Write
+    → StopsWriting w.form start now (map segment_of_packed packed) Write
 stopped_all start old now w packed rows left h p failed =
     let whole : h.bytes ≡ (h.taken ++ p.taken) ++ left = h.whole
     ∙ ap (λ (l : List ℕ). h.taken ++ l) (sym (append-nil w.waiting) ∙ p.whole)

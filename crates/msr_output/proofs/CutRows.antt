@@ -7,7 +7,9 @@ use Rattle.std.proofs.lemmas.List.{take_all}
 use Rattle.std.proofs.lemmas.List.Elements.{All-head, All-tail}
 use Rattle.msr_time.specs.SampleRate.{IsRoundedNominal}
 use Rattle.msr_words.specs.declared.kinds.Run.{Run}
-use Rattle.msr_words.specs.Fit.{Fits, IsRun}
+use Rattle.msr_kinds.specs.declared.forms.Form.{Form}
+use Rattle.msr_kinds.specs.Lengths.{bytes_of}
+use Rattle.msr_words.specs.Fit.{FitsIn, IsRun}
 use Rattle.msr_words.specs.Packing.{Joins}
 use Rattle.msr_rows.specs.declared.row.Key.{Key}
 use Rattle.msr_rows.specs.declared.row.Row.{Row}
@@ -65,8 +67,8 @@ first_samples segment n = record { key = segment.key; start = segment.start; sam
 take_range : (a b : ℕ) (xs : List ℤ) → a ≤ b → take a xs ++ slice_range xs a b ≡ take b xs
 take_range a b xs within = let e : a + (b - a) ≡ b = omega arith in rw e at (sym (take-add a (b - a) xs))
 
-abbrev pub IsFitting : ℕ → List ℤ → Run → Type 0
-IsFitting size samples run = IsRun (Fits run.kind size) samples run.start run.end
+abbrev pub IsFitting : Form → List ℤ → Run → Type 0
+IsFitting form samples run = IsRun (FitsIn run.kind form) samples run.start run.end
 
 same_segment : (a b : Segment) → a.key ≡ b.key → a.start ≡ b.start → a.samples ≡ b.samples → a ≡ b
 same_segment a b key start samples =
@@ -75,18 +77,18 @@ same_segment a b key start samples =
     ∙ ap (λ (s : List ℤ). record { key = b.key; start = b.start; samples = s }) samples
 
 -- the rows of further runs go on
-go_on : (size n : ℕ) (segment : Segment) (segments : List Segment) (runs : List Run) (a : ℕ)
+go_on : (form : Form) (n : ℕ) (segment : Segment) (segments : List Segment) (runs : List Run) (a : ℕ)
     (before rows : List Row) (bytes : List ℕ) → AreCuts (segments ++ first_samples segment a ∷ []) before
-    → All (IsFitting size segment.samples) runs → Joins a runs (length segment.samples)
-    → AreWritten size n (cuts_at segment runs) rows bytes
+    → All (IsFitting form segment.samples) runs → Joins a runs (length segment.samples)
+    → AreWritten (bytes_of form.length) n (cuts_at segment runs) rows bytes
     → AreCuts (segments ++ first_samples segment (length segment.samples) ∷ []) (before ++ rows)
-go_on size n segment segments [] a before rows bytes cuts fitting joined are =
+go_on form n segment segments [] a before rows bytes cuts fitting joined are =
     rw (are.0, append-nil before)
     (subst (λ (m : ℕ). AreCuts (segments ++ first_samples segment m ∷ []) before) joined cuts)
-go_on size n segment segments (run ∷ runs) a before rows bytes cuts fitting joined are =
+go_on form n segment segments (run ∷ runs) a before rows bytes cuts fitting joined are =
     let w = are.2 in
     let is_row = w.is_record.of_run in
-    let fits = All-head (IsFitting size segment.samples) run runs fitting in
+    let fits = All-head (IsFitting form segment.samples) run runs fitting in
     let start : run.start ≡ a = joined.0 in
     let ordered : a ≤ run.end = omega (arith, start, fits.0) in
     let size_is : length (take a segment.samples) ≡ a = omega (arith, length-take a segment.samples, ordered, fits.1) in
@@ -100,20 +102,20 @@ go_on size n segment segments (run ∷ runs) a before rows bytes cuts fitting jo
     let next : AreCuts (segments ++ first_samples segment run.end ∷ []) (before ++ w.row ∷ []) =
     subst (λ (s : Segment). AreCuts (segments ++ s ∷ []) (before ++ w.row ∷ [])) longer
     (cuts_go_on segments (first_samples segment a) before w.row cuts goes_on) in
-    let all = go_on size (next_number n) segment segments runs run.end (before ++ w.row ∷ []) are.0 are.1 next
-    (All-tail (IsFitting size segment.samples) run runs fitting) joined.1 are.3 in
+    let all = go_on form (next_number n) segment segments runs run.end (before ++ w.row ∷ []) are.0 are.1 next
+    (All-tail (IsFitting form segment.samples) run runs fitting) joined.1 are.3 in
     rw (w.all_rows, ← append_assoc before (w.row ∷ []) are.0) all
 
 -- the rows of a segment's runs are the segment, cut
-one_cut : (size n : ℕ) (segment : Segment) (segments : List Segment) (runs : List Run) (before rows : List Row)
-    (bytes : List ℕ) → 1 ≤ length segment.samples → All (IsFitting size segment.samples) runs
+one_cut : (form : Form) (n : ℕ) (segment : Segment) (segments : List Segment) (runs : List Run) (before rows : List Row)
+    (bytes : List ℕ) → 1 ≤ length segment.samples → All (IsFitting form segment.samples) runs
     → Joins 0 runs (length segment.samples)
     → AreCuts segments before
-    → AreWritten size n (cuts_at segment runs) rows bytes
+    → AreWritten (bytes_of form.length) n (cuts_at segment runs) rows bytes
     → AreCuts (segments ++ segment ∷ []) (before ++ rows)
-one_cut size n segment segments [] before rows bytes some fitting joined cuts are =
+one_cut form n segment segments [] before rows bytes some fitting joined cuts are =
     absurd (let e : 0 ≡ length segment.samples = joined in omega arith)
-one_cut size n segment segments (run ∷ runs) before rows bytes some fitting joined cuts are =
+one_cut form n segment segments (run ∷ runs) before rows bytes some fitting joined cuts are =
     let w = are.2 in
     let is_row = w.is_record.of_run in
     let start : run.start ≡ 0 = joined.0 in
@@ -126,8 +128,8 @@ one_cut size n segment segments (run ∷ runs) before rows bytes some fitting jo
     let begun : AreCuts (segments ++ first_samples segment run.end ∷ []) (before ++ w.row ∷ []) =
     subst (λ (s : Segment). AreCuts (segments ++ s ∷ []) (before ++ w.row ∷ [])) first
     (cuts_begin segments before w.row cuts) in
-    let all = go_on size (next_number n) segment segments runs run.end (before ++ w.row ∷ []) are.0 are.1 begun
-    (All-tail (IsFitting size segment.samples) run runs fitting) joined.1 are.3 in
+    let all = go_on form (next_number n) segment segments runs run.end (before ++ w.row ∷ []) are.0 are.1 begun
+    (All-tail (IsFitting form segment.samples) run runs fitting) joined.1 are.3 in
     let same : first_samples segment (length segment.samples) ≡ segment =
     ap (λ (s : List ℤ). record { key = segment.key; start = segment.start; samples = s })
     (take_all (length segment.samples) segment.samples (omega arith)) in
@@ -138,20 +140,20 @@ abbrev HasSamples : Packed → Type 0
 HasSamples packed = 1 ≤ length packed.segment.samples
 
 -- the rows of all segments' records are the segments, cut
-all_cut : (size n : ℕ) (segments : List Segment) (packed : List Packed) (before rows : List Row) (bytes : List ℕ)
-    → All HasSamples packed → All (IsPacked size) packed → AreCuts segments before
-    → AreWritten size n (flat_map cuts_of packed) rows bytes
+all_cut : (form : Form) (n : ℕ) (segments : List Segment) (packed : List Packed) (before rows : List Row)
+    (bytes : List ℕ) → All HasSamples packed → All (IsPacked form) packed → AreCuts segments before
+    → AreWritten (bytes_of form.length) n (flat_map cuts_of packed) rows bytes
     → AreCuts (segments ++ map segment_of_packed packed) (before ++ rows)
-all_cut size n segments [] before rows bytes some packings cuts are =
+all_cut form n segments [] before rows bytes some packings cuts are =
     rw (are.0, append-nil before, append-nil segments) cuts
-all_cut size n segments (one ∷ packed) before rows bytes some packings cuts are =
-    let split = written_split size n (cuts_of one) (flat_map cuts_of packed) rows bytes are in
-    let packing = (All-head (IsPacked size) one packed packings).packing in
-    let first = one_cut size n one.segment segments one.runs before split.first_rows split.first_bytes
+all_cut form n segments (one ∷ packed) before rows bytes some packings cuts are =
+    let split = written_split (bytes_of form.length) n (cuts_of one) (flat_map cuts_of packed) rows bytes are in
+    let packing = (All-head (IsPacked form) one packed packings).packing in
+    let first = one_cut form n one.segment segments one.runs before split.first_rows split.first_bytes
     (All-head HasSamples one packed some) packing.each_fits packing.joined cuts split.first in
-    let all = all_cut size (number_after n (cuts_of one)) (segments ++ one.segment ∷ []) packed
+    let all = all_cut form (number_after n (cuts_of one)) (segments ++ one.segment ∷ []) packed
     (before ++ split.first_rows) split.other_rows split.other_bytes (All-tail HasSamples one packed some)
-    (All-tail (IsPacked size) one packed packings) first split.others in
+    (All-tail (IsPacked form) one packed packings) first split.others in
     rw (
       split.whole,
       ← append_assoc before split.first_rows split.other_rows,
@@ -159,10 +161,10 @@ all_cut size n segments (one ∷ packed) before rows bytes some packings cuts ar
           (one.segment ∷ []) (map segment_of_packed packed),
     ) all
 
-pub output_keeps : (size tolerance : ℕ) (rows written : List Row) (packed : List Packed) (bytes : List ℕ)
+pub output_keeps : (form : Form) (tolerance : ℕ) (rows written : List Row) (packed : List Packed) (bytes : List ℕ)
     → 1 ≤ tolerance → AreSegments tolerance rows (map segment_of_packed packed) → All HasSamples packed
-    → IsOutput size packed written bytes
+    → IsOutput form packed written bytes
     → AreSegments tolerance written (map segment_of_packed packed)
-output_keeps size tolerance rows written packed bytes least segments some output =
+output_keeps form tolerance rows written packed bytes least segments some output =
     cuts_keep tolerance rows written (map segment_of_packed packed) least segments
-    (all_cut size 1 [] packed [] written bytes some output.packings cuts_none output.records)
+    (all_cut form 1 [] packed [] written bytes some output.packings cuts_none output.records)

@@ -2,6 +2,7 @@
 use Rattle.std.proofs.Common.{◌≡◌, ◌≤◌, ℕ, ◌+◌, List, [], ◌++◌, ◌∙◌, length, map, refl, append-nil, Some, None}
 use Rattle.std.specs.List.{flat_map}
 use Rattle.std.specs.Option.{option_to_list}
+use Rattle.msr_kinds.specs.declared.forms.Form.{Form}
 use Rattle.msr_packer.proofs.Holding.{begins_all, leaves_few}
 use Rattle.msr_rows.specs.declared.row.Row.{Row}
 use Rattle.msr_devices.specs.Device.{Device, Takes}
@@ -11,12 +12,12 @@ use Rattle.msr_output.specs.Opened.{HasBegun, Opened}
 use Rattle.msr_output.specs.Output.{Packed, cuts_of, segment_of_packed}
 use Rattle.msr_output.specs.Writing.{HasWritten, Writing}
 
--- the bytes that went into the sink are decided, in records of `size` bytes
-pub record HasWrittenDecided (size : ℕ) (start now : Device) (segments : List Segment) : Type 0 where
+-- the bytes that went into the sink are decided, in records of that form
+pub record HasWrittenDecided (form : Form) (start now : Device) (segments : List Segment) : Type 0 where
   pub bytes : List ℕ
   pub takes : Takes start now bytes
   pub went : now.moved ≡ start.moved + length bytes
-  pub decided : IsDecidedOutput size segments bytes
+  pub decided : IsDecidedOutput form segments bytes
 
 none_waits : (bytes taken waiting : List ℕ) → bytes ≡ taken ++ waiting → waiting ≡ [] → bytes ≡ taken
 none_waits bytes taken waiting whole none = rw none at whole ∙ append-nil taken
@@ -24,7 +25,7 @@ none_waits bytes taken waiting whole none = rw none at whole ∙ append-nil take
 -- between two segments
 pub written_decided : (start now : Device) (w : Writing) (packed : List Packed) (rows : List Row)
     → HasWritten start now w packed rows → w.waiting ≡ []
-    → HasWrittenDecided w.size start now (map segment_of_packed packed)
+    → HasWrittenDecided w.form start now (map segment_of_packed packed)
 written_decided start now w packed rows h none = record {
   bytes = h.taken;
   takes = h.takes;
@@ -48,10 +49,10 @@ written_decided start now w packed rows h none = record {
 
 -- in the middle of one
 pub begun_decided : (start now : Device) (w : Writing) (packed : List Packed) (segment : Segment) (opened : Opened)
-    → 256 ≤ w.size → HasBegun start now w packed segment opened → IsEncoded opened → w.waiting ≡ []
-    → HasWrittenDecided w.size start now (map segment_of_packed packed ++ option_to_list (Some segment))
-begun_decided start now w packed segment opened enough h encoded none =
-    let p = rw h.size at h.is_open.gives in
+    → HasBegun start now w packed segment opened → IsEncoded opened → w.waiting ≡ []
+    → HasWrittenDecided w.form start now (map segment_of_packed packed ++ option_to_list (Some segment))
+begun_decided start now w packed segment opened h encoded none =
+    let p = rw h.form at h.is_open.gives in
     record {
       bytes = h.taken;
       takes = h.takes;
@@ -65,10 +66,10 @@ begun_decided start now w packed segment opened enough h encoded none =
         all = refl;
         packings = h.packings;
         decided = (
-          begins_all w.size enough segment.samples h.runs opened.separators opened.packer.held opened.packer.offset
+          begins_all w.form segment.samples h.runs opened.separators opened.packer.held opened.packer.offset
               opened.packer.current p.holds p.stays,
-          leaves_few w.size segment.samples h.runs opened.separators opened.packer.held opened.packer.offset
-              opened.packer.current p.holds (rw p.size at encoded),
+          leaves_few w.form segment.samples h.runs opened.separators opened.packer.held opened.packer.offset
+              opened.packer.current p.holds (rw p.of_form at encoded),
         );
         records = rw (← none_waits h.bytes h.taken w.waiting h.whole none) h.records;
       };

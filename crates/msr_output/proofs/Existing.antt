@@ -3,7 +3,6 @@ use Rattle.std.proofs.Common.{◌≡◌, ℕ, zero, suc, ◌+◌, ◌-◌, ◌*�
 use Rattle.std.specs.Prelude.{All, slice_range, slice_get}
 use Rattle.std.specs.Int.{w32}
 use Rattle.std.specs.List.{flat_map}
-use Rattle.std.proofs.Math.Pow.{pow_mono}
 use Rattle.std.proofs.lemmas.List.{map-append, take-append-le, drop-append-le}
 use Rattle.std.proofs.lemmas.List.Elements.{All-nil, All-cons, All-head, All-tail, All-push, All-take, All-drop}
 use Rattle.msr_time.specs.SampleRate.{SampleRate, period_of, IsRoundedNominal}
@@ -11,7 +10,9 @@ use Rattle.msr_time.proofs.RateLemmas.{nominal_is, quotient_bounds}
 use Rattle.msr_words.specs.declared.kinds.Run.{Run}
 use Rattle.msr_words.specs.Fit.{Fits}
 use Rattle.msr_words.specs.Packing.{IsCanonical}
-use Rattle.msr_kinds.specs.RecordLength.{IsRecordLength, least_exponent}
+use Rattle.msr_kinds.specs.declared.forms.Form.{Form}
+use Rattle.msr_kinds.specs.Lengths.{bytes_of}
+use Rattle.msr_kinds.specs.RecordLength.{IsRecordLength}
 use Rattle.msr_words.specs.Segment.{points}
 use Rattle.msr_packer.proofs.PackingsExist.{has_packing}
 use Rattle.msr_packer.proofs.Least.{found}
@@ -38,9 +39,11 @@ nominal_exists rate t0 last n m h =
     let bounds = quotient_bounds (2 * (n * num) + den) (2 * den) twice in
     (t0 +ℤ pos q, nominal_is rate t0 n q bounds.0 bounds.1)
 
-pub enough_bytes : (size : ℕ) → IsRecordLength size → 256 ≤ size
-enough_bytes size power = let least : 2 ^ least_exponent ≤ 2 ^ power.exponent =
-    pow_mono {i = least_exponent} {j = power.exponent} power.least in omega (arith, least, power.power)
+-- the length of a form is one that records have
+form_length : (form : Form) → IsRecordLength (bytes_of form.length)
+form_length form =
+    let own = form.length in
+    record { exponent = own.exponent; least = own.from; most = own.to; power = own.power }
 
 -- ---- the records of runs
 
@@ -68,9 +71,10 @@ record HasOne (size n : ℕ) (segment : Segment) (run : Run) : Type 0 where
   bytes : List ℕ
   is_record : IsRecordOfRun size n segment run row bytes
 
-one_record : (size n : ℕ) (segment : Segment) (run : Run) → IsRecordLength size → IsWritableSegment segment
-    → IsSome run → IsFitting size segment.samples run → HasOne size n segment run
-one_record size n segment run power writable some fits =
+one_record : (form : Form) (n : ℕ) (segment : Segment) (run : Run) → IsWritableSegment segment
+    → IsSome run → IsFitting form segment.samples run → HasOne (bytes_of form.length) n segment run
+one_record form n segment run writable some fits =
+    let size = bytes_of form.length in
     let in_time = writable.in_time in
     let rate = segment.key.rate in
     let count = length segment.samples in
@@ -86,20 +90,21 @@ one_record size n segment run power writable some fits =
     let fit : All (FitsSigned w32) samples = All-take (FitsSigned w32) (run.end - run.start)
     (drop run.start segment.samples) (All-drop (FitsSigned w32) run.start segment.samples writable.samples) in
     let fits_points : Fits run.kind size (points before samples) =
-    subst (Fits run.kind size) (sym (points_of_run segment.samples run.start run.end (omega arith))) fits.2 in
-    let r = has_record [] segment.key nominal.0 n before samples run.kind size power writable.key.is_key
+    subst (Fits run.kind size) (sym (points_of_run segment.samples run.start run.end (omega arith))) fits.2.1 in
+    let r = has_record [] segment.key nominal.0 n before samples run.kind size (form_length form) writable.key.is_key
     writable.key.quality writable.key.normal instant long fit fits_points in
     let a = record_of_run size n segment run nominal.0 [] ([] ++ r.bytes) nominal.1 r.appended in
     record { row = a.row; bytes = a.bytes; is_record = a.is_record }
 
-run_records : (size n : ℕ) (segment : Segment) (runs : List Run) → IsRecordLength size → IsWritableSegment segment
-    → All IsSome runs → All (IsFitting size segment.samples) runs → HasRecords size n (cuts_at segment runs)
-run_records size n segment [] power writable some fits = no_records size n
-run_records size n segment (run ∷ runs) power writable some fits =
-    let one = one_record size n segment run power writable (All-head IsSome run runs some)
-    (All-head (IsFitting size segment.samples) run runs fits) in
-    let rest = run_records size (next_number n) segment runs power writable (All-tail IsSome run runs some)
-    (All-tail (IsFitting size segment.samples) run runs fits) in
+run_records : (form : Form) (n : ℕ) (segment : Segment) (runs : List Run) → IsWritableSegment segment
+    → All IsSome runs → All (IsFitting form segment.samples) runs
+    → HasRecords (bytes_of form.length) n (cuts_at segment runs)
+run_records form n segment [] writable some fits = no_records (bytes_of form.length) n
+run_records form n segment (run ∷ runs) writable some fits =
+    let one = one_record form n segment run writable (All-head IsSome run runs some)
+    (All-head (IsFitting form segment.samples) run runs fits) in
+    let rest = run_records form (next_number n) segment runs writable (All-tail IsSome run runs some)
+    (All-tail (IsFitting form segment.samples) run runs fits) in
     record {
       rows = one.row ∷ rest.rows;
       bytes = one.bytes ++ rest.bytes;
@@ -119,16 +124,16 @@ run_records size n segment (run ∷ runs) power writable some fits =
 
 -- ---- the output of segments
 
-record HasPacked (size : ℕ) (segment : Segment) : Type 0 where
+record HasPacked (form : Form) (segment : Segment) : Type 0 where
   packed : Packed
   same : packed.segment ≡ segment
-  is_packed : IsPacked size packed
+  is_packed : IsPacked form packed
 
-pub is_packed_by : (size : ℕ) (segment : Segment) (runs : List Run) (separators : List ℕ) → 256 ≤ size
-    → IsCanonical size segment.samples runs separators
-    → IsPacked size (record { segment = segment; runs = runs; separators = separators })
-is_packed_by size segment runs separators enough canonical =
-    let f = found size segment.samples enough runs separators canonical in
+pub is_packed_by : (form : Form) (segment : Segment) (runs : List Run) (separators : List ℕ)
+    → IsCanonical form segment.samples runs separators
+    → IsPacked form (record { segment = segment; runs = runs; separators = separators })
+is_packed_by form segment runs separators canonical =
+    let f = found form segment.samples runs separators canonical in
     record {
       packing = f.packing;
       least = f.least;
@@ -137,54 +142,57 @@ is_packed_by size segment runs separators enough canonical =
       canonical = f.canonical;
     }
 
-packed_of : (size : ℕ) (segment : Segment) → 256 ≤ size → HasPacked size segment
-packed_of size segment enough =
-    let p = has_packing size segment.samples enough in
+packed_of : (form : Form) (segment : Segment) → HasPacked form segment
+packed_of form segment =
+    let p = has_packing form segment.samples in
     record {
       packed = record { segment = segment; runs = p.others; separators = p.places };
       same = refl;
-      is_packed = is_packed_by size segment p.others p.places enough p.canonical;
+      is_packed = is_packed_by form segment p.others p.places p.canonical;
     }
 
-record HasOutputFrom (size n : ℕ) (segments : List Segment) : Type 0 where
+record HasOutputFrom (form : Form) (n : ℕ) (segments : List Segment) : Type 0 where
   packed : List Packed
   same : map segment_of_packed packed ≡ segments
-  packings : All (IsPacked size) packed
-  records : HasRecords size n (flat_map cuts_of packed)
+  packings : All (IsPacked form) packed
+  records : HasRecords (bytes_of form.length) n (flat_map cuts_of packed)
 
-output_from : (size n : ℕ) (segments : List Segment) → IsRecordLength size → All IsWritableSegment segments
-    → HasOutputFrom size n segments
-output_from size n [] power writable = record
-    { packed = []; same = refl; packings = All-nil (IsPacked size); records = no_records size n }
-output_from size n (segment ∷ segments) power writable =
-    let p = packed_of size segment (enough_bytes size power) in
+output_from : (form : Form) (n : ℕ) (segments : List Segment) → All IsWritableSegment segments
+    → HasOutputFrom form n segments
+output_from form n [] writable = record {
+  packed = [];
+  same = refl;
+  packings = All-nil (IsPacked form);
+  records = no_records (bytes_of form.length) n;
+}
+output_from form n (segment ∷ segments) writable =
+    let p = packed_of form segment in
     let is = p.is_packed in
     let packing = is.packing in
     let here : IsWritableSegment p.packed.segment =
     subst IsWritableSegment (sym p.same) (All-head IsWritableSegment segment segments writable) in
-    let rest = output_from size (number_after n (cuts_of p.packed)) segments power
+    let rest = output_from form (number_after n (cuts_of p.packed)) segments
     (All-tail IsWritableSegment segment segments writable) in
     record {
       packed = p.packed ∷ rest.packed;
       same = ap (λ (s : Segment). s ∷ map segment_of_packed rest.packed) p.same
           ∙ ap (λ (l : List Segment). segment ∷ l) rest.same;
-      packings = All-cons (IsPacked size) p.packed rest.packed is rest.packings;
-      records = more_records size n (cuts_of p.packed) (flat_map cuts_of rest.packed)
-          (run_records size n p.packed.segment p.packed.runs power here packing.none_empty packing.each_fits)
+      packings = All-cons (IsPacked form) p.packed rest.packed is rest.packings;
+      records = more_records (bytes_of form.length) n (cuts_of p.packed) (flat_map cuts_of rest.packed)
+          (run_records form n p.packed.segment p.packed.runs here packing.none_empty packing.each_fits)
           rest.records;
     }
 
-pub record HasOutput (size : ℕ) (segments : List Segment) : Type 0 where
+pub record HasOutput (form : Form) (segments : List Segment) : Type 0 where
   pub packed : List Packed
   pub rows : List Row
   pub bytes : List ℕ
   pub same : map segment_of_packed packed ≡ segments
-  pub output : IsOutput size packed rows bytes
+  pub output : IsOutput form packed rows bytes
 
-pub has_output : (size : ℕ) (segments : List Segment) → IsRecordLength size → All IsWritableSegment segments
-    → HasOutput size segments
-has_output size segments power writable =
-    let o = output_from size 1 segments power writable in
+pub has_output : (form : Form) (segments : List Segment) → All IsWritableSegment segments → HasOutput form segments
+has_output form segments writable =
+    let o = output_from form 1 segments writable in
     record {
       packed = o.packed;
       rows = o.records.rows;
@@ -204,22 +212,21 @@ pub all_right : {X : Type 0} (P : X → Type 0) (xs ys : List X) → All P (xs +
 all_right P [] ys all = all
 all_right P (x ∷ xs) ys all = all_right P xs ys (All-tail P x (xs ++ ys) all)
 
-pub prefix_of_output : (size : ℕ) (packed : List Packed) (segment : Segment) (runs others : List Run)
+pub prefix_of_output : (form : Form) (packed : List Packed) (segment : Segment) (runs others : List Run)
     (separators : List ℕ) (more : List Segment) (rows : List Row) (bytes : List ℕ)
-    → IsRecordLength size → All (IsPacked size) packed → IsWritableSegment segment
-    → IsCanonical size segment.samples (runs ++ others) separators
-    → AreWritten size 1 (flat_map cuts_of packed ++ cuts_at segment runs) rows bytes
-    → IsPrefixOfOutput size (map segment_of_packed packed ++ segment ∷ more) bytes
-prefix_of_output size packed segment runs others separators more rows bytes power packings writable canonical written =
+    → All (IsPacked form) packed → IsWritableSegment segment
+    → IsCanonical form segment.samples (runs ++ others) separators
+    → AreWritten (bytes_of form.length) 1 (flat_map cuts_of packed ++ cuts_at segment runs) rows bytes
+    → IsPrefixOfOutput form (map segment_of_packed packed ++ segment ∷ more) bytes
+prefix_of_output form packed segment runs others separators more rows bytes packings writable canonical written =
     let one : Packed = record { segment = segment; runs = runs ++ others; separators = separators } in
-    let is : IsPacked size one = is_packed_by size segment (runs ++ others) separators
-    (enough_bytes size power) canonical in
+    let is : IsPacked form one = is_packed_by form segment (runs ++ others) separators canonical in
     let packing = is.packing in
     let so_far = flat_map cuts_of packed ++ cuts_at segment runs in
-    let rest = run_records size (number_after 1 so_far) segment others power writable
+    let rest = run_records form (number_after 1 so_far) segment others writable
     (all_right IsSome runs others packing.none_empty)
-    (all_right (IsFitting size segment.samples) runs others packing.each_fits) in
-    let both = written_append size 1 so_far
+    (all_right (IsFitting form segment.samples) runs others packing.each_fits) in
+    let both = written_append (bytes_of form.length) 1 so_far
     (cuts_at segment others) rows rest.rows bytes rest.bytes written rest.written in
     let cuts : flat_map cuts_of (packed ++ one ∷ []) ≡ so_far ++ cuts_at segment others =
     cuts_further packed one
@@ -234,7 +241,7 @@ prefix_of_output size packed segment runs others separators more rows bytes powe
       some_first = sym (ap (λ (l : List Segment). l ++ more) (map-append segment_of_packed packed (one ∷ []))
           ∙ append_assoc (map segment_of_packed packed) (segment ∷ []) more);
       output = record {
-        packings = All-push (IsPacked size) packed one packings is;
+        packings = All-push (IsPacked form) packed one packings is;
         records = rw cuts both;
       };
     }

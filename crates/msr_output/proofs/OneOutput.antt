@@ -4,6 +4,8 @@ use Rattle.std.specs.List.{flat_map}
 use Rattle.std.specs.Prelude.{All}
 use Rattle.std.proofs.lemmas.List.Elements.{All-head, All-tail}
 use Rattle.msr_time.proofs.NominalLemmas.{nominal_one}
+use Rattle.msr_kinds.specs.declared.forms.Form.{Form}
+use Rattle.msr_kinds.specs.Lengths.{bytes_of}
 use Rattle.msr_words.specs.declared.kinds.Run.{Run}
 use Rattle.msr_words.specs.Packing.{IsCanonical}
 use Rattle.msr_packer.proofs.Canonical.{one_packing}
@@ -46,34 +48,36 @@ same_packed a b segment runs separators =
     ∙ ap (λ (r : List Run). record { segment = b.segment; runs = r; separators = a.separators }) runs
     ∙ ap (λ (s : List ℕ). record { segment = b.segment; runs = b.runs; separators = s }) separators
 
-one_packed : (size : ℕ) (a b : Packed) → a.segment ≡ b.segment → IsPacked size a → IsPacked size b → a ≡ b
-one_packed size a b segment first second =
-    let canonical : IsCanonical size b.segment.samples a.runs a.separators =
-    subst (λ (s : Segment). IsCanonical size s.samples a.runs a.separators) segment first.canonical in
-    let both = one_packing size b.segment.samples a.runs b.runs a.separators b.separators canonical second.canonical in
+one_packed : (form : Form) (a b : Packed) → a.segment ≡ b.segment → IsPacked form a → IsPacked form b → a ≡ b
+one_packed form a b segment first second =
+    let canonical : IsCanonical form b.segment.samples a.runs a.separators =
+    subst (λ (s : Segment). IsCanonical form s.samples a.runs a.separators) segment first.canonical in
+    let both = one_packing form b.segment.samples a.runs b.runs a.separators b.separators canonical second.canonical in
     same_packed a b segment both.0 both.1
 
-all_packed : (size : ℕ) (packed others : List Packed) → map segment_of_packed packed ≡ map segment_of_packed others
-    → All (IsPacked size) packed → All (IsPacked size) others → packed ≡ others
-all_packed size [] [] e first second = refl
-all_packed size [] (b ∷ others) e first second = absurd cc
-all_packed size (a ∷ packed) [] e first second = absurd cc
-all_packed size (a ∷ packed) (b ∷ others) e first second =
+all_packed : (form : Form) (packed others : List Packed) → map segment_of_packed packed ≡ map segment_of_packed others
+    → All (IsPacked form) packed → All (IsPacked form) others → packed ≡ others
+all_packed form [] [] e first second = refl
+all_packed form [] (b ∷ others) e first second = absurd cc
+all_packed form (a ∷ packed) [] e first second = absurd cc
+all_packed form (a ∷ packed) (b ∷ others) e first second =
     let head : a.segment ≡ b.segment = cc in
     let tail : map segment_of_packed packed ≡ map segment_of_packed others = cc in
-    let one : a ≡ b = one_packed size a b head (All-head (IsPacked size) a packed first)
-    (All-head (IsPacked size) b others second) in
-    let rest : packed ≡ others = all_packed size packed others tail (All-tail (IsPacked size) a packed first)
-    (All-tail (IsPacked size) b others second) in
+    let one : a ≡ b = one_packed form a b head (All-head (IsPacked form) a packed first)
+    (All-head (IsPacked form) b others second) in
+    let rest : packed ≡ others = all_packed form packed others tail (All-tail (IsPacked form) a packed first)
+    (All-tail (IsPacked form) b others second) in
     cc
 
-pub output_once : (size : ℕ) (packed others : List Packed) (rows more : List Row) (bytes text : List ℕ)
-    → map segment_of_packed packed ≡ map segment_of_packed others → IsOutput size packed rows bytes
-    → IsOutput size others more text →
+pub output_once : (form : Form) (packed others : List Packed) (rows more : List Row) (bytes text : List ℕ)
+    → map segment_of_packed packed ≡ map segment_of_packed others → IsOutput form packed rows bytes
+    → IsOutput form others more text →
     (packed ≡ others) × (rows ≡ more) × (bytes ≡ text)
-output_once size packed others rows more bytes text e first second =
-    let same : packed ≡ others = all_packed size packed others e first.packings second.packings in
-    let records : AreWritten size 1 (flat_map cuts_of packed) more text =
-    subst (λ (p : List Packed). AreWritten size 1 (flat_map cuts_of p) more text) (sym same) second.records in
-    let both = one_written size 1 (flat_map cuts_of packed) rows more bytes text first.records records in
+output_once form packed others rows more bytes text e first second =
+    let same : packed ≡ others = all_packed form packed others e first.packings second.packings in
+    let records : AreWritten (bytes_of form.length) 1 (flat_map cuts_of packed) more text =
+    subst (λ (p : List Packed). AreWritten (bytes_of form.length) 1 (flat_map cuts_of p) more text)
+    (sym same) second.records in
+    let both = one_written (bytes_of form.length) 1 (flat_map cuts_of packed) rows more bytes text
+    first.records records in
     (same, both.0, both.1)

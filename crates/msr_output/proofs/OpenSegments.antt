@@ -9,9 +9,10 @@ use Rattle.msr_devices.specs.Device.{Device, HasFailed, IsCalm}
 use Rattle.msr_devices.specs.WriteBuffer.{Passes}
 use Rattle.msr_devices.proofs.Chaining.{calm_calm, calm_failed, takes_append}
 use Rattle.msr_words.specs.declared.kinds.Run.{Run}
-use Rattle.msr_words.specs.Fit.{Fits, IsRun}
+use Rattle.msr_words.specs.Fit.{FitsIn, IsRun}
 use Rattle.msr_words.specs.Packing.{IsCanonical}
-use Rattle.msr_kinds.specs.RecordLength.{IsRecordLength}
+use Rattle.msr_kinds.specs.declared.forms.Form.{Form}
+use Rattle.msr_kinds.specs.Lengths.{bytes_of}
 use Rattle.msr_packer.specs.Blocks.{Holding, Packs, pushed}
 use Rattle.msr_packer.specs.HeldSamples.{Shows, before_place}
 use Rattle.msr_packer.specs.declared.held.Piece.{Piece}
@@ -29,41 +30,40 @@ use Rattle.msr_output.specs.Output.{AreWritten, Cut, IsPrefixOfOutput, IsPacked,
 use Rattle.msr_output.specs.Writing.{AppendsRecordOfRun, HasWritten, StopsWriting, Writing}
 use Rattle.msr_devices.specs.declared.fault.WriteFault.TheVariants.{Memory, Write}
 use Rattle.msr_output.proofs.Appending.{appends_more, appends_nothing, cuts_further, number_after-append, written_append}
-use Rattle.msr_output.proofs.Existing.{all_left, all_right, enough_bytes, prefix_of_output, is_packed_by, written_longer}
+use Rattle.msr_output.proofs.Existing.{all_left, all_right, prefix_of_output, is_packed_by, written_longer}
 use Rattle.msr_output.proofs.BetweenSegments.{more_whole, short_sum}
 use Rattle.msr_output.proofs.Runs.{points_of_run}
 
 -- ---- the runs that were given
 
 -- they begin the packing of the samples
-pub gives_rest : (whole : Bool) (size : ℕ) → 256 ≤ size
-    → (samples : List ℤ) (runs : List Run) (separators : List ℕ) (packer : Holding)
-    → Gives whole size samples runs separators packer → HasRest size samples runs separators
-gives_rest false size enough samples runs separators packer p =
-    begins_rest size enough samples runs separators packer.held packer.offset packer.current p.holds
-gives_rest true size enough samples runs separators packer p =
-    last_begin size enough samples runs separators packer packer.ended p.left
+pub gives_rest : (whole : Bool) (form : Form) (samples : List ℤ) (runs : List Run) (separators : List ℕ)
+    (packer : Holding) → Gives whole form samples runs separators packer → HasRest form samples runs separators
+gives_rest false form samples runs separators packer p =
+    begins_rest form samples runs separators packer.held packer.offset packer.current p.holds
+gives_rest true form samples runs separators packer p =
+    last_begin form samples runs separators packer packer.ended p.left
 
-pub record FitsThere (size : ℕ) (samples : List ℤ) (run : Run) : Type 0 where
+pub record FitsThere (form : Form) (samples : List ℤ) (run : Run) : Type 0 where
   pub some : run.start < run.end
-  pub fits : IsRun (Fits run.kind size) samples run.start run.end
+  pub fits : IsRun (FitsIn run.kind form) samples run.start run.end
 
 -- so each is a run that fits
-pub given_fits : (size : ℕ) → 256 ≤ size → (samples : List ℤ) (runs : List Run) (run : Run) (separators : List ℕ)
-    → HasRest size samples (runs ++ run ∷ []) separators → FitsThere size samples run
-given_fits size enough samples runs run separators rest =
-    let f = found size samples enough ((runs ++ run ∷ []) ++ rest.others) (separators ++ rest.places) rest.canonical in
+pub given_fits : (form : Form) (samples : List ℤ) (runs : List Run) (run : Run) (separators : List ℕ)
+    → HasRest form samples (runs ++ run ∷ []) separators → FitsThere form samples run
+given_fits form samples runs run separators rest =
+    let f = found form samples ((runs ++ run ∷ []) ++ rest.others) (separators ++ rest.places) rest.canonical in
     let same : (runs ++ run ∷ []) ++ rest.others ≡ runs ++ run ∷ rest.others =
     append_assoc runs (run ∷ []) rest.others in
     let somes : All (λ r. r.start < r.end) (runs ++ run ∷ rest.others) =
     subst (All (λ r. r.start < r.end)) same f.packing.none_empty in
-    let fits : All (λ r. IsRun (Fits r.kind size) samples r.start r.end) (runs ++ run ∷ rest.others) =
-    subst (All (λ r. IsRun (Fits r.kind size) samples r.start r.end)) same f.packing.each_fits in
+    let fits : All (λ r. IsRun (FitsIn r.kind form) samples r.start r.end) (runs ++ run ∷ rest.others) =
+    subst (All (λ r. IsRun (FitsIn r.kind form) samples r.start r.end)) same f.packing.each_fits in
     record {
       some = All-head (λ r. r.start < r.end) run rest.others
           (all_right (λ r. r.start < r.end) runs (run ∷ rest.others) somes);
-      fits = All-head (λ r. IsRun (Fits r.kind size) samples r.start r.end) run rest.others
-          (all_right (λ r. IsRun (Fits r.kind size) samples r.start r.end) runs (run ∷ rest.others) fits);
+      fits = All-head (λ r. IsRun (FitsIn r.kind form) samples r.start r.end) run rest.others
+          (all_right (λ r. IsRun (FitsIn r.kind form) samples r.start r.end) runs (run ∷ rest.others) fits);
     }
 
 pub before_same : (samples : List ℤ) (i : ℕ) → before_place samples i ≡ sample_before samples i
@@ -72,15 +72,14 @@ before_same samples (suc i) = refl
 
 -- and can be encoded when it is shown
 pub can_encode : (whole : Bool) (opened : Opened) (piece : Piece) (separators : List ℕ) (packer : Holding)
-    → (can : CanGoOn whole opened) → Gives whole opened.size can.segment.samples
+    → (can : CanGoOn whole opened) → Gives whole opened.form can.segment.samples
     (can.runs ++ piece.run ∷ []) separators packer
     → Shows can.segment.samples packer.shown packer.before piece
-    → CanEncode opened.size opened.key opened.start packer piece.run
+    → CanEncode (bytes_of opened.form.length) opened.key opened.start packer piece.run
 can_encode whole opened piece separators packer can gives shows =
     let samples = can.segment.samples in
-    let enough = enough_bytes opened.size can.size in
-    let f = given_fits opened.size enough samples can.runs piece.run separators
-    (gives_rest whole opened.size enough samples (can.runs ++ piece.run ∷ []) separators packer gives) in
+    let f = given_fits opened.form samples can.runs piece.run separators
+    (gives_rest whole opened.form samples (can.runs ++ piece.run ∷ []) separators packer gives) in
     let some = f.some in
     let within = f.fits.1 in
     let width = piece.run.end - piece.run.start in
@@ -100,17 +99,17 @@ can_encode whole opened piece separators packer can gives shows =
         before_same samples piece.run.start,
         points_of_run samples
             piece.run.start piece.run.end first,
-      ) f.fits.2;
+      ) f.fits.2.1;
     }
 
 -- the runs that were given lie in the samples
-pub runs_within : (size : ℕ) → 256 ≤ size → (samples : List ℤ) (runs : List Run) (separators : List ℕ)
-    → HasRest size samples runs separators → All (λ run. (run.start ≤ run.end) × (run.end ≤ length samples)) runs
-runs_within size enough samples runs separators rest =
-    let f = found size samples enough (runs ++ rest.others) (separators ++ rest.places) rest.canonical in
-    All-weaker (λ r. IsRun (Fits r.kind size) samples r.start r.end)
+pub runs_within : (form : Form) (samples : List ℤ) (runs : List Run) (separators : List ℕ)
+    → HasRest form samples runs separators → All (λ run. (run.start ≤ run.end) × (run.end ≤ length samples)) runs
+runs_within form samples runs separators rest =
+    let f = found form samples (runs ++ rest.others) (separators ++ rest.places) rest.canonical in
+    All-weaker (λ r. IsRun (FitsIn r.kind form) samples r.start r.end)
     (λ r. (r.start ≤ r.end) × (r.end ≤ length samples)) (λ r is. (is.0, is.1)) runs
-    (all_left (λ r. IsRun (Fits r.kind size) samples r.start r.end) runs rest.others f.packing.each_fits)
+    (all_left (λ r. IsRun (FitsIn r.kind form) samples r.start r.end) runs rest.others f.packing.each_fits)
 
 -- ---- the segment grows
 
@@ -136,14 +135,14 @@ number_longer n (cut ∷ cuts) segment other runs = number_longer (next_number n
 -- ---- a writer with an open segment
 
 pub begun_empty : (start now : Device) (w : Writing) (packed : List Packed) (rows : List Row) (opened : Opened)
-    (key : Key) (t : ℤ) → opened.size ≡ w.size → IsOpen false (empty_segment key t) [] opened
+    (key : Key) (t : ℤ) → opened.form ≡ w.form → IsOpen false (empty_segment key t) [] opened
     → HasWritten start now w packed rows → HasBegun start now w packed (empty_segment key t) opened
-begun_empty start now w packed rows opened key t size is_open h = record {
+begun_empty start now w packed rows opened key t form is_open h = record {
   runs = [];
   rows = rows;
   bytes = h.bytes;
   taken = h.taken;
-  size = size;
+  form = form;
   is_open = is_open;
   samples = All-nil (FitsSigned w32);
   packings = h.output.packings;
@@ -157,23 +156,24 @@ begun_empty start now w packed rows opened key t size is_open h = record {
 }
 
 pub begun_longer : (start now : Device) (w : Writing) (packed : List Packed) (segment : Segment) (more : List ℤ)
-    (opened other : Opened) → 256 ≤ w.size → (h : HasBegun start now w packed segment opened)
-    → All (FitsSigned w32) more → other.size ≡ opened.size → IsOpen false (longer_by segment more) h.runs other
+    (opened other : Opened) → (h : HasBegun start now w packed segment opened)
+    → All (FitsSigned w32) more → other.form ≡ opened.form → IsOpen false (longer_by segment more) h.runs other
     → HasBegun start now w packed (longer_by segment more) other
-begun_longer start now w packed segment more opened other enough h fits size is_open =
-    let rest = gives_rest false w.size enough segment.samples h.runs opened.separators opened.packer
-    (rw h.size at h.is_open.gives) in
-    let within = runs_within w.size enough segment.samples h.runs opened.separators rest in
+begun_longer start now w packed segment more opened other h fits form is_open =
+    let rest = gives_rest false w.form segment.samples h.runs opened.separators opened.packer
+    (rw h.form at h.is_open.gives) in
+    let within = runs_within w.form segment.samples h.runs opened.separators rest in
     record {
       runs = h.runs;
       rows = h.rows;
       bytes = h.bytes;
       taken = h.taken;
-      size = size ∙ h.size;
+      form = form ∙ h.form;
       is_open = is_open;
       samples = All-append (FitsSigned w32) segment.samples more h.samples fits;
       packings = h.packings;
-      records = records_longer w.size 1 (flat_map cuts_of packed) segment more h.runs h.rows h.bytes within h.records;
+      records = records_longer (bytes_of w.form.length) 1 (flat_map cuts_of packed) segment more h.runs h.rows
+          h.bytes within h.records;
       next = h.next ∙ number_longer 1 (flat_map cuts_of packed) segment (longer_by segment more) h.runs;
       takes = h.takes;
       whole = h.whole;
@@ -190,17 +190,17 @@ cuts_more cuts segment runs more =
 
 -- the records of further runs
 records_more : (start now : Device) (w : Writing) (packed : List Packed) (segment : Segment)
-    (opened other : Opened) (whole : Bool) (filled : List ℕ) (next : ℕ) → other.size ≡ opened.size
+    (opened other : Opened) (whole : Bool) (filled : List ℕ) (next : ℕ) → other.form ≡ opened.form
     → (h : HasBegun start now w packed segment opened)
     → (a : AppendsSome whole segment h.runs other w.number w.waiting filled next)
-    → AreWritten w.size 1 (flat_map cuts_of packed ++ cuts_at segment (h.runs ++ a.more))
+    → AreWritten (bytes_of w.form.length) 1 (flat_map cuts_of packed ++ cuts_at segment (h.runs ++ a.more))
     (h.rows ++ a.appends.rows) (h.bytes ++ a.appends.bytes)
-records_more start now w packed segment opened other whole filled next size h a =
+records_more start now w packed segment opened other whole filled next form h a =
     let cuts = flat_map cuts_of packed ++ cuts_at segment h.runs in
-    let more : AreWritten w.size w.number (cuts_at segment a.more) a.appends.rows a.appends.bytes =
-    rw (size ∙ h.size) at a.appends.written in
+    let more : AreWritten (bytes_of w.form.length) w.number (cuts_at segment a.more) a.appends.rows a.appends.bytes =
+    rw (form ∙ h.form) at a.appends.written in
     rw (cuts_more (flat_map cuts_of packed) segment h.runs a.more)
-    (written_append w.size 1 cuts
+    (written_append (bytes_of w.form.length) 1 cuts
     (cuts_at segment a.more) h.rows a.appends.rows h.bytes a.appends.bytes h.records (rw (← h.next) more))
 
 next_more : (start now : Device) (w : Writing) (packed : List Packed) (segment : Segment) (opened other : Opened)
@@ -214,21 +214,21 @@ next_more start now w packed segment opened other whole filled next h a =
     ∙ ap (number_after 1) (sym (cuts_more (flat_map cuts_of packed) segment h.runs a.more))
 
 pub begun_more : (start old now : Device) (w : Writing) (packed : List Packed) (segment : Segment)
-    (opened other : Opened) (filled left : List ℕ) (next : ℕ) → other.size ≡ opened.size
+    (opened other : Opened) (filled left : List ℕ) (next : ℕ) → other.form ≡ opened.form
     → (h : HasBegun start old w packed segment opened)
     → AppendsSome false segment h.runs other w.number w.waiting filled next
     → Passes old now filled [] left → IsCalm old now
-    → HasBegun start now (record { size = w.size; number = next; waiting = left }) packed segment other
-begun_more start old now w packed segment opened other filled left next size h a p calm = record {
+    → HasBegun start now (record { form = w.form; number = next; waiting = left }) packed segment other
+begun_more start old now w packed segment opened other filled left next form h a p calm = record {
   runs = h.runs ++ a.more;
   rows = h.rows ++ a.appends.rows;
   bytes = h.bytes ++ a.appends.bytes;
   taken = h.taken ++ p.taken;
-  size = size ∙ h.size;
+  form = form ∙ h.form;
   is_open = a.is_open;
   samples = h.samples;
   packings = h.packings;
-  records = records_more start old w packed segment opened other false filled next size h a;
+  records = records_more start old w packed segment opened other false filled next form h a;
   next = next_more start old w packed segment opened other false filled next h a;
   takes = takes_append start old now h.taken p.taken h.takes p.takes;
   whole = more_whole old now h.bytes h.taken w.waiting a.appends.bytes filled left h.whole a.appends.joined p;
@@ -240,9 +240,9 @@ begun_more start old now w packed segment opened other filled left next size h a
 
 -- ---- when it stops
 
-prefix_shorter : (size : ℕ) (segments : List Segment) (bytes more : List ℕ)
-    → IsPrefixOfOutput size segments (bytes ++ more) → IsPrefixOfOutput size segments bytes
-prefix_shorter size segments bytes more f = record {
+prefix_shorter : (form : Form) (segments : List Segment) (bytes more : List ℕ)
+    → IsPrefixOfOutput form segments (bytes ++ more) → IsPrefixOfOutput form segments bytes
+prefix_shorter form segments bytes more f = record {
   packed = f.packed;
   others = f.others;
   rows = f.rows;
@@ -253,22 +253,22 @@ prefix_shorter size segments bytes more f = record {
 
 -- the sink failed
 pub begun_failed : (start old now : Device) (w : Writing) (packed : List Packed) (segment : Segment)
-    (opened other : Opened) (whole : Bool) (filled left : List ℕ) (next : ℕ) → IsRecordLength w.size
-    → IsWritableSegment segment → other.size ≡ opened.size → (h : HasBegun start old w packed segment opened)
+    (opened other : Opened) (whole : Bool) (filled left : List ℕ) (next : ℕ)
+    → IsWritableSegment segment → other.form ≡ opened.form → (h : HasBegun start old w packed segment opened)
     → AppendsSome whole segment h.runs other w.number w.waiting filled next
     → Passes old now filled [] left → HasFailed old now
-    → StopsWriting w.size start now (map segment_of_packed packed ++ segment ∷ []) Write
-begun_failed start old now w packed segment opened other whole filled left next power writable size h a p failed =
-    let rest = gives_rest whole w.size (enough_bytes w.size power) segment.samples
-    (h.runs ++ a.more) other.separators other.packer (rw (size ∙ h.size) at a.is_open.gives) in
-    let all = prefix_of_output w.size packed segment (h.runs ++ a.more) rest.others
+    → StopsWriting w.form start now (map segment_of_packed packed ++ segment ∷ []) Write
+begun_failed start old now w packed segment opened other whole filled left next writable form h a p failed =
+    let rest = gives_rest whole w.form segment.samples
+    (h.runs ++ a.more) other.separators other.packer (rw (form ∙ h.form) at a.is_open.gives) in
+    let all = prefix_of_output w.form packed segment (h.runs ++ a.more) rest.others
     (other.separators ++ rest.places) [] (h.rows ++ a.appends.rows)
-    (h.bytes ++ a.appends.bytes) power h.packings writable rest.canonical
-    (records_more start old w packed segment opened other whole filled next size h a) in (
+    (h.bytes ++ a.appends.bytes) h.packings writable rest.canonical
+    (records_more start old w packed segment opened other whole filled next form h a) in (
       record {
         taken = h.taken ++ p.taken;
         takes = takes_append start old now h.taken p.taken h.takes p.takes;
-        prefix = prefix_shorter w.size (map segment_of_packed packed ++ segment ∷ []) (h.taken ++ p.taken) left
+        prefix = prefix_shorter w.form (map segment_of_packed packed ++ segment ∷ []) (h.taken ++ p.taken) left
             (rw (more_whole old now h.bytes h.taken w.waiting a.appends.bytes filled left h.whole a.appends.joined
             p) at all);
       },
@@ -277,51 +277,51 @@ begun_failed start old now w packed segment opened other whole filled left next 
 
 -- memory was refused, and no byte went through the sink since; the segment may have more samples by then
 pub begun_refused : (start now : Device) (w : Writing) (packed : List Packed) (segment target : Segment)
-    (opened : Opened) → IsRecordLength w.size → IsWritableSegment target
+    (opened : Opened) → IsWritableSegment target
     → (h : HasBegun start now w packed segment opened)
-    → AreWritten w.size 1 (flat_map cuts_of packed ++ cuts_at target h.runs) h.rows h.bytes
-    → HasRest w.size target.samples h.runs opened.separators
-    → StopsWriting w.size start now (map segment_of_packed packed ++ target ∷ []) Memory
-begun_refused start now w packed segment target opened power writable h records rest =
-    let all = prefix_of_output w.size packed target h.runs rest.others (opened.separators ++ rest.places)
-    [] h.rows h.bytes power h.packings writable rest.canonical records in (
+    → AreWritten (bytes_of w.form.length) 1 (flat_map cuts_of packed ++ cuts_at target h.runs) h.rows h.bytes
+    → HasRest w.form target.samples h.runs opened.separators
+    → StopsWriting w.form start now (map segment_of_packed packed ++ target ∷ []) Memory
+begun_refused start now w packed segment target opened writable h records rest =
+    let all = prefix_of_output w.form packed target h.runs rest.others (opened.separators ++ rest.places)
+    [] h.rows h.bytes h.packings writable rest.canonical records in (
       record {
         taken = h.taken;
         takes = h.takes;
-        prefix = prefix_shorter w.size (map segment_of_packed packed ++ target ∷ []) h.taken w.waiting
+        prefix = prefix_shorter w.form (map segment_of_packed packed ++ target ∷ []) h.taken w.waiting
             (rw h.whole at all);
       },
       h.calm.steady,
     )
 
 pub refused_longer : (start now : Device) (w : Writing) (packed : List Packed) (segment : Segment) (more : List ℤ)
-    (opened : Opened) → IsRecordLength w.size → IsWritableSegment (longer_by segment more)
+    (opened : Opened) → IsWritableSegment (longer_by segment more)
     → HasBegun start now w packed segment opened
-    → StopsWriting w.size start now (map segment_of_packed packed ++ longer_by segment more ∷ []) Memory
-refused_longer start now w packed segment more opened power writable h =
-    let enough = enough_bytes w.size power in
-    let p = rw h.size at h.is_open.gives in
-    let within = runs_within w.size enough segment.samples h.runs opened.separators
-    (gives_rest false w.size enough segment.samples h.runs opened.separators opened.packer p) in
-    let b = begins_all w.size enough segment.samples h.runs opened.separators opened.packer.held
+    → StopsWriting w.form start now (map segment_of_packed packed ++ longer_by segment more ∷ []) Memory
+refused_longer start now w packed segment more opened writable h =
+    let p = rw h.form at h.is_open.gives in
+    let within = runs_within w.form segment.samples h.runs opened.separators
+    (gives_rest false w.form segment.samples h.runs opened.separators opened.packer p) in
+    let b = begins_all w.form segment.samples h.runs opened.separators opened.packer.held
     opened.packer.offset opened.packer.current p.holds p.stays more in
-    begun_refused start now w packed segment (longer_by segment more) opened power writable h
-    (records_longer w.size 1 (flat_map cuts_of packed) segment more h.runs h.rows h.bytes within h.records)
+    begun_refused start now w packed segment (longer_by segment more) opened writable h
+    (records_longer (bytes_of w.form.length) 1 (flat_map cuts_of packed) segment more h.runs h.rows h.bytes within
+    h.records)
     (record { others = b.0; places = b.1; canonical = b.2 })
 
 pub refused_now : (start now : Device) (w : Writing) (packed : List Packed) (segment : Segment) (opened : Opened)
-    → IsRecordLength w.size → IsWritableSegment segment → HasBegun start now w packed segment opened
-    → StopsWriting w.size start now (map segment_of_packed packed ++ segment ∷ []) Memory
-refused_now start now w packed segment opened power writable h =
-    begun_refused start now w packed segment segment opened power writable h h.records
-    (gives_rest false w.size (enough_bytes w.size power) segment.samples h.runs opened.separators opened.packer
-    (rw h.size at h.is_open.gives))
+    → IsWritableSegment segment → HasBegun start now w packed segment opened
+    → StopsWriting w.form start now (map segment_of_packed packed ++ segment ∷ []) Memory
+refused_now start now w packed segment opened writable h =
+    begun_refused start now w packed segment segment opened writable h h.records
+    (gives_rest false w.form segment.samples h.runs opened.separators opened.packer
+    (rw h.form at h.is_open.gives))
 
 -- ---- what can be written
 
-pub packs_count : (size : ℕ) (samples : List ℤ) (runs : List Run) (separators : List ℕ) (packer : Holding)
-    → Packs size samples runs separators packer → pushed packer ≡ length samples
-packs_count size samples runs separators packer p =
+pub packs_count : (form : Form) (samples : List ℤ) (runs : List Run) (separators : List ℕ) (packer : Holding)
+    → Packs form samples runs separators packer → pushed packer ≡ length samples
+packs_count form samples runs separators packer p =
     let within = p.holds.within in
     let long = ap length p.holds.window ∙ length-drop packer.offset samples in
     omega arith
@@ -335,7 +335,7 @@ writable_longer opened segment runs more o key samples fits in_time =
     let count : pushed opened.packer + length more ≡ length (segment.samples ++ more) =
     omega (
       arith,
-      packs_count opened.size segment.samples runs opened.separators opened.packer o.gives,
+      packs_count opened.form segment.samples runs opened.separators opened.packer o.gives,
       length-append segment.samples more,
     ) in
     record {
@@ -348,8 +348,8 @@ pub writable_now : (opened : Opened) (can : CanGoOn false opened) (segment : Seg
     → IsOpen false segment runs opened → All (FitsSigned w32) segment.samples → IsWritableSegment segment
 writable_now opened can segment runs o samples =
     let count : length can.segment.samples ≡ length segment.samples =
-    sym (packs_count opened.size can.segment.samples can.runs opened.separators opened.packer
-    can.is_open.gives) ∙ packs_count opened.size segment.samples runs opened.separators opened.packer o.gives in
+    sym (packs_count opened.form can.segment.samples can.runs opened.separators opened.packer
+    can.is_open.gives) ∙ packs_count opened.form segment.samples runs opened.separators opened.packer o.gives in
     record {
       key = rw o.key at can.writable;
       samples = samples;
@@ -357,14 +357,14 @@ writable_now opened can segment runs o samples =
     }
 
 pub can_longer : (opened other : Opened) (can : CanGoOn false opened) (more : List ℤ)
-    → IsOpen false (longer_by can.segment more) can.runs other → other.key ≡ opened.key → other.size ≡ opened.size
+    → IsOpen false (longer_by can.segment more) can.runs other → other.key ≡ opened.key
     → SpanIsInTime (span_of opened.key opened.start (pushed opened.packer + length more)) → CanGoOn false other
-can_longer opened other can more o key size in_time =
+can_longer opened other can more o key in_time =
     let was = can.is_open in
     let count : pushed opened.packer + length more ≡ length (can.segment.samples ++ more) =
     omega (
       arith,
-      packs_count opened.size can.segment.samples can.runs opened.separators opened.packer
+      packs_count opened.form can.segment.samples can.runs opened.separators opened.packer
           was.gives,
       length-append can.segment.samples more,
     ) in
@@ -373,7 +373,6 @@ can_longer opened other can more o key size in_time =
       runs = can.runs;
       is_open = o;
       writable = rw key can.writable;
-      size = rw size can.size;
       in_time = rw (was.key, was.start, count) at in_time;
     }
 
@@ -381,29 +380,29 @@ can_longer opened other can more o key size in_time =
 pub open_end : (segment : Segment) (runs : List Run) (opened : Opened) → IsOpen false segment runs opened
     → IsOpen true segment runs opened
 open_end segment runs opened o = let p = o.gives in
-    record { key = o.key; start = o.start; gives = record { size = p.size; left = rw p.goes_on p.holds } }
+    record { key = o.key; start = o.start; gives = record { of_form = p.of_form; left = rw p.goes_on p.holds } }
 
 -- ---- when the segment ends
 
 pub begun_whole : (start old now : Device) (w : Writing) (packed : List Packed) (segment : Segment)
-    (opened other : Opened) (filled left : List ℕ) (next : ℕ) → 256 ≤ w.size → other.size ≡ opened.size
+    (opened other : Opened) (filled left : List ℕ) (next : ℕ) → other.form ≡ opened.form
     → (h : HasBegun start old w packed segment opened)
     → (a : AppendsSome true segment h.runs other w.number w.waiting filled next)
-    → IsCanonical w.size segment.samples (h.runs ++ a.more) other.separators
+    → IsCanonical w.form segment.samples (h.runs ++ a.more) other.separators
     → Passes old now filled [] left → IsCalm old now
-    → HasWritten start now (record { size = w.size; number = next; waiting = left })
+    → HasWritten start now (record { form = w.form; number = next; waiting = left })
     (packed ++ record { segment = segment; runs = h.runs ++ a.more; separators = other.separators } ∷ [])
     (h.rows ++ a.appends.rows)
-begun_whole start old now w packed segment opened other filled left next enough size h a canonical p calm =
+begun_whole start old now w packed segment opened other filled left next form h a canonical p calm =
     let one : Packed = record { segment = segment; runs = h.runs ++ a.more; separators = other.separators } in
-    let is = is_packed_by w.size segment (h.runs ++ a.more) other.separators enough canonical in
+    let is = is_packed_by w.form segment (h.runs ++ a.more) other.separators canonical in
     record {
       bytes = h.bytes ++ a.appends.bytes;
       taken = h.taken ++ p.taken;
       output = record {
-        packings = All-push (IsPacked w.size) packed one h.packings is;
+        packings = All-push (IsPacked w.form) packed one h.packings is;
         records = rw (cuts_further packed one)
-            (records_more start old w packed segment opened other true filled next size h a);
+            (records_more start old w packed segment opened other true filled next form h a);
       };
       next = rw (cuts_further packed one) (next_more start old w packed segment opened other true filled next h a);
       takes = takes_append start old now h.taken p.taken h.takes p.takes;
@@ -421,32 +420,33 @@ pub appends_none : (whole : Bool) (segment : Segment) (runs : List Run) (opened 
 appends_none whole segment runs opened number old is_open = record {
   more = [];
   is_open = subst (λ r. IsOpen whole segment r opened) (sym (append-nil runs)) is_open;
-  appends = appends_nothing opened.size number old;
+  appends = appends_nothing (bytes_of opened.form.length) number old;
 }
 
 pub appends_one : (whole : Bool) (segment : Segment) (runs : List Run) (opened other : Opened)
     (first number next : ℕ) (old mid new : List ℕ)
-    → (a : AppendsSome whole segment runs opened first old mid number) → (run : Run) → other.size ≡ opened.size
+    → (a : AppendsSome whole segment runs opened first old mid number) → (run : Run) → other.form ≡ opened.form
     → IsOpen whole segment ((runs ++ a.more) ++ run ∷ []) other
-    → AppendsRecordOfRun other.size number segment run mid new → next ≡ next_number number
+    → AppendsRecordOfRun (bytes_of other.form.length) number segment run mid new → next ≡ next_number number
     → AppendsSome whole segment runs other first old new next
-appends_one whole segment runs opened other first number next old mid new a run size is_open one is = record {
+appends_one whole segment runs opened other first number next old mid new a run form is_open one is = record {
   more = a.more ++ run ∷ [];
   is_open = subst (λ r. IsOpen whole segment r other) (append_assoc runs a.more (run ∷ [])) is_open;
-  appends = rw is (appends_more other.size first number segment a.more run old mid new (rw (← size) at a.appends) one);
+  appends = rw is (appends_more (bytes_of other.form.length) first number segment a.more run old mid new
+      (rw (← form) at a.appends) one);
 }
 
 -- and no further one
 pub appends_last : (whole : Bool) (segment : Segment) (runs : List Run) (opened other : Opened) (first number : ℕ)
     (old mid new : List ℕ) → (a : AppendsSome whole segment runs opened first old mid number)
-    → other.size ≡ opened.size → IsOpen whole segment (runs ++ a.more) other
-    → new ≡ mid → (whole ≡ true → IsCanonical other.size segment.samples (runs ++ a.more) other.separators)
+    → other.form ≡ opened.form → IsOpen whole segment (runs ++ a.more) other
+    → new ≡ mid → (whole ≡ true → IsCanonical other.form segment.samples (runs ++ a.more) other.separators)
     → AppendsMore whole segment runs other first old new number
-appends_last whole segment runs opened other first number old mid new a size is_open same all = record {
+appends_last whole segment runs opened other first number old mid new a form is_open same all = record {
   some = record {
     more = a.more;
     is_open = is_open;
-    appends = rw (same, size) a.appends;
+    appends = rw (same, form) a.appends;
   };
   all = all;
 }

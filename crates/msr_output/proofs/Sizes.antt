@@ -2,6 +2,8 @@
 use Rattle.std.proofs.Common.{◌≡◌, ℕ, ◌+◌, ◌*◌, List, [], ◌∷◌, ◌++◌, ◌∙◌, length, arith, ap, length-append}
 use Rattle.std.specs.List.{flat_map}
 use Rattle.std.proofs.lemmas.List.{length-map}
+use Rattle.msr_kinds.specs.declared.forms.Form.{Form}
+use Rattle.msr_kinds.specs.Lengths.{bytes_of}
 use Rattle.msr_words.specs.declared.kinds.Run.{Run}
 use Rattle.msr_rows.specs.declared.row.Row.{Row}
 use Rattle.msr_output.specs.Output.{Packed, Cut, AreWritten, IsOutput, next_number, cuts_of, count_of_runs}
@@ -25,7 +27,8 @@ count_cuts (one ∷ packed) =
     length-map one.runs (λ (run : Run). record { segment = one.segment; run = run }) in
     omega (arith, whole, first, count_cuts packed)
 
-pub output_size : (size : ℕ) (packed : List Packed) (rows : List Row) (bytes : List ℕ)
-    → IsOutput size packed rows bytes → length bytes ≡ size * count_of_runs packed
-output_size size packed rows bytes output = written_size size 1 (flat_map cuts_of packed) rows bytes output.records
-    ∙ ap (λ (n : ℕ). size * n) (count_cuts packed)
+pub output_size : (form : Form) (packed : List Packed) (rows : List Row) (bytes : List ℕ)
+    → IsOutput form packed rows bytes → length bytes ≡ bytes_of form.length * count_of_runs packed
+output_size form packed rows bytes output =
+    written_size (bytes_of form.length) 1 (flat_map cuts_of packed) rows bytes output.records
+    ∙ ap (λ (n : ℕ). bytes_of form.length * n) (count_cuts packed)

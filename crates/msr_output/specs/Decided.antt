@@ -2,6 +2,8 @@
 use Rattle.std.specs.Prelude.{◌≡◌, ℕ, List, [], ◌++◌, map, All, Option, None, Some}
 use Rattle.std.specs.List.{flat_map}
 use Rattle.std.specs.Option.{option_to_list}
+use Rattle.msr_kinds.specs.declared.forms.Form.{Form}
+use Rattle.msr_kinds.specs.Lengths.{bytes_of}
 use Rattle.msr_words.specs.declared.kinds.Run.{Run}
 use Rattle.msr_packer.specs.Blocks.{HoldsFew}
 use Rattle.msr_packer.specs.HeldSamples.{BeginsAll, LeavesFew}
@@ -12,10 +14,10 @@ use Rattle.msr_output.specs.Output.{AreWritten, Cut, IsPacked, Packed, cuts_at, 
 
 -- the first runs of the packing of a segment that has not ended, whatever samples follow; after them stand at most
 -- two longest runs
-abbrev pub AreDecided : ℕ → Option Segment → List Run → List ℕ → Type 0
-AreDecided size None runs separators = runs ≡ []
-AreDecided size (Some segment) runs separators =
-    BeginsAll size segment.samples runs separators × LeavesFew size segment.samples runs
+abbrev pub AreDecided : Form → Option Segment → List Run → List ℕ → Type 0
+AreDecided form None runs separators = runs ≡ []
+AreDecided form (Some segment) runs separators =
+    BeginsAll form segment.samples runs separators × LeavesFew form segment.samples runs
 
 abbrev pub cuts_so_far : Option Segment → List Run → List Cut
 cuts_so_far None runs = []
@@ -23,16 +25,16 @@ cuts_so_far (Some segment) runs = cuts_at segment runs
 
 -- The bytes are the records of these segments but for a last one that has not ended, and of the runs of it that are
 -- decided.
-pub record IsDecidedOutput (size : ℕ) (segments : List Segment) (bytes : List ℕ) : Type 0 where
+pub record IsDecidedOutput (form : Form) (segments : List Segment) (bytes : List ℕ) : Type 0 where
   pub packed : List Packed
   pub last : Option Segment
   pub runs : List Run
   pub separators : List ℕ
   pub rows : List Row
   pub all : segments ≡ map segment_of_packed packed ++ option_to_list last
-  pub packings : All (IsPacked size) packed
-  pub decided : AreDecided size last runs separators
-  pub records : AreWritten size 1 (flat_map cuts_of packed ++ cuts_so_far last runs) rows bytes
+  pub packings : All (IsPacked form) packed
+  pub decided : AreDecided form last runs separators
+  pub records : AreWritten (bytes_of form.length) 1 (flat_map cuts_of packed ++ cuts_so_far last runs) rows bytes
 
 -- the records that its samples decide are encoded: at most one longest run is held after the frontier
 abbrev pub IsEncoded : Opened → Type 0

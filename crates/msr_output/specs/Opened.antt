@@ -5,11 +5,10 @@ use Rattle.std.specs.List.{flat_map}
 use Rattle.msr_devices.specs.Device.{Device, Takes, IsCalm}
 use Rattle.msr_header.specs.Reading.{is_quality}
 use Rattle.msr_words.specs.declared.kinds.Run.{Run}
-use Rattle.msr_kinds.specs.declared.lengths.Length.{Length}
+use Rattle.msr_kinds.specs.declared.forms.Form.{Form}
 use Rattle.msr_words.specs.Fit.{Fits}
 use Rattle.msr_kinds.specs.Lengths.{bytes_of}
 use Rattle.msr_words.specs.Packing.{IsCanonical}
-use Rattle.msr_kinds.specs.RecordLength.{IsRecordLength}
 use Rattle.msr_words.specs.Segment.{points}
 use Rattle.msr_packer.specs.Blocks.{Holding, Packs, PacksLast, pushed}
 use Rattle.msr_rows.specs.Correction.{is_pending}
@@ -22,18 +21,18 @@ use Rattle.msr_segments.specs.declared.joiner.Segment.{Segment}
 use Rattle.msr_output.specs.Output.{Packed, IsPacked, AreWritten, number_after, cuts_at, cuts_of}
 use Rattle.msr_output.specs.Writing.{AppendsRecordOfRun, AppendsRecords, Writing}
 
--- What an open segment shows: the length of its records, its key and start, the packer of its samples, and the
+-- What an open segment shows: the form of its records, its key and start, the packer of its samples, and the
 -- separators of the runs that were given.
 pub record Opened : Type 0 where
-  pub size : ℕ
+  pub form : Form
   pub key : Key
   pub start : ℤ
   pub packer : Holding
   pub separators : List ℕ
 
-abbrev pub opened_of : Key → ℤ → Length → Holding → List ℕ → Opened
-opened_of key start record_length packer separators = record {
-  size = bytes_of record_length;
+abbrev pub opened_of : Key → ℤ → Form → Holding → List ℕ → Opened
+opened_of key start form packer separators = record {
+  form = form;
   key = key;
   start = start;
   packer = packer;
@@ -53,15 +52,15 @@ abbrev pub longer_by : Segment → List ℤ → Segment
 longer_by segment more = record { key = segment.key; start = segment.start; samples = segment.samples ++ more }
 
 -- these runs and separators were given, of samples that others may follow, or of all
-abbrev pub Gives : Bool → ℕ → List ℤ → List Run → List ℕ → Holding → Type 0
-Gives false size samples runs separators packer = Packs size samples runs separators packer
-Gives true size samples runs separators packer = PacksLast size samples runs separators packer
+abbrev pub Gives : Bool → Form → List ℤ → List Run → List ℕ → Holding → Type 0
+Gives false form samples runs separators packer = Packs form samples runs separators packer
+Gives true form samples runs separators packer = PacksLast form samples runs separators packer
 
 -- The samples of this segment were pushed, all of them if it is whole, and its first runs were given.
 pub record IsOpen (whole : Bool) (segment : Segment) (runs : List Run) (opened : Opened) : Type 0 where
   pub key : opened.key ≡ segment.key
   pub start : opened.start ≡ segment.start
-  pub gives : Gives whole opened.size segment.samples runs opened.separators opened.packer
+  pub gives : Gives whole opened.form segment.samples runs opened.separators opened.packer
 
 -- some samples of a segment that can be written were pushed
 pub record CanGoOn (whole : Bool) (opened : Opened) : Type 0 where
@@ -69,7 +68,6 @@ pub record CanGoOn (whole : Bool) (opened : Opened) : Type 0 where
   pub runs : List Run
   pub is_open : IsOpen whole segment runs opened
   pub writable : IsWritableKey opened.key
-  pub size : IsRecordLength opened.size
   pub in_time : SegmentIsInTime segment
 
 -- The samples that the packer shows are a run that has a record of the kind, and lie in a segment whose times are of
@@ -88,13 +86,13 @@ pub record AppendsSome (whole : Bool) (segment : Segment) (runs : List Run) (ope
     (old new : List ℕ) (next : ℕ) : Type 0 where
   pub more : List Run
   pub is_open : IsOpen whole segment (runs ++ more) opened
-  pub appends : AppendsRecords opened.size number (cuts_at segment more) old new next
+  pub appends : AppendsRecords (bytes_of opened.form.length) number (cuts_at segment more) old new next
 
 -- If the segment is whole, these are the records of all its runs that were left.
 pub record AppendsMore (whole : Bool) (segment : Segment) (runs : List Run) (opened : Opened) (number : ℕ)
     (old new : List ℕ) (next : ℕ) : Type 0 where
   pub some : AppendsSome whole segment runs opened number old new next
-  pub all : whole ≡ true → IsCanonical opened.size segment.samples (runs ++ some.more) opened.separators
+  pub all : whole ≡ true → IsCanonical opened.form segment.samples (runs ++ some.more) opened.separators
 
 -- From the one state of the sink to the other the records of these segments, and those of the first runs of the open
 -- one, were written or wait.
@@ -104,11 +102,11 @@ pub record HasBegun (start now : Device) (writing : Writing) (packed : List Pack
   pub rows : List Row
   pub bytes : List ℕ
   pub taken : List ℕ
-  pub size : opened.size ≡ writing.size
+  pub form : opened.form ≡ writing.form
   pub is_open : IsOpen false segment runs opened
   pub samples : All (FitsSigned w32) segment.samples
-  pub packings : All (IsPacked writing.size) packed
-  pub records : AreWritten writing.size 1 (flat_map cuts_of packed ++ cuts_at segment runs) rows bytes
+  pub packings : All (IsPacked writing.form) packed
+  pub records : AreWritten (bytes_of writing.form.length) 1 (flat_map cuts_of packed ++ cuts_at segment runs) rows bytes
   pub next : writing.number ≡ number_after 1 (flat_map cuts_of packed ++ cuts_at segment runs)
   pub takes : Takes start now taken
   pub whole : bytes ≡ taken ++ writing.waiting
@@ -120,7 +118,7 @@ pub record HasBegun (start now : Device) (writing : Writing) (packed : List Pack
 abbrev pub EncodesNext : Bool → Segment → List Run → Opened → ℕ → List ℕ → List ℕ → Bool → Type 0
 EncodesNext whole segment runs opened number old new true =
     (run : Run) × IsOpen whole segment (runs ++ run ∷ []) opened
-    × AppendsRecordOfRun opened.size number segment run old new
+    × AppendsRecordOfRun (bytes_of opened.form.length) number segment run old new
 EncodesNext whole segment runs opened number old new false =
     IsOpen whole segment runs opened × (new ≡ old)
-    × (whole ≡ true → IsCanonical opened.size segment.samples runs opened.separators)
+    × (whole ≡ true → IsCanonical opened.form segment.samples runs opened.separators)

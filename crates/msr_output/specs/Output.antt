@@ -5,7 +5,8 @@ use Rattle.std.specs.Int.{w32}
 use Rattle.std.specs.List.{flat_map}
 use Rattle.msr_time.specs.SampleRate.{IsRoundedNominal}
 use Rattle.msr_words.specs.Packing.{IsPacking, IsLeast, IsSeparating, IsCanonical}
-use Rattle.msr_kinds.specs.RecordLength.{IsRecordLength}
+use Rattle.msr_kinds.specs.declared.forms.Form.{Form}
+use Rattle.msr_kinds.specs.Lengths.{bytes_of}
 use Rattle.msr_words.specs.declared.kinds.Run.{Run}
 use Rattle.msr_rows.specs.Records.{IsRowOf, IsRecordOf, RowIsInTime}
 use Rattle.msr_record.specs.Written.{IsWrittenRecord, IsWritableKey}
@@ -22,15 +23,14 @@ pub record Packed : Type 0 where
 abbrev pub segment_of_packed : Packed → Segment
 segment_of_packed packed = packed.segment
 
--- The runs are a packing of the segment into records of `size` bytes, and no packing has fewer. No
--- two of the separators, which are as many as the runs, fit one record. Both are the one canonical
--- choice.
-pub record IsPacked (size : ℕ) (packed : Packed) : Type 0 where
-  pub packing : IsPacking size packed.segment.samples packed.runs
-  pub least : IsLeast size packed.segment.samples packed.runs
-  pub separating : IsSeparating size packed.segment.samples packed.separators
+-- The runs are a packing of the segment into records of that form, and no packing has fewer. No two of the
+-- separators, which are as many as the runs, fit one record. Both are the one canonical choice.
+pub record IsPacked (form : Form) (packed : Packed) : Type 0 where
+  pub packing : IsPacking form packed.segment.samples packed.runs
+  pub least : IsLeast form packed.segment.samples packed.runs
+  pub separating : IsSeparating form packed.segment.samples packed.separators
   pub as_many : length packed.runs ≡ length packed.separators
-  pub canonical : IsCanonical size packed.segment.samples packed.runs packed.separators
+  pub canonical : IsCanonical form packed.segment.samples packed.runs packed.separators
 
 -- the sample before a run of a segment, if there is one
 abbrev pub sample_before : List ℤ → ℕ → Option ℤ
@@ -94,38 +94,38 @@ AreWritten size number (cut ∷ cuts) rows bytes =
     (other_rows : List Row) × (rest : List ℕ) × WritesFirst size number cut rows bytes other_rows rest
     × AreWritten size (next_number number) cuts other_rows rest
 
--- The bytes are the output of these segments, each packed so, in records of `size` bytes; the rows
--- are those of the records.
-pub record IsOutput (size : ℕ) (packed : List Packed) (rows : List Row) (bytes : List ℕ) : Type 0 where
-  pub packings : All (IsPacked size) packed
-  pub records : AreWritten size 1 (flat_map cuts_of packed) rows bytes
+-- The bytes are the output of these segments, each packed so, in records of that form; the rows are those of the
+-- records.
+pub record IsOutput (form : Form) (packed : List Packed) (rows : List Row) (bytes : List ℕ) : Type 0 where
+  pub packings : All (IsPacked form) packed
+  pub records : AreWritten (bytes_of form.length) 1 (flat_map cuts_of packed) rows bytes
 
 -- the bytes are a prefix of the output of some first ones of these segments
-pub record IsPrefixOfOutput (size : ℕ) (segments : List Segment) (bytes : List ℕ) : Type 0 where
+pub record IsPrefixOfOutput (form : Form) (segments : List Segment) (bytes : List ℕ) : Type 0 where
   pub packed : List Packed
   pub others : List Segment
   pub rows : List Row
   pub tail : List ℕ
   pub some_first : segments ≡ map segment_of_packed packed ++ others
-  pub output : IsOutput size packed rows (bytes ++ tail)
+  pub output : IsOutput form packed rows (bytes ++ tail)
 
 -- segments have at most one output
 abbrev pub OneOutput : Type 0
 OneOutput =
-    (size : ℕ) (packed others : List Packed) (rows more : List Row) (bytes text : List ℕ)
+    (form : Form) (packed others : List Packed) (rows more : List Row) (bytes text : List ℕ)
     → map segment_of_packed packed ≡ map segment_of_packed others
-    → IsOutput size packed rows bytes
-    → IsOutput size others more text
+    → IsOutput form packed rows bytes
+    → IsOutput form others more text
     → (packed ≡ others) × (rows ≡ more) × (bytes ≡ text)
 
 -- The rows of an output of the segments of some rows have the same segments, for every tolerance of at least a
 -- microsecond.
 abbrev pub OutputKeepsSegments : Type 0
 OutputKeepsSegments =
-    (size tolerance : ℕ) (rows written : List Row) (packed : List Packed) (bytes : List ℕ) → 1 ≤ tolerance
+    (form : Form) (tolerance : ℕ) (rows written : List Row) (packed : List Packed) (bytes : List ℕ) → 1 ≤ tolerance
     → AreSegments tolerance rows (map segment_of_packed packed)
     → All (λ (p : Packed). 1 ≤ length p.segment.samples) packed
-    → IsOutput size packed written bytes
+    → IsOutput form packed written bytes
     → AreSegments tolerance written (map segment_of_packed packed)
 
 -- an output has as many bytes as its records have in all
@@ -135,8 +135,8 @@ count_of_runs (packed ∷ others) = length packed.runs + count_of_runs others
 
 abbrev pub OutputHasSize : Type 0
 OutputHasSize =
-    (size : ℕ) (packed : List Packed) (rows : List Row) (bytes : List ℕ) → IsOutput size packed rows bytes
-    → length bytes ≡ size * count_of_runs packed
+    (form : Form) (packed : List Packed) (rows : List Row) (bytes : List ℕ) → IsOutput form packed rows bytes
+    → length bytes ≡ bytes_of form.length * count_of_runs packed
 
 -- a segment that can be written: a key that can, samples of 32 bits, and times of the supported years
 pub record IsWritableSegment (segment : Segment) : Type 0 where
@@ -144,23 +144,23 @@ pub record IsWritableSegment (segment : Segment) : Type 0 where
   pub samples : All (FitsSigned w32) segment.samples
   pub in_time : SegmentIsInTime segment
 
--- segments that can be written have an output in records of each length
+-- segments that can be written have an output in records of each form
 abbrev pub SegmentsHaveOutput : Type 0
 SegmentsHaveOutput =
-    (size : ℕ) (segments : List Segment) → IsRecordLength size → All IsWritableSegment segments
+    (form : Form) (segments : List Segment) → All IsWritableSegment segments
     → (packed : List Packed) × (rows : List Row) × (bytes : List ℕ)
-    × (map segment_of_packed packed ≡ segments) × IsOutput size packed rows bytes
+    × (map segment_of_packed packed ≡ segments) × IsOutput form packed rows bytes
 
 -- The records of whole segments, and then of the first runs of one segment's packing, are the prefix of an output,
 -- whatever segments follow.
 abbrev pub FirstRecordsArePrefix : Type 0
 FirstRecordsArePrefix =
-    (size : ℕ) (packed : List Packed) (segment : Segment) (runs others : List Run) (separators : List ℕ)
+    (form : Form) (packed : List Packed) (segment : Segment) (runs others : List Run) (separators : List ℕ)
     (more : List Segment) (rows : List Row) (bytes : List ℕ)
-    → IsRecordLength size → All (IsPacked size) packed → IsWritableSegment segment
-    → IsCanonical size segment.samples (runs ++ others) separators
-    → AreWritten size 1 (flat_map cuts_of packed ++ cuts_at segment runs) rows bytes
-    → IsPrefixOfOutput size (map segment_of_packed packed ++ segment ∷ more) bytes
+    → All (IsPacked form) packed → IsWritableSegment segment
+    → IsCanonical form segment.samples (runs ++ others) separators
+    → AreWritten (bytes_of form.length) 1 (flat_map cuts_of packed ++ cuts_at segment runs) rows bytes
+    → IsPrefixOfOutput form (map segment_of_packed packed ++ segment ∷ more) bytes
 
 -- the records of runs of a segment stay the records of its runs when samples follow
 abbrev pub RecordsStay : Type 0

@@ -2,6 +2,7 @@
 use Rattle.std.specs.Prelude.{◌≡◌, ℕ, ◌+◌, ◌<◌, ◌^◌, List, [], ◌∷◌, ◌++◌, length}
 use Rattle.std.specs.List.{flat_map}
 use Rattle.msr_devices.specs.Device.{Device, Takes, HasFailed, IsCalm, IsSteady}
+use Rattle.msr_kinds.specs.declared.forms.Form.{Form}
 use Rattle.msr_words.specs.declared.kinds.Run.{Run}
 use Rattle.msr_rows.specs.declared.row.Row.{Row}
 use Rattle.msr_segments.specs.declared.joiner.Segment.{Segment}
@@ -10,9 +11,9 @@ use Rattle.msr_output.specs.Output.{Packed, Cut, IsRecordOfRun, AreWritten, IsOu
 use Rattle.msr_devices.specs.declared.fault.WriteFault.{WriteFault}
 use Rattle.msr_devices.specs.declared.fault.WriteFault.TheVariants.{Write, Memory}
 
--- what a writer shows: the length of its records, the next sequence number, and the bytes that wait
+-- what a writer shows: the form of its records, the next sequence number, and the bytes that wait
 pub record Writing : Type 0 where
-  pub size : ℕ
+  pub form : Form
   pub number : ℕ
   pub waiting : List ℕ
 
@@ -43,7 +44,7 @@ pub record IsLineOf (packed : Packed) (line : SegmentLine) : Type 0 where
 pub record HasWritten (start now : Device) (writing : Writing) (packed : List Packed) (rows : List Row) : Type 0 where
   pub bytes : List ℕ
   pub taken : List ℕ
-  pub output : IsOutput writing.size packed rows bytes
+  pub output : IsOutput writing.form packed rows bytes
   pub next : writing.number ≡ number_after 1 (flat_map cuts_of packed)
   pub takes : Takes start now taken
   pub whole : bytes ≡ taken ++ writing.waiting
@@ -55,7 +56,7 @@ pub record HasWritten (start now : Device) (writing : Writing) (packed : List Pa
 pub record HasWrittenAll (start now : Device) (writing : Writing) (packed : List Packed)
     (rows : List Row) : Type 0 where
   pub bytes : List ℕ
-  pub output : IsOutput writing.size packed rows bytes
+  pub output : IsOutput writing.form packed rows bytes
   pub takes : Takes start now bytes
   pub short : length bytes < 2 ^ 64
   pub calm : IsCalm start now
@@ -70,12 +71,12 @@ pub record WritesSegment (start now : Device) (writing : Writing) (packed : List
   pub is_line : IsLineOf more line
 
 -- a prefix of the output of some first ones of these segments was written
-pub record HasWrittenPrefix (size : ℕ) (start now : Device) (segments : List Segment) : Type 0 where
+pub record HasWrittenPrefix (form : Form) (start now : Device) (segments : List Segment) : Type 0 where
   pub taken : List ℕ
   pub takes : Takes start now taken
-  pub prefix : IsPrefixOfOutput size segments taken
+  pub prefix : IsPrefixOfOutput form segments taken
 
 -- The sink failed; or memory was refused, and the sink did not fail.
-abbrev pub StopsWriting : ℕ → Device → Device → List Segment → WriteFault → Type 0
-StopsWriting size start now segments Write = HasWrittenPrefix size start now segments × HasFailed start now
-StopsWriting size start now segments Memory = HasWrittenPrefix size start now segments × IsSteady start now
+abbrev pub StopsWriting : Form → Device → Device → List Segment → WriteFault → Type 0
+StopsWriting form start now segments Write = HasWrittenPrefix form start now segments × HasFailed start now
+StopsWriting form start now segments Memory = HasWrittenPrefix form start now segments × IsSteady start now

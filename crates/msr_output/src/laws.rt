@@ -1,7 +1,7 @@
 //! Laws of outputs, each the contract of a function that does nothing.
 ghost use Rattle.msr_output.specs.Output.{OneOutput, OutputKeepsSegments, OutputHasSize, SegmentsHaveOutput, FirstRecordsArePrefix, RecordsStay};
 
-/// Segments have at most one output in records of one length.
+/// Segments have at most one output in records of one form.
 pub fn one_output()
     ensures { OneOutput }
 {}

@@ -1,4 +1,4 @@
-//! Segments written in the fewest records of one length.
+//! Segments written in the fewest records of one form.
 #![tactic(auto)]
 
 mod laws;

@@ -2,6 +2,7 @@
 ghost use Rattle.std.specs.Prelude.{◌≡◌, ℕ, ℤ, List, [], ◌++◌, ◌+◌, ◌<◌, ◌≤◌, ◌^◌, length, IfOk, IfSome, IsNone, OnOk, IsTrue, MatchResult, true, false};
 ghost use Rattle.msr_header.specs.Reading.{is_quality};
 ghost use Rattle.msr_words.specs.declared.kinds.Run.{Run};
+ghost use Rattle.msr_kinds.specs.declared.forms.Form.{Form};
 ghost use Rattle.msr_kinds.specs.Lengths.{bytes_of};
 ghost use Rattle.msr_words.specs.Packing.{IsCanonical};
 ghost use Rattle.msr_packer.specs.Blocks.{HoldsFew, left_of, pushed};
@@ -16,7 +17,7 @@ ghost use Rattle.msr_output.specs.Opened.{AppendsMore, CanEncode, CanGoOn, Encod
 ghost use Rattle.msr_output.specs.Output.{next_number};
 ghost use Rattle.msr_output.specs.Writing.{AppendsRecordOfRun};
 
-use msr_kinds::Length;
+use msr_kinds::Form;
 use msr_packer::{BlockPacker, Piece};
 use msr_record::{Key, encode_record};
 use msr_report::SegmentLine;
@@ -29,7 +30,7 @@ use std::marker::Model;
 pub struct OpenSegment {
     key: Key,
     start: i64,
-    record_length: Length,
+    form: Form,
     packer: BlockPacker,
     /// One for each record that was encoded.
     separators: Vec<u64>,
@@ -40,7 +41,7 @@ impl Model for OpenSegment {
 
     ghost Value = { Opened };
 
-    ghost view = { λ s. opened_of s.key s.start s.record_length s.packer s.separators.items };
+    ghost view = { λ s. opened_of s.key s.start s.form s.packer s.separators.items };
 }
 
 /// The sequence number after this one: from 1 to 999999, and then again from 1.
@@ -68,16 +69,16 @@ fn empty_span_is_in_time(key: &Key, start: i64)
 
 /// The next piece, of samples that others may follow, or of all.
 fn next_piece(packer: &mut BlockPacker, whole: bool) -> Option<Piece>
-    ensures given { (bytes : ℕ) (samples : List ℤ) (runs : List Run) (separators : List ℕ)
-        → Gives whole bytes samples runs separators packer.old
-        → Gives whole bytes samples (runs ++ runs_of (pieces_of result))
+    ensures given { (form : Form) (samples : List ℤ) (runs : List Run) (separators : List ℕ)
+        → Gives whole form samples runs separators packer.old
+        → Gives whole form samples (runs ++ runs_of (pieces_of result))
         (separators ++ separators_of (pieces_of result)) packer.new }
-    ensures shows { (bytes : ℕ) (samples : List ℤ) (runs : List Run) (separators : List ℕ)
-        → Gives whole bytes samples runs separators packer.old
+    ensures shows { (form : Form) (samples : List ℤ) (runs : List Run) (separators : List ℕ)
+        → Gives whole form samples runs separators packer.old
         → IfSome result (Shows samples packer.new.shown packer.new.before) }
-    ensures all { (bytes : ℕ) (samples : List ℤ) (runs : List Run) (separators : List ℕ)
-        → Gives whole bytes samples runs separators packer.old
-        → whole ≡ true → IsNone result → IsCanonical bytes samples runs separators }
+    ensures all { (form : Form) (samples : List ℤ) (runs : List Run) (separators : List ℕ)
+        → Gives whole form samples runs separators packer.old
+        → whole ≡ true → IsNone result → IsCanonical form samples runs separators }
     ensures fewer { IfSome result (λ _. left_of packer.new < left_of packer.old) }
     ensures count { pushed packer.new ≡ pushed packer.old }
     ensures few { whole ≡ false → IsNone result → HoldsFew packer.new }
@@ -91,11 +92,11 @@ fn next_piece(packer: &mut BlockPacker, whole: bool) -> Option<Piece>
 
 impl OpenSegment {
     /// A segment of that key and start, without a sample yet. It takes no memory yet.
-    pub(crate) fn begin(alloc: Global, record_length: Length, key: Key, start: i64) -> OpenSegment
+    pub(crate) fn begin(alloc: Global, form: Form, key: Key, start: i64) -> OpenSegment
         requires quality { IsTrue (is_quality key.quality) }
         requires normal { is_pending key.activity key.correction ≡ false }
         requires start { IsInstant start }
-        ensures size { result.size ≡ bytes_of record_length }
+        ensures form { result.form ≡ form }
         ensures begun { IsOpen false (empty_segment key start) [] result }
         ensures can { CanGoOn false result }
         ensures key { result.key ≡ key }
@@ -107,8 +108,8 @@ impl OpenSegment {
         OpenSegment {
             key,
             start,
-            record_length,
-            packer: BlockPacker::new(alloc, record_length),
+            form,
+            packer: BlockPacker::new(alloc, form),
             separators: Vec::new(alloc),
         }
     }
@@ -119,7 +120,7 @@ impl OpenSegment {
         ensures taken { (segment : Segment) (runs : List Run) → IsOpen false segment runs self.old
             → MatchResult result (λ _. IsOpen false (longer_by segment samples.now) runs self.new)
             (λ _. IsOpen false segment runs self.new) }
-        ensures size { self.new.size ≡ self.old.size }
+        ensures form { self.new.form ≡ self.old.form }
         ensures key { self.new.key ≡ self.old.key }
         ensures start { self.new.start ≡ self.old.start }
         ensures count { MatchResult result (λ _. pushed self.new.packer
@@ -136,13 +137,14 @@ impl OpenSegment {
         number: u32,
         out: &mut Vec<u8>,
     ) -> Result<(), AllocError>
-        requires can { CanEncode self.now.size self.now.key self.now.start self.now.packer run }
+        requires can { CanEncode (bytes_of self.now.form.length) self.now.key self.now.start self.now.packer run }
         requires least { 1 ≤ number }
         requires most { number ≤ 999_999 }
         ensures { (segment : Segment) (separator : ℕ) → self.now.key ≡ segment.key → self.now.start ≡ segment.start
             → Shows segment.samples self.now.packer.shown self.now.packer.before
             (record { run = run; separator = separator })
-            → OnOk result (AppendsRecordOfRun self.now.size number segment run out.old.items out.new.items) }
+            → OnOk result (AppendsRecordOfRun (bytes_of self.now.form.length) number segment run
+            out.old.items out.new.items) }
     {
         let first = self.key.rate.nominal(self.start, run.start).unwrap();
         encode_record(
@@ -153,7 +155,7 @@ impl OpenSegment {
             self.packer.sample_before(),
             self.packer.run_samples(),
             run.kind,
-            self.record_length,
+            self.form.length,
             out,
         )
     }
@@ -173,7 +175,7 @@ impl OpenSegment {
         ensures appends { (segment : Segment) (runs : List Run) → IsOpen whole segment runs self.old
             → IfOk result (λ more. EncodesNext whole segment runs self.new number out.old.items out.new.items more) }
         ensures fewer { IfOk result (λ more. IsTrue more → left_of self.new.packer < left_of self.old.packer) }
-        ensures size { self.new.size ≡ self.old.size }
+        ensures form { self.new.form ≡ self.old.form }
         ensures count { pushed self.new.packer ≡ pushed self.old.packer }
         ensures key { self.new.key ≡ self.old.key }
         ensures start { self.new.start ≡ self.old.start }
@@ -204,7 +206,7 @@ impl OpenSegment {
         ensures most { IfOk result (λ next. next ≤ 999_999) }
         ensures appends { (segment : Segment) (runs : List Run) → IsOpen whole segment runs self.old
             → IfOk result (AppendsMore whole segment runs self.new first_number out.old.items out.new.items) }
-        ensures size { self.new.size ≡ self.old.size }
+        ensures form { self.new.form ≡ self.old.form }
         ensures count { pushed self.new.packer ≡ pushed self.old.packer }
         ensures key { self.new.key ≡ self.old.key }
         ensures start { self.new.start ≡ self.old.start }

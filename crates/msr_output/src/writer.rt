@@ -1,37 +1,35 @@
 //! A writer of segments.
 use crate::opened::OpenSegment;
 use msr_devices::{Sink, WriteBuffer, WriteFault};
-use msr_kinds::Length;
+use msr_kinds::Form;
 use msr_record::{Key, samples_have_32_bits};
 use msr_report::SegmentLine;
 use std::alloc::Global;
 use std::marker::Model;
 
-/// Writes segments as records of one length, and numbers these. All calls take the same sink. After an `Err`
+/// Writes segments as records of one form, and numbers these. All calls take the same sink. After an `Err`
 /// what it would write is no output: it is not used again.
 #[derive(Drop)]
 pub struct SegmentWriter {
     alloc: Global,
-    record_length: Length,
+    form: Form,
     number: u32,
     buffer: WriteBuffer,
 }
 
 impl Model for SegmentWriter {
     ghost use Rattle.std.specs.Prelude.{◌≤◌};
-    ghost use Rattle.msr_kinds.specs.Lengths.{bytes_of};
     ghost use Rattle.msr_output.specs.Writing.{Writing};
 
     ghost Value = { Writing };
 
-    ghost view = { λ w. record { size = bytes_of w.record_length; number = w.number; waiting = w.buffer.bytes.items } };
+    ghost view = { λ w. record { form = w.form; number = w.number; waiting = w.buffer.bytes.items } };
 
     ghost invariant = { λ w. (1 ≤ w.number) × (w.number ≤ 999_999) };
 }
 
 impl SegmentWriter {
     ghost use Rattle.std.specs.Prelude.{◌≡◌, ◌+◌, ◌<◌, ◌≤◌, ◌^◌, List, [], ◌∷◌, ◌++◌, length, map, MatchResult, OnOk, false, IsTrue};
-    ghost use Rattle.msr_kinds.specs.Lengths.{bytes_of};
     ghost use Rattle.msr_header.specs.Reading.{is_quality};
     ghost use Rattle.msr_rows.specs.Correction.{is_pending};
     ghost use Rattle.msr_rows.specs.declared.row.Row.{Row};
@@ -46,14 +44,14 @@ impl SegmentWriter {
     ghost use Rattle.msr_output.specs.Opened.{CanGoOn, HasBegun, Opened, empty_segment, longer_by};
 
     /// A writer before the first record. It takes no memory yet.
-    pub fn new(alloc: Global, record_length: Length) -> SegmentWriter
-        ensures size { result.size ≡ bytes_of record_length }
+    pub fn new(alloc: Global, form: Form) -> SegmentWriter
+        ensures form { result.form ≡ form }
         ensures none { (start : Device) → HasWritten start start result [] [] }
         ensures none_wait { result.waiting ≡ [] }
     {
         SegmentWriter {
             alloc,
-            record_length,
+            form,
             number: 1,
             buffer: WriteBuffer::new(alloc),
         }
@@ -69,12 +67,12 @@ impl SegmentWriter {
             → HasWritten first now self.now packed rows
             → HasBegun first now self.now packed (empty_segment key start) result }
         ensures can { CanGoOn false result }
-        ensures size { result.size ≡ self.now.size }
+        ensures form { result.form ≡ self.now.form }
         ensures key { result.key ≡ key }
         ensures start { result.start ≡ start }
         ensures count { pushed result.packer ≡ 0 }
     {
-        OpenSegment::begin(self.alloc, self.record_length, key, start)
+        OpenSegment::begin(self.alloc, self.form, key, start)
     }
 
     /// Takes more samples of the segment, and puts the records that they decide after those that wait; then writes
@@ -87,7 +85,7 @@ impl SegmentWriter {
     ) -> Result<(), WriteFault>
         requires count { CanCountCall (W.device sink.old) }
         requires can { CanGoOn false segment.old }
-        requires size { segment.old.size ≡ self.old.size }
+        requires form { segment.old.form ≡ self.old.form }
         requires number { pushed segment.old.packer + length samples.now < 2 ^ 64 }
         requires in_time { SpanIsInTime (span_of segment.old.key segment.old.start
             (pushed segment.old.packer + length samples.now)) }
@@ -95,11 +93,11 @@ impl SegmentWriter {
             → HasBegun start (W.device sink.old) self.old packed before segment.old
             → MatchResult result
             (λ _. HasBegun start (W.device sink.new) self.new packed (longer_by before samples.now) segment.new)
-            (StopsWriting self.old.size start (W.device sink.new)
+            (StopsWriting self.old.form start (W.device sink.new)
             (map segment_of_packed packed ++ longer_by before samples.now ∷ [])) }
         ensures can { OnOk result (CanGoOn false segment.new) }
-        ensures size { self.new.size ≡ self.old.size }
-        ensures same { (segment.new.size ≡ segment.old.size) × (segment.new.key ≡ segment.old.key)
+        ensures form { self.new.form ≡ self.old.form }
+        ensures same { (segment.new.form ≡ segment.old.form) × (segment.new.key ≡ segment.old.key)
             × (segment.new.start ≡ segment.old.start) }
         ensures encoded { OnOk result (IsEncoded segment.new) }
         ensures few_wait { OnOk result (length self.new.waiting < 65536) }
@@ -122,13 +120,13 @@ impl SegmentWriter {
     ) -> Result<SegmentLine, WriteFault>
         requires count { CanCountCall (W.device sink.old) }
         requires can { CanGoOn false segment }
-        requires size { segment.size ≡ self.old.size }
+        requires form { segment.form ≡ self.old.form }
         ensures written { (start : Device) (packed : List Packed) (all : Whole)
             → HasBegun start (W.device sink.old) self.old packed all segment
             → MatchResult result
             (WritesSegment start (W.device sink.new) self.new packed all)
-            (StopsWriting self.old.size start (W.device sink.new) (map segment_of_packed packed ++ all ∷ [])) }
-        ensures size { self.new.size ≡ self.old.size }
+            (StopsWriting self.old.form start (W.device sink.new) (map segment_of_packed packed ++ all ∷ [])) }
+        ensures form { self.new.form ≡ self.old.form }
         ensures calm { OnOk result (IsCalm (W.device sink.old) (W.device sink.new)) }
         ensures few { CountsFew (W.device sink.old) (W.device sink.new) }
     {
@@ -145,7 +143,7 @@ impl SegmentWriter {
             → HasWritten start (W.device sink.old) self.old packed rows
             → MatchResult result
             (λ _. HasWritten start (W.device sink.new) self.new packed rows)
-            (StopsWriting self.old.size start (W.device sink.new) (map segment_of_packed packed)) }
+            (StopsWriting self.old.form start (W.device sink.new) (map segment_of_packed packed)) }
 
         // What is written, if a segment is open.
         ensures begun { (start : Device) (packed : List Packed) (before : Whole) (opened : Opened)
@@ -153,9 +151,9 @@ impl SegmentWriter {
             → HasBegun start (W.device sink.old) self.old packed before opened
             → MatchResult result
             (λ _. HasBegun start (W.device sink.new) self.new packed before opened)
-            (StopsWriting self.old.size start (W.device sink.new) (map segment_of_packed packed ++ before ∷ [])) }
+            (StopsWriting self.old.form start (W.device sink.new) (map segment_of_packed packed ++ before ∷ [])) }
         ensures none_wait { OnOk result (self.new.waiting ≡ []) }
-        ensures size { self.new.size ≡ self.old.size }
+        ensures form { self.new.form ≡ self.old.form }
         ensures few { CountsFew (W.device sink.old) (W.device sink.new) }
     {
         self.buffer.flush(sink)?;
@@ -169,7 +167,7 @@ impl SegmentWriter {
             → HasWritten start (W.device sink.old) self packed rows
             → MatchResult result
             (λ _. HasWrittenAll start (W.device sink.new) self packed rows)
-            (StopsWriting self.size start (W.device sink.new) (map segment_of_packed packed)) }
+            (StopsWriting self.form start (W.device sink.new) (map segment_of_packed packed)) }
         ensures few { CountsFew (W.device sink.old) (W.device sink.new) }
     {
         let mut buffer = self.buffer;

@@ -1,9 +1,11 @@
 -- Steps with records of one kind, of one kind more, and of all kinds.
-use Rattle.std.proofs.Common.{◌≡◌, ◌↔◌, ℕ, ◌≤◌, ◌⊎◌, ℤ, List, [], ◌∷◌, arith, refl, sym, subst, inl, inr}
+use Rattle.std.proofs.Common.{◌≡◌, ℕ, ◌<◌, ◌≤◌, ◌⊎◌, ℤ, List, [], ◌∷◌, arith, refl, sym, subst, inl, inr}
+use Rattle.msr_kinds.specs.declared.forms.Form.{Form}
 use Rattle.msr_kinds.specs.declared.kinds.Kind.{Kind}
 use Rattle.msr_kinds.specs.declared.kinds.Kind.TheVariants.{Int16, Int24, Int32, Steim1, Steim2}
-use Rattle.msr_words.specs.Segment.{run_points}
-use Rattle.msr_words.specs.Fit.{Fits, FitsAny, IsRun}
+use Rattle.msr_kinds.specs.Kinds.{IsChosen}
+use Rattle.msr_kinds.specs.Lengths.{bytes_of}
+use Rattle.msr_words.specs.Fit.{Fits, FitsAny, FitsIn, IsRun}
 use Rattle.msr_words.specs.Packing.{IsStep}
 use Rattle.msr_packer.specs.declared.step.StepRun.{StepRun}
 use Rattle.msr_packer.specs.Steps.{Among, IsStepAmong, NotLess, every_kind}
@@ -36,49 +38,37 @@ starts_here step other result g here there either = elim either [
   | inr e ↦ subst (λ r. r.start ≡ g) (sym e) there
 ]
 
-module _ (bytes : ℕ) (samples : List ℤ) (g : ℕ) where
-  -- what a codec takes is what fits a record of its kind
-  module _ (fits : List (ℤ × ℤ) → Type 0) (own kind : Kind)
-      (same : (run : List (ℤ × ℤ)) → fits run ↔ Fits own bytes run) (is_own : own ≡ kind) where
-    taken : (s b : ℕ) (k : Kind) → k ≡ kind → IsRun (Fits k bytes) samples s b → IsRun fits samples s b
-    taken s b k e run = (
-      run.0,
-      run.1,
-      (same (run_points samples s b)).1
-          (subst (λ x. Fits x bytes (run_points samples s b)) (sym is_own)
-          (subst (λ x. Fits x bytes (run_points samples s b)) e run.2)),
-    )
+module _ (form : Form) (samples : List ℤ) (g : ℕ) where
+  -- a run that fits, and is of a kind that the form has
+  without_choice : (kind : Kind) (s b : ℕ) → IsRun (FitsIn kind form) samples s b
+      → IsRun (Fits kind (bytes_of form.length)) samples s b
+  without_choice kind s b run = (run.0, run.1, run.2.1)
 
-    fitting : (s b : ℕ) → IsRun fits samples s b → IsRun (Fits kind bytes) samples s b
-    fitting s b run = (
-      run.0,
-      run.1,
-      subst (λ x. Fits x bytes (run_points samples s b)) is_own
-          ((same (run_points samples s b)).0 run.2),
-    )
-
-    -- the step of a codec is the step with records of its kind
-    pub one_kind : (h a : ℕ) → g ≤ h → IsStep fits samples g h a
-        → IsStepAmong (kind ∷ []) bytes samples g (record { start = a; end = h; kind = kind })
-    one_kind h a past step = record {
-      before = step.before;
-      past = past;
-      reached = fitting a h step.reached;
-      furthest = λ k among s b le run. elim among [
-        | inl e ↦ step.furthest s b le (taken s b k e run)
-        | inr none ↦ absurd none
-      ];
-      last = λ k among s le run. elim among [
-        | inl e ↦ step.last s le (taken s h k e run)
-        | inr none ↦ absurd none
-      ];
-    }
+  -- the step with records of one kind, which the form has
+  pub one_kind : (kind : Kind) (h a : ℕ) → IsChosen form.kinds kind → g ≤ h → (h ≡ g → a ≡ g)
+      → IsStep (Fits kind (bytes_of form.length)) samples g h a
+      → IsStepAmong (kind ∷ []) form samples g (record { start = a; end = h; kind = kind })
+  one_kind kind h a chosen past still step = record {
+    before = step.before;
+    past = past;
+    reached = step.reached;
+    chosen = λ _. chosen;
+    still = still;
+    furthest = λ k among s b le run. elim among [
+      | inl e ↦ step.furthest s b le (without_choice kind s b (subst (λ k. IsRun (FitsIn k form) samples s b) e run))
+      | inr none ↦ absurd none
+    ];
+    last = λ k among s le run. elim among [
+      | inl e ↦ step.last s le (without_choice kind s h (subst (λ k. IsRun (FitsIn k form) samples s h) e run))
+      | inr none ↦ absurd none
+    ];
+  }
 
   -- the better of a step and the step of one kind more
   pub one_more : (kind : Kind) (tried : List Kind) (step other result : StepRun)
-      → IsStepAmong tried bytes samples g step → IsStepAmong (kind ∷ []) bytes samples g other →
+      → IsStepAmong tried form samples g step → IsStepAmong (kind ∷ []) form samples g other →
       (result ≡ step) ⊎ (result ≡ other) → NotLess result step → NotLess result other
-      → IsStepAmong (kind ∷ tried) bytes samples g result
+      → IsStepAmong (kind ∷ tried) form samples g result
   one_more kind tried step other result is one either first second = record {
     before = elim either [
       | inl e ↦ subst (λ r. r.start ≤ g) (sym e) is.before
@@ -89,8 +79,16 @@ module _ (bytes : ℕ) (samples : List ℤ) (g : ℕ) where
       | inr e ↦ subst (λ r. g ≤ r.end) (sym e) one.past
     ];
     reached = elim either [
-      | inl e ↦ subst (λ r. IsRun (Fits r.kind bytes) samples r.start r.end) (sym e) is.reached
-      | inr e ↦ subst (λ r. IsRun (Fits r.kind bytes) samples r.start r.end) (sym e) one.reached
+      | inl e ↦ subst (λ r. IsRun (Fits r.kind (bytes_of form.length)) samples r.start r.end) (sym e) is.reached
+      | inr e ↦ subst (λ r. IsRun (Fits r.kind (bytes_of form.length)) samples r.start r.end) (sym e) one.reached
+    ];
+    chosen = elim either [
+      | inl e ↦ subst (λ r. g < r.end → IsChosen form.kinds r.kind) (sym e) is.chosen
+      | inr e ↦ subst (λ r. g < r.end → IsChosen form.kinds r.kind) (sym e) one.chosen
+    ];
+    still = elim either [
+      | inl e ↦ subst (λ r. r.end ≡ g → r.start ≡ g) (sym e) is.still
+      | inr e ↦ subst (λ r. r.end ≡ g → r.start ≡ g) (sym e) one.still
     ];
     furthest = λ k among s b le run. elim among [
       | inl e ↦ let f = one.furthest k (inl e) s b le run in let m = not_shorter result other second in omega arith
@@ -98,22 +96,23 @@ module _ (bytes : ℕ) (samples : List ℤ) (g : ℕ) where
     ];
     last = λ k among s le run. elim among [
       | inl e ↦ not_later result other second (one.furthest k (inl e) s result.end le run) s
-          (λ same. one.last k (inl e) s le (subst (λ b. IsRun (Fits k bytes) samples s b) same run))
+          (λ same. one.last k (inl e) s le (subst (λ b. IsRun (FitsIn k form) samples s b) same run))
       | inr old ↦ not_later result step first (is.furthest k old s result.end le run) s
-          (λ same. is.last k old s le (subst (λ b. IsRun (Fits k bytes) samples s b) same run))
+          (λ same. is.last k old s le (subst (λ b. IsRun (FitsIn k form) samples s b) same run))
     ];
   }
 
   -- The better of a step and one from the frontier itself, if each run of one kind more ends no later than that one, or
   -- than a run from the frontier that the step's kinds know.
   pub one_covered : (kind : Kind) (tried : List Kind) (step other result : StepRun) (known : Kind) (e : ℕ)
-      → other.start ≡ g → IsStepAmong tried bytes samples g step
-      → IsRun (Fits other.kind bytes) samples other.start other.end →
-      Among tried known → IsRun (Fits known bytes) samples g e
-      → ((s b : ℕ) → s ≤ g → IsRun (Fits kind bytes) samples s b → (b ≤ other.end) ⊎ (b ≤ e)) →
+      → other.start ≡ g → IsStepAmong tried form samples g step
+      → IsRun (Fits other.kind (bytes_of form.length)) samples other.start other.end
+      → (g < other.end → IsChosen form.kinds other.kind) →
+      Among tried known → IsRun (FitsIn known form) samples g e ⊎ (e ≡ g)
+      → ((s b : ℕ) → s ≤ g → IsRun (FitsIn kind form) samples s b → (b ≤ other.end) ⊎ (b ≤ e)) →
       (result ≡ step) ⊎ (result ≡ other) → NotLess result step → NotLess result other
-      → IsStepAmong (kind ∷ tried) bytes samples g result
-  one_covered kind tried step other result known e there is reached among_known run_known cover either first
+      → IsStepAmong (kind ∷ tried) form samples g result
+  one_covered kind tried step other result known e there is reached chosen among_known run_known cover either first
       second = record {
         before = elim either [
           | inl same ↦ subst (λ r. r.start ≤ g) (sym same) is.before
@@ -121,50 +120,70 @@ module _ (bytes : ℕ) (samples : List ℤ) (g : ℕ) where
         ];
         past = (let p = is.past in let m = not_shorter result step first in omega arith);
         reached = elim either [
-          | inl same ↦ subst (λ r. IsRun (Fits r.kind bytes) samples r.start r.end) (sym same) is.reached
-          | inr same ↦ subst (λ r. IsRun (Fits r.kind bytes) samples r.start r.end) (sym same) reached
+          | inl same ↦ subst (λ r. IsRun (Fits r.kind (bytes_of form.length)) samples r.start r.end) (sym same)
+              is.reached
+          | inr same ↦ subst (λ r. IsRun (Fits r.kind (bytes_of form.length)) samples r.start r.end) (sym same) reached
+        ];
+        chosen = elim either [
+          | inl same ↦ subst (λ r. g < r.end → IsChosen form.kinds r.kind) (sym same) is.chosen
+          | inr same ↦ subst (λ r. g < r.end → IsChosen form.kinds r.kind) (sym same) chosen
+        ];
+        still = elim either [
+          | inl same ↦ subst (λ r. r.end ≡ g → r.start ≡ g) (sym same) is.still
+          | inr same ↦ λ _. subst (λ r. r.start ≡ g) (sym same) there
         ];
         furthest = λ k among s b le run. elim among [
-          | inl same ↦ further b (cover s b le (subst (λ k. IsRun (Fits k bytes) samples s b) same run))
+          | inl same ↦ further b (cover s b le (subst (λ k. IsRun (FitsIn k form) samples s b) same run))
           | inr old ↦ let f = is.furthest k old s b le run in let m = not_shorter result step first in omega arith
         ];
         last = λ k among s le run. elim among [
           | inl same ↦ later s le (cover s result.end le
-              (subst (λ k. IsRun (Fits k bytes) samples s result.end) same run))
+              (subst (λ k. IsRun (FitsIn k form) samples s result.end) same run))
           | inr old ↦
               let f = is.furthest k old s result.end le run in
               not_later result step first (omega arith) s (λ same. is.last k old s le
-              (subst (λ b. IsRun (Fits k bytes) samples s b) same run))
+              (subst (λ b. IsRun (FitsIn k form) samples s b) same run))
         ];
       }
     where
       within : e ≤ step.end
-      within = is.furthest known among_known g e (omega arith) run_known
+      within = elim run_known [
+        | inl run ↦ is.furthest known among_known g e (omega arith) run
+        | inr none ↦ let p = is.past in omega arith
+      ]
 
       further : (b : ℕ) → (b ≤ other.end) ⊎ (b ≤ e) → b ≤ result.end
       further b (inl c) = let m = not_shorter result other second in omega arith
       further b (inr c) = let m = not_shorter result step first in let w = within in omega arith
+
+      -- the step starts at the frontier if it reaches no further than what is known
+      from_there : step.end ≡ e → g ≤ step.start
+      from_there same = elim run_known [
+        | inl run ↦ is.last known among_known g (omega arith)
+            (subst (λ b. IsRun (FitsIn known form) samples g b) (sym same) run)
+        | inr none ↦ let here = is.still (omega arith) in omega arith
+      ]
 
       later : (s : ℕ) → s ≤ g → (result.end ≤ other.end) ⊎ (result.end ≤ e) → s ≤ result.start
       later s le (inl c) = not_later result other second c s (λ same. omega arith)
       later s le (inr c) =
           let w = within in
           let m = not_shorter result step first in
-          not_later result step first (omega arith) s (λ same. let l =
-          is.last known among_known g (omega arith) (subst (λ b. IsRun (Fits known bytes) samples g b)
-          (omega arith) run_known) in omega arith)
+          not_later result step first (omega arith) s (λ same. let l = from_there (omega arith) in omega arith)
 
   -- a step from the frontier itself that is no shorter than any run of one kind more
   pub skipped : (kind : Kind) (tried : List Kind) (step : StepRun) → step.start ≡ g
-      → IsStepAmong tried bytes samples g step →
-      ((s b : ℕ) → s ≤ g → IsRun (Fits kind bytes) samples s b → b ≤ step.end)
-      → IsStepAmong (kind ∷ tried) bytes samples g step
+      → IsStepAmong tried form samples g step →
+      ((s b : ℕ) → s ≤ g → IsRun (FitsIn kind form) samples s b → b ≤ step.end)
+      → IsStepAmong (kind ∷ tried) form samples g step
   skipped kind tried step here is none = record {
     before = is.before;
     past = is.past;
     reached = is.reached;
+    chosen = is.chosen;
+    still = is.still;
     furthest = λ k among s b le run. elim among [
-      | inl e ↦ none s b le (subst (λ k. IsRun (Fits k bytes) samples s b) e run)
+      | inl e ↦ none s b le (subst (λ k. IsRun (FitsIn k form) samples s b) e run)
       | inr old ↦ is.furthest k old s b le run
     ];
     last = λ k among s le run. omega arith;
@@ -172,21 +191,23 @@ module _ (bytes : ℕ) (samples : List ℤ) (g : ℕ) where
 
   -- the same kinds in another order
   pub reordered : (kinds tried : List Kind) → ((kind : Kind) → Among kinds kind → Among tried kind) → (step : StepRun)
-      → IsStepAmong tried bytes samples g step → IsStepAmong kinds bytes samples g step
+      → IsStepAmong tried form samples g step → IsStepAmong kinds form samples g step
   reordered kinds tried each step is = record {
     before = is.before;
     past = is.past;
     reached = is.reached;
+    chosen = is.chosen;
+    still = is.still;
     furthest = λ kind among. is.furthest kind (each kind among);
     last = λ kind among. is.last kind (each kind among);
   }
 
-  -- with records of all kinds
-  pub all_kinds : (step : StepRun) → IsStepAmong every_kind bytes samples g step
-      → IsStep (FitsAny bytes) samples g step.end step.start
-  all_kinds step is = record {
+  -- with records of all kinds that the form has
+  pub of_form : (step : StepRun) → IsStepAmong every_kind form samples g step → g < step.end
+      → IsStep (FitsAny form) samples g step.end step.start
+  of_form step is on = record {
     before = is.before;
-    reached = let run = is.reached in (run.0, run.1, (step.kind, run.2));
+    reached = let run = is.reached in (run.0, run.1, (step.kind, (is.chosen on, run.2)));
     furthest = λ s b le run. is.furthest run.2.0 (each_kind run.2.0) s b le (run.0, run.1, run.2.1);
     last = λ s le run. is.last run.2.0 (each_kind run.2.0) s le (run.0, run.1, run.2.1);
   }

@@ -1,16 +1,16 @@
 //! The packing of a segment whose samples come in blocks.
 
 ghost use Rattle.std.specs.Prelude.{◌≡◌, ℕ, ℤ, List, [], ◌++◌, ◌+◌, ◌*◌, ◌^◌, ◌<◌, ◌≤◌, length, IfSome, IsNone, MatchResult};
+ghost use Rattle.msr_kinds.specs.declared.forms.Form.{Form};
 ghost use Rattle.msr_words.specs.declared.kinds.Run.{Run};
 ghost use Rattle.msr_words.specs.Laws.{most_any};
-ghost use Rattle.msr_kinds.specs.Lengths.{bytes_of};
 ghost use Rattle.msr_words.specs.Packing.{IsCanonical};
 ghost use Rattle.msr_packer.specs.Blocks.{BlocksBeginAll, BlocksEnd, BlocksLeaveFew, HoldsFew, LastBlocksBegin, Packs, PacksLast, left_of, pushed};
 ghost use Rattle.msr_packer.specs.HeldSamples.{Shows, pieces_of, runs_of, separators_of};
 
 use crate::held::{HeldSamples, Piece};
-use msr_kinds::Length;
-use msr_words::{AnyKind, Tracker};
+use msr_kinds::Form;
+use msr_words::longest_run;
 use std::alloc::{AllocError, Global};
 use std::marker::Model;
 
@@ -36,14 +36,14 @@ impl Model for BlockPacker {
 }
 
 impl BlockPacker {
-    /// A packer that no sample was pushed to. It takes no memory yet.
-    pub fn new(alloc: Global, record_length: Length) -> BlockPacker
-        ensures none { Packs (bytes_of record_length) [] [] [] result }
+    /// A packer into records of that form, that no sample was pushed to. It takes no memory yet.
+    pub fn new(alloc: Global, form: Form) -> BlockPacker
+        ensures none { Packs form [] [] [] result }
         ensures few { HoldsFew result }
         ensures count { pushed result ≡ 0 }
     {
         BlockPacker {
-            held: HeldSamples::empty(alloc, record_length),
+            held: HeldSamples::empty(alloc, form),
             ended: false,
         }
     }
@@ -53,12 +53,12 @@ impl BlockPacker {
     /// taken.
     pub fn push_all(&mut self, samples: &[i32]) -> Result<(), AllocError>
         requires { pushed self.old + length samples.now < 2 ^ 64 }
-        ensures taken { (bytes : ℕ) (before : List ℤ) (runs : List Run) (separators : List ℕ)
-            → Packs bytes before runs separators self.old
+        ensures taken { (form : Form) (before : List ℤ) (runs : List Run) (separators : List ℕ)
+            → Packs form before runs separators self.old
             → MatchResult result
-            (λ _. Packs bytes (before ++ samples.now) runs separators self.new)
-            (λ _. Packs bytes before runs separators self.new) }
-        ensures few { HoldsFew self.old → length self.new.held ≤ 4 * most_any self.old.size + 2 + length samples.now }
+            (λ _. Packs form (before ++ samples.now) runs separators self.new)
+            (λ _. Packs form before runs separators self.new) }
+        ensures few { HoldsFew self.old → length self.new.held ≤ 4 * most_any self.old.form + 2 + length samples.now }
         ensures count { MatchResult result (λ _. pushed self.new ≡ pushed self.old + length samples.now)
             (λ _. pushed self.new ≡ pushed self.old) }
     {
@@ -69,32 +69,32 @@ impl BlockPacker {
 
     /// The next piece, if it is decided whatever samples follow.
     pub fn next_piece(&mut self) -> Option<Piece>
-        ensures given { (bytes : ℕ) (samples : List ℤ) (runs : List Run) (separators : List ℕ)
-            → Packs bytes samples runs separators self.old
-            → Packs bytes samples (runs ++ runs_of (pieces_of result))
+        ensures given { (form : Form) (samples : List ℤ) (runs : List Run) (separators : List ℕ)
+            → Packs form samples runs separators self.old
+            → Packs form samples (runs ++ runs_of (pieces_of result))
             (separators ++ separators_of (pieces_of result)) self.new }
-        ensures shows { (bytes : ℕ) (samples : List ℤ) (runs : List Run) (separators : List ℕ)
-            → Packs bytes samples runs separators self.old
+        ensures shows { (form : Form) (samples : List ℤ) (runs : List Run) (separators : List ℕ)
+            → Packs form samples runs separators self.old
             → IfSome result (Shows samples self.new.shown self.new.before) }
         ensures few { IsNone result → HoldsFew self.new }
         ensures fewer { IfSome result (λ _. left_of self.new < left_of self.old) }
         ensures count { pushed self.new ≡ pushed self.old }
     {
-        let most = AnyKind::most(self.held.record_length);
+        let most = longest_run(self.held.form);
         self.held.next_piece(most)
     }
 
     /// The next piece, if no sample follows. If there is none, all pieces were given.
     pub fn last_piece(&mut self) -> Option<Piece>
-        ensures given { (bytes : ℕ) (samples : List ℤ) (runs : List Run) (separators : List ℕ)
-            → PacksLast bytes samples runs separators self.old
-            → PacksLast bytes samples (runs ++ runs_of (pieces_of result))
+        ensures given { (form : Form) (samples : List ℤ) (runs : List Run) (separators : List ℕ)
+            → PacksLast form samples runs separators self.old
+            → PacksLast form samples (runs ++ runs_of (pieces_of result))
             (separators ++ separators_of (pieces_of result)) self.new }
-        ensures all { (bytes : ℕ) (samples : List ℤ) (runs : List Run) (separators : List ℕ)
-            → PacksLast bytes samples runs separators self.old
-            → IsNone result → IsCanonical bytes samples runs separators }
-        ensures shows { (bytes : ℕ) (samples : List ℤ) (runs : List Run) (separators : List ℕ)
-            → PacksLast bytes samples runs separators self.old
+        ensures all { (form : Form) (samples : List ℤ) (runs : List Run) (separators : List ℕ)
+            → PacksLast form samples runs separators self.old
+            → IsNone result → IsCanonical form samples runs separators }
+        ensures shows { (form : Form) (samples : List ℤ) (runs : List Run) (separators : List ℕ)
+            → PacksLast form samples runs separators self.old
             → IfSome result (Shows samples self.new.shown self.new.before) }
         ensures fewer { IfSome result (λ _. left_of self.new < left_of self.old) }
         ensures count { pushed self.new ≡ pushed self.old }

@@ -2,13 +2,15 @@
 //! is not decided, and need not be looked for.
 
 ghost use Rattle.std.specs.Prelude.{◌≡◌, ℕ, ◌+◌, ◌<◌, ◌≤◌, ◌-ℤ◌, [], length, pos, slice_index_or, IfSome, IsNone};
+ghost use Rattle.msr_kinds.specs.declared.forms.Form.{Form};
+ghost use Rattle.msr_kinds.specs.Kinds.{IsChosen};
 ghost use Rattle.msr_kinds.specs.Lengths.{bytes_of};
-ghost use Rattle.msr_words.specs.Fit.{Fits, IsRun};
+ghost use Rattle.msr_words.specs.Fit.{Fits, FitsIn, IsRun};
 ghost use Rattle.msr_words.specs.Segment.{difference_at, run_points};
 ghost use Rattle.msr_packer.specs.Growing.{Follows, IsDecided, IsGrowing, IsTracked, kind_of_tracker};
 
 use crate::step::{StepWithEnds, next_step};
-use msr_kinds::{Kind, Length};
+use msr_kinds::{Form, Kind, Length};
 use msr_words::{Int16, Int24, Int32, Steim1, Steim2, Tracker};
 
 /// A tracker of one of the kinds.
@@ -42,13 +44,13 @@ fn difference_between(before: i32, sample: i32) -> i64
 /// The tracker after the samples from one on, if it takes them all.
 fn all_taken<C: Tracker + Drop>(mut tracker: C, samples: &[i32], from: usize) -> Option<C>
     requires { from ≤ length samples.now }
-    ensures all { (bytes start : ℕ) → start ≤ from → C.follows bytes (run_points samples.now start from) tracker
-        → C.fits bytes (run_points samples.now start from)
-        → IfSome result (λ t. C.follows bytes (run_points samples.now start (length samples.now)) t
-        × C.fits bytes (run_points samples.now start (length samples.now))) }
-    ensures none { (bytes start : ℕ) → start ≤ from → C.follows bytes (run_points samples.now start from) tracker
-        → C.fits bytes (run_points samples.now start from)
-        → IsNone result → C.fits bytes (run_points samples.now start (length samples.now)) → ⊥ }
+    ensures all { (form : Form) (start : ℕ) → start ≤ from → C.follows form (run_points samples.now start from) tracker
+        → C.fits form (run_points samples.now start from)
+        → IfSome result (λ t. C.follows form (run_points samples.now start (length samples.now)) t
+        × C.fits form (run_points samples.now start (length samples.now))) }
+    ensures none { (form : Form) (start : ℕ) → start ≤ from → C.follows form (run_points samples.now start from) tracker
+        → C.fits form (run_points samples.now start from)
+        → IsNone result → C.fits form (run_points samples.now start (length samples.now)) → ⊥ }
 {
     let mut last = sample_before(samples, from);
     for at in from..samples.len() {
@@ -79,10 +81,10 @@ impl KindTracker {
     /// The tracker after the samples from one on, if it takes them all.
     fn after(self, samples: &[i32], from: usize) -> Option<KindTracker>
         requires { from ≤ length samples.now }
-        ensures all { (bytes start : ℕ) → start ≤ from → IsTracked bytes samples.now start from self
-            → IfSome result (IsTracked bytes samples.now start (length samples.now)) }
-        ensures none { (bytes start : ℕ) → start ≤ from → IsTracked bytes samples.now start from self
-            → IsNone result → Fits (kind_of_tracker self) bytes
+        ensures all { (form : Form) (start : ℕ) → start ≤ from → IsTracked form samples.now start from self
+            → IfSome result (IsTracked form samples.now start (length samples.now)) }
+        ensures none { (form : Form) (start : ℕ) → start ≤ from → IsTracked form samples.now start from self
+            → IsNone result → Fits (kind_of_tracker self) (bytes_of form.length)
             (run_points samples.now start (length samples.now)) → ⊥ }
     {
         match self {
@@ -105,6 +107,18 @@ impl KindTracker {
     }
 }
 
+/// The kind of which a run is taken to be as long as nothing is known of its samples.
+#[inline(always)]
+fn tried_first(form: Form) -> Kind
+    ensures { IsChosen form.kinds result }
+{
+    if form.kinds.contains(Kind::Steim2) {
+        Kind::Steim2
+    } else {
+        Kind::Int32
+    }
+}
+
 /// A run from `start` on that all samples fit so far, with its tracker.
 #[derive(Clone, Copy, Debug)]
 pub(crate) struct GrowingRun {
@@ -114,12 +128,12 @@ pub(crate) struct GrowingRun {
 
 impl GrowingRun {
     /// The run from `start` to the last sample, with a tracker of a kind that it fits.
-    fn of(samples: &[i32], record_length: Length, start: usize, kind: Kind) -> GrowingRun
-        requires { IsRun (Fits kind (bytes_of record_length)) samples.now start (length samples.now) }
+    fn of(samples: &[i32], form: Form, start: usize, kind: Kind) -> GrowingRun
+        requires { IsRun (FitsIn kind form) samples.now start (length samples.now) }
         ensures start { result.start ≡ start }
-        ensures tracked { IsTracked (bytes_of record_length) samples.now start (length samples.now) result.tracker }
+        ensures tracked { IsTracked form samples.now start (length samples.now) result.tracker }
     {
-        let begun = KindTracker::new(kind, record_length);
+        let begun = KindTracker::new(kind, form.length);
         match begun.after(samples, start) {
             Some(tracker) => GrowingRun { start, tracker },
             None => GrowingRun {
@@ -129,28 +143,28 @@ impl GrowingRun {
         }
     }
 
-    /// The run of the one sample after a frontier: of Steim-2 if the sample fits that, else of Int32.
-    pub(crate) fn first(samples: &[i32], record_length: Length, frontier: usize) -> GrowingRun
+    /// The run of the one sample after a frontier: of the kind that is tried first if the sample fits that, else of Int32.
+    pub(crate) fn first(samples: &[i32], form: Form, frontier: usize) -> GrowingRun
         requires { length samples.now ≡ frontier + 1 }
-        ensures { IsGrowing (bytes_of record_length) samples.now frontier (length samples.now) result }
+        ensures { IsGrowing form samples.now frontier (length samples.now) result }
     {
-        let begun = KindTracker::new(Kind::Steim2, record_length);
+        let begun = KindTracker::new(tried_first(form), form.length);
         match begun.after(samples, frontier) {
             Some(tracker) => GrowingRun {
                 start: frontier,
                 tracker,
             },
-            None => GrowingRun::of(samples, record_length, frontier, Kind::Int32),
+            None => GrowingRun::of(samples, form, frontier, Kind::Int32),
         }
     }
 
     /// An empty run at the start of a segment.
-    pub(crate) fn empty(record_length: Length) -> GrowingRun
-        ensures { IsGrowing (bytes_of record_length) [] 0 0 result }
+    pub(crate) fn empty(form: Form) -> GrowingRun
+        ensures { IsGrowing form [] 0 0 result }
     {
         GrowingRun {
             start: 0,
-            tracker: KindTracker::new(Kind::Steim2, record_length),
+            tracker: KindTracker::new(tried_first(form), form.length),
         }
     }
 
@@ -159,26 +173,26 @@ impl GrowingRun {
     pub(crate) fn decide(
         &mut self,
         samples: &[i32],
-        record_length: Length,
+        form: Form,
         frontier: usize,
         from: usize,
         likely: Kind,
     ) -> Option<StepWithEnds>
         requires within { from ≤ length samples.now }
-        requires growing { IsGrowing (bytes_of record_length) samples.now frontier from self.old }
-        ensures open { IsNone result → IsGrowing (bytes_of record_length) samples.now frontier
+        requires growing { IsGrowing form samples.now frontier from self.old }
+        ensures open { IsNone result → IsGrowing form samples.now frontier
             (length samples.now) self.new }
-        ensures decided { IfSome result (IsDecided (bytes_of record_length) samples.now frontier from) }
+        ensures decided { IfSome result (IsDecided form samples.now frontier from) }
     {
         if let Some(tracker) = self.tracker.after(samples, from) {
             self.tracker = tracker;
             return None;
         }
-        let found = next_step(samples, record_length, frontier, likely);
+        let found = next_step(samples, form, frontier, likely);
         if found.step.end < samples.len() {
             return Some(found);
         }
-        *self = GrowingRun::of(samples, record_length, found.step.start, found.step.kind);
+        *self = GrowingRun::of(samples, form, found.step.start, found.step.kind);
         None
     }
 }

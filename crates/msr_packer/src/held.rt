@@ -2,16 +2,15 @@
 
 ghost use Rattle.std.specs.Prelude.{◌≡◌, ℕ, ℤ, List, [], ◌++◌, ◌+◌, ◌-◌, ◌*◌, ◌<◌, ◌≤◌, ◌⊎◌, length, drop, IfSome, IsNone, IsSome, Some};
 ghost use Rattle.msr_words.specs.declared.kinds.Run.{Run};
-ghost use Rattle.msr_words.specs.Fit.{Fits, FitsAny, IsRun};
+ghost use Rattle.msr_words.specs.Fit.{FitsAny, FitsIn, IsRun};
 ghost use Rattle.msr_words.specs.Laws.{most_any};
-ghost use Rattle.msr_kinds.specs.Lengths.{bytes_of};
 ghost use Rattle.msr_words.specs.Packing.{IsCanonical, IsStep};
 ghost use Rattle.msr_packer.specs.HeldSamples.{GivesPiece, HasPlaces, HoldsRest, IsNext, IsSound, Shows, Stays, before_shown, frontier_of, piece_of, pieces_of, runs_of, separators_of, shown_by, start_of};
 ghost use Rattle.msr_packer.specs.Steps.{AreEnds};
 
 use crate::kind_of;
 use crate::step::{StepWithEnds, next_step};
-use msr_kinds::{Kind, Length};
+use msr_kinds::{Form, Kind};
 use msr_words::Run;
 use std::alloc::Global;
 
@@ -99,17 +98,16 @@ impl RunToCut {
     /// The next step, as it was found, with the kinds of its run.
     pub(crate) fn of(
         samples: &[i32],
-        record_length: Length,
+        form: Form,
         current: Option<RunToCut>,
         found: StepWithEnds,
     ) -> RunToCut
         requires inside { frontier_of current < length samples.now }
-        requires step { IsStep (FitsAny (bytes_of record_length)) samples.now
+        requires step { IsStep (FitsAny form) samples.now
             (frontier_of current) found.step.end found.step.start }
-        requires kind { IsRun (Fits found.step.kind
-            (bytes_of record_length)) samples.now found.step.start found.step.end }
-        requires ends { AreEnds (bytes_of record_length) samples.now (frontier_of current) found.step.end found.ends }
-        ensures next { IsNext (bytes_of record_length) samples.now current result }
+        requires kind { IsRun (FitsIn found.step.kind form) samples.now found.step.start found.step.end }
+        requires ends { AreEnds form samples.now (frontier_of current) found.step.end found.ends }
+        ensures next { IsNext form samples.now current result }
         ensures end { result.end ≡ found.step.end }
     {
         let frontier = frontier_of(current);
@@ -118,27 +116,18 @@ impl RunToCut {
             frontier,
             start: found.step.start,
             end,
-            whole: kind_of(samples, record_length, frontier, found, end),
-            short: kind_of(samples, record_length, frontier, found, end - 1),
+            whole: kind_of(samples, form, frontier, found, end),
+            short: kind_of(samples, form, frontier, found, end - 1),
         }
     }
 
     /// The next step.
-    pub(crate) fn next(
-        samples: &[i32],
-        record_length: Length,
-        current: Option<RunToCut>,
-    ) -> RunToCut
+    pub(crate) fn next(samples: &[i32], form: Form, current: Option<RunToCut>) -> RunToCut
         requires { frontier_of current < length samples.now }
-        ensures { IsNext (bytes_of record_length) samples.now current result }
+        ensures { IsNext form samples.now current result }
     {
-        let found = next_step(
-            samples,
-            record_length,
-            frontier_of(current),
-            likely_of(current),
-        );
-        RunToCut::of(samples, record_length, current, found)
+        let found = next_step(samples, form, frontier_of(current), likely_of(current));
+        RunToCut::of(samples, form, current, found)
     }
 }
 
@@ -156,7 +145,7 @@ pub(crate) fn remove_front(held: &mut Vec<i32>, count: usize)
 /// given last.
 #[derive(Drop)]
 pub(crate) struct HeldSamples {
-    pub record_length: Length,
+    pub form: Form,
     pub samples: Vec<i32>,
     /// How many samples of the segment stand before those that are held.
     pub offset: u64,
@@ -169,8 +158,8 @@ pub(crate) struct HeldSamples {
 
 impl HeldSamples {
     /// Holds no samples yet. It takes no memory.
-    pub(crate) fn empty(alloc: Global, record_length: Length) -> HeldSamples
-        ensures size { result.record_length ≡ record_length }
+    pub(crate) fn empty(alloc: Global, form: Form) -> HeldSamples
+        ensures form { result.form ≡ form }
         ensures none { HoldsRest [] [] [] result }
         ensures sound { IsSound result }
         ensures current { IsNone result.current }
@@ -178,7 +167,7 @@ impl HeldSamples {
         ensures shown { shown_by result ≡ [] }
     {
         HeldSamples {
-            record_length,
+            form,
             samples: Vec::new(alloc),
             offset: 0,
             current: None,
@@ -190,7 +179,7 @@ impl HeldSamples {
     /// Goes on to the next step, and gives the piece before it, which is shown.
     pub(crate) fn go_on(&mut self, step: RunToCut) -> Option<Piece>
         requires sound { IsSound self.old }
-        requires next { IsNext (bytes_of self.old.record_length) self.old.samples.items self.old.current step }
+        requires next { IsNext self.old.form self.old.samples.items self.old.current step }
         ensures given { GivesPiece self.old self.new result }
         ensures none { IsNone result → shown_by self.new ≡ [] }
         ensures current { self.new.current ≡ Some step }
@@ -208,7 +197,7 @@ impl HeldSamples {
     pub(crate) fn step_past(&mut self, beyond: usize) -> Option<Piece>
         requires { IsSound self.old }
         ensures given { GivesPiece self.old self.new result }
-        ensures stays { most_any (bytes_of self.old.record_length) ≤ beyond
+        ensures stays { most_any self.old.form ≤ beyond
             → Stays self.old.current (length self.old.samples.items) → Stays self.new.current (length
             self.old.samples.items) }
         ensures few { IsNone result → IsSome self.old.current
@@ -218,14 +207,14 @@ impl HeldSamples {
         ensures order { frontier_of self.old.current ≤ frontier_of self.new.current }
         ensures furthest { (start end : ℕ) → start ≤ frontier_of self.old.current
             → frontier_of self.old.current + beyond < length self.old.samples.items
-            → IsRun (FitsAny (bytes_of self.old.record_length)) self.old.samples.items start end
+            → IsRun (FitsAny self.old.form) self.old.samples.items start end
             → end ≤ frontier_of self.new.current }
         ensures fewer { IfSome result (λ _. frontier_of self.old.current < frontier_of self.new.current) }
     {
         if self.samples.len() - frontier_of(self.current) <= beyond {
             return None;
         }
-        let step = RunToCut::next(self.samples.as_slice(), self.record_length, self.current);
+        let step = RunToCut::next(self.samples.as_slice(), self.form, self.current);
         self.go_on(step)
     }
 
@@ -233,7 +222,7 @@ impl HeldSamples {
     pub(crate) fn next_piece(&mut self, beyond: usize) -> Option<Piece>
         requires { IsSound self.old }
         ensures given { GivesPiece self.old self.new result }
-        ensures stays { most_any (bytes_of self.old.record_length) ≤ beyond
+        ensures stays { most_any self.old.form ≤ beyond
             → Stays self.old.current (length self.old.samples.items) → Stays self.new.current (length
             self.old.samples.items) }
         ensures few { IsNone result → length self.old.samples.items ≤ frontier_of self.new.current + beyond }
@@ -251,13 +240,13 @@ impl HeldSamples {
         requires sound { IsSound self.old }
         requires end { length self.old.samples.items ≤ frontier_of self.old.current }
         ensures sound { IsSound self.new }
-        ensures size { self.new.record_length ≡ self.old.record_length }
+        ensures form { self.new.form ≡ self.old.form }
         ensures held { self.new.samples.items ≡ self.old.samples.items }
         ensures offset { self.new.offset ≡ self.old.offset }
         ensures current { self.new.current ≡ self.old.current }
         ensures canonical { (samples : List ℤ) (runs : List Run) (separators : List ℕ)
             → HoldsRest samples runs separators self.old
-            → IsCanonical (bytes_of self.old.record_length) samples (runs ++ runs_of (pieces_of result))
+            → IsCanonical self.old.form samples (runs ++ runs_of (pieces_of result))
             (separators ++ separators_of (pieces_of result)) }
         ensures shows { (samples : List ℤ) (runs : List Run) (separators : List ℕ)
             → HoldsRest samples runs separators self.old
@@ -285,7 +274,7 @@ impl HeldSamples {
             → HoldsRest samples runs separators self.new }
         ensures stays { Stays self.old.current (length self.old.samples.items)
             → Stays self.new.current (length self.new.samples.items) }
-        ensures size { self.new.record_length ≡ self.old.record_length }
+        ensures form { self.new.form ≡ self.old.form }
         ensures samples { self.new.samples.items ≡ drop (start_of self.old.current - 1) self.old.samples.items }
         ensures number { self.new.offset + length self.new.samples.items
             ≡ self.old.offset + length self.old.samples.items }
@@ -325,12 +314,11 @@ impl HeldSamples {
             → HoldsRest samples runs separators self.new }
         ensures stays { Stays self.old.current (length self.old.samples.items)
             → Stays self.new.current (length self.new.samples.items) }
-        ensures size { self.new.record_length ≡ self.old.record_length }
+        ensures form { self.new.form ≡ self.old.form }
         ensures number { self.new.offset + length self.new.samples.items
             ≡ self.old.offset + length self.old.samples.items }
         ensures few { length self.old.samples.items ≤ frontier_of self.old.current + most_any
-            (bytes_of self.old.record_length) → length self.new.samples.items ≤ 4 * most_any (bytes_of
-            self.old.record_length) + 2 }
+            self.old.form → length self.new.samples.items ≤ 4 * most_any self.old.form + 2 }
     {
         let unneeded = self.unneeded();
         if unneeded >= self.samples.len() - unneeded {

@@ -9,11 +9,13 @@ mod steim1;
 mod step;
 mod stream;
 
-ghost use Rattle.std.specs.Prelude.{◌≡◌, ℕ, ◌+◌, ◌≤◌, length, ◌++◌, IfOk, List, OnOk, ℤ};
+ghost use Rattle.std.specs.Prelude.{◌≡◌, ◌↔◌, IsTrue, ℕ, ◌+◌, ◌≤◌, length, ◌++◌, IfOk, List, OnOk, ℤ};
+ghost use Rattle.msr_kinds.specs.declared.forms.Form.{Form};
+ghost use Rattle.msr_kinds.specs.Forms.{all_kinds};
+ghost use Rattle.msr_kinds.specs.Kinds.{IsChosen};
 ghost use Rattle.msr_words.specs.declared.kinds.Run.{Run};
-ghost use Rattle.msr_kinds.specs.Lengths.{bytes_of};
 ghost use Rattle.msr_words.specs.Segment.{run_points};
-ghost use Rattle.msr_words.specs.Fit.{Fits, IsRun, IsFirstKind};
+ghost use Rattle.msr_words.specs.Fit.{FitsIn, IsRun, IsFirstKind};
 ghost use Rattle.msr_packer.specs.HeldSamples.{pieces_of, runs_of, separators_of};
 ghost use Rattle.msr_packer.specs.Steps.{AreEnds};
 ghost use Rattle.msr_words.specs.Packing.{IsPacking, IsSeparating, IsLeast, IsCanonical};
@@ -22,7 +24,7 @@ pub use blocks::{BlockPacker, blocks_begin_all, blocks_end, blocks_leave_few, la
 pub use existence::{packing_exists, step_of_window};
 pub use held::Piece;
 use held::{RunToCut, frontier_of, piece_of};
-use msr_kinds::{Kind, Length};
+use msr_kinds::{Form, Kind, Length};
 pub use msr_words::Run;
 use msr_words::first_kind;
 use std::alloc::{AllocError, Global};
@@ -36,35 +38,37 @@ pub struct Packing {
     pub separators: Vec<u64>,
 }
 
+/// Whether the form has records of that kind, and the greatest end of a run of it is not before the cut.
+#[inline(always)]
+fn reaches(form: Form, kind: Kind, end: usize, cut: usize) -> bool
+    ensures { IsTrue result ↔ IsChosen form.kinds kind × (cut ≤ end) }
+{
+    form.kinds.contains(kind) && cut <= end
+}
+
 /// The kind in which the run of a step is written that is cut at `end`. The ends of the kinds from the frontier tell
 /// it, but for a run that starts before the frontier and that Steim-2 may fit, too.
-fn kind_of(
-    samples: &[i32],
-    record_length: Length,
-    frontier: usize,
-    found: StepWithEnds,
-    end: usize,
-) -> Kind
+fn kind_of(samples: &[i32], form: Form, frontier: usize, found: StepWithEnds, end: usize) -> Kind
     requires before { found.step.start ≤ frontier }
-    requires ends { AreEnds (bytes_of record_length) samples.now frontier found.step.end found.ends }
-    requires fits { IsRun (Fits found.step.kind (bytes_of record_length)) samples.now found.step.start end }
+    requires ends { AreEnds form samples.now frontier found.step.end found.ends }
+    requires fits { IsRun (FitsIn found.step.kind form) samples.now found.step.start end }
     requires near { found.step.end ≤ end + 1 }
-    ensures { IsFirstKind (bytes_of record_length) (run_points samples.now found.step.start end) result }
+    ensures { IsFirstKind form (run_points samples.now found.step.start end) result }
 {
     if found.step.start < frontier {
         // a run of Steim-2 from there would fit from the frontier on as well
         if found.step.kind == Kind::Steim1 && found.ends.steim2 < end {
             return Kind::Steim1;
         }
-        return first_kind(samples, found.step.start, end, record_length);
+        return first_kind(samples, found.step.start, end, form);
     }
-    if end <= found.ends.steim2 {
+    if reaches(form, Kind::Steim2, found.ends.steim2, end) {
         Kind::Steim2
-    } else if end <= found.ends.steim1 {
+    } else if reaches(form, Kind::Steim1, found.ends.steim1, end) {
         Kind::Steim1
-    } else if end <= found.ends.int16 {
+    } else if reaches(form, Kind::Int16, found.ends.int16, end) {
         Kind::Int16
-    } else if end <= found.ends.int24 {
+    } else if reaches(form, Kind::Int24, found.ends.int24, end) {
         Kind::Int24
     } else {
         Kind::Int32
@@ -86,14 +90,26 @@ impl Packing {
     }
 }
 
-/// The packing of the segment in the fewest records of that length.
+/// The packing of the segment in the fewest records of that length, of any kinds.
 pub fn pack(alloc: Global, samples: &[i32], record_length: Length) -> Result<Packing, AllocError>
-    ensures packing { IfOk result (λ p. IsPacking (bytes_of record_length) samples.now p.runs.items) }
-    ensures least { IfOk result (λ p. IsLeast (bytes_of record_length) samples.now p.runs.items) }
-    ensures separating { IfOk result (λ p. IsSeparating (bytes_of record_length) samples.now p.separators.items) }
+    ensures packing { IfOk result (λ p. IsPacking (all_kinds record_length) samples.now p.runs.items) }
+    ensures least { IfOk result (λ p. IsLeast (all_kinds record_length) samples.now p.runs.items) }
+    ensures separating { IfOk result (λ p. IsSeparating (all_kinds record_length) samples.now p.separators.items) }
     ensures as_many { IfOk result (λ p. length p.runs.items ≡ length p.separators.items) }
     ensures canonical { IfOk result (λ p. IsCanonical
-        (bytes_of record_length) samples.now p.runs.items p.separators.items) }
+        (all_kinds record_length) samples.now p.runs.items p.separators.items) }
+{
+    pack_in(alloc, samples, Form::all_kinds(record_length))
+}
+
+/// The packing of the segment in the fewest records of that form.
+pub fn pack_in(alloc: Global, samples: &[i32], form: Form) -> Result<Packing, AllocError>
+    ensures packing { IfOk result (λ p. IsPacking form samples.now p.runs.items) }
+    ensures least { IfOk result (λ p. IsLeast form samples.now p.runs.items) }
+    ensures separating { IfOk result (λ p. IsSeparating form samples.now p.separators.items) }
+    ensures as_many { IfOk result (λ p. length p.runs.items ≡ length p.separators.items) }
+    ensures canonical { IfOk result (λ p. IsCanonical
+        form samples.now p.runs.items p.separators.items) }
 {
     let mut packing = Packing {
         runs: Vec::new(alloc),
@@ -101,7 +117,7 @@ pub fn pack(alloc: Global, samples: &[i32], record_length: Length) -> Result<Pac
     };
     let mut current = None;
     while frontier_of(current) < samples.len() {
-        let next = RunToCut::next(samples, record_length, current);
+        let next = RunToCut::next(samples, form, current);
         packing.add(piece_of(0, current, next.start))?;
         current = Some(next);
     }
@@ -109,9 +125,9 @@ pub fn pack(alloc: Global, samples: &[i32], record_length: Length) -> Result<Pac
     Ok(packing)
 }
 
-/// For each segment and record length at most one packing with its separators is the canonical one.
+/// For each segment and form of records at most one packing with its separators is the canonical one.
 pub fn one_packing()
-    ensures { (bytes : ℕ) (samples : List ℤ) (runs others : List Run) (separators places : List ℕ)
-        → IsCanonical bytes samples runs separators → IsCanonical bytes samples others places → (runs
+    ensures { (form : Form) (samples : List ℤ) (runs others : List Run) (separators places : List ℕ)
+        → IsCanonical form samples runs separators → IsCanonical form samples others places → (runs
         ≡ others) × (separators ≡ places) }
 {}

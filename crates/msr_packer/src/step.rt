@@ -3,16 +3,17 @@
 ghost use Rattle.std.specs.Prelude.{pos, slice_index_or, ◌≡◌, ℕ, ◌+◌, ◌<◌, ◌≤◌, ◌⊎◌, ◌∷◌, [], length, IsTrue, IsFalse, IfSome, map, count_by};
 ghost use Rattle.msr_kinds.specs.declared.kinds.Kind.TheVariants.{Int32 as Integers32, Steim1 as FirstSteim, Steim2 as SecondSteim};
 ghost use Rattle.msr_words.specs.Bounds.{AreIntegers, BeginsWithFour, IsEnd, IsOfBits, is_wide};
+ghost use Rattle.msr_kinds.specs.Kinds.{IsChosen};
 ghost use Rattle.msr_kinds.specs.Lengths.{bytes_of};
-ghost use Rattle.msr_words.specs.Fit.{Fits, FitsAny, IsRun};
+ghost use Rattle.msr_words.specs.Fit.{Fits, FitsAny, FitsIn, IsRun};
 ghost use Rattle.msr_words.specs.Packing.{IsStep};
 ghost use Rattle.msr_words.specs.Laws.{IsNarrow, look_back_of};
 ghost use Rattle.msr_words.specs.Segment.{difference_at, run_points};
 ghost use Rattle.msr_words.specs.Window.{IsSize};
-ghost use Rattle.msr_packer.specs.Steps.{AreEnds, AreEndsAmong, AreNarrowThrough, AreOfBits, IsStepAmong, NonePast, NotLess, longer_kinds};
+ghost use Rattle.msr_packer.specs.Steps.{AreEnds, AreEndsAmong, AreNarrowThrough, AreOfBits, IsEndIn, IsStepAmong, NonePast, NotLess, longer_kinds};
 
 use crate::steim1::steim1_reach;
-use msr_kinds::{Kind, Length};
+use msr_kinds::{Form, Kind, Length};
 use msr_words::{
     Fitting, Int32, Steim2, Tracker, Window, difference, fits_bits, is_narrow, steim2_greedy_reach,
     wide_one,
@@ -105,6 +106,23 @@ fn steim2_reach(samples: &[i32], record_length: Length, start: usize) -> Reach
     reach_to(samples, at, least)
 }
 
+/// The greatest end of a run of Steim-2 from the frontier on; the frontier, if the form has no such records.
+#[inline(always)]
+fn steim2_end(samples: &[i32], form: Form, frontier: usize) -> Reach
+    requires { frontier ≤ length samples.now }
+    ensures end { IsEndIn SecondSteim form samples.now frontier result.end }
+    ensures chosen { IsTrue result.narrow → IsChosen form.kinds SecondSteim }
+    ensures narrow { IsTrue result.narrow → AreNarrowThrough samples.now frontier result.end }
+{
+    if form.kinds.contains(Kind::Steim2) {
+        return steim2_reach(samples, form.length, frontier);
+    }
+    Reach {
+        end: frontier,
+        narrow: false,
+    }
+}
+
 /// How far a sample is from 0, or from -1 if it is negative, in 32 bits: a vector register holds more numbers of 32
 /// bits than of 64.
 fn size_of(sample: i32) -> u32
@@ -188,11 +206,12 @@ fn furthest_integers(
     end
 }
 
-/// The end of a run of integers of that many bits from the frontier on; if none is long enough to reach past `end`,
-/// the frontier.
+/// The end of a run of integers of that many bits from the frontier on; if the form has no such records, or none is long
+/// enough to reach past `end`, the frontier.
+#[inline(always)]
 fn integers_end(
     samples: &[i32],
-    record_length: Length,
+    form: Form,
     frontier: usize,
     end: usize,
     kind: Kind,
@@ -200,17 +219,21 @@ fn integers_end(
 ) -> usize
     requires order { frontier ≤ end }
     requires within { end ≤ length samples.now }
-    requires are { AreIntegers kind bits (bytes_of record_length) }
+    requires are { AreIntegers kind bits (bytes_of form.length) }
     requires alone { look_back_of kind ≡ 0 }
     requires positive { 0 < bits }
     requires small { bits ≤ 32 }
-    ensures fits { IsRun (Fits kind (bytes_of record_length)) samples.now frontier result }
-    ensures past { NonePast kind (bytes_of record_length) samples.now frontier result end }
+    ensures fits { IsRun (Fits kind (bytes_of form.length)) samples.now frontier result }
+    ensures chosen { frontier < result → IsChosen form.kinds kind }
+    ensures past { NonePast kind form samples.now frontier result end }
 {
-    if end - frontier >= kind.most(record_length) {
+    if !form.kinds.contains(kind) {
         return frontier;
     }
-    furthest_integers(samples, record_length, frontier, kind, bits)
+    if end - frontier >= kind.most(form.length) {
+        return frontier;
+    }
+    furthest_integers(samples, form.length, frontier, kind, bits)
 }
 
 /// The greatest end of a run of 32-bit integers from the frontier on.
@@ -223,27 +246,25 @@ fn int32_end(samples: &[i32], record_length: Length, frontier: usize) -> usize
 }
 
 /// Whether no Steim-1 record that starts at or before the frontier reaches past the end of Steim-2 and close to `end`.
-/// It does not if the differences are narrow, nor if there are too many: each takes a quarter of a word at least.
-fn steim1_is_short(
-    samples: &[i32],
-    record_length: Length,
-    frontier: usize,
-    reach: Reach,
-    end: usize,
-) -> bool
-    requires fits { IsRun (Fits SecondSteim (bytes_of record_length)) samples.now frontier reach.end }
-    requires furthest { (end : ℕ) → IsRun (Fits SecondSteim (bytes_of record_length)) samples.now frontier end
-        → end ≤ reach.end }
+/// It does not if the form has none, if the differences are narrow, nor if there are too many: each takes a quarter of a
+/// word at least.
+fn steim1_is_short(samples: &[i32], form: Form, frontier: usize, reach: Reach, end: usize) -> bool
+    requires reach { IsEndIn SecondSteim form samples.now frontier reach.end }
+    requires chosen { IsTrue reach.narrow → IsChosen form.kinds SecondSteim }
     requires narrow { IsTrue reach.narrow → AreNarrowThrough samples.now frontier reach.end }
     requires order { reach.end ≤ end }
     requires within { end ≤ length samples.now }
-    ensures { IsTrue result → (s b : ℕ) → s ≤ frontier
-        → IsRun (Fits FirstSteim (bytes_of record_length)) samples.now s b → (b ≤ reach.end) ⊎ (b + 1 < end) }
+    ensures short { IsTrue result → (s b : ℕ) → s ≤ frontier
+        → IsRun (FitsIn FirstSteim form) samples.now s b → (b ≤ reach.end) ⊎ (b + 1 < end) }
+    ensures chosen { IsFalse result → IsChosen form.kinds FirstSteim }
 {
-    let words = record_length.data_words() as usize;
+    if !form.kinds.contains(Kind::Steim1) {
+        return true;
+    }
     if reach.narrow {
         return true;
     }
+    let words = form.length.data_words() as usize;
     end - frontier > 4 * words + 1
 }
 
@@ -266,10 +287,11 @@ fn begins_with_four(samples: &[i32], start: usize) -> bool
 
 /// The step from a frontier with records of Steim-1, if the end of its run from there is known. One that starts
 /// before the frontier can reach further only if its first difference shares a word with three others.
-fn steim1_step(samples: &[i32], record_length: Length, frontier: usize, end: usize) -> StepRun
+fn steim1_step(samples: &[i32], form: Form, frontier: usize, end: usize) -> StepRun
     requires within { frontier ≤ length samples.now }
-    requires end { IsEnd FirstSteim (bytes_of record_length) samples.now frontier end }
-    ensures { IsStepAmong (FirstSteim ∷ []) (bytes_of record_length) samples.now frontier result }
+    requires chosen { IsChosen form.kinds FirstSteim }
+    requires end { IsEnd FirstSteim (bytes_of form.length) samples.now frontier end }
+    ensures { IsStepAmong (FirstSteim ∷ []) form samples.now frontier result }
 {
     let here = StepRun {
         start: frontier,
@@ -282,7 +304,7 @@ fn steim1_step(samples: &[i32], record_length: Length, frontier: usize, end: usi
     if !begins_with_four(samples, frontier - 1) {
         return here;
     }
-    let before = steim1_reach(samples, record_length, frontier - 1);
+    let before = steim1_reach(samples, form.length, frontier - 1);
     if before > end {
         return StepRun {
             start: frontier - 1,
@@ -311,27 +333,26 @@ fn has_more_wide(samples: &[i32], start: usize, end: usize, most: usize) -> bool
 /// ends of the other kinds.
 fn with_wide_integers(
     samples: &[i32],
-    record_length: Length,
+    form: Form,
     frontier: usize,
     step: StepRun,
     ends: Ends,
 ) -> StepWithEnds
-    requires within { frontier ≤ length samples.now }
-    requires step { IsStepAmong longer_kinds (bytes_of record_length) samples.now frontier step }
-    requires ends { AreEndsAmong longer_kinds (bytes_of record_length) samples.now frontier step.end ends }
-    ensures step { IsStep (FitsAny (bytes_of record_length)) samples.now frontier result.step.end result.step.start }
-    ensures kind { IsRun (Fits result.step.kind
-        (bytes_of record_length)) samples.now result.step.start result.step.end }
-    ensures ends { AreEnds (bytes_of record_length) samples.now frontier result.step.end result.ends }
+    requires within { frontier < length samples.now }
+    requires step { IsStepAmong longer_kinds form samples.now frontier step }
+    requires ends { AreEndsAmong longer_kinds form samples.now frontier step.end ends }
+    ensures step { IsStep (FitsAny form) samples.now frontier result.step.end result.step.start }
+    ensures kind { IsRun (FitsIn result.step.kind form) samples.now result.step.start result.step.end }
+    ensures ends { AreEnds form samples.now frontier result.step.end result.ends }
 {
     let reached = ends.steim2.max(ends.steim1).max(ends.int16);
-    let int24 = integers_end(samples, record_length, frontier, reached, Kind::Int24, 24);
+    let int24 = integers_end(samples, form, frontier, reached, Kind::Int24, 24);
     let by_int24 = StepRun {
         start: frontier,
         end: int24,
         kind: Kind::Int24,
     };
-    let int32 = int32_end(samples, record_length, frontier);
+    let int32 = int32_end(samples, form.length, frontier);
     let by_int32 = StepRun {
         start: frontier,
         end: int32,
@@ -349,22 +370,25 @@ fn with_wide_integers(
     }
 }
 
-/// The step from a frontier with records of integers alone, if those of 16 bits reach so far that too many of the
-/// differences up to there are of more than 10 bits for a record of differences.
-fn integers_alone(samples: &[i32], record_length: Length, frontier: usize) -> Option<StepWithEnds>
-    requires { frontier ≤ length samples.now }
+/// The step from a frontier with records of integers alone, if those of 16 bits, which the form has, reach so far that
+/// too many of the differences up to there are of more than 10 bits for a record of differences.
+fn integers_alone(samples: &[i32], form: Form, frontier: usize) -> Option<StepWithEnds>
+    requires { frontier < length samples.now }
     ensures step { IfSome result (λ found. IsStep
-        (FitsAny (bytes_of record_length)) samples.now frontier found.step.end found.step.start) }
+        (FitsAny form) samples.now frontier found.step.end found.step.start) }
     ensures kind { IfSome result (λ found. IsRun
-        (Fits found.step.kind (bytes_of record_length)) samples.now found.step.start found.step.end) }
+        (FitsIn found.step.kind form) samples.now found.step.start found.step.end) }
     ensures ends { IfSome result (λ found. AreEnds
-        (bytes_of record_length) samples.now frontier found.step.end found.ends) }
+        form samples.now frontier found.step.end found.ends) }
 {
-    let int16 = furthest_integers(samples, record_length, frontier, Kind::Int16, 16);
+    if !form.kinds.contains(Kind::Int16) {
+        return None;
+    }
+    let int16 = furthest_integers(samples, form.length, frontier, Kind::Int16, 16);
     if int16 == frontier {
         return None;
     }
-    let words = record_length.data_words() as usize;
+    let words = form.length.data_words() as usize;
     if !has_more_wide(samples, frontier, int16 - 1, 2 * words) {
         return None;
     }
@@ -380,42 +404,35 @@ fn integers_alone(samples: &[i32], record_length: Length, frontier: usize) -> Op
         int24: frontier,
         int32: frontier,
     };
-    Some(with_wide_integers(samples, record_length, frontier, by_int16, ends))
+    Some(with_wide_integers(samples, form, frontier, by_int16, ends))
 }
 
 /// The step from a frontier. `likely` is the kind that is tried first if it is Int16; the step is the same whatever it
 /// is.
-pub(crate) fn next_step(
-    samples: &[i32],
-    record_length: Length,
-    frontier: usize,
-    likely: Kind,
-) -> StepWithEnds
-    requires { frontier ≤ length samples.now }
-    ensures step { IsStep (FitsAny (bytes_of record_length)) samples.now frontier result.step.end result.step.start }
-    ensures kind { IsRun (Fits result.step.kind
-        (bytes_of record_length)) samples.now result.step.start result.step.end }
-    ensures ends { AreEnds (bytes_of record_length) samples.now frontier result.step.end result.ends }
+pub(crate) fn next_step(samples: &[i32], form: Form, frontier: usize, likely: Kind) -> StepWithEnds
+    requires { frontier < length samples.now }
+    ensures step { IsStep (FitsAny form) samples.now frontier result.step.end result.step.start }
+    ensures kind { IsRun (FitsIn result.step.kind form) samples.now result.step.start result.step.end }
+    ensures ends { AreEnds form samples.now frontier result.step.end result.ends }
 {
     if likely == Kind::Int16 {
-        match integers_alone(samples, record_length, frontier) {
+        match integers_alone(samples, form, frontier) {
             Some(found) => return found,
             None => {}
         }
     }
-    step_from(samples, record_length, frontier)
+    step_from(samples, form, frontier)
 }
 
 /// The step from a frontier, over all kinds.
-pub(crate) fn step_from(samples: &[i32], record_length: Length, frontier: usize) -> StepWithEnds
-    requires { frontier ≤ length samples.now }
-    ensures step { IsStep (FitsAny (bytes_of record_length)) samples.now frontier result.step.end result.step.start }
-    ensures kind { IsRun (Fits result.step.kind
-        (bytes_of record_length)) samples.now result.step.start result.step.end }
-    ensures ends { AreEnds (bytes_of record_length) samples.now frontier result.step.end result.ends }
+pub(crate) fn step_from(samples: &[i32], form: Form, frontier: usize) -> StepWithEnds
+    requires { frontier < length samples.now }
+    ensures step { IsStep (FitsAny form) samples.now frontier result.step.end result.step.start }
+    ensures kind { IsRun (FitsIn result.step.kind form) samples.now result.step.start result.step.end }
+    ensures ends { AreEnds form samples.now frontier result.step.end result.ends }
 {
-    let reach = steim2_reach(samples, record_length, frontier);
-    let int16 = integers_end(samples, record_length, frontier, reach.end, Kind::Int16, 16);
+    let reach = steim2_end(samples, form, frontier);
+    let int16 = integers_end(samples, form, frontier, reach.end, Kind::Int16, 16);
     let by_steim2 = StepRun {
         start: frontier,
         end: reach.end,
@@ -434,10 +451,10 @@ pub(crate) fn step_from(samples: &[i32], record_length: Length, frontier: usize)
         int24: frontier,
         int32: frontier,
     };
-    if steim1_is_short(samples, record_length, frontier, reach, best.end) {
-        return with_wide_integers(samples, record_length, frontier, best, ends);
+    if steim1_is_short(samples, form, frontier, reach, best.end) {
+        return with_wide_integers(samples, form, frontier, best, ends);
     }
-    ends.steim1 = steim1_reach(samples, record_length, frontier);
-    let by_steim1 = steim1_step(samples, record_length, frontier, ends.steim1);
-    with_wide_integers(samples, record_length, frontier, best.or(by_steim1), ends)
+    ends.steim1 = steim1_reach(samples, form.length, frontier);
+    let by_steim1 = steim1_step(samples, form, frontier, ends.steim1);
+    with_wide_integers(samples, form, frontier, best.or(by_steim1), ends)
 }

@@ -1,9 +1,10 @@
 //! The packing of a segment whose samples come one after another, or some at a time.
 
 ghost use Rattle.std.specs.Prelude.{◌≡◌, ℕ, ℤ, List, [], ◌∷◌, ◌++◌, ◌+◌, ◌<◌, ◌≤◌, ◌⊎◌, ◌^◌, length, take, MatchResult, IfOk, IsNone};
+ghost use Rattle.msr_kinds.specs.declared.forms.Form.{Form};
+ghost use Rattle.msr_kinds.specs.Forms.{all_kinds};
 ghost use Rattle.msr_words.specs.declared.kinds.Run.{Run};
 ghost use Rattle.msr_words.specs.Laws.{most_any};
-ghost use Rattle.msr_kinds.specs.Lengths.{bytes_of};
 ghost use Rattle.msr_packer.specs.Blocks.{pushed};
 ghost use Rattle.msr_packer.specs.HeldSamples.{HoldsRest, frontier_of, pieces_of, runs_of, samples_of, separators_of};
 ghost use Rattle.msr_packer.specs.Stream.{IsEnd, IsStreaming, PiecesBeginAll, StreamLeavesFew, Streams};
@@ -11,8 +12,8 @@ ghost use Rattle.msr_packer.specs.Stream.{IsEnd, IsStreaming, PiecesBeginAll, St
 use crate::growing::GrowingRun;
 use crate::held::{HeldSamples, Piece, RunToCut, frontier_of, likely_of, remove_front, start_of};
 use arrayvec::ArrayVec;
-use msr_kinds::Length;
-use msr_words::{AnyKind, Tracker};
+use msr_kinds::{Form, Length};
+use msr_words::longest_run;
 use std::alloc::{AllocError, Global};
 use std::marker::Model;
 
@@ -51,11 +52,11 @@ fn forget(held: &mut HeldSamples, growing: &mut GrowingRun)
     ensures holds { (samples : List ℤ) (runs : List Run) (separators : List ℕ)
         → HoldsRest samples runs separators held.old
         → HoldsRest samples runs separators held.new }
-    ensures size { held.new.record_length ≡ held.old.record_length }
+    ensures form { held.new.form ≡ held.old.form }
     ensures number { held.new.offset + length held.new.samples.items ≡ held.old.offset + length held.old.samples.items }
-    ensures near { frontier_of held.new.current ≤ most_any (bytes_of held.new.record_length) + 1 }
+    ensures near { frontier_of held.new.current ≤ most_any held.new.form + 1 }
     ensures behind { length held.new.samples.items ≤ frontier_of held.new.current + most_any
-        (bytes_of held.new.record_length) }
+        held.new.form }
     ensures from { held.new.from ≡ 0 }
     ensures to { held.new.to ≡ 0 }
     ensures first { IsNone held.new.current → IsNone held.old.current }
@@ -86,15 +87,24 @@ impl Model for StreamPacker {
 }
 
 impl StreamPacker {
-    /// A packer that no sample was pushed to. It takes no memory yet.
+    /// A packer into records of that length, of any kinds, that no sample was pushed to. It takes no memory yet.
     pub fn new(alloc: Global, record_length: Length) -> StreamPacker
-        ensures none { Streams (bytes_of record_length) [] [] [] result }
+        ensures none { Streams (all_kinds record_length) [] [] [] result }
+        ensures shown { result.shown ≡ [] }
+        ensures count { pushed result ≡ 0 }
+    {
+        StreamPacker::of(alloc, Form::all_kinds(record_length))
+    }
+
+    /// The same into records of that form.
+    pub fn of(alloc: Global, form: Form) -> StreamPacker
+        ensures none { Streams form [] [] [] result }
         ensures shown { result.shown ≡ [] }
         ensures count { pushed result ≡ 0 }
     {
         StreamPacker {
-            held: HeldSamples::empty(alloc, record_length),
-            growing: GrowingRun::empty(record_length),
+            held: HeldSamples::empty(alloc, form),
+            growing: GrowingRun::empty(form),
         }
     }
 
@@ -102,14 +112,14 @@ impl StreamPacker {
     /// shows no samples.
     pub fn push(&mut self, sample: i32) -> Result<Option<Piece>, AllocError>
         requires { pushed self.old + 1 < 2 ^ 64 }
-        ensures given { (bytes : ℕ) (samples : List ℤ) (runs : List Run) (separators : List ℕ)
-            → Streams bytes samples runs separators self.old
+        ensures given { (form : Form) (samples : List ℤ) (runs : List Run) (separators : List ℕ)
+            → Streams form samples runs separators self.old
             → MatchResult result
-            (λ piece. Streams bytes (samples ++ sample ∷ []) (runs ++ runs_of (pieces_of piece))
+            (λ piece. Streams form (samples ++ sample ∷ []) (runs ++ runs_of (pieces_of piece))
             (separators ++ separators_of (pieces_of piece)) self.new)
-            (λ _. Streams bytes samples runs separators self.new) }
-        ensures shown { (bytes : ℕ) (samples : List ℤ) (runs : List Run) (separators : List ℕ)
-            → Streams bytes samples runs separators self.old
+            (λ _. Streams form samples runs separators self.new) }
+        ensures shown { (form : Form) (samples : List ℤ) (runs : List Run) (separators : List ℕ)
+            → Streams form samples runs separators self.old
             → MatchResult result
             (λ piece. self.new.shown ≡ samples_of (samples ++ sample ∷ []) piece)
             (λ _. self.new.shown ≡ []) }
@@ -125,14 +135,14 @@ impl StreamPacker {
     /// none was taken, and no samples are shown.
     pub fn push_some(&mut self, samples: &[i32]) -> Result<Pushed, AllocError>
         requires { pushed self.old + length samples.now < 2 ^ 64 }
-        ensures given { (bytes : ℕ) (before : List ℤ) (runs : List Run) (separators : List ℕ)
-            → Streams bytes before runs separators self.old
+        ensures given { (form : Form) (before : List ℤ) (runs : List Run) (separators : List ℕ)
+            → Streams form before runs separators self.old
             → MatchResult result
-            (λ taken. Streams bytes (before ++ take taken.count samples.now) (runs ++ runs_of (pieces_of taken.piece))
+            (λ taken. Streams form (before ++ take taken.count samples.now) (runs ++ runs_of (pieces_of taken.piece))
             (separators ++ separators_of (pieces_of taken.piece)) self.new)
-            (λ _. Streams bytes before runs separators self.new) }
-        ensures shown { (bytes : ℕ) (before : List ℤ) (runs : List Run) (separators : List ℕ)
-            → Streams bytes before runs separators self.old
+            (λ _. Streams form before runs separators self.new) }
+        ensures shown { (form : Form) (before : List ℤ) (runs : List Run) (separators : List ℕ)
+            → Streams form before runs separators self.old
             → MatchResult result
             (λ taken. self.new.shown ≡ samples_of (before ++ take taken.count samples.now) taken.piece)
             (λ _. self.new.shown ≡ []) }
@@ -146,27 +156,24 @@ impl StreamPacker {
             (λ _. pushed self.new ≡ pushed self.old) }
     {
         forget(&mut self.held, &mut self.growing);
-        let record_length = self.held.record_length;
+        let form = self.held.form;
         let frontier = frontier_of(self.held.current);
         let from = self.held.samples.len();
         // with one sample more than a longest run after the frontier the step is decided
-        let room = frontier + AnyKind::most(record_length) + 1 - from;
+        let room = frontier + longest_run(form) + 1 - from;
         let count = room.min(samples.len());
         self.held.samples.extend_from_slice(&samples[..count])?;
         let likely = likely_of(self.held.current);
         let seen = self.held.samples.as_slice();
-        let Some(found) = self
-            .growing
-            .decide(seen, record_length, frontier, from, likely)
-        else {
+        let Some(found) = self.growing.decide(seen, form, frontier, from, likely) else {
             return Ok(Pushed { count, piece: None });
         };
         // the sample after the step is the one that decides it
         let end = found.step.end + 1;
         self.held.samples.truncate(end);
         let seen = self.held.samples.as_slice();
-        let next = RunToCut::of(seen, record_length, self.held.current, found);
-        self.growing = GrowingRun::first(seen, record_length, next.end);
+        let next = RunToCut::of(seen, form, self.held.current, found);
+        self.growing = GrowingRun::first(seen, form, next.end);
         let piece = self.held.go_on(next);
         let count = end - from;
         Ok(Pushed { count, piece })
@@ -181,9 +188,9 @@ impl StreamPacker {
 
     /// The pieces that were not given, if no sample follows: at most two. It takes no memory.
     pub fn end(self) -> Last
-        ensures { (bytes : ℕ) (samples : List ℤ) (runs : List Run) (separators : List ℕ)
-            → Streams bytes samples runs separators self
-            → IsEnd bytes samples runs separators result.pieces.items result.samples.items }
+        ensures { (form : Form) (samples : List ℤ) (runs : List Run) (separators : List ℕ)
+            → Streams form samples runs separators self
+            → IsEnd form samples runs separators result.pieces.items result.samples.items }
     {
         let mut held = self.held;
         let start = start_of(held.current);

@@ -1,10 +1,10 @@
 //! msr_check: separating lists and packings, worked out by hand.
 
 use crate::made::Made::{Bounds, Swings};
-use msr_check::{separates, shows_least};
+use msr_check::{separates, separates_in, shows_least, shows_least_in};
 use msr_fixtures::expect;
 use msr_words::Kind::{self, Int24, Int32, Steim1, Steim2};
-use msr_words::{Length, Run};
+use msr_words::{Form, Kinds, Length, Run};
 use std::alloc::{AllocError, Global};
 use std::test::Fail;
 
@@ -156,6 +156,51 @@ fn samples_of_24_bits(rt: HostRuntime) -> Result<(), Fail> {
         expect(is_told(&samples, record_length, row), name)?;
     }
     Ok(())
+}
+
+/// What is said of a packing into records without 24-bit integers is true.
+fn is_certified_without(
+    alloc: Global,
+    samples: &[i32],
+    form: Form,
+    row: Certificate,
+) -> Result<bool, AllocError> {
+    let (places, separators, wanted) = row;
+    let mut runs = Vec::new(alloc);
+    for (start, end, kind) in places {
+        let (start, end, kind) = (*start, *end, *kind);
+        runs.push(Run { start, end, kind })?;
+    }
+    Ok(shows_least_in(samples, form, &runs, separators) == wanted)
+}
+
+/// Two of the same samples that one record of 24-bit integers holds, and none of the other kinds.
+#[test]
+fn samples_of_24_bits_without_such_records(rt: HostRuntime) -> Result<(), Fail> {
+    let length = Length::new(256).ok_or("a length")?;
+    let kinds = Kinds::WithoutInt24;
+    let form = Form { length, kinds };
+    let samples = Bounds(65).samples(rt.alloc())?;
+    let rows: [(&str, Certificate); 3] = [
+        (
+            "least",
+            (&[(0, 48, Int32), (48, 65, Steim2)], &[0, 48], true),
+        ),
+        (
+            "one of 24 bits",
+            (&[(0, 64, Int24), (64, 65, Steim2)], &[0, 48], false),
+        ),
+        (
+            "a sample too many",
+            (&[(0, 49, Int32), (49, 65, Steim2)], &[0, 49], false),
+        ),
+    ];
+    for (name, row) in rows {
+        let is = is_certified_without(rt.alloc(), &samples, form, row)?;
+        expect(is, name)?;
+    }
+    expect(separates_in(&samples, form, &[0, 48]), "of two records")?;
+    expect(!separates_in(&samples, form, &[0, 47]), "of one record")
 }
 
 /// Two samples may stand far apart: no record is long enough to hold both.

@@ -8,8 +8,8 @@ use msr_filling::{fill_steim1, fill_steim2};
 use msr_fixtures::expect;
 use msr_steim::{Group, Version};
 use msr_words::{
-    AnyKind, Codec, Fitting, Int16, Int24, Int32, Kind, Length, Steim1, Steim2, Tracker, Window,
-    difference, first_kind, groups, one_division, run_fits,
+    AnyKind, Codec, Fitting, Form, Int16, Int24, Int32, Kind, Kinds, Length, Steim1, Steim2,
+    Tracker, Window, difference, first_kind, groups, longest_run, one_division, run_fits,
 };
 use std::alloc::{AllocError, Global};
 use std::test::Fail;
@@ -19,13 +19,7 @@ fn shortest() -> Result<Length, Fail> {
 }
 
 /// How many of `many` samples, all alike and of this difference, the tracker takes.
-fn taken_of<T: Tracker + Drop>(
-    many: usize,
-    record_length: Length,
-    sample: i32,
-    difference: i64,
-) -> usize {
-    let mut tracker = T::start(record_length);
+fn taken_of<T: Tracker + Drop>(mut tracker: T, many: usize, sample: i32, difference: i64) -> usize {
     for count in 0..many {
         if !tracker.push(sample, difference) {
             return count;
@@ -36,7 +30,7 @@ fn taken_of<T: Tracker + Drop>(
 
 /// How many of four hundred such samples the tracker takes.
 fn taken<T: Tracker + Drop>(record_length: Length, sample: i32, difference: i64) -> usize {
-    taken_of::<T>(400, record_length, sample, difference)
+    taken_of(T::start(record_length), 400, sample, difference)
 }
 
 /// A sample, and how many like it a record of 256 bytes holds as 16-bit and as 24-bit integers.
@@ -256,7 +250,7 @@ fn the_record_lengths() -> Result<(), Fail> {
 
 /// How many samples of 0 the tracker takes of 70,000.
 fn zeros_taken<T: Tracker + Drop>(record_length: Length) -> usize {
-    taken_of::<T>(70_000, record_length, 0, 0)
+    taken_of(T::start(record_length), 70_000, 0, 0)
 }
 
 /// A kind, the most samples of a record of 65536 bytes, and how many its tracker takes.
@@ -369,7 +363,7 @@ fn run_is_right(samples: &[i32], record_length: Length, row: KindRun) -> bool {
     let (kind, start, end, expected) = row;
     start <= end
         && end <= samples.len()
-        && run_fits(kind, samples, start, end, record_length) == expected
+        && run_fits(kind, samples, start, end, Form::all_kinds(record_length)) == expected
 }
 
 #[test]
@@ -419,8 +413,23 @@ fn runs_of_a_segment(rt: HostRuntime) -> Result<(), Fail> {
 
 #[test]
 fn the_first_kind_of_a_run() -> Result<(), Fail> {
-    let kind = first_kind(&[0, 1, 2], 0, 3, shortest()?);
+    let kind = first_kind(&[0, 1, 2], 0, 3, Form::all_kinds(shortest()?));
     expect(kind == Kind::Steim2, "three samples")
+}
+
+/// Samples of 24 bits whose differences no record of Steim has room for, in records without 24-bit integers.
+#[test]
+fn without_24_bit_integers() -> Result<(), Fail> {
+    let (length, kinds) = (shortest()?, Kinds::WithoutInt24);
+    let form = Form { length, kinds };
+    let five = AnyKind::start(length);
+    let four = AnyKind::of(form);
+    let (high, wide) = (8_388_607, 4_294_967_295);
+    expect(taken_of(five, 400, high, wide) == 64, "of all kinds")?;
+    expect(taken_of(four, 400, high, wide) == 48, "of four")?;
+    expect(longest_run(form) == 301, "zeros")?;
+    expect(!run_fits(Kind::Int24, &[high], 0, 1, form), "Int24")?;
+    expect(run_fits(Kind::Int32, &[high], 0, 1, form), "Int32")
 }
 
 /// Differences of 25 bits take a word each.

@@ -6,9 +6,9 @@ ghost use Rattle.msr_packer.specs.Blocks.{pushed};
 
 use crate::made::Made::{self, Bounds, Extremes, Noise, Signs, Swings, Turns, Zeros};
 use msr_fixtures::expect;
-use msr_packer::{BlockPacker, Last, Packing, Piece, Run, StreamPacker, pack};
+use msr_packer::{BlockPacker, Last, Packing, Piece, Run, StreamPacker, pack, pack_in};
 use msr_words::Kind::{self, Int16, Int24, Int32, Steim1, Steim2};
-use msr_words::Length;
+use msr_words::{Form, Kinds, Length};
 use std::alloc::{AllocError, Global};
 use std::test::Fail;
 
@@ -212,22 +212,38 @@ fn runs_of(alloc: Global, ends: &[(u64, Kind)]) -> Result<Vec<Run>, AllocError> 
     Ok(runs)
 }
 
-/// Whether these are the packing of a row.
-fn packs(alloc: Global, row: Row) -> Result<bool, Fail> {
+/// Records of that many bytes, of these kinds.
+fn form_of(bytes: u32, kinds: Kinds) -> Result<Form, Fail> {
+    let length = Length::new(bytes).ok_or("a length")?;
+    Ok(Form { length, kinds })
+}
+
+/// Whether these are the packing of a row into records of these kinds.
+fn packs(alloc: Global, kinds: Kinds, row: Row) -> Result<bool, Fail> {
     let (bytes, made, ends, separators) = row;
-    let record_length = Length::new(bytes).ok_or("a length")?;
     let samples = made.samples(alloc)?;
     let runs = runs_of(alloc, ends)?;
-    let packing = pack(alloc, samples.as_slice(), record_length)?;
+    let packing = pack_in(alloc, samples.as_slice(), form_of(bytes, kinds)?)?;
     Ok(packing.runs == runs && packing.separators.as_slice() == separators)
 }
 
 #[test]
 fn the_rows(rt: HostRuntime) -> Result<(), Fail> {
     for (name, row) in rows() {
-        expect(packs(rt.alloc(), row)?, name)?;
+        expect(packs(rt.alloc(), Kinds::All, row)?, name)?;
     }
     Ok(())
+}
+
+/// A record of 256 bytes has 48 places of 32 bits, and 43 words, each for one difference of 25 bits.
+const WITHOUT_INT24: Row = (256, Bounds(65), &[(48, Int32), (65, Steim2)], &[0, 48]);
+
+#[test]
+fn without_24_bit_integers(rt: HostRuntime) -> Result<(), Fail> {
+    let (alloc, kinds) = (rt.alloc(), Kinds::WithoutInt24);
+    expect(packs(alloc, kinds, WITHOUT_INT24)?, "at once")?;
+    expect(is_streamed(alloc, kinds, WITHOUT_INT24)?, "as a stream")?;
+    expect(is_in_blocks(alloc, kinds, WITHOUT_INT24)?, "in blocks")
 }
 
 #[test]
@@ -299,9 +315,9 @@ impl Streamed {
     }
 
     /// What is to be given of these samples.
-    fn whole(alloc: Global, made: Made, record_length: Length) -> Result<Streamed, AllocError> {
+    fn whole(alloc: Global, made: Made, form: Form) -> Result<Streamed, AllocError> {
         let samples = made.samples(alloc)?;
-        let packing = pack(alloc, samples.as_slice(), record_length)?;
+        let packing = pack_in(alloc, samples.as_slice(), form)?;
         Ok(Streamed {
             packing,
             samples,
@@ -343,12 +359,8 @@ impl Streamed {
 }
 
 /// The samples pushed one after another.
-fn stream_of(
-    alloc: Global,
-    samples: &[i32],
-    record_length: Length,
-) -> Result<Streamed, AllocError> {
-    let mut packer = StreamPacker::new(alloc, record_length);
+fn stream_of(alloc: Global, samples: &[i32], form: Form) -> Result<Streamed, AllocError> {
+    let mut packer = StreamPacker::of(alloc, form);
     let mut given = Streamed::empty(alloc);
     for at in 0..samples.len() {
         let piece = packer.push(samples[at])?;
@@ -361,10 +373,10 @@ fn stream_of(
 fn in_some(
     alloc: Global,
     samples: &[i32],
-    record_length: Length,
+    form: Form,
     size: usize,
 ) -> Result<Streamed, AllocError> {
-    let mut packer = StreamPacker::new(alloc, record_length);
+    let mut packer = StreamPacker::of(alloc, form);
     let mut given = Streamed::empty(alloc);
     let mut from = 0;
     while from < samples.len() {
@@ -376,16 +388,17 @@ fn in_some(
     given.with_last(packer.end())
 }
 
-/// Whether samples that are pushed one after another, and some at a time, give the packing of a row.
-fn is_streamed(alloc: Global, row: Row) -> Result<bool, Fail> {
+/// Whether samples that are pushed one after another, and some at a time, give the packing of a row into records of
+/// these kinds.
+fn is_streamed(alloc: Global, kinds: Kinds, row: Row) -> Result<bool, Fail> {
     let (bytes, made, _, _) = row;
-    let record_length = Length::new(bytes).ok_or("a length")?;
-    let whole = Streamed::whole(alloc, made, record_length)?;
-    if stream_of(alloc, whole.samples.as_slice(), record_length)? != whole {
+    let form = form_of(bytes, kinds)?;
+    let whole = Streamed::whole(alloc, made, form)?;
+    if stream_of(alloc, whole.samples.as_slice(), form)? != whole {
         return Ok(false);
     }
     for size in [1, 7, 100, 1_000_000] {
-        if in_some(alloc, whole.samples.as_slice(), record_length, size)? != whole {
+        if in_some(alloc, whole.samples.as_slice(), form, size)? != whole {
             return Ok(false);
         }
     }
@@ -395,7 +408,7 @@ fn is_streamed(alloc: Global, row: Row) -> Result<bool, Fail> {
 #[test]
 fn the_rows_as_a_stream(rt: HostRuntime) -> Result<(), Fail> {
     for (name, row) in rows() {
-        expect(is_streamed(rt.alloc(), row)?, name)?;
+        expect(is_streamed(rt.alloc(), Kinds::All, row)?, name)?;
     }
     Ok(())
 }
@@ -422,10 +435,10 @@ fn add_last(packer: &mut BlockPacker, given: &mut Streamed) -> Result<(), AllocE
 fn in_blocks(
     alloc: Global,
     samples: &[i32],
-    record_length: Length,
+    form: Form,
     size: usize,
 ) -> Result<Streamed, AllocError> {
-    let mut packer = BlockPacker::new(alloc, record_length);
+    let mut packer = BlockPacker::new(alloc, form);
     let mut given = Streamed::empty(alloc);
     let mut from = 0;
     while from < samples.len() {
@@ -438,13 +451,14 @@ fn in_blocks(
     Ok(given)
 }
 
-/// Whether blocks give the packing of a row: of one sample, a few, about a record, or all at once.
-fn is_in_blocks(alloc: Global, row: Row) -> Result<bool, Fail> {
+/// Whether blocks give the packing of a row into records of these kinds: of one sample, a few, about a record, or all
+/// at once.
+fn is_in_blocks(alloc: Global, kinds: Kinds, row: Row) -> Result<bool, Fail> {
     let (bytes, made, _, _) = row;
-    let record_length = Length::new(bytes).ok_or("a length")?;
-    let whole = Streamed::whole(alloc, made, record_length)?;
+    let form = form_of(bytes, kinds)?;
+    let whole = Streamed::whole(alloc, made, form)?;
     for size in [1, 7, 100, 1_000_000] {
-        if in_blocks(alloc, whole.samples.as_slice(), record_length, size)? != whole {
+        if in_blocks(alloc, whole.samples.as_slice(), form, size)? != whole {
             return Ok(false);
         }
     }
@@ -454,7 +468,7 @@ fn is_in_blocks(alloc: Global, row: Row) -> Result<bool, Fail> {
 #[test]
 fn the_rows_in_blocks(rt: HostRuntime) -> Result<(), Fail> {
     for (name, row) in rows() {
-        expect(is_in_blocks(rt.alloc(), row)?, name)?;
+        expect(is_in_blocks(rt.alloc(), Kinds::All, row)?, name)?;
     }
     Ok(())
 }
@@ -463,9 +477,9 @@ fn the_rows_in_blocks(rt: HostRuntime) -> Result<(), Fail> {
 #[test]
 fn zeros_one_after_another(rt: HostRuntime) -> Result<(), Fail> {
     let alloc = rt.alloc();
-    let record_length = Length::new(256).ok_or("a length")?;
+    let form = form_of(256, Kinds::All)?;
     let zeros = vec![in alloc; 0; 603]?;
-    let given = stream_of(alloc, &zeros, record_length)?;
+    let given = stream_of(alloc, &zeros, form)?;
     let expected = Streamed {
         packing: Packing {
             runs: runs_of(alloc, &[(301, Steim2), (602, Steim2), (603, Steim2)])?,
@@ -475,7 +489,7 @@ fn zeros_one_after_another(rt: HostRuntime) -> Result<(), Fail> {
         joined: true,
     };
     expect(given == expected, "three pieces")?;
-    let none = stream_of(alloc, &[], record_length)?;
+    let none = stream_of(alloc, &[], form)?;
     let is = none.packing.runs.is_empty() && none.samples.is_empty();
     expect(is, "no samples")
 }

@@ -11,7 +11,7 @@ use msr_output::{SegmentWriter, one_output, output_has_size, output_keeps_segmen
 use msr_report::SegmentLine;
 use msr_segments::Segment;
 use msr_time::{Rate, is_instant};
-use msr_words::Length;
+use msr_words::{Form, Length};
 use std::alloc::{AllocError, Global};
 use std::process::Abort;
 use std::test::Fail;
@@ -62,11 +62,11 @@ fn is_writable(segment: &Segment) -> bool
         .is_some()
 }
 
-fn short_length(rt: &impl Abort) -> Length {
+fn short_records(rt: &impl Abort) -> Form {
     let Some(record_length) = Length::new(256) else {
         panic!(rt; "no length")
     };
-    record_length
+    Form::all_kinds(record_length)
 }
 
 fn behavior(most: usize, fails_at: Option<u64>) -> Behavior {
@@ -108,7 +108,7 @@ fn written(
     let segment = zeros(rt, alloc, count)?;
     assert!(rt; is_writable(&segment));
     let mut sink = TestSink::accepting_nothing(Vec::new(alloc), behavior);
-    let mut writer = SegmentWriter::new(alloc, short_length(rt));
+    let mut writer = SegmentWriter::new(alloc, short_records(rt));
     if let Err(fault) = write(&mut writer, &mut sink, &segment) {
         return Ok((Some(fault), sink));
     }
@@ -187,7 +187,7 @@ fn what_waits_is_flushed(rt: HostRuntime) -> Result<(), Fail> {
     let segment = zeros(&rt, rt.alloc(), 302)?;
     assert!(rt; is_writable(&segment));
     let mut sink = TestSink::new(Vec::new(rt.alloc()), behavior(100, None));
-    let mut writer = SegmentWriter::new(rt.alloc(), short_length(&rt));
+    let mut writer = SegmentWriter::new(rt.alloc(), short_records(&rt));
     assert!(rt; write(&mut writer, &mut sink, &segment).is_ok());
     assert!(rt; sink.bytes().is_empty());
     assert!(rt; writer.flush(&mut sink) == Ok(()));

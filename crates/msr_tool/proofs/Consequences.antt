@@ -6,8 +6,8 @@ use Rattle.msr_report.specs.declared.report.Report.{Report}
 use Rattle.msr_input.specs.Input.{AllAgree, OneListOfRecords, OneFirstFault, ReadableHasNoFault, counts_of}
 use Rattle.msr_output.specs.Output.{OneOutput, Packed}
 use Rattle.msr_tool.specs.Answer.{IsReportOf, IsRepacked}
-use Rattle.msr_options.specs.Choice.{Choice, as_strict, size_of}
-use Rattle.msr_tool.specs.Settings.{settings_of}
+use Rattle.msr_options.specs.Choice.{Choice, as_strict}
+use Rattle.msr_tool.specs.Settings.{form_chosen, settings_of}
 use Rattle.msr_tool.specs.Laws.{OneRepacking, OneRefusal, ReadableIsRepacked, ReadableIsListed, StrictWritesTheSame}
 use Rattle.msr_tool.specs.declared.fault.ToolFault.TheVariants as fault
 
@@ -43,7 +43,7 @@ pub repacking_alone : OneListOfRecords → OneOutput → OneRepacking
 repacking_alone records_law output_law choice input written other report another one two =
     let same = records_law (settings_of choice) input one.records two.records _ _ one.readable two.readable in
     let outputs = output_law
-    (size_of choice) one.packed two.packed one.rows two.rows written other same.1 one.output two.output in (
+    (form_chosen choice) one.packed two.packed one.rows two.rows written other same.1 one.output two.output in (
       outputs.2,
       one.is_report.counts ∙ ap counts_of same.0 ∙ sym two.is_report.counts,
       (one.packed, one.is_report.lines, rw (outputs.0) two.is_report.lines),
@@ -57,7 +57,7 @@ refusal_alone law choice input written other found another one two =
 report_as : (a b : Bool) (choice : Choice) (records : List Record) (packed : List Packed) (report : Report)
     → IsReportOf (as_strict a choice) records packed report → IsReportOf (as_strict b choice) records packed report
 report_as a b choice records packed report is = record {
-  size = is.size;
+  record_length = is.record_length;
   tolerance = is.tolerance;
   counts = is.counts;
   lines = is.lines;

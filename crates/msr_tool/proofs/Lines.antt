@@ -3,6 +3,7 @@ use Rattle.std.proofs.Common.{◌≡◌, ◌≤◌, ℕ, false, List, [], ◌∷
 use Rattle.std.specs.Prelude.{option_map}
 use Rattle.std.specs.Option.{option_to_list}
 use Rattle.std.proofs.lemmas.List.{map-append, append-nil}
+use Rattle.msr_kinds.specs.declared.forms.Form.{Form}
 use Rattle.msr_rows.specs.declared.row.Row.{Row}
 use Rattle.msr_segments.specs.declared.joiner.Segment.{Segment}
 use Rattle.msr_segments.specs.declared.follow.Step.{Step}
@@ -28,7 +29,6 @@ use Rattle.msr_tool.specs.Fault.{fault_of_writing}
 use Rattle.msr_output.specs.Decided.{IsEncoded}
 use Rattle.msr_output.proofs.OpenSegments.{packs_count, refused_now, writable_now}
 use Rattle.msr_output.proofs.DecidedRecords.{HasWrittenDecided, begun_decided, written_decided}
-use Rattle.msr_output.proofs.Existing.{enough_bytes}
 use Rattle.msr_tool.specs.Writing.{Lined, HasLined, LinesMore, StandsWritten, GoesOn, CanGrow, CanTake, CanTakeRow, StopsLining, current_after, ended_by, segments_with}
 use Rattle.msr_tool.specs.Answer.{AreLinesOf}
 use Rattle.msr_tool.specs.declared.fault.ToolFault.{ToolFault}
@@ -54,9 +54,9 @@ same_more packed more segment same = map-append segment_of_packed packed (more �
     ∙ ap (λ (s : Segment). map segment_of_packed packed ++ s ∷ []) same
 
 -- a prefix of the output of some segments is one of more segments
-pub prefix_more : (size : ℕ) (start now : Device) (segments others all : List Segment)
-    → HasWrittenPrefix size start now segments → all ≡ segments ++ others → HasWrittenPrefix size start now all
-prefix_more size start now segments others all h same = record {
+pub prefix_more : (form : Form) (start now : Device) (segments others all : List Segment)
+    → HasWrittenPrefix form start now segments → all ≡ segments ++ others → HasWrittenPrefix form start now all
+prefix_more form start now segments others all h same = record {
   taken = h.taken;
   takes = h.takes;
   prefix = record {
@@ -72,7 +72,7 @@ prefix_more size start now segments others all h same = record {
 
 -- what was written so far is a prefix of the output of all segments
 pub prefix_of : (start now : Device) (writing : Writing) (packed : List Packed) (rows : List Row)
-    → HasWritten start now writing packed rows → HasWrittenPrefix writing.size start now (map segment_of_packed packed)
+    → HasWritten start now writing packed rows → HasWrittenPrefix writing.form start now (map segment_of_packed packed)
 prefix_of start now writing packed rows h = record {
   taken = h.taken;
   takes = h.takes;
@@ -86,17 +86,17 @@ prefix_of start now writing packed rows h = record {
   };
 }
 
-pub stops_lining : (size : ℕ) (start now : Device) (segments : List Segment) (fault : WriteFault)
-    → StopsWriting size start now segments fault → StopsLining size start now segments (fault_of_writing fault)
-stops_lining size start now segments write.Write h = h
-stops_lining size start now segments write.Memory h = h
+pub stops_lining : (form : Form) (start now : Device) (segments : List Segment) (fault : WriteFault)
+    → StopsWriting form start now segments fault → StopsLining form start now segments (fault_of_writing fault)
+stops_lining form start now segments write.Write h = h
+stops_lining form start now segments write.Memory h = h
 
 -- there is no memory for the line
 pub stops_pushing : (start now : Device) (writing : Writing) (packed : List Packed) (segment : Segment)
-    (line : SegmentLine) (size : ℕ) → writing.size ≡ size → WritesSegment start now writing packed segment line
-    → StopsLining size start now (map segment_of_packed packed ++ segment ∷ []) Memory
-stops_pushing start now writing packed segment line size same_size h = (
-  rw (← same_more packed h.more segment h.same, ← same_size)
+    (line : SegmentLine) (form : Form) → writing.form ≡ form → WritesSegment start now writing packed segment line
+    → StopsLining form start now (map segment_of_packed packed ++ segment ∷ []) Memory
+stops_pushing start now writing packed segment line form same_form h = (
+  rw (← same_more packed h.more segment h.same, ← same_form)
       (prefix_of start now writing (packed ++ h.more ∷ []) h.rows h.written),
   h.written.calm.steady,
 )
@@ -152,11 +152,11 @@ last_of start now lined packed current opened is h =
     last_begun start now lined.writing packed current opened
     (subst (λ (last : Option Opened). StandsWritten start now lined.writing packed current last) is h.written)
 
-pub stops_at_last : (size : ℕ) (start now : Device) (packed : List Packed) (current : Option Segment)
+pub stops_at_last : (form : Form) (start now : Device) (packed : List Packed) (current : Option Segment)
     (segment : Segment) (fault : ToolFault) → current ≡ Some segment
-    → StopsLining size start now (map segment_of_packed packed ++ segment ∷ []) fault
-    → StopsLining size start now (map segment_of_packed packed ++ option_to_list current) fault
-stops_at_last size start now packed current segment fault is h = rw is h
+    → StopsLining form start now (map segment_of_packed packed ++ segment ∷ []) fault
+    → StopsLining form start now (map segment_of_packed packed ++ option_to_list current) fault
+stops_at_last form start now packed current segment fault is h = rw is h
 
 pub more_at_last : (start now : Device) (lined : Lined) (packed : List Packed) (current : Option Segment)
     (segment : Segment) → current ≡ Some segment → LinesMore start now lined packed (segment ∷ []) None
@@ -186,71 +186,71 @@ grows_new opened row none key start writable few =
     record { number = omega (arith, none, few); in_time = rw (key, start, count) writable.in_time }
 
 -- when it stops, a prefix of the output of more segments was written
-pub stops_wider : (size : ℕ) (start now : Device) (segments others all : List Segment) (found : ToolFault)
-    → all ≡ segments ++ others → StopsLining size start now segments found → StopsLining size start now all found
-stops_wider size start now segments others all (fault.Input other) same h = absurd h
-stops_wider size start now segments others all (fault.Report line) same h = absurd h
-stops_wider size start now segments others all fault.Read same h = absurd h
-stops_wider size start now segments others all fault.Write same h =
-    (prefix_more size start now segments others all h.0 same, h.1)
-stops_wider size start now segments others all fault.Memory same h =
-    (prefix_more size start now segments others all h.0 same, h.1)
+pub stops_wider : (form : Form) (start now : Device) (segments others all : List Segment) (found : ToolFault)
+    → all ≡ segments ++ others → StopsLining form start now segments found → StopsLining form start now all found
+stops_wider form start now segments others all (fault.Input other) same h = absurd h
+stops_wider form start now segments others all (fault.Report line) same h = absurd h
+stops_wider form start now segments others all fault.Read same h = absurd h
+stops_wider form start now segments others all fault.Write same h =
+    (prefix_more form start now segments others all h.0 same, h.1)
+stops_wider form start now segments others all fault.Memory same h =
+    (prefix_more form start now segments others all h.0 same, h.1)
 
 -- the last segment does not end
-pub stops_ending : (size : ℕ) (start now : Device) (packed : List Packed) (current : Option Segment) (row : Row)
-    (found : ToolFault) → StopsLining size start now (map segment_of_packed packed ++ option_to_list current) found
-    → StopsLining size start now (map segment_of_packed packed ++ segments_with Begins current row) found
-stops_ending size start now packed current row found h =
-    stops_wider size start now (map segment_of_packed packed ++ option_to_list current) (row_segment row ∷ [])
+pub stops_ending : (form : Form) (start now : Device) (packed : List Packed) (current : Option Segment) (row : Row)
+    (found : ToolFault) → StopsLining form start now (map segment_of_packed packed ++ option_to_list current) found
+    → StopsLining form start now (map segment_of_packed packed ++ segments_with Begins current row) found
+stops_ending form start now packed current row found h =
+    stops_wider form start now (map segment_of_packed packed ++ option_to_list current) (row_segment row ∷ [])
     (map segment_of_packed packed ++ segments_with Begins current row) found
     (sym (append_assoc (map segment_of_packed packed) (option_to_list current) (row_segment row ∷ []))) h
 
 -- the samples of a row that begins a segment follow its beginning
-pub took_first : {T : Type 0} (size other : ℕ) (start now : Device) (lined : Lined) (packed all : List Packed)
-    (current : Option Segment) (row : Row) (result : Result T ToolFault) → other ≡ size
+pub took_first : {T : Type 0} (form other : Form) (start now : Device) (lined : Lined) (packed all : List Packed)
+    (current : Option Segment) (row : Row) (result : Result T ToolFault) → other ≡ form
     → map segment_of_packed all ≡ map segment_of_packed packed ++ option_to_list current
     → MatchResult result (λ _. HasLined start now lined all (Some (row_segment row)))
     (StopsLining other start now (map segment_of_packed all ++ row_segment row ∷ []))
     → MatchResult result (λ _. LinesMore start now lined packed (option_to_list (ended_by Begins current))
-    (current_after Begins current row)) (StopsLining size start now
+    (current_after Begins current row)) (StopsLining form start now
     (map segment_of_packed packed ++ segments_with Begins current row))
-took_first size other start now lined packed all current row (Ok done) same_size same h =
+took_first form other start now lined packed all current row (Ok done) same_form same h =
     record { all = all; same = same; after = h }
-took_first size other start now lined packed all current row (Err found) same_size same h =
+took_first form other start now lined packed all current row (Err found) same_form same h =
     let joined : map segment_of_packed all ++ row_segment row ∷ [] ≡ map segment_of_packed packed
     ++ segments_with Begins current row =
     ap (λ (s : List Segment). s ++ row_segment row ∷ []) same
     ∙ append_assoc (map segment_of_packed packed) (option_to_list current) (row_segment row ∷ []) in
-    subst (λ (n : ℕ). StopsLining n start now (map segment_of_packed packed
-    ++ segments_with Begins current row) found) same_size
+    subst (λ (f : Form). StopsLining f start now (map segment_of_packed packed
+    ++ segments_with Begins current row) found) same_form
     (subst (λ (s : List Segment). StopsLining other start now s found) joined h)
 
 -- what waits is not written
-pub stops_finishing : (size : ℕ) (start now : Device) (w : Writing) (all packed : List Packed)
-    (current : Option Segment) (fault : WriteFault) → w.size ≡ size
+pub stops_finishing : (form : Form) (start now : Device) (w : Writing) (all packed : List Packed)
+    (current : Option Segment) (fault : WriteFault) → w.form ≡ form
     → map segment_of_packed all ≡ map segment_of_packed packed ++ option_to_list current
-    → StopsWriting w.size start now (map segment_of_packed all) fault
-    → StopsLining size start now (map segment_of_packed packed ++ option_to_list current) (fault_of_writing fault)
-stops_finishing size start now w all packed current fault same_size same h =
-    rw (← same, ← same_size) (stops_lining w.size start now (map segment_of_packed all) fault h)
+    → StopsWriting w.form start now (map segment_of_packed all) fault
+    → StopsLining form start now (map segment_of_packed packed ++ option_to_list current) (fault_of_writing fault)
+stops_finishing form start now w all packed current fault same_form same h =
+    rw (← same, ← same_form) (stops_lining w.form start now (map segment_of_packed all) fault h)
 
 -- ---- when a segment goes on
 
 prefix_written : (start now : Device) (w : Writing) (packed : List Packed) (current : Option Segment)
-    (last : Option Opened) → IfSome last (GoesOn w.size) → StandsWritten start now w packed current last
-    → HasWrittenPrefix w.size start now (map segment_of_packed packed ++ option_to_list current)
+    (last : Option Opened) → IfSome last (GoesOn w.form) → StandsWritten start now w packed current last
+    → HasWrittenPrefix w.form start now (map segment_of_packed packed ++ option_to_list current)
 prefix_written start now w packed None None goes h =
     rw (append-nil (map segment_of_packed packed)) (prefix_of start now w packed h.0 h.1)
 prefix_written start now w packed None (Some opened) goes h = absurd h
 prefix_written start now w packed (Some segment) None goes h = absurd h
 prefix_written start now w packed (Some segment) (Some opened) goes h =
-    (refused_now start now w packed segment opened (rw goes.same_size at goes.can.size)
+    (refused_now start now w packed segment opened
     (writable_now opened goes.can segment h.runs h.is_open h.samples) h).0
 
 -- what was written so far is a prefix of the output of all segments, with the one that has not ended
 pub prefix_lined : (start now : Device) (lined : Lined) (packed : List Packed) (current : Option Segment)
-    → IfSome lined.last (GoesOn lined.writing.size) → HasLined start now lined packed current
-    → HasWrittenPrefix lined.writing.size start now (map segment_of_packed packed ++ option_to_list current)
+    → IfSome lined.last (GoesOn lined.writing.form) → HasLined start now lined packed current
+    → HasWrittenPrefix lined.writing.form start now (map segment_of_packed packed ++ option_to_list current)
 prefix_lined start now lined packed current goes h =
     prefix_written start now lined.writing packed current lined.last goes h.written
 
@@ -277,7 +277,7 @@ grows_so start now w packed (Some segment) (Some opened) at joined row is bounds
     let same : joined ≡ segment_span segment = (let both : ◌≡◌ {A = Option Span} (Some joined)
     (Some (segment_span segment)) = sym some ∙ is in cc) in
     let count : count_of opened ≡ length segment.samples =
-    packs_count opened.size segment.samples h.runs opened.separators opened.packer h.is_open.gives in
+    packs_count opened.form segment.samples h.runs opened.separators opened.packer h.is_open.gives in
     let most = (bounds (segment_span segment) is).1 in
     let long : SpanIsInTime (longer (segment_span segment) (row_span row)) = rw same at in_time in
     record { number = omega (arith, count, most, few); in_time = rw (h.is_open.key, h.is_open.start, count) long }
@@ -309,7 +309,7 @@ can_take_row start now lined packed current old new (Some next) h is bounds k ro
 -- ---- what waits is written
 
 flushed_so : (start old now : Device) (w w' : Writing) (packed : List Packed) (current : Option Segment)
-    (last : Option Opened) → IfSome last (GoesOn w.size)
+    (last : Option Opened) → IfSome last (GoesOn w.form)
     → ((rows : List Row) → HasWritten start old w packed rows → HasWritten start now w' packed rows)
     → ((segment : Segment) (opened : Opened) → CanGoOn false opened → HasBegun start old w packed segment opened
     → HasBegun start now w' packed segment opened)
@@ -320,7 +320,7 @@ flushed_so start old now w w' packed (Some segment) None goes none begun h = abs
 flushed_so start old now w w' packed (Some segment) (Some opened) goes none begun h = begun segment opened goes.can h
 
 pub lined_flushed : (start old now : Device) (lined : Lined) (w' : Writing) (packed : List Packed)
-    (current : Option Segment) → IfSome lined.last (GoesOn lined.writing.size)
+    (current : Option Segment) → IfSome lined.last (GoesOn lined.writing.form)
     → ((rows : List Row) → HasWritten start old lined.writing packed rows → HasWritten start now w' packed rows)
     → ((segment : Segment) (opened : Opened) → CanGoOn false opened
     → HasBegun start old lined.writing packed segment opened → HasBegun start now w' packed segment opened)
@@ -333,49 +333,48 @@ lined_flushed start old now lined w' packed current goes none begun h = record {
 }
 
 stops_so : (start old now : Device) (w : Writing) (packed : List Packed) (current : Option Segment)
-    (last : Option Opened) (fault : WriteFault) → IfSome last (GoesOn w.size)
+    (last : Option Opened) (fault : WriteFault) → IfSome last (GoesOn w.form)
     → ((rows : List Row) → HasWritten start old w packed rows
-    → StopsWriting w.size start now (map segment_of_packed packed) fault)
+    → StopsWriting w.form start now (map segment_of_packed packed) fault)
     → ((segment : Segment) (opened : Opened) → CanGoOn false opened → HasBegun start old w packed segment opened
-    → StopsWriting w.size start now (map segment_of_packed packed ++ segment ∷ []) fault)
+    → StopsWriting w.form start now (map segment_of_packed packed ++ segment ∷ []) fault)
     → StandsWritten start old w packed current last
-    → StopsLining w.size start now (map segment_of_packed packed ++ option_to_list current) (fault_of_writing fault)
+    → StopsLining w.form start now (map segment_of_packed packed ++ option_to_list current) (fault_of_writing fault)
 stops_so start old now w packed None None fault goes none begun h =
     rw (append-nil (map segment_of_packed packed))
-    (stops_lining w.size start now (map segment_of_packed packed) fault (none h.0 h.1))
+    (stops_lining w.form start now (map segment_of_packed packed) fault (none h.0 h.1))
 stops_so start old now w packed None (Some opened) fault goes none begun h = absurd h
 stops_so start old now w packed (Some segment) None fault goes none begun h = absurd h
 stops_so start old now w packed (Some segment) (Some opened) fault goes none begun h =
-    stops_lining w.size start now (map segment_of_packed packed ++ segment ∷ []) fault (begun segment opened goes.can h)
+    stops_lining w.form start now (map segment_of_packed packed ++ segment ∷ []) fault (begun segment opened goes.can h)
 
 pub stops_flushing : (start old now : Device) (lined : Lined) (packed : List Packed) (current : Option Segment)
-    (fault : WriteFault) → IfSome lined.last (GoesOn lined.writing.size)
+    (fault : WriteFault) → IfSome lined.last (GoesOn lined.writing.form)
     → ((rows : List Row) → HasWritten start old lined.writing packed rows
-    → StopsWriting lined.writing.size start now (map segment_of_packed packed) fault)
+    → StopsWriting lined.writing.form start now (map segment_of_packed packed) fault)
     → ((segment : Segment) (opened : Opened) → CanGoOn false opened
     → HasBegun start old lined.writing packed segment opened
-    → StopsWriting lined.writing.size start now (map segment_of_packed packed ++ segment ∷ []) fault)
-    → HasLined start old lined packed current → StopsLining lined.writing.size start now
+    → StopsWriting lined.writing.form start now (map segment_of_packed packed ++ segment ∷ []) fault)
+    → HasLined start old lined packed current → StopsLining lined.writing.form start now
     (map segment_of_packed packed ++ option_to_list current) (fault_of_writing fault)
 stops_flushing start old now lined packed current fault goes none begun h =
     stops_so start old now lined.writing packed current lined.last fault goes none begun h.written
 
 -- if nothing waits, all records that are decided were written
 decided_so : (start now : Device) (w : Writing) (packed : List Packed) (current : Option Segment)
-    (last : Option Opened) → IfSome last (GoesOn w.size) → IfSome last IsEncoded → w.waiting ≡ []
+    (last : Option Opened) → IfSome last (GoesOn w.form) → IfSome last IsEncoded → w.waiting ≡ []
     → StandsWritten start now w packed current last
-    → HasWrittenDecided w.size start now (map segment_of_packed packed ++ option_to_list current)
+    → HasWrittenDecided w.form start now (map segment_of_packed packed ++ option_to_list current)
 decided_so start now w packed None None goes encoded none h =
     rw (append-nil (map segment_of_packed packed)) (written_decided start now w packed h.0 h.1 none)
 decided_so start now w packed None (Some opened) goes encoded none h = absurd h
 decided_so start now w packed (Some segment) None goes encoded none h = absurd h
 decided_so start now w packed (Some segment) (Some opened) goes encoded none h =
-    begun_decided start now w packed segment opened
-    (enough_bytes w.size (rw goes.same_size at goes.can.size)) h encoded none
+    begun_decided start now w packed segment opened h encoded none
 
 pub lined_decided : (start now : Device) (lined : Lined) (packed : List Packed) (current : Option Segment)
-    → IfSome lined.last (GoesOn lined.writing.size) → IfSome lined.last IsEncoded → lined.writing.waiting ≡ []
+    → IfSome lined.last (GoesOn lined.writing.form) → IfSome lined.last IsEncoded → lined.writing.waiting ≡ []
     → HasLined start now lined packed current
-    → HasWrittenDecided lined.writing.size start now (map segment_of_packed packed ++ option_to_list current)
+    → HasWrittenDecided lined.writing.form start now (map segment_of_packed packed ++ option_to_list current)
 lined_decided start now lined packed current goes encoded none h =
     decided_so start now lined.writing packed current lined.last goes encoded none h.written

@@ -3,6 +3,7 @@ use Rattle.std.proofs.Common.{◌≡◌, ◌⊎◌, inl, inr, ℕ, ◌*◌, ◌^
 use Rattle.std.proofs.Math.Nat.{mul-le-mul_right}
 use Rattle.std.proofs.lemmas.List.Elements.{All-cons, All-head, All-nil, All-tail}
 use Rattle.std.specs.Option.{option_to_list}
+use Rattle.msr_kinds.specs.declared.forms.Form.{Form}
 use Rattle.msr_kinds.specs.Lengths.{bytes_of}
 use Rattle.msr_segments.specs.declared.joiner.Segment.{Segment}
 use Rattle.msr_segments.specs.Joining.{Joining}
@@ -24,7 +25,7 @@ use Rattle.msr_input.specs.declared.row_reader.NextRow.{NextRow}
 use Rattle.msr_output.specs.Output.{Packed, OutputKeepsSegments, OutputHasSize, segment_of_packed, count_of_runs}
 use Rattle.msr_output.specs.Decided.{IsDecidedOutput, IsEncoded}
 use Rattle.msr_options.specs.Choice.{Choice, size_of}
-use Rattle.msr_tool.specs.Settings.{settings_of}
+use Rattle.msr_tool.specs.Settings.{form_chosen, settings_of}
 use Rattle.msr_tool.specs.Writing.{Lined, GoesOn, HasLined, LinesMore, LinesAll, StopsLining, current_with, ended_with}
 use Rattle.msr_tool.specs.Answer.{Answers, AreLinesOf}
 use Rattle.msr_tool.specs.Fault.{fault_of_reading}
@@ -41,9 +42,9 @@ pub record UnderWay (choice : Choice) (source0 source sink0 sink : Device) (read
   pub joining : Joining
   pub rows : RowsSoFar (settings_of choice) source0 source reading (map segment_of_packed packed) joining
   pub lined : HasLined sink0 sink so_far packed joining.current
-  pub goes_on : IfSome so_far.last (GoesOn so_far.writing.size)
+  pub goes_on : IfSome so_far.last (GoesOn so_far.writing.form)
   pub encoded : IfSome so_far.last IsEncoded
-  pub size : so_far.writing.size ≡ size_of choice
+  pub form : so_far.writing.form ≡ form_chosen choice
   pub calm : IsCalm sink0 sink
 
 -- one more record is read and written
@@ -51,10 +52,10 @@ pub more : (choice : Choice) (source0 source' sink0 sink' : Device) (reading' : 
     (packed : List Packed) (joining : Joining) (next : Option NextRow)
     → RecordMore (settings_of choice) source0 source' reading' (map segment_of_packed packed) joining next
     → LinesMore sink0 sink' so_far' packed (option_to_list (ended_with next joining.current))
-    (current_with next joining.current) → IfSome so_far'.last (GoesOn so_far'.writing.size)
-    → IfSome so_far'.last IsEncoded → so_far'.writing.size ≡ size_of choice
+    (current_with next joining.current) → IfSome so_far'.last (GoesOn so_far'.writing.form)
+    → IfSome so_far'.last IsEncoded → so_far'.writing.form ≡ form_chosen choice
     → UnderWay choice source0 source' sink0 sink' reading' so_far'
-more choice source0 source' sink0 sink' reading' so_far' packed joining next m wrote goes_on encoded size = record {
+more choice source0 source' sink0 sink' reading' so_far' packed joining next m wrote goes_on encoded form = record {
   packed = wrote.all;
   joining = m.new;
   rows = subst (λ (given : List Segment). RowsSoFar (settings_of choice) source0 source' reading' given m.new)
@@ -63,7 +64,7 @@ more choice source0 source' sink0 sink' reading' so_far' packed joining next m w
       (sym m.current) wrote.after;
   goes_on = goes_on;
   encoded = encoded;
-  size = size;
+  form = form;
   calm = calm_lined sink0 sink' so_far' wrote.all (current_with next joining.current) wrote.after;
 }
 
@@ -71,16 +72,16 @@ more choice source0 source' sink0 sink' reading' so_far' packed joining next m w
 pub flushed : (choice : Choice) (source0 source sink0 sink sink' : Device) (reading : RowReading)
     (so_far so_far' : Lined) (u : UnderWay choice source0 source sink0 sink reading so_far)
     → HasLined sink0 sink' so_far' u.packed u.joining.current → so_far'.last ≡ so_far.last
-    → so_far'.writing.size ≡ so_far.writing.size
+    → so_far'.writing.form ≡ so_far.writing.form
     → UnderWay choice source0 source sink0 sink' reading so_far'
-flushed choice source0 source sink0 sink sink' reading so_far so_far' u wrote last size = record {
+flushed choice source0 source sink0 sink sink' reading so_far so_far' u wrote last form = record {
   packed = u.packed;
   joining = u.joining;
   rows = u.rows;
   lined = wrote;
-  goes_on = rw (last, size) u.goes_on;
+  goes_on = rw (last, form) u.goes_on;
   encoded = rw last u.encoded;
-  size = size ∙ u.size;
+  form = form ∙ u.form;
   calm = calm_lined sink0 sink' so_far' u.packed u.joining.current wrote;
 }
 
@@ -116,18 +117,19 @@ few_runs size runs bytes some are short =
 pub done : (choice : Choice) (source0 sink0 sink : Device) (segments : List Segment) (lines : List SegmentLine)
     (counts : Counts) (report : Report) →
     GaveReadable source0 (settings_of choice) segments counts → All IsWritable segments
-    → LinesAll (size_of choice) sink0 sink segments lines →
+    → LinesAll (form_chosen choice) sink0 sink segments lines →
     1 ≤ choice.tolerance → choice.tolerance ≤ 1_000_000 → 1 ≤ size_of choice → OutputKeepsSegments → OutputHasSize →
     report.length ≡ choice.record_length → report.tolerance ≡ choice.tolerance → report.counts ≡ counts
     → report.segments.items ≡ lines → IsFirst (bytes_of report.length) report.tolerance report.counts
     → IsAnswered (Answers choice) source0 sink0 sink (Ok report)
 done choice source0 sink0 sink segments lines counts report gave can wrote least most some keeps has_size
     same_length same_tolerance same_counts same_lines is_first =
-    let size = wrote.writing.size in
+    let form = wrote.writing.form in
     let all = wrote.packed in
     let bytes = wrote.written.bytes in
     let writable : All IsWritable (map segment_of_packed all) = rw wrote.same can in
-    let count : length bytes ≡ size * count_of_runs all = has_size size all wrote.rows bytes wrote.written.output in (
+    let count : length bytes ≡ bytes_of form.length * count_of_runs all =
+    has_size form all wrote.rows bytes wrote.written.output in (
       gave.input,
       bytes,
       gave.left,
@@ -137,11 +139,11 @@ done choice source0 sink0 sink segments lines counts report gave can wrote least
         packed = all;
         rows = wrote.rows;
         readable = rw wrote.same gave.readable;
-        output = rw (← wrote.same_size) wrote.written.output;
-        same_segments = keeps size choice.tolerance (rows_of_records gave.records) wrote.rows all bytes least
+        output = rw (← wrote.same_form) wrote.written.output;
+        same_segments = keeps form choice.tolerance (rows_of_records gave.records) wrote.rows all bytes least
             (rw wrote.same gave.readable.are_segments) (some_samples all writable) wrote.written.output;
         is_report = record {
-          size = rw same_length refl;
+          record_length = same_length;
           tolerance = same_tolerance;
           counts = same_counts ∙ gave.counted;
           lines = rw same_lines wrote.are_lines;
@@ -150,7 +152,8 @@ done choice source0 sink0 sink segments lines counts report gave can wrote least
             most = rw same_tolerance most;
             lines = rw same_lines (proper_lines all lines writable wrote.are_lines);
             records = rw (same_lines, records_of_lines all lines wrote.are_lines)
-                (few_runs size (count_of_runs all) (length bytes) (rw wrote.same_size some) count wrote.written.short);
+                (few_runs (bytes_of form.length) (count_of_runs all) (length bytes) (rw wrote.same_form some) count
+                wrote.written.short);
           };
           is_form = record { first = is_first; segments = rw same_lines wrote.forms };
         };
@@ -160,14 +163,14 @@ done choice source0 sink0 sink segments lines counts report gave can wrote least
 -- or it is not
 pub flush_stops : (choice : Choice) (source0 source sink0 sink sink' : Device) (reading : RowReading)
     (so_far : Lined) (found : ToolFault) (u : UnderWay choice source0 source sink0 sink reading so_far)
-    → StopsLining so_far.writing.size sink0 sink'
+    → StopsLining so_far.writing.form sink0 sink'
     (map segment_of_packed u.packed ++ option_to_list u.joining.current) found
     → IsAnswered (Answers choice) source0 sink0 sink' (Err found)
 flush_stops choice source0 source sink0 sink sink' reading so_far found u stops =
     let all = map segment_of_packed u.packed ++ option_to_list u.joining.current in
     write_failed choice source0 sink0 sink' all found
     (rows_read (settings_of choice) source0 source reading (map segment_of_packed u.packed) u.joining u.rows)
-    (subst (λ (n : ℕ). StopsLining n sink0 sink' all found) u.size stops)
+    (subst (λ (f : Form). StopsLining f sink0 sink' all found) u.form stops)
 
 -- ---- when what is decided is written before each read
 
@@ -206,8 +209,8 @@ kept_up_so choice source0 source source' sink0 sink reading reading' so_far u no
       are_segments = given;
       takes = wrote.takes;
       went = wrote.went;
-      decided = subst (λ (n : ℕ). IsDecidedOutput n
-          (map segment_of_packed u.packed ++ option_to_list u.joining.current) wrote.bytes) u.size wrote.decided;
+      decided = subst (λ (f : Form). IsDecidedOutput f
+          (map segment_of_packed u.packed ++ option_to_list u.joining.current) wrote.bytes) u.form wrote.decided;
     }
 
 read_fault : (why : ReadFault) → fault_of_reading why ≡ fault.Read → why ≡ read.Read

@@ -1,44 +1,87 @@
 -- What was repacked is shown by each report that its report's text is that of.
-use Rattle.std.proofs.Common.{◌≡◌, ◌∙◌, refl, sym, ap, subst, ℕ, false, List, [], ◌∷◌, map, length, All, Ok, Err}
+use Rattle.std.proofs.Common.{◌≡◌, ◌∙◌, refl, sym, ap, subst, ℕ, ℤ, false, List, [], ◌∷◌, map, length, All, Ok, Err}
+use Rattle.std.proofs.lemmas.List.Elements.{All-weaker}
+use Rattle.msr_kinds.specs.Kinds.{IsChosen}
 use Rattle.msr_kinds.specs.Lengths.{bytes_of}
-use Rattle.msr_words.specs.Packing.{IsSeparating}
+use Rattle.msr_kinds.specs.declared.forms.Form.{Form as RecordForm}
+use Rattle.msr_kinds.specs.declared.kinds.Kind.{Kind}
+use Rattle.msr_kinds.specs.declared.kinds.Kinds.{Kinds}
+use Rattle.msr_words.specs.declared.kinds.Run.{Run}
+use Rattle.msr_words.specs.Fit.{Fits, FitsIn, IsRun}
+use Rattle.msr_words.specs.Packing.{IsPacking, IsSeparating}
 use Rattle.msr_segments.specs.Segments.{Part, segment_of, IsDivision}
 use Rattle.msr_report.specs.declared.report.SegmentLine.{SegmentLine}
 use Rattle.msr_report.specs.declared.report.Report.{Report}
 use Rattle.msr_report_reader.specs.Form.{Form, FormLine, form_line, form_of}
 use Rattle.msr_report_reader.specs.Laws.{NoLineAtFault, OneReport}
 use Rattle.msr_input.specs.Input.{AreRead, ReadableHasNoFault, rows_of_records}
-use Rattle.msr_verdict.specs.Packed.{IsFull, IsShownBy, AreShownBy, ShowsLeast, ShownIsReadable, settings_by}
+use Rattle.msr_verdict.specs.Packed.{IsFull, IsShownBy, AreShownBy, ShowsLeast, ShownIsReadable, form_by, runs_of_part, settings_by}
 use Rattle.msr_verdict.specs.declared.verdict.Verdict.TheVariants.{Least, NotShown}
 use Rattle.msr_tool.specs.Shown.{RepackedIsLeast, RepackedIsShown}
 use Rattle.msr_tool.specs.declared.fault.ToolFault.TheVariants as fault
 
-same_shown : (size : ℕ) (part : Part) (line other : SegmentLine) → form_line line ≡ form_line other
-    → IsShownBy size part line → IsShownBy size part other
-same_shown size part line other same is =
+-- Forms of the same kinds and as many bytes have the same packings and separating lists.
+record AreSame (a b : RecordForm) : Type 0 where
+  bytes : bytes_of a.length ≡ bytes_of b.length
+  kinds : a.kinds ≡ b.kinds
+
+fits_same : (a b : RecordForm) → AreSame a b → (kind : Kind) (run : List (ℤ × ℤ)) → FitsIn kind a run
+    → FitsIn kind b run
+fits_same a b same kind run fits = (
+  subst (λ (kinds : Kinds). IsChosen kinds kind) same.kinds fits.0,
+  subst (λ (n : ℕ). Fits kind n run) same.bytes fits.1,
+)
+
+packing_same : (a b : RecordForm) → AreSame a b → (samples : List ℤ) (runs : List Run) → IsPacking a samples runs
+    → IsPacking b samples runs
+packing_same a b same samples runs is = record {
+  none_empty = is.none_empty;
+  each_fits = All-weaker (λ run. IsRun (FitsIn run.kind a) samples run.start run.end)
+      (λ run. IsRun (FitsIn run.kind b) samples run.start run.end)
+      (λ run fits. (fits.0, fits.1, fits_same a b same run.kind _ fits.2)) runs is.each_fits;
+  joined = is.joined;
+}
+
+separating_same : (a b : RecordForm) → AreSame a b → (samples : List ℤ) (separators : List ℕ)
+    → IsSeparating a samples separators → IsSeparating b samples separators
+separating_same a b same samples separators is =
+    let back : AreSame b a = record { bytes = sym same.bytes; kinds = sym same.kinds } in
+    record {
+      rising = is.rising;
+      within = is.within;
+      apart = λ i j less inside. record {
+        none = λ x y fits. (is.apart i j less inside).none x y
+            (fits.0, fits.1, (fits.2.0, fits_same b a back fits.2.0 _ fits.2.1));
+      };
+    }
+
+same_shown : (a b : RecordForm) → AreSame a b → (part : Part) (line other : SegmentLine)
+    → form_line line ≡ form_line other → IsShownBy a part line → IsShownBy b part other
+same_shown a b forms part line other same is =
     let separators : line.separators.items ≡ other.separators.items = ap (λ (l : FormLine). l.separators) same in
     record {
       key = sym (ap (λ (l : FormLine). l.key) same) ∙ is.key;
       start = sym (ap (λ (l : FormLine). l.start) same) ∙ is.start;
       samples = sym (ap (λ (l : FormLine). l.samples) same) ∙ is.samples;
       records = sym (ap (λ (l : FormLine). l.records) same) ∙ is.records;
-      packing = is.packing;
-      separating = subst (λ (s : List ℕ). IsSeparating size (segment_of part).samples s) separators is.separating;
+      packing = packing_same a b forms (segment_of part).samples (runs_of_part part) is.packing;
+      separating = subst (λ (s : List ℕ). IsSeparating b (segment_of part).samples s) separators
+          (separating_same a b forms (segment_of part).samples line.separators.items is.separating);
       as_many = is.as_many ∙ ap length separators;
     }
 
 -- lines that say the same show the same
-same_lines : (size : ℕ) (parts : List Part) (lines others : List SegmentLine)
-    → map form_line lines ≡ map form_line others → AreShownBy size parts lines → AreShownBy size parts others
-same_lines size [] [] [] same are = tt
-same_lines size [] [] (other ∷ others) same are = absurd (cc)
-same_lines size [] (line ∷ lines) others same are = absurd are
-same_lines size (part ∷ parts) [] others same are = absurd are
-same_lines size (part ∷ parts) (line ∷ lines) [] same are = absurd (cc)
-same_lines size (part ∷ parts) (line ∷ lines) (other ∷ others) same are =
+same_lines : (a b : RecordForm) → AreSame a b → (parts : List Part) (lines others : List SegmentLine)
+    → map form_line lines ≡ map form_line others → AreShownBy a parts lines → AreShownBy b parts others
+same_lines a b forms [] [] [] same are = tt
+same_lines a b forms [] [] (other ∷ others) same are = absurd (cc)
+same_lines a b forms [] (line ∷ lines) others same are = absurd are
+same_lines a b forms (part ∷ parts) [] others same are = absurd are
+same_lines a b forms (part ∷ parts) (line ∷ lines) [] same are = absurd (cc)
+same_lines a b forms (part ∷ parts) (line ∷ lines) (other ∷ others) same are =
     let first : form_line line ≡ form_line other = cc in
     let rest : map form_line lines ≡ map form_line others = cc in
-    (same_shown size part line other first are.0, same_lines size parts lines others rest are.1)
+    (same_shown a b forms part line other first are.0, same_lines a b forms parts lines others rest are.1)
 
 -- and so do reports that say the same
 shows_same : (report other : Report) (input : List ℕ) → form_of report ≡ form_of other → ShowsLeast report input
@@ -55,9 +98,8 @@ shows_same report other input same shows =
           []) tolerance shows.are_read;
       division = subst (λ (t : ℕ). IsDivision t (rows_of_records shows.records) shows.parts) tolerance shows.division;
       full = subst (λ (n : ℕ). All (IsFull n) shows.records) bytes shows.full;
-      shown = subst (λ (n : ℕ). AreShownBy n shows.parts other.segments.items) bytes
-          (same_lines (bytes_of report.length) shows.parts report.segments.items other.segments.items lines
-          shows.shown);
+      shown = same_lines (form_by report) (form_by other) (record { bytes = bytes; kinds = refl }) shows.parts
+          report.segments.items other.segments.items lines shows.shown;
     }
 
 pub repacked_least : RepackedIsShown → ShownIsReadable → OneReport → NoLineAtFault → ReadableHasNoFault

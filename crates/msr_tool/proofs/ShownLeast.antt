@@ -4,6 +4,9 @@ use Rattle.std.specs.List.{flat_map}
 use Rattle.std.specs.Prelude.{All}
 use Rattle.std.specs.Option.{option_to_list}
 use Rattle.msr_time.specs.SampleRate.{IsRoundedNominal}
+use Rattle.msr_kinds.specs.Forms.{all_kinds}
+use Rattle.msr_kinds.specs.Lengths.{bytes_of}
+use Rattle.msr_kinds.specs.declared.lengths.Length.{Length}
 use Rattle.msr_rows.specs.declared.row.Key.{Key}
 use Rattle.msr_rows.specs.declared.row.Row.{Row}
 use Rattle.msr_rows.specs.declared.row.Record.{Record}
@@ -15,8 +18,7 @@ use Rattle.msr_input.specs.Input.{AreRead, NoneOverruns, OneListOfRecords, rows_
 use Rattle.msr_output.specs.Output.{cuts_of, segment_of_packed}
 use Rattle.msr_output.proofs.Times.{nominal_within}
 use Rattle.msr_verdict.specs.Packed.{IsFull, AreShownBy}
-use Rattle.msr_options.specs.Choice.{size_of}
-use Rattle.msr_tool.specs.Settings.{settings_of}
+use Rattle.msr_tool.specs.Settings.{form_chosen, settings_of}
 use Rattle.msr_tool.specs.Shown.{EndsBeforeTheLast, RepackedIsShown}
 use Rattle.msr_tool.proofs.ShownRows.{IsWithin, AreWithin, record_of, lines_within, cuts_within, rows_sound, bytes_begin, records_full, records_rows}
 use Rattle.msr_tool.proofs.ShownPrefixes.{IsPrefixOf, last_of_prefix}
@@ -73,17 +75,18 @@ none_overruns tolerance records parts d within before after found row e has_row 
 
 pub repacked_shown : OneListOfRecords → RepackedIsShown
 repacked_shown law choice input written report records segments r readable before =
-    let size = size_of choice in
+    let form = form_chosen choice in
+    let size = bytes_of form.length in
     let parts = r.same_segments.parts in
     let same : segments ≡ map segment_of_packed r.packed =
     (law (settings_of choice) input records r.records segments
     (map segment_of_packed r.packed) readable r.readable).1 in
     let before_packed = subst (λ (s : List Segment). All EndsBeforeTheLast s) same before in
     let within = lines_within r.packed report.segments.items r.is_report.lines r.is_report.proper.lines before_packed in
-    let cuts = cuts_within size r.packed r.output.packings within in
+    let cuts = cuts_within form r.packed r.output.packings within in
     let sound = rows_sound size 1 (flat_map cuts_of r.packed) r.rows written cuts r.output.records in
     let begins = bytes_begin size 1 (flat_map cuts_of r.packed) r.rows written cuts r.output.records in
-    let shown = are_shown size 1 r.packed report.segments.items parts r.rows written r.output.packings
+    let shown = are_shown form 1 r.packed report.segments.items parts r.rows written r.output.packings
     r.is_report.lines r.same_segments.each r.same_segments.division.whole sound r.output.records in
     let found = map (record_of size) r.rows in
     let division : IsDivision choice.tolerance (rows_of_records found) parts =
@@ -97,12 +100,12 @@ repacked_shown law choice input written report records segments r readable befor
       agree = λ strict. absurd cc;
     } in
     let at = sym r.is_report.tolerance in
-    let of_size = sym r.is_report.size in
+    let of_length = sym r.is_report.record_length in
     record {
       records = found;
       parts = parts;
       are_read = subst (λ (t : ℕ). AreRead (record { tolerance = t; strict = false }) written found []) at are_read;
       division = subst (λ (t : ℕ). IsDivision t (rows_of_records found) parts) at division;
-      full = subst (λ (n : ℕ). All (IsFull n) found) of_size (records_full size r.rows);
-      shown = subst (λ (n : ℕ). AreShownBy n parts report.segments.items) of_size shown;
+      full = subst (λ (l : Length). All (IsFull (bytes_of l)) found) of_length (records_full size r.rows);
+      shown = subst (λ (l : Length). AreShownBy (all_kinds l) parts report.segments.items) of_length shown;
     }

@@ -3,6 +3,8 @@ use Rattle.std.proofs.Common.{◌≡◌, ℕ, ◌+◌, ◌-◌, List, [], ◌∷
 use Rattle.std.specs.List.{flat_map}
 use Rattle.std.specs.Prelude.{All}
 use Rattle.std.proofs.lemmas.List.Elements.{All-head, All-tail}
+use Rattle.msr_kinds.specs.declared.forms.Form.{Form}
+use Rattle.msr_kinds.specs.Lengths.{bytes_of}
 use Rattle.msr_words.proofs.Runs.{same_run}
 use Rattle.msr_words.specs.declared.kinds.Run.{Run}
 use Rattle.msr_words.specs.Packing.{Joins, IsSeparating}
@@ -50,22 +52,23 @@ record AreRuns (a : ℕ) (runs : List Run) (end : ℕ) (rows : List Row) : Type 
   same : runs_of_rows a rows ≡ runs
   size : a + length (samples_of rows) ≡ end
 
-are_runs : (size n : ℕ) (segment : Segment) (runs : List Run) (a : ℕ) (rows : List Row) (bytes : List ℕ)
-    → All (IsFitting size segment.samples) runs → Joins a runs (length segment.samples)
-    → AreWritten size n (cuts_at segment runs) rows bytes → AreRuns a runs (length segment.samples) rows
-are_runs size n segment [] a rows bytes fitting joined are =
+are_runs : (form : Form) (n : ℕ) (segment : Segment) (runs : List Run) (a : ℕ) (rows : List Row) (bytes : List ℕ)
+    → All (IsFitting form segment.samples) runs → Joins a runs (length segment.samples)
+    → AreWritten (bytes_of form.length) n (cuts_at segment runs) rows bytes
+    → AreRuns a runs (length segment.samples) rows
+are_runs form n segment [] a rows bytes fitting joined are =
     subst (λ (r : List Row). AreRuns a [] (length segment.samples) r) (sym are.0)
     (record { same = refl; size = omega (arith, joined) })
-are_runs size n segment (run ∷ runs) a rows bytes fitting joined are =
+are_runs form n segment (run ∷ runs) a rows bytes fitting joined are =
     let w = are.2 in
     let is_row = w.is_record.of_run in
-    let fits = All-head (IsFitting size segment.samples) run runs fitting in
+    let fits = All-head (IsFitting form segment.samples) run runs fitting in
     let count : length w.row.samples ≡ run.end - run.start = ap length is_row.samples
     ∙ range_length segment.samples run.start run.end fits.1 in
     let start : run.start ≡ a = joined.0 in
     let end : a + length w.row.samples ≡ run.end = omega (arith, count, start, fits.0) in
-    let rest = are_runs size (next_number n) segment runs run.end are.0 are.1
-    (All-tail (IsFitting size segment.samples) run runs fitting) joined.1 are.3 in
+    let rest = are_runs form (next_number n) segment runs run.end are.0 are.1
+    (All-tail (IsFitting form segment.samples) run runs fitting) joined.1 are.3 in
     let first : Run = record { start = a; end = a + length w.row.samples; kind = w.row.kind } in
     let is_first : first ≡ run = same_run first run (sym start) end is_row.kind in
     let others : runs_of_rows (a + length w.row.samples) are.0 ≡ runs = ap (λ (m : ℕ). runs_of_rows m are.0) end
@@ -78,37 +81,37 @@ are_runs size n segment (run ∷ runs) a rows bytes fitting joined are =
     subst (λ (r : List Row). AreRuns a (run ∷ runs) (length segment.samples) r) (sym w.all_rows) all
 
 -- the line of a packed segment shows it
-is_shown : (size : ℕ) (packed : Packed) (line : SegmentLine) → IsPacked size packed → IsLineOf packed line
-    → IsShownAs size packed.segment packed.runs line
-is_shown size packed line is its = record {
+is_shown : (form : Form) (packed : Packed) (line : SegmentLine) → IsPacked form packed → IsLineOf packed line
+    → IsShownAs form packed.segment packed.runs line
+is_shown form packed line is its = record {
   key = its.key;
   start = its.start;
   samples = its.samples;
   records = its.records;
   packing = is.packing;
-  separating = subst (λ (s : List ℕ). IsSeparating size packed.segment.samples s) (sym its.separators) is.separating;
+  separating = subst (λ (s : List ℕ). IsSeparating form packed.segment.samples s) (sym its.separators) is.separating;
   as_many = is.as_many ∙ ap length (sym its.separators);
 }
 
 -- the parts of the rows are shown by the lines of the segments
-pub are_shown : (size n : ℕ) (packed : List Packed) (lines : List SegmentLine) (parts : List Part)
-    (rows : List Row) (bytes : List ℕ) → All (IsPacked size) packed → AreLinesOf packed lines
+pub are_shown : (form : Form) (n : ℕ) (packed : List Packed) (lines : List SegmentLine) (parts : List Part)
+    (rows : List Row) (bytes : List ℕ) → All (IsPacked form) packed → AreLinesOf packed lines
     → map segment_of_packed packed ≡ map segment_of parts → rows ≡ flat_map rows_of parts → AreSound rows
-    → AreWritten size n (flat_map cuts_of packed) rows bytes → AreShownBy size parts lines
-are_shown size n [] [] [] rows bytes packings lines_are each whole sound are = tt
-are_shown size n [] [] (p ∷ ps) rows bytes packings lines_are each whole sound are =
+    → AreWritten (bytes_of form.length) n (flat_map cuts_of packed) rows bytes → AreShownBy form parts lines
+are_shown form n [] [] [] rows bytes packings lines_are each whole sound are = tt
+are_shown form n [] [] (p ∷ ps) rows bytes packings lines_are each whole sound are =
     absurd (no_empty [] (map segment_of ps) (segment_of p) each)
-are_shown size n [] (line ∷ lines) parts rows bytes packings lines_are each whole sound are =
+are_shown form n [] (line ∷ lines) parts rows bytes packings lines_are each whole sound are =
     absurd (no_empty [] lines line (sym lines_are))
-are_shown size n (one ∷ packed) [] parts rows bytes packings lines_are each whole sound are = absurd lines_are
-are_shown size n (one ∷ packed) (line ∷ lines) [] rows bytes packings lines_are each whole sound are =
+are_shown form n (one ∷ packed) [] parts rows bytes packings lines_are each whole sound are = absurd lines_are
+are_shown form n (one ∷ packed) (line ∷ lines) [] rows bytes packings lines_are each whole sound are =
     absurd (no_empty [] (map segment_of_packed packed) one.segment (sym each))
-are_shown size n (one ∷ packed) (line ∷ lines) (p ∷ ps) rows bytes packings lines_are each whole sound are =
+are_shown form n (one ∷ packed) (line ∷ lines) (p ∷ ps) rows bytes packings lines_are each whole sound are =
     let head : one.segment ≡ segment_of p = cc in
     let tail : map segment_of_packed packed ≡ map segment_of ps = cc in
-    let is = All-head (IsPacked size) one packed packings in
-    let split = written_split size n (cuts_of one) (flat_map cuts_of packed) rows bytes are in
-    let runs = are_runs size n one.segment one.runs 0 split.first_rows split.first_bytes is.packing.each_fits
+    let is = All-head (IsPacked form) one packed packings in
+    let split = written_split (bytes_of form.length) n (cuts_of one) (flat_map cuts_of packed) rows bytes are in
+    let runs = are_runs form n one.segment one.runs 0 split.first_rows split.first_bytes is.packing.each_fits
     is.packing.joined split.first in
     let two : split.first_rows ++ split.other_rows ≡ rows_of p ++ flat_map rows_of ps = sym split.whole ∙ whole in
     let sound_first = subst (λ (r : List Row). AreSound r) split.whole sound in
@@ -119,10 +122,10 @@ are_shown size n (one ∷ packed) (line ∷ lines) (p ∷ ps) rows bytes packing
     (first_sound split.first_rows split.other_rows sound_first)
     (first_sound (rows_of p) (flat_map rows_of ps) sound_parts) (omega (arith, total, runs.size)) in
     let its_runs : one.runs ≡ runs_of_rows 0 (rows_of p) = sym runs.same ∙ ap (runs_of_rows 0) same.0 in
-    let shown : IsShownBy size p line = subst (λ (r : List Run). IsShownAs size (segment_of p) r line) its_runs
-    (subst (λ (s : Segment). IsShownAs size s one.runs line) head (is_shown size one line is lines_are.0)) in (
+    let shown : IsShownBy form p line = subst (λ (r : List Run). IsShownAs form (segment_of p) r line) its_runs
+    (subst (λ (s : Segment). IsShownAs form s one.runs line) head (is_shown form one line is lines_are.0)) in (
       shown,
-      are_shown size (number_after n (cuts_of one)) packed lines ps split.other_rows split.other_bytes
-          (All-tail (IsPacked size) one packed packings) lines_are.1 tail same.1
+      are_shown form (number_after n (cuts_of one)) packed lines ps split.other_rows split.other_bytes
+          (All-tail (IsPacked form) one packed packings) lines_are.1 tail same.1
           (sound_rest split.first_rows split.other_rows sound_first) split.others,
     )

@@ -5,6 +5,7 @@ use Rattle.std.specs.Prelude.{All, slice_range}
 use Rattle.std.proofs.lemmas.List.{drop_at}
 use Rattle.std.proofs.lemmas.List.Elements.{All-head, All-tail}
 use Rattle.msr_time.specs.Instant.{IsInstant}
+use Rattle.msr_kinds.specs.declared.forms.Form.{Form}
 use Rattle.msr_words.specs.declared.kinds.Run.{Run}
 use Rattle.msr_rows.specs.Records.{IsInTime, RowIsInTime, IsRecordOf}
 use Rattle.msr_rows.specs.declared.row.Key.{Key}
@@ -69,28 +70,28 @@ lines_within (one ∷ packed) (line ∷ lines) are proper before =
 abbrev IsSomeRun : Run → Type 0
 IsSomeRun run = run.start < run.end
 
-runs_within : (size : ℕ) (segment : Segment) (runs : List Run) → IsWithin segment → All IsSomeRun runs
-    → All (IsFitting size segment.samples) runs → AreCutsWithin (cuts_at segment runs)
-runs_within size segment [] within some fitting = tt
-runs_within size segment (run ∷ runs) within some fitting =
-    let fits = All-head (IsFitting size segment.samples) run runs fitting in (
+runs_within : (form : Form) (segment : Segment) (runs : List Run) → IsWithin segment → All IsSomeRun runs
+    → All (IsFitting form segment.samples) runs → AreCutsWithin (cuts_at segment runs)
+runs_within form segment [] within some fitting = tt
+runs_within form segment (run ∷ runs) within some fitting =
+    let fits = All-head (IsFitting form segment.samples) run runs fitting in (
       record { some = All-head IsSomeRun run runs some; inside = fits.1; within = within },
-      runs_within size segment runs within (All-tail IsSomeRun run runs some)
-          (All-tail (IsFitting size segment.samples) run runs fitting),
+      runs_within form segment runs within (All-tail IsSomeRun run runs some)
+          (All-tail (IsFitting form segment.samples) run runs fitting),
     )
 
 cuts_append : (xs ys : List Cut) → AreCutsWithin xs → AreCutsWithin ys → AreCutsWithin (xs ++ ys)
 cuts_append [] ys first second = second
 cuts_append (x ∷ xs) ys first second = (first.0, cuts_append xs ys first.1 second)
 
-pub cuts_within : (size : ℕ) (packed : List Packed) → All (IsPacked size) packed
+pub cuts_within : (form : Form) (packed : List Packed) → All (IsPacked form) packed
     → AreWithin (map segment_of_packed packed) → AreCutsWithin (flat_map cuts_of packed)
-cuts_within size [] packings within = tt
-cuts_within size (one ∷ packed) packings within =
-    let packing = (All-head (IsPacked size) one packed packings).packing in
+cuts_within form [] packings within = tt
+cuts_within form (one ∷ packed) packings within =
+    let packing = (All-head (IsPacked form) one packed packings).packing in
     cuts_append (cuts_of one) (flat_map cuts_of packed)
-    (runs_within size one.segment one.runs within.0 packing.none_empty packing.each_fits)
-    (cuts_within size packed (All-tail (IsPacked size) one packed packings) within.1)
+    (runs_within form one.segment one.runs within.0 packing.none_empty packing.each_fits)
+    (cuts_within form packed (All-tail (IsPacked form) one packed packings) within.1)
 
 -- the row of a run has as many samples as the run
 pub range_length : (samples : List ℤ) (a b : ℕ) → b ≤ length samples → length (slice_range samples a b) ≡ b - a

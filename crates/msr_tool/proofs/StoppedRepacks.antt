@@ -8,8 +8,8 @@ use Rattle.msr_input.specs.declared.settings.Settings.{Settings}
 use Rattle.msr_input.specs.declared.fault.ReadFault.{ReadFault}
 use Rattle.msr_input.specs.declared.fault.ReadFault.TheVariants as read
 use Rattle.msr_output.specs.Writing.{HasWrittenPrefix}
-use Rattle.msr_options.specs.Choice.{Choice, size_of}
-use Rattle.msr_tool.specs.Settings.{settings_of}
+use Rattle.msr_options.specs.Choice.{Choice}
+use Rattle.msr_tool.specs.Settings.{form_chosen, settings_of}
 use Rattle.msr_tool.specs.Fault.{ReadsAndWrites, fault_of_reading}
 use Rattle.msr_tool.specs.Writing.{StopsSink, StopsLining}
 use Rattle.msr_tool.specs.Answer.{IsStopped, Answers}
@@ -24,12 +24,12 @@ IsAnswered says source0 sink0 sink result = (input : List ℕ) × (written : Lis
     × Takes sink0 sink written × says input written result
 
 stopped : (choice : Choice) (source0 sink0 sink : Device) (given : List Segment)
-    → StopsAfter (settings_of choice) source0 given → HasWrittenPrefix (size_of choice) sink0 sink given
+    → StopsAfter (settings_of choice) source0 given → HasWrittenPrefix (form_chosen choice) sink0 sink given
     → (input : List ℕ) × (written : List ℕ) × HasLeft source0 input × Takes sink0 sink written
     × IsStopped choice input written
 stopped choice source0 sink0 sink given h prefix =
     let all : List Segment = given ++ h.begun.others in
-    let wide = prefix_more (size_of choice) sink0 sink given h.begun.others all prefix refl in (
+    let wide = prefix_more (form_chosen choice) sink0 sink given h.begun.others all prefix refl in (
       h.input,
       wide.taken,
       h.left,
@@ -47,11 +47,11 @@ stopped choice source0 sink0 sink given h prefix =
 -- no further segment is read
 pub read_failed : (choice : Choice) (source0 source sink0 sink : Device) (given : List Segment) (why : ReadFault)
     → StopsReading (settings_of choice) source0 source given why
-    → HasWrittenPrefix (size_of choice) sink0 sink given
+    → HasWrittenPrefix (form_chosen choice) sink0 sink given
     → IsAnswered (Answers choice) source0 sink0 sink (Err (fault_of_reading why))
 read_failed choice source0 source sink0 sink given (read.Input other) h prefix =
     let all : List Segment = given ++ h.0.begun.others in
-    let wide = prefix_more (size_of choice) sink0 sink given h.0.begun.others all prefix refl in (
+    let wide = prefix_more (form_chosen choice) sink0 sink given h.0.begun.others all prefix refl in (
       h.0.input,
       wide.taken,
       h.0.left,
@@ -71,7 +71,7 @@ read_failed choice source0 source sink0 sink given read.Memory h prefix =
 
 -- a segment is not written
 pub write_failed : (choice : Choice) (source0 sink0 sink : Device) (given : List Segment) (found : ToolFault)
-    → StopsAfter (settings_of choice) source0 given → StopsLining (size_of choice) sink0 sink given found
+    → StopsAfter (settings_of choice) source0 given → StopsLining (form_chosen choice) sink0 sink given found
     → IsAnswered (Answers choice) source0 sink0 sink (Err found)
 write_failed choice source0 sink0 sink given (fault.Input other) after h = absurd h
 write_failed choice source0 sink0 sink given (fault.Report line) after h = absurd h

@@ -1,6 +1,5 @@
 -- What repacking answers and leaves in the sink.
 use Rattle.std.specs.Prelude.{◌≡◌, ℕ, List, [], ◌∷◌, map, Result, Ok, Err}
-use Rattle.msr_kinds.specs.Lengths.{bytes_of}
 use Rattle.msr_rows.specs.declared.row.Row.{Row}
 use Rattle.msr_rows.specs.declared.row.Record.{Record}
 use Rattle.msr_segments.specs.Segments.{AreSegments}
@@ -13,8 +12,8 @@ use Rattle.msr_input.specs.declared.fault.Fault.{Fault}
 use Rattle.msr_input.specs.Input.{AreRead, IsReadable, IsFirstFault, rows_of_records, counts_of}
 use Rattle.msr_output.specs.Writing.{IsLineOf}
 use Rattle.msr_output.specs.Output.{Packed, IsOutput, IsPrefixOfOutput, segment_of_packed}
-use Rattle.msr_options.specs.Choice.{Choice, size_of}
-use Rattle.msr_tool.specs.Settings.{settings_of}
+use Rattle.msr_options.specs.Choice.{Choice}
+use Rattle.msr_tool.specs.Settings.{form_chosen, settings_of}
 use Rattle.msr_tool.specs.declared.fault.ToolFault.{ToolFault}
 use Rattle.msr_tool.specs.declared.fault.ToolFault.TheVariants as fault
 
@@ -26,7 +25,7 @@ AreLinesOf (packed ∷ others) (line ∷ lines) = IsLineOf packed line × AreLin
 
 -- The report of an input: the choice, the counts of its records, and a line for each segment as it was packed.
 pub record IsReportOf (choice : Choice) (records : List Record) (packed : List Packed) (report : Report) : Type 0 where
-  pub size : bytes_of report.length ≡ size_of choice
+  pub record_length : report.length ≡ choice.record_length
   pub tolerance : report.tolerance ≡ choice.tolerance
   pub counts : report.counts ≡ counts_of records
   pub lines : AreLinesOf packed report.segments.items
@@ -41,7 +40,7 @@ pub record IsRepacked (choice : Choice) (input written : List ℕ) (report : Rep
   pub packed : List Packed
   pub rows : List Row
   pub readable : IsReadable (settings_of choice) input records (map segment_of_packed packed)
-  pub output : IsOutput (size_of choice) packed rows written
+  pub output : IsOutput (form_chosen choice) packed rows written
   pub same_segments : AreSegments choice.tolerance rows (map segment_of_packed packed)
   pub is_report : IsReportOf choice records packed report
 
@@ -51,7 +50,7 @@ pub record IsRefusedAt (choice : Choice) (input written : List ℕ) (fault : Fau
   pub segments : List Segment
   pub first : IsFirstFault (settings_of choice) input records fault
   pub are_segments : AreSegments choice.tolerance (rows_of_records records) segments
-  pub prefix : IsPrefixOfOutput (size_of choice) segments written
+  pub prefix : IsPrefixOfOutput (form_chosen choice) segments written
 
 -- Some first records of the input are read, none of them refused. What was written is a prefix of the output of the
 -- segments of their rows.
@@ -61,7 +60,7 @@ pub record IsStopped (choice : Choice) (input written : List ℕ) : Type 0 where
   pub segments : List Segment
   pub are_read : AreRead (settings_of choice) input records rest
   pub are_segments : AreSegments choice.tolerance (rows_of_records records) segments
-  pub prefix : IsPrefixOfOutput (size_of choice) segments written
+  pub prefix : IsPrefixOfOutput (form_chosen choice) segments written
 
 -- what an answer says of the input and of what was written
 abbrev pub Answers : Choice → List ℕ → List ℕ → Result Report ToolFault → Type 0

@@ -7,8 +7,8 @@ use Rattle.msr_segments.specs.declared.joiner.Segment.{Segment}
 use Rattle.msr_input.specs.Input.{AreRead, bytes_of_records, rows_of_records}
 use Rattle.msr_input.specs.Reading.{HoldsRecord}
 use Rattle.msr_output.specs.Decided.{IsDecidedOutput}
-use Rattle.msr_options.specs.Choice.{Choice, size_of}
-use Rattle.msr_tool.specs.Settings.{settings_of}
+use Rattle.msr_options.specs.Choice.{Choice}
+use Rattle.msr_tool.specs.Settings.{form_chosen, settings_of}
 
 -- These records came from the source, and after them no whole one. What their rows give went into the sink, but for
 -- the last samples of the segment that goes on.
@@ -26,4 +26,4 @@ pub record HasKeptUp (choice : Choice) (source0 source sink0 sink : Device) : Ty
   pub are_segments : AreSegments choice.tolerance (rows_of_records records) segments
   pub takes : Takes sink0 sink written
   pub went : sink.moved ≡ sink0.moved + length written
-  pub decided : IsDecidedOutput (size_of choice) segments written
+  pub decided : IsDecidedOutput (form_chosen choice) segments written

@@ -1,6 +1,7 @@
 -- What writing the rows as segments with their lines does.
 use Rattle.std.specs.Prelude.{◌≡◌, ℕ, ◌+◌, ◌<◌, ◌≤◌, ◌^◌, false, ℤ, List, ◌++◌, length, map, All, Option, None, Some, IfSome}
 use Rattle.std.specs.Option.{option_to_list}
+use Rattle.msr_kinds.specs.declared.forms.Form.{Form}
 use Rattle.msr_devices.specs.Device.{Device, HasFailed, IsSteady}
 use Rattle.msr_rows.specs.declared.row.Row.{Row}
 use Rattle.msr_segments.specs.Spans.{SpanIsInTime, span_of}
@@ -78,20 +79,21 @@ pub record LinesMore (start now : Device) (lined : Lined) (packed : List Packed)
   pub after : HasLined start now lined all current
 
 -- all of the output of these segments was written, and each has its line
-pub record LinesAll (size : ℕ) (start now : Device) (segments : List Segment) (lines : List SegmentLine) : Type 0 where
+pub record LinesAll (form : Form) (start now : Device) (segments : List Segment)
+    (lines : List SegmentLine) : Type 0 where
   pub packed : List Packed
   pub rows : List Row
   pub writing : Writing
   pub same : map segment_of_packed packed ≡ segments
-  pub same_size : writing.size ≡ size
+  pub same_form : writing.form ≡ form
   pub written : HasWrittenAll start now writing packed rows
   pub are_lines : AreLinesOf packed lines
   pub forms : All IsFormLine (map form_line lines)
 
--- a segment that has not ended takes samples, in records of `size` bytes
-pub record GoesOn (size : ℕ) (opened : Opened) : Type 0 where
+-- a segment that has not ended takes samples, in records of that form
+pub record GoesOn (form : Form) (opened : Opened) : Type 0 where
   pub can : CanGoOn false opened
-  pub same_size : opened.size ≡ size
+  pub same_form : opened.form ≡ form
 
 -- with `more` further samples its times are of the supported years
 pub record CanGrow (more : ℕ) (opened : Opened) : Type 0 where
@@ -117,6 +119,6 @@ StopsSink failed refused start now Write = failed × HasFailed start now
 StopsSink failed refused start now Memory = refused × IsSteady start now
 
 -- a prefix of the output of some first ones of these segments was written
-abbrev pub StopsLining : ℕ → Device → Device → List Segment → ToolFault → Type 0
-StopsLining size start now segments fault =
-    StopsSink (HasWrittenPrefix size start now segments) (HasWrittenPrefix size start now segments) start now fault
+abbrev pub StopsLining : Form → Device → Device → List Segment → ToolFault → Type 0
+StopsLining form start now segments fault =
+    StopsSink (HasWrittenPrefix form start now segments) (HasWrittenPrefix form start now segments) start now fault

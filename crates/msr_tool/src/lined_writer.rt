@@ -2,7 +2,7 @@
 use crate::fault::ToolFault;
 use msr_devices::Sink;
 use msr_input::{NextRecord, NextRow};
-use msr_kinds::Length;
+use msr_kinds::Form;
 use msr_output::{OpenSegment, SegmentWriter};
 use msr_report::SegmentLine;
 use msr_report_reader::line_has_form;
@@ -31,7 +31,6 @@ impl Model for LinedWriter {
 impl LinedWriter {
     ghost use Rattle.std.specs.Prelude.{◌≡◌, ◌≤◌, List, [], ◌++◌, length, map, Option, None, Some, IfSome, MatchResult, OnOk};
     ghost use Rattle.std.specs.Option.{option_to_list};
-    ghost use Rattle.msr_kinds.specs.Lengths.{bytes_of};
     ghost use Rattle.msr_devices.specs.Device.{Device, CanCountCall, CountsFew, IsCalm};
     ghost use Rattle.msr_segments.specs.Segments.{row_segment};
     ghost use Rattle.msr_segments.specs.declared.joiner.Segment.{Segment};
@@ -42,14 +41,14 @@ impl LinedWriter {
     ghost use Rattle.msr_tool.specs.Writing.{CanGrow, CanTakeRow, GoesOn, HasLined, LinesAll, LinesMore, StopsLining, all_with, current_after, current_with, ended_by, ended_with, longer_current, segments_with};
 
     /// A writer before the first row.
-    pub(crate) fn new(alloc: Global, length: Length) -> LinedWriter
-        ensures size { result.writing.size ≡ bytes_of length }
+    pub(crate) fn new(alloc: Global, form: Form) -> LinedWriter
+        ensures form { result.writing.form ≡ form }
         ensures last { result.last ≡ None }
         ensures none { (start : Device) → HasLined start start result [] None }
         ensures none_wait { result.writing.waiting ≡ [] }
     {
         LinedWriter {
-            writer: SegmentWriter::new(alloc, length),
+            writer: SegmentWriter::new(alloc, form),
             lines: Vec::new(alloc),
             last: None,
         }
@@ -58,15 +57,15 @@ impl LinedWriter {
     /// Ends the segment that was begun last, if there is one, and keeps its line.
     fn end_last<W: Sink>(&mut self, sink: &mut W) -> Result<(), ToolFault>
         requires count { CanCountCall (W.device sink.old) }
-        requires last { IfSome self.old.last (GoesOn self.old.writing.size) }
+        requires last { IfSome self.old.last (GoesOn self.old.writing.form) }
         ensures written { (start : Device) (packed : List Packed) (current : Option Segment)
             → HasLined start (W.device sink.old) self.old packed current
             → MatchResult result
             (λ _. LinesMore start (W.device sink.new) self.new packed (option_to_list current) None)
-            (StopsLining self.old.writing.size start (W.device sink.new)
+            (StopsLining self.old.writing.form start (W.device sink.new)
             (map segment_of_packed packed ++ option_to_list current)) }
         ensures last { self.new.last ≡ None }
-        ensures size { self.new.writing.size ≡ self.old.writing.size }
+        ensures form { self.new.writing.form ≡ self.old.writing.form }
         ensures calm { OnOk result (IsCalm (W.device sink.old) (W.device sink.new)) }
         ensures few { CountsFew (W.device sink.old) (W.device sink.new) }
     {
@@ -86,9 +85,9 @@ impl LinedWriter {
         requires last { self.old.last ≡ None }
         ensures begun { (start now : Device) (packed : List Packed) → HasLined start now self.old packed None
             → HasLined start now self.new packed (Some (empty_segment row.now.key row.now.start)) }
-        ensures last { IfSome self.new.last (GoesOn self.new.writing.size) }
+        ensures last { IfSome self.new.last (GoesOn self.new.writing.form) }
         ensures grows { IfSome self.new.last (CanGrow (length row.now.samples)) }
-        ensures size { self.new.writing.size ≡ self.old.writing.size }
+        ensures form { self.new.writing.form ≡ self.old.writing.form }
     {
         self.last = Some(self.writer.begin(row.key, row.start));
     }
@@ -96,17 +95,17 @@ impl LinedWriter {
     /// Writes the samples after those of the segment that was begun last, if there is one.
     fn push<W: Sink>(&mut self, sink: &mut W, samples: &[i32]) -> Result<(), ToolFault>
         requires count { CanCountCall (W.device sink.old) }
-        requires last { IfSome self.old.last (GoesOn self.old.writing.size) }
+        requires last { IfSome self.old.last (GoesOn self.old.writing.form) }
         requires grows { IfSome self.old.last (CanGrow (length samples.now)) }
         ensures written { (start : Device) (packed : List Packed) (current : Option Segment)
             → HasLined start (W.device sink.old) self.old packed current
             → MatchResult result
             (λ _. HasLined start (W.device sink.new) self.new packed (longer_current current samples.now))
-            (StopsLining self.old.writing.size start (W.device sink.new)
+            (StopsLining self.old.writing.form start (W.device sink.new)
             (map segment_of_packed packed ++ option_to_list (longer_current current samples.now))) }
-        ensures last { OnOk result (IfSome self.new.last (GoesOn self.new.writing.size)) }
+        ensures last { OnOk result (IfSome self.new.last (GoesOn self.new.writing.form)) }
         ensures encoded { OnOk result (IfSome self.new.last IsEncoded) }
-        ensures size { self.new.writing.size ≡ self.old.writing.size }
+        ensures form { self.new.writing.form ≡ self.old.writing.form }
         ensures few { CountsFew (W.device sink.old) (W.device sink.new) }
     {
         match &mut self.last {
@@ -121,18 +120,18 @@ impl LinedWriter {
     /// Takes the next row. One that begins a segment ends the one before it, whose line is kept.
     fn take_row<W: Sink>(&mut self, sink: &mut W, next: &NextRow) -> Result<(), ToolFault>
         requires count { CanCountCall (W.device sink.old) }
-        requires last { IfSome self.old.last (GoesOn self.old.writing.size) }
+        requires last { IfSome self.old.last (GoesOn self.old.writing.form) }
         requires row { CanTakeRow self.old.last next.now }
         ensures written { (start : Device) (packed : List Packed) (current : Option Segment)
             → HasLined start (W.device sink.old) self.old packed current
             → MatchResult result
             (λ _. LinesMore start (W.device sink.new) self.new packed (option_to_list (ended_by next.now.step current))
             (current_after next.now.step current next.now.row))
-            (StopsLining self.old.writing.size start (W.device sink.new)
+            (StopsLining self.old.writing.form start (W.device sink.new)
             (map segment_of_packed packed ++ segments_with next.now.step current next.now.row)) }
-        ensures last { OnOk result (IfSome self.new.last (GoesOn self.new.writing.size)) }
+        ensures last { OnOk result (IfSome self.new.last (GoesOn self.new.writing.form)) }
         ensures encoded { OnOk result (IfSome self.new.last IsEncoded) }
-        ensures size { self.new.writing.size ≡ self.old.writing.size }
+        ensures form { self.new.writing.form ≡ self.old.writing.form }
         ensures few { CountsFew (W.device sink.old) (W.device sink.new) }
     {
         match next.step {
@@ -149,18 +148,18 @@ impl LinedWriter {
     #[inline(always)]
     pub(crate) fn take<W: Sink>(&mut self, sink: &mut W, next: NextRecord) -> Result<(), ToolFault>
         requires count { CanCountCall (W.device sink.old) }
-        requires last { IfSome self.old.last (GoesOn self.old.writing.size) }
+        requires last { IfSome self.old.last (GoesOn self.old.writing.form) }
         requires row { IfSome next.row (CanTakeRow self.old.last) }
         ensures written { (start : Device) (packed : List Packed) (current : Option Segment)
             → HasLined start (W.device sink.old) self.old packed current
             → MatchResult result
             (λ _. LinesMore start (W.device sink.new) self.new packed (option_to_list (ended_with next.row current))
             (current_with next.row current))
-            (StopsLining self.old.writing.size start (W.device sink.new)
+            (StopsLining self.old.writing.form start (W.device sink.new)
             (map segment_of_packed packed ++ all_with next.row current)) }
-        ensures last { OnOk result (IfSome self.new.last (GoesOn self.new.writing.size)) }
+        ensures last { OnOk result (IfSome self.new.last (GoesOn self.new.writing.form)) }
         ensures encoded { IfSome self.old.last IsEncoded → OnOk result (IfSome self.new.last IsEncoded) }
-        ensures size { self.new.writing.size ≡ self.old.writing.size }
+        ensures form { self.new.writing.form ≡ self.old.writing.form }
         ensures few { CountsFew (W.device sink.old) (W.device sink.new) }
     {
         match next.row {
@@ -172,16 +171,16 @@ impl LinedWriter {
     /// Writes all that waits, while records may still come.
     pub(crate) fn flush<W: Sink>(&mut self, sink: &mut W) -> Result<(), ToolFault>
         requires count { CanCountCall (W.device sink.old) }
-        requires last { IfSome self.old.last (GoesOn self.old.writing.size) }
+        requires last { IfSome self.old.last (GoesOn self.old.writing.form) }
         ensures written { (start : Device) (packed : List Packed) (current : Option Segment)
             → HasLined start (W.device sink.old) self.old packed current
             → MatchResult result
             (λ _. HasLined start (W.device sink.new) self.new packed current)
-            (StopsLining self.old.writing.size start (W.device sink.new)
+            (StopsLining self.old.writing.form start (W.device sink.new)
             (map segment_of_packed packed ++ option_to_list current)) }
         ensures none_wait { OnOk result (self.new.writing.waiting ≡ []) }
         ensures last { self.new.last ≡ self.old.last }
-        ensures size { self.new.writing.size ≡ self.old.writing.size }
+        ensures form { self.new.writing.form ≡ self.old.writing.form }
         ensures few { CountsFew (W.device sink.old) (W.device sink.new) }
     {
         self.writer.flush(sink)?;
@@ -191,13 +190,13 @@ impl LinedWriter {
     /// Ends the last segment, writes all that waits, and gives the lines.
     pub(crate) fn finish<W: Sink>(self, sink: &mut W) -> Result<Vec<SegmentLine>, ToolFault>
         requires count { CanCountCall (W.device sink.old) }
-        requires last { IfSome self.last (GoesOn self.writing.size) }
+        requires last { IfSome self.last (GoesOn self.writing.form) }
         ensures written { (start : Device) (packed : List Packed) (current : Option Segment)
             → HasLined start (W.device sink.old) self packed current
             → MatchResult result
-            (λ lines. LinesAll self.writing.size start (W.device sink.new)
+            (λ lines. LinesAll self.writing.form start (W.device sink.new)
             (map segment_of_packed packed ++ option_to_list current) lines.items)
-            (StopsLining self.writing.size start (W.device sink.new)
+            (StopsLining self.writing.form start (W.device sink.new)
             (map segment_of_packed packed ++ option_to_list current)) }
         ensures few { CountsFew (W.device sink.old) (W.device sink.new) }
     {

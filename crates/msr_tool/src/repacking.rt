@@ -8,7 +8,7 @@ ghost use Rattle.msr_tool.specs.KeepingUp.{HasKeptUp};
 
 use crate::fault::ToolFault;
 use crate::lined_writer::LinedWriter;
-use crate::settings::settings_of;
+use crate::settings::{form_chosen, settings_of};
 use msr_devices::{Sink, Source};
 use msr_input::RowReader;
 use msr_options::Options;
@@ -84,7 +84,7 @@ fn repack_with<R: Source, W: Sink>(
         → HasKeptUp options (R.device source.old) (R.device source.new) (W.device sink.old) (W.device sink.new) }
 {
     let mut reader = RowReader::new(alloc, settings_of(options));
-    let mut writer = LinedWriter::new(alloc, options.length());
+    let mut writer = LinedWriter::new(alloc, form_chosen(options));
     'records: while let Some(next) = reader.next_record(source)? {
         writer.take(sink, next)?;
         if must_flush(flush, &reader) {

@@ -4,6 +4,8 @@ use Rattle.std.specs.Prelude.{slice_get, option_map, IsSome, MatchOption}
 use Rattle.std.specs.Option.{option_to_list}
 use Rattle.std.proofs.lemmas.Bool.{both_ways, cases_Bool}
 use Rattle.std.proofs.lemmas.List.{append-nil}
+use Rattle.msr_kinds.specs.declared.forms.Form.{Form}
+use Rattle.msr_kinds.specs.Lengths.{bytes_of}
 use Rattle.msr_words.specs.declared.kinds.Run.{Run}
 use Rattle.msr_rows.specs.declared.row.Row.{Row}
 use Rattle.msr_rows.specs.declared.row.Record.{Record}
@@ -25,30 +27,31 @@ use Rattle.msr_verdict.proofs.Runs.{grown_part, runs_grown}
 use Rattle.msr_verdict.proofs.Parts.{HasParts, open_rows, part_with, parts_after, last_before, parts_with, last_with, parts_none, parts_more}
 
 -- All records so far are full, the ended parts are shown by the first lines, and the open one is at hand with its runs.
-pub record Agreeing (size : ℕ) (lines : List SegmentLine) (records : List Record) (parts : List Part)
+pub record Agreeing (form : Form) (lines : List SegmentLine) (records : List Record) (parts : List Part)
     (last : Option Part) (c : Compared) : Type 0 where
-  pub full : All (IsFull size) records
+  pub full : All (IsFull (bytes_of form.length)) records
   pub done : List SegmentLine
   pub left : List SegmentLine
   pub whole : lines ≡ done ++ left
   pub place : c.place ≡ length done
-  pub shown : AreShownBy size parts done
+  pub shown : AreShownBy form parts done
   pub current : c.current ≡ option_map segment_of last
   pub runs : c.runs ≡ runs_of_rows 0 (open_rows last)
 
 -- Whatever follows, the records and parts so far are not shown by these lines.
-pub record Disagreeing (size : ℕ) (lines : List SegmentLine) (records : List Record) (parts : List Part) : Type 0 where
-  pub none : (more : List Record) (rest : List Part) → All (IsFull size) (records ++ more)
-      → AreShownBy size (parts ++ rest) lines → ⊥
+pub record Disagreeing (form : Form) (lines : List SegmentLine) (records : List Record)
+    (parts : List Part) : Type 0 where
+  pub none : (more : List Record) (rest : List Part) → All (IsFull (bytes_of form.length)) (records ++ more)
+      → AreShownBy form (parts ++ rest) lines → ⊥
 
-pub record IsCompared (size : ℕ) (lines : List SegmentLine) (records : List Record) (parts : List Part)
+pub record IsCompared (form : Form) (lines : List SegmentLine) (records : List Record) (parts : List Part)
     (last : Option Part) (c : Compared) : Type 0 where
-  pub agrees : c.agrees ≡ true → Agreeing size lines records parts last c
-  pub differs : c.agrees ≡ false → Disagreeing size lines records parts
+  pub agrees : c.agrees ≡ true → Agreeing form lines records parts last c
+  pub differs : c.agrees ≡ false → Disagreeing form lines records parts
 
-pub compared_none : (size : ℕ) (lines : List SegmentLine)
-    → IsCompared size lines [] [] None (record { place = 0; current = None; runs = []; agrees = true })
-compared_none size lines = record {
+pub compared_none : (form : Form) (lines : List SegmentLine)
+    → IsCompared form lines [] [] None (record { place = 0; current = None; runs = []; agrees = true })
+compared_none form lines = record {
   agrees = λ t. record {
     full = λ k d h. absurd (omega arith);
     done = [];
@@ -63,18 +66,18 @@ compared_none size lines = record {
 }
 
 -- the open segment agrees with its line
-segment_agrees : (size : ℕ) (lines : List SegmentLine) (records : List Record) (parts : List Part) (part : Part)
-    (old new : Compared) → Agreeing size lines records parts (Some part) old
-    → ComparesSegment size lines old (segment_of part) new
-    → IsShownAt size lines old.place (segment_of part) old.runs → new.agrees ≡ true
-    → Agreeing size lines records (parts ++ part ∷ []) None new
-segment_agrees size lines records parts part old new a k at t =
+segment_agrees : (form : Form) (lines : List SegmentLine) (records : List Record) (parts : List Part) (part : Part)
+    (old new : Compared) → Agreeing form lines records parts (Some part) old
+    → ComparesSegment form lines old (segment_of part) new
+    → IsShownAt form lines old.place (segment_of part) old.runs → new.agrees ≡ true
+    → Agreeing form lines records (parts ++ part ∷ []) None new
+segment_agrees form lines records parts part old new a k at t =
     let found : slice_get (a.done ++ a.left) (length a.done) ≡ Some at.line =
     subst (λ (n : ℕ). slice_get (a.done ++ a.left) n ≡ Some at.line) a.place
     (subst (λ (l : List SegmentLine). slice_get l old.place ≡ Some at.line) a.whole at.at_place) in
     let later = after_get a.done a.left at.line found in
-    let shown : IsShownBy size part at.line = subst
-    (λ (runs : List Run). IsShownAs size (segment_of part) runs at.line) a.runs at.shown in
+    let shown : IsShownBy form part at.line = subst
+    (λ (runs : List Run). IsShownAs form (segment_of part) runs at.line) a.runs at.shown in
     record {
       full = a.full;
       done = a.done ++ at.line ∷ [];
@@ -82,90 +85,90 @@ segment_agrees size lines records parts part old new a k at t =
       whole = a.whole ∙ ap (λ (l : List SegmentLine). a.done ++ l) later.1
           ∙ sym (append_assoc a.done (at.line ∷ []) later.0);
       place = omega (arith, k.place t, a.place, length-append a.done (at.line ∷ []));
-      shown = shown_snoc size parts a.done part at.line a.shown shown;
+      shown = shown_snoc form parts a.done part at.line a.shown shown;
       current = k.current;
       runs = k.runs;
     }
 
 -- or else the parts so far are not shown
-segment_differs : (size : ℕ) (lines : List SegmentLine) (records : List Record) (parts : List Part) (part : Part)
-    (old new : Compared) → Agreeing size lines records parts (Some part) old
-    → ComparesSegment size lines old (segment_of part) new → old.agrees ≡ true → new.agrees ≡ false
-    → Disagreeing size lines records (parts ++ part ∷ [])
-segment_differs size lines records parts part old new a k t f = record {
+segment_differs : (form : Form) (lines : List SegmentLine) (records : List Record) (parts : List Part) (part : Part)
+    (old new : Compared) → Agreeing form lines records parts (Some part) old
+    → ComparesSegment form lines old (segment_of part) new → old.agrees ≡ true → new.agrees ≡ false
+    → Disagreeing form lines records (parts ++ part ∷ [])
+segment_differs form lines records parts part old new a k t f = record {
   none = λ more rest all are.
-      let are' : AreShownBy size (parts ++ part ∷ rest) (a.done ++ a.left) =
-      subst (λ (l : List SegmentLine). AreShownBy size (parts ++ part ∷ rest) l) a.whole
-      (subst (λ (ps : List Part). AreShownBy size ps lines) (append_assoc parts (part ∷ []) rest) are) in
-      let next = shown_next size parts rest a.done a.left part a.shown are' in
+      let are' : AreShownBy form (parts ++ part ∷ rest) (a.done ++ a.left) =
+      subst (λ (l : List SegmentLine). AreShownBy form (parts ++ part ∷ rest) l) a.whole
+      (subst (λ (ps : List Part). AreShownBy form ps lines) (append_assoc parts (part ∷ []) rest) are) in
+      let next = shown_next form parts rest a.done a.left part a.shown are' in
       let whole : lines ≡ a.done ++ next.0 ∷ next.1 = a.whole ∙ ap (λ (l : List SegmentLine). a.done ++ l) next.2 in
-      let at : IsShownAt size lines old.place (segment_of part) old.runs = record {
+      let at : IsShownAt form lines old.place (segment_of part) old.runs = record {
         line = next.0;
         at_place = ap (λ (l : List SegmentLine). slice_get l old.place) whole
             ∙ ap (λ (n : ℕ). slice_get (a.done ++ next.0 ∷ next.1) n) a.place ∙ get_after a.done next.1 next.0;
-        shown = subst (λ (runs : List Run). IsShownAs size (segment_of part) runs next.0) (sym a.runs) next.3;
+        shown = subst (λ (runs : List Run). IsShownAs form (segment_of part) runs next.0) (sym a.runs) next.3;
       } in
       both_ways new.agrees f ((k.agrees t).1 at);
 }
 
-still_differs : (size : ℕ) (lines : List SegmentLine) (records : List Record) (parts more : List Part)
-    → Disagreeing size lines records parts → Disagreeing size lines records (parts ++ more)
-still_differs size lines records parts more d = record {
+still_differs : (form : Form) (lines : List SegmentLine) (records : List Record) (parts more : List Part)
+    → Disagreeing form lines records parts → Disagreeing form lines records (parts ++ more)
+still_differs form lines records parts more d = record {
   none = λ others rest all are. d.none others (more ++ rest) all
-      (subst (λ (ps : List Part). AreShownBy size ps lines) (append_assoc parts more rest) are);
+      (subst (λ (ps : List Part). AreShownBy form ps lines) (append_assoc parts more rest) are);
 }
 
-segment_compared : (size : ℕ) (lines : List SegmentLine) (records : List Record) (parts : List Part) (part : Part)
-    (old new : Compared) → Agreeing size lines records parts (Some part) old → old.agrees ≡ true
-    → ComparesSegment size lines old (segment_of part) new
-    → IsCompared size lines records (parts ++ part ∷ []) None new
-segment_compared size lines records parts part old new a was k = record {
-  agrees = λ t. segment_agrees size lines records parts part old new a k ((k.agrees was).0 t) t;
-  differs = λ f. segment_differs size lines records parts part old new a k was f;
+segment_compared : (form : Form) (lines : List SegmentLine) (records : List Record) (parts : List Part) (part : Part)
+    (old new : Compared) → Agreeing form lines records parts (Some part) old → old.agrees ≡ true
+    → ComparesSegment form lines old (segment_of part) new
+    → IsCompared form lines records (parts ++ part ∷ []) None new
+segment_compared form lines records parts part old new a was k = record {
+  agrees = λ t. segment_agrees form lines records parts part old new a k ((k.agrees was).0 t) t;
+  differs = λ f. segment_differs form lines records parts part old new a k was f;
 }
 
 -- the open part, if there is one, ends while all agree
-last_compared : (size : ℕ) (lines : List SegmentLine) (records : List Record) (parts : List Part)
-    (last : Option Part) (old new : Compared) → Agreeing size lines records parts last old → old.agrees ≡ true
-    → IsCompared size lines records parts last old → ComparesEnded size lines old (option_map segment_of last) new
-    → IsCompared size lines records (parts ++ option_to_list last) None new
-last_compared size lines records parts None old new a was h k =
-    subst (λ (ps : List Part). IsCompared size lines records ps None new) (sym (append-nil parts))
-    (subst (λ (c : Compared). IsCompared size lines records parts None c) (sym k) h)
-last_compared size lines records parts (Some part) old new a was h k =
-    segment_compared size lines records parts part old new a was k
+last_compared : (form : Form) (lines : List SegmentLine) (records : List Record) (parts : List Part)
+    (last : Option Part) (old new : Compared) → Agreeing form lines records parts last old → old.agrees ≡ true
+    → IsCompared form lines records parts last old → ComparesEnded form lines old (option_map segment_of last) new
+    → IsCompared form lines records (parts ++ option_to_list last) None new
+last_compared form lines records parts None old new a was h k =
+    subst (λ (ps : List Part). IsCompared form lines records ps None new) (sym (append-nil parts))
+    (subst (λ (c : Compared). IsCompared form lines records parts None c) (sym k) h)
+last_compared form lines records parts (Some part) old new a was h k =
+    segment_compared form lines records parts part old new a was k
 
-ended_differs : (size : ℕ) (lines : List SegmentLine) (current : Option Segment) (old new : Compared)
-    → ComparesEnded size lines old current new → old.agrees ≡ false → new.agrees ≡ false
-ended_differs size lines None old new k f = ap (λ (c : Compared). c.agrees) k ∙ f
-ended_differs size lines (Some segment) old new k f = k.differs f
+ended_differs : (form : Form) (lines : List SegmentLine) (current : Option Segment) (old new : Compared)
+    → ComparesEnded form lines old current new → old.agrees ≡ false → new.agrees ≡ false
+ended_differs form lines None old new k f = ap (λ (c : Compared). c.agrees) k ∙ f
+ended_differs form lines (Some segment) old new k f = k.differs f
 
-pub compare_last : (size : ℕ) (lines : List SegmentLine) (records : List Record) (parts : List Part)
-    (last : Option Part) (old new : Compared) → IsCompared size lines records parts last old
-    → ComparesEnded size lines old old.current new
-    → IsCompared size lines records (parts ++ option_to_list last) None new
-compare_last size lines records parts last old new h k = elim (cases_Bool old.agrees) [
+pub compare_last : (form : Form) (lines : List SegmentLine) (records : List Record) (parts : List Part)
+    (last : Option Part) (old new : Compared) → IsCompared form lines records parts last old
+    → ComparesEnded form lines old old.current new
+    → IsCompared form lines records (parts ++ option_to_list last) None new
+compare_last form lines records parts last old new h k = elim (cases_Bool old.agrees) [
   | inl was ↦
       let a = h.agrees was in
-      last_compared size lines records parts last old new a was h
-      (subst (λ (current : Option Segment). ComparesEnded size lines old current new) a.current k)
+      last_compared form lines records parts last old new a was h
+      (subst (λ (current : Option Segment). ComparesEnded form lines old current new) a.current k)
   | inr was ↦
-      let differs = ended_differs size lines old.current old new k was in
+      let differs = ended_differs form lines old.current old new k was in
       record {
         agrees = λ t. absurd (both_ways new.agrees differs t);
-        differs = λ f. still_differs size lines records parts (option_to_list last) (h.differs was);
+        differs = λ f. still_differs form lines records parts (option_to_list last) (h.differs was);
       }
 ]
 
 -- what ends by a row
-compare_before : (size : ℕ) (lines : List SegmentLine) (records : List Record) (parts : List Part)
-    (last : Option Part) (answer : Step) (old new : Compared) → IsCompared size lines records parts last old
-    → EndsBy size lines answer old new
-    → IsCompared size lines records (parts_after answer parts last) (last_before answer last) new
-compare_before size lines records parts last Begins old new h k =
-    compare_last size lines records parts last old new h k
-compare_before size lines records parts last Joins old new h k =
-    subst (λ (c : Compared). IsCompared size lines records parts last c) (sym k) h
+compare_before : (form : Form) (lines : List SegmentLine) (records : List Record) (parts : List Part)
+    (last : Option Part) (answer : Step) (old new : Compared) → IsCompared form lines records parts last old
+    → EndsBy form lines answer old new
+    → IsCompared form lines records (parts_after answer parts last) (last_before answer last) new
+compare_before form lines records parts last Begins old new h k =
+    compare_last form lines records parts last old new h k
+compare_before form lines records parts last Joins old new h k =
+    subst (λ (c : Compared). IsCompared form lines records parts last c) (sym k) h
 
 all_snoc : {X : Type 0} (P : X → Type 0) (xs : List X) (x : X) → All P xs → P x → All P (xs ++ x ∷ [])
 all_snoc P [] x all p zero d h = p
@@ -178,11 +181,11 @@ all_within P [] ys x all = all 0 x (omega arith)
 all_within P (y ∷ xs) ys x all = all_within P xs ys x (λ i e g. all (suc i) e (omega arith))
 
 -- the row of a full record is added
-add_row : (size : ℕ) (lines : List SegmentLine) (records : List Record) (parts : List Part) (last : Option Part)
-    (found : Record) (row : Row) (old new : Compared) → IsCompared size lines records parts last old
-    → IsFull size found → AddsRow old row new
-    → IsCompared size lines (records ++ found ∷ []) parts (Some (part_with last row)) new
-add_row size lines records parts last found row old new h full k = record {
+add_row : (form : Form) (lines : List SegmentLine) (records : List Record) (parts : List Part) (last : Option Part)
+    (found : Record) (row : Row) (old new : Compared) → IsCompared form lines records parts last old
+    → IsFull (bytes_of form.length) found → AddsRow old row new
+    → IsCompared form lines (records ++ found ∷ []) parts (Some (part_with last row)) new
+add_row form lines records parts last found row old new h full k = record {
   agrees = λ t.
       let was : old.agrees ≡ true = sym k.agrees ∙ t in
       let a = h.agrees was in
@@ -192,7 +195,7 @@ add_row size lines records parts last found row old new h full k = record {
         kind = row.kind;
       }) ∷ []) a.current (k.runs was) in
       record {
-        full = all_snoc (IsFull size) records found a.full full;
+        full = all_snoc (IsFull (bytes_of form.length)) records found a.full full;
         done = a.done;
         left = a.left;
         whole = a.whole;
@@ -206,23 +209,26 @@ add_row size lines records parts last found row old new h full k = record {
       let d = h.differs (sym k.agrees ∙ f) in
       record {
         none = λ more rest all are. d.none (found ∷ more) rest
-            (subst (λ (rs : List Record). All (IsFull size) rs) (append_assoc records (found ∷ []) more) all) are;
+            (subst (λ (rs : List Record). All (IsFull (bytes_of form.length)) rs)
+            (append_assoc records (found ∷ []) more) all) are;
       };
 }
 
 -- a record that is not full agrees with no report
-add_none : (size : ℕ) (lines : List SegmentLine) (records : List Record) (parts : List Part) (last : Option Part)
-    (found : Record) (new : Compared) → (IsFull size found → ⊥) → new.agrees ≡ false
-    → IsCompared size lines (records ++ found ∷ []) parts last new
-add_none size lines records parts last found new other f = record {
+add_none : (form : Form) (lines : List SegmentLine) (records : List Record) (parts : List Part) (last : Option Part)
+    (found : Record) (new : Compared) → (IsFull (bytes_of form.length) found → ⊥) → new.agrees ≡ false
+    → IsCompared form lines (records ++ found ∷ []) parts last new
+add_none form lines records parts last found new other f = record {
   agrees = λ t. absurd (both_ways new.agrees f t);
-  differs = λ _. record { none = λ more rest all are. other (all_within (IsFull size) records more found all) };
+  differs = λ _. record {
+    none = λ more rest all are. other (all_within (IsFull (bytes_of form.length)) records more found all);
+  };
 }
 
 -- the record that was read has the length and the row that are told of it
-full_found : (size : ℕ) (found : Record) (next : NextRecord) (row : NextRow) → next.length ≡ found.length
-    → row_told next.row ≡ found.row → HasFullRow size next row → IsFull size found
-full_found size found next row length_is row_is is = record {
+full_found : (form : Form) (found : Record) (next : NextRecord) (row : NextRow) → next.length ≡ found.length
+    → row_told next.row ≡ found.row → HasFullRow (bytes_of form.length) next row → IsFull (bytes_of form.length) found
+full_found form found next row length_is row_is is = record {
   length_is = sym length_is ∙ is.length_is;
   some = subst (λ (r : Option Row). IsSome r) (sym (ap row_told is.row_is) ∙ row_is) refl;
 }
@@ -233,55 +239,58 @@ some_told None None e some = absurd cc
 some_told None (Some row) e some = absurd cc
 some_told (Some next) row e some = (next, refl)
 
-not_full : (size : ℕ) (found : Record) (next : NextRecord) → next.length ≡ found.length
-    → row_told next.row ≡ found.row → ((row : NextRow) → HasFullRow size next row → ⊥) → IsFull size found → ⊥
-not_full size found next length_is row_is other full =
+not_full : (form : Form) (found : Record) (next : NextRecord) → next.length ≡ found.length
+    → row_told next.row ≡ found.row → ((row : NextRow) → HasFullRow (bytes_of form.length) next row → ⊥)
+    → IsFull (bytes_of form.length) found → ⊥
+not_full form found next length_is row_is other full =
     let row = some_told next.row found.row row_is full.some in
     other row.0 (record { length_is = length_is ∙ full.length_is; row_is = row.1 })
 
 -- The records so far: their parts, and how far they were compared.
-pub record Follows (size : ℕ) (lines : List SegmentLine) (following : Following) (records : List Record)
+pub record Follows (form : Form) (lines : List SegmentLine) (following : Following) (records : List Record)
     (c : Compared) : Type 0 where
   pub parts : List Part
   pub last : Option Part
   pub has_parts : HasParts following (rows_of_records records) parts last
-  pub compared : IsCompared size lines records parts last c
+  pub compared : IsCompared form lines records parts last c
 
-pub follows_none : (size : ℕ) (lines : List SegmentLine) (following : Following) (c : Compared)
+pub follows_none : (form : Form) (lines : List SegmentLine) (following : Following) (c : Compared)
     → following.current ≡ None → c ≡ record { place = 0; current = None; runs = []; agrees = true }
-    → Follows size lines following [] c
-follows_none size lines following c current none = record {
+    → Follows form lines following [] c
+follows_none form lines following c current none = record {
   parts = [];
   last = None;
   has_parts = parts_none following current;
-  compared = rw none (compared_none size lines);
+  compared = rw none (compared_none form lines);
 }
 
 -- how far they were compared with a record more
-compare_more : (size : ℕ) (lines : List SegmentLine) (records : List Record) (parts : List Part)
+compare_more : (form : Form) (lines : List SegmentLine) (records : List Record) (parts : List Part)
     (last : Option Part) (found : Record) (next : NextRecord) (row : Option NextRow) (before after : Compared)
-    → IsCompared size lines records parts last before → next.length ≡ found.length
+    → IsCompared form lines records parts last before → next.length ≡ found.length
     → row_told next.row ≡ found.row
-    → MatchOption row ((told : NextRow) → HasFullRow size next told → ⊥) (HasFullRow size next)
-    → TakesRow size lines before row after
-    → IsCompared size lines (records ++ found ∷ []) (parts_with next.row parts last) (last_with next.row last) after
-compare_more size lines records parts last found next None before after h length_is row_is other takes =
-    add_none size lines records (parts_with next.row parts last) (last_with next.row last) found after
-    (not_full size found next length_is row_is other) takes
-compare_more size lines records parts last found next (Some row) before after h length_is row_is is takes =
-    let ended = compare_before size lines records parts last row.step before takes.ended h takes.ends in
-    let added = add_row size lines records (parts_after row.step parts last) (last_before row.step last) found row.row
-    takes.ended after ended (full_found size found next row length_is row_is is) takes.adds in
-    subst (λ (told : Option NextRow). IsCompared size lines (records ++ found ∷ [])
+    → MatchOption row ((told : NextRow) → HasFullRow (bytes_of form.length) next told → ⊥)
+    (HasFullRow (bytes_of form.length) next)
+    → TakesRow form lines before row after
+    → IsCompared form lines (records ++ found ∷ []) (parts_with next.row parts last) (last_with next.row last) after
+compare_more form lines records parts last found next None before after h length_is row_is other takes =
+    add_none form lines records (parts_with next.row parts last) (last_with next.row last) found after
+    (not_full form found next length_is row_is other) takes
+compare_more form lines records parts last found next (Some row) before after h length_is row_is is takes =
+    let ended = compare_before form lines records parts last row.step before takes.ended h takes.ends in
+    let added = add_row form lines records (parts_after row.step parts last) (last_before row.step last) found row.row
+    takes.ended after ended (full_found form found next row length_is row_is is) takes.adds in
+    subst (λ (told : Option NextRow). IsCompared form lines (records ++ found ∷ [])
     (parts_with told parts last) (last_with told last) after) (sym is.row_is) added
 
-pub follows_step : (size : ℕ) (lines : List SegmentLine) (old new : Following) (records : List Record)
+pub follows_step : (form : Form) (lines : List SegmentLine) (old new : Following) (records : List Record)
     (found : Record) (next : NextRecord) (row : Option NextRow) (before after : Compared)
-    → Follows size lines old records before → next.length ≡ found.length → row_told next.row ≡ found.row
+    → Follows form lines old records before → next.length ≡ found.length → row_told next.row ≡ found.row
     → StepsTo old next.row new
-    → MatchOption row ((told : NextRow) → HasFullRow size next told → ⊥) (HasFullRow size next)
-    → TakesRow size lines before row after → Follows size lines new (records ++ found ∷ []) after
-follows_step size lines old new records found next row before after h length_is row_is step is takes =
+    → MatchOption row ((told : NextRow) → HasFullRow (bytes_of form.length) next told → ⊥)
+    (HasFullRow (bytes_of form.length) next)
+    → TakesRow form lines before row after → Follows form lines new (records ++ found ∷ []) after
+follows_step form lines old new records found next row before after h length_is row_is step is takes =
     let rows : rows_of_records records ++ option_to_list (row_told next.row)
     ≡ rows_of_records (records ++ found ∷ []) =
     ap (λ (r : Option Row). rows_of_records records ++ option_to_list r) row_is ∙ sym (rows_snoc records found) in
@@ -291,6 +300,6 @@ follows_step size lines old new records found next row before after h length_is 
       has_parts = subst (λ (all : List Row). HasParts new all (parts_with next.row h.parts h.last)
           (last_with next.row h.last)) rows
           (parts_more old new (rows_of_records records) h.parts h.last next.row h.has_parts step);
-      compared = compare_more size lines records h.parts h.last found next row before after h.compared length_is row_is
+      compared = compare_more form lines records h.parts h.last found next row before after h.compared length_is row_is
           is takes;
     }

@@ -2,6 +2,7 @@
 use Rattle.std.proofs.Common.{◌≡◌, ◌↔◌, ℕ, suc, Bool, List, [], ◌∷◌, ◌++◌, length, refl, ap, subst, Some}
 use Rattle.std.specs.Prelude.{IsTrue, slice_get}
 use Rattle.msr_rows.proofs.OneAnswer.{some_same}
+use Rattle.msr_kinds.specs.declared.forms.Form.{Form}
 use Rattle.msr_words.specs.declared.kinds.Run.{Run}
 use Rattle.msr_words.specs.Packing.{IsPacking, IsSeparating}
 use Rattle.msr_segments.specs.Segments.{Part}
@@ -17,20 +18,20 @@ pub record IsLineOf (segment : Segment) (runs : List Run) (line : SegmentLine) :
   pub samples : line.samples ≡ length segment.samples
   pub records : line.records ≡ length runs
 
-pub line_at : (size place : ℕ) (lines : List SegmentLine) (segment : Segment) (runs : List Run)
-    (line : SegmentLine) → slice_get lines place ≡ Some line → IsShownAt size lines place segment runs
-    → IsShownAs size segment runs line
-line_at size place lines segment runs line e at =
-    subst (λ (l : SegmentLine). IsShownAs size segment runs l)
+pub line_at : (form : Form) (place : ℕ) (lines : List SegmentLine) (segment : Segment) (runs : List Run)
+    (line : SegmentLine) → slice_get lines place ≡ Some line → IsShownAt form lines place segment runs
+    → IsShownAs form segment runs line
+line_at form place lines segment runs line e at =
+    subst (λ (l : SegmentLine). IsShownAs form segment runs l)
     (some_same (slice_get lines place) at.line line at.at_place e) at.shown
 
 -- such a line shows the segment where its separators do
-pub shown_at : (size place : ℕ) (lines : List SegmentLine) (segment : Segment) (runs : List Run)
+pub shown_at : (form : Form) (place : ℕ) (lines : List SegmentLine) (segment : Segment) (runs : List Run)
     (line : SegmentLine) (test : Bool) → slice_get lines place ≡ Some line → IsLineOf segment runs line
-    → IsTrue test ↔ IsPacking size segment.samples runs × IsSeparating size segment.samples line.separators.items
+    → IsTrue test ↔ IsPacking form segment.samples runs × IsSeparating form segment.samples line.separators.items
     × (length runs ≡ length line.separators.items)
-    → IsTrue test ↔ IsShownAt size lines place segment runs
-shown_at size place lines segment runs line test e is exact = (
+    → IsTrue test ↔ IsShownAt form lines place segment runs
+shown_at form place lines segment runs line test e is exact = (
   λ t.
       let three = exact.0 t in
       record {
@@ -46,45 +47,45 @@ shown_at size place lines segment runs line test e is exact = (
           as_many = three.2;
         };
       },
-  λ at. (let shown = line_at size place lines segment runs line e at in
+  λ at. (let shown = line_at form place lines segment runs line e at in
       exact.1 (shown.packing, shown.separating, shown.as_many)),
 )
 
 -- each line but the segment's shows nothing
-pub other_line : (size place : ℕ) (lines : List SegmentLine) (segment : Segment) (runs : List Run)
+pub other_line : (form : Form) (place : ℕ) (lines : List SegmentLine) (segment : Segment) (runs : List Run)
     (line : SegmentLine) (test : Bool) → slice_get lines place ≡ Some line → (IsLineOf segment runs line → ⊥)
-    → (IsTrue test → ⊥) → IsTrue test ↔ IsShownAt size lines place segment runs
-other_line size place lines segment runs line test e other wrong = (
+    → (IsTrue test → ⊥) → IsTrue test ↔ IsShownAt form lines place segment runs
+other_line form place lines segment runs line test e other wrong = (
   λ t. absurd (wrong t),
-  λ at. absurd (let shown = line_at size place lines segment runs line e at in
+  λ at. absurd (let shown = line_at form place lines segment runs line e at in
       other (record { key = shown.key; start = shown.start; samples = shown.samples; records = shown.records })),
 )
 
 -- one part more, with its line
-pub shown_snoc : (size : ℕ) (parts : List Part) (lines : List SegmentLine) (part : Part) (line : SegmentLine)
-    → AreShownBy size parts lines → IsShownBy size part line → AreShownBy size (parts ++ part ∷ []) (lines ++ line ∷ [])
-shown_snoc size [] [] part line are is = (is, tt)
-shown_snoc size [] (its ∷ lines) part line are is = absurd are
-shown_snoc size (one ∷ parts) [] part line are is = absurd are
-shown_snoc size (one ∷ parts) (its ∷ lines) part line are is = (are.0, shown_snoc size parts lines part line are.1 is)
+pub shown_snoc : (form : Form) (parts : List Part) (lines : List SegmentLine) (part : Part) (line : SegmentLine)
+    → AreShownBy form parts lines → IsShownBy form part line → AreShownBy form (parts ++ part ∷ []) (lines ++ line ∷ [])
+shown_snoc form [] [] part line are is = (is, tt)
+shown_snoc form [] (its ∷ lines) part line are is = absurd are
+shown_snoc form (one ∷ parts) [] part line are is = absurd are
+shown_snoc form (one ∷ parts) (its ∷ lines) part line are is = (are.0, shown_snoc form parts lines part line are.1 is)
 
-pub shown_length : (size : ℕ) (parts : List Part) (lines : List SegmentLine) → AreShownBy size parts lines
+pub shown_length : (form : Form) (parts : List Part) (lines : List SegmentLine) → AreShownBy form parts lines
     → length parts ≡ length lines
-shown_length size [] [] are = refl
-shown_length size [] (its ∷ lines) are = absurd are
-shown_length size (one ∷ parts) [] are = absurd are
-shown_length size (one ∷ parts) (its ∷ lines) are = ap (λ n. suc n) (shown_length size parts lines are.1)
+shown_length form [] [] are = refl
+shown_length form [] (its ∷ lines) are = absurd are
+shown_length form (one ∷ parts) [] are = absurd are
+shown_length form (one ∷ parts) (its ∷ lines) are = ap (λ n. suc n) (shown_length form parts lines are.1)
 
 -- after shown parts and their lines, the next part is shown by the next line
-pub shown_next : (size : ℕ) (parts rest : List Part) (done left : List SegmentLine) (part : Part)
-    → AreShownBy size parts done → AreShownBy size (parts ++ part ∷ rest) (done ++ left)
-    → (line : SegmentLine) × (others : List SegmentLine) × (left ≡ line ∷ others) × IsShownBy size part line
-shown_next size [] rest [] [] part are all = absurd all
-shown_next size [] rest [] (line ∷ left) part are all = (line, left, refl, all.0)
-shown_next size [] rest (its ∷ done) left part are all = absurd are
-shown_next size (one ∷ parts) rest [] left part are all = absurd are
-shown_next size (one ∷ parts) rest (its ∷ done) left part are all =
-    shown_next size parts rest done left part are.1 all.1
+pub shown_next : (form : Form) (parts rest : List Part) (done left : List SegmentLine) (part : Part)
+    → AreShownBy form parts done → AreShownBy form (parts ++ part ∷ rest) (done ++ left)
+    → (line : SegmentLine) × (others : List SegmentLine) × (left ≡ line ∷ others) × IsShownBy form part line
+shown_next form [] rest [] [] part are all = absurd all
+shown_next form [] rest [] (line ∷ left) part are all = (line, left, refl, all.0)
+shown_next form [] rest (its ∷ done) left part are all = absurd are
+shown_next form (one ∷ parts) rest [] left part are all = absurd are
+shown_next form (one ∷ parts) rest (its ∷ done) left part are all =
+    shown_next form parts rest done left part are.1 all.1
 
 -- what stands after a prefix
 pub get_after : {X : Type 0} (prefix rest : List X) (x : X) → slice_get (prefix ++ x ∷ rest) (length prefix) ≡ Some x

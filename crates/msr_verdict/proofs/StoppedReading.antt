@@ -3,6 +3,7 @@ use Rattle.std.proofs.Common.{◌≡◌, ◌↔◌, inl, inr, true, false, List,
 use Rattle.std.specs.Option.{option_to_list}
 use Rattle.std.proofs.lemmas.Bool.{cases_Bool}
 use Rattle.std.proofs.lemmas.List.{append-nil}
+use Rattle.msr_kinds.specs.declared.forms.Form.{Form}
 use Rattle.msr_kinds.specs.Lengths.{bytes_of}
 use Rattle.msr_words.proofs.Certificate.{least_by_separators}
 use Rattle.msr_rows.specs.declared.row.Record.{Record}
@@ -23,7 +24,7 @@ use Rattle.msr_input.specs.declared.fault.ReadFault.TheVariants as fault
 use Rattle.msr_input.proofs.OneReading.{one_list_of_records}
 use Rattle.msr_verdict.specs.declared.verdict.Verdict.{Verdict}
 use Rattle.msr_verdict.specs.declared.verdict.Verdict.TheVariants.{Least, NotShown}
-use Rattle.msr_verdict.specs.Packed.{IsFull, IsShownBy, AreShownBy, ShowsLeast, VerifyAnswers, StandsInFewest, AllStandInFewest, ShownIsFewest, ShownIsReadable, runs_of_part, settings_by}
+use Rattle.msr_verdict.specs.Packed.{IsFull, IsShownBy, AreShownBy, ShowsLeast, VerifyAnswers, StandsInFewest, AllStandInFewest, ShownIsFewest, ShownIsReadable, form_by, runs_of_part, settings_by}
 use Rattle.msr_verdict.specs.Compared.{Compared, ComparesEnded}
 use Rattle.msr_verdict.proofs.Lines.{shown_length}
 use Rattle.msr_verdict.proofs.Runs.{runs_length}
@@ -35,7 +36,7 @@ pub record UnderWay (report : Report) (start now : Device) (reading : RowReading
   pub answers : List Step
   pub read : HasReadRows start now reading records answers
   pub settings : row_settings reading ≡ settings_by report
-  pub follows : Follows (bytes_of report.length) report.segments.items reading.following records c
+  pub follows : Follows (form_by report) report.segments.items reading.following records c
 
 pub settings_none : (report : Report) (reading : RowReading)
     → reading.following ≡ record { tolerance = report.tolerance; current = None } → reading.position.strict ≡ false
@@ -140,12 +141,12 @@ same_parts report input records parts h are d =
 same_shown : (report : Report) (input : List ℕ) (records : List Record) (parts : List Part)
     → ShowsLeast report input → AreRead (settings_by report) input records []
     → IsDivision report.tolerance (rows_of_records records) parts
-    → All (IsFull (bytes_of report.length)) records × AreShownBy (bytes_of report.length) parts report.segments.items
+    → All (IsFull (bytes_of report.length)) records × AreShownBy (form_by report) parts report.segments.items
 same_shown report input records parts h are d =
     let same = same_parts report input records parts h are d in (
       subst (λ (rs : List Record). All (IsFull (bytes_of report.length)) rs) same.0 h.full,
       subst
-          (λ (ps : List Part). AreShownBy (bytes_of report.length) ps report.segments.items) same.1 h.shown,
+          (λ (ps : List Part). AreShownBy (form_by report) ps report.segments.items) same.1 h.shown,
     )
 
 none_left : {X : Type 0} (left : List X) → length left ≡ 0 → left ≡ []
@@ -155,7 +156,7 @@ none_left (x ∷ left) e = absurd (omega arith)
 verdict_answers : (report : Report) (input : List ℕ) (records : List Record) (parts : List Part) (c : Compared)
     (verdict : Verdict) → AreRead (settings_by report) input records []
     → IsDivision report.tolerance (rows_of_records records) parts
-    → IsCompared (bytes_of report.length) report.segments.items records parts None c → (verdict ≡ Least)
+    → IsCompared (form_by report) report.segments.items records parts None c → (verdict ≡ Least)
     ↔ ((c.agrees ≡ true) × (c.place ≡ length report.segments.items)) → VerifyAnswers report input (Ok verdict)
 verdict_answers report input records parts c Least are d compared exact =
     let both = exact.0 refl in
@@ -170,7 +171,7 @@ verdict_answers report input records parts c Least are d compared exact =
       are_read = are;
       division = d;
       full = a.full;
-      shown = subst (λ (l : List SegmentLine). AreShownBy (bytes_of report.length) parts l) (sym whole) a.shown;
+      shown = subst (λ (l : List SegmentLine). AreShownBy (form_by report) parts l) (sym whole) a.shown;
     }
 verdict_answers report input records parts c NotShown are d compared exact = record {
   records = records;
@@ -182,8 +183,8 @@ verdict_answers report input records parts c NotShown are d compared exact = rec
         | inl agrees ↦ (
             let a = compared.agrees agrees in
             let place : c.place ≡ length report.segments.items = a.place
-            ∙ sym (shown_length (bytes_of report.length) parts a.done a.shown)
-            ∙ shown_length (bytes_of report.length) parts report.segments.items shown.1 in
+            ∙ sym (shown_length (form_by report) parts a.done a.shown)
+            ∙ shown_length (form_by report) parts report.segments.items shown.1 in
             let wrong : ◌≡◌ {A = Verdict} NotShown Least = exact.1 (agrees, place) in
             absurd cc)
         | inr differs ↦ (compared.differs differs).none [] [] (rw append-nil shown.0) (rw append-nil shown.1)
@@ -194,7 +195,7 @@ verdict_answers report input records parts c NotShown are d compared exact = rec
 pub done : (report : Report) (start at now : Device) (before reading : RowReading) (old new : Compared)
     (verdict : Verdict) (u : UnderWay report start at before old) → ReadsNone start now reading u.records u.answers
     → row_settings reading ≡ row_settings before
-    → ComparesEnded (bytes_of report.length) report.segments.items old old.current new → (verdict ≡ Least)
+    → ComparesEnded (form_by report) report.segments.items old old.current new → (verdict ≡ Least)
     ↔ ((new.agrees ≡ true) × (new.place ≡ length report.segments.items)) → IsAnswered report start (Ok verdict)
 done report start at now before reading old new verdict u all still k exact =
     let f = u.follows in
@@ -205,7 +206,7 @@ done report start at now before reading old new verdict u all still k exact =
     let d : IsDivision report.tolerance (rows_of_records u.records) (f.parts ++ option_to_list f.last) =
     rw (ap (λ (s : Settings). s.tolerance) u.settings) at f.has_parts.division in
     let compared = compare_last
-    (bytes_of report.length) report.segments.items u.records f.parts f.last old new f.compared k in
+    (form_by report) report.segments.items u.records f.parts f.last old new f.compared k in
     record {
       input = came.0;
       left = came.1;
@@ -213,25 +214,25 @@ done report start at now before reading old new verdict u all still k exact =
           (f.parts ++ option_to_list f.last) new verdict are d compared exact;
     }
 
-fewest : (size : ℕ) (part : Part) (line : SegmentLine) → IsShownBy size part line → StandsInFewest size part line
-fewest size part line is = record {
+fewest : (form : Form) (part : Part) (line : SegmentLine) → IsShownBy form part line → StandsInFewest form part line
+fewest form part line is = record {
   records = is.records ∙ runs_length 0 (rows_of part);
   fewest = λ other packing.
-      let least = least_by_separators size (segment_of part).samples
+      let least = least_by_separators form (segment_of part).samples
       (runs_of_part part) line.separators.items is.separating is.as_many other packing in
       omega (arith, least, runs_length 0 (rows_of part));
 }
 
-all_fewest : (size : ℕ) (parts : List Part) (lines : List SegmentLine) → AreShownBy size parts lines
-    → AllStandInFewest size parts lines
-all_fewest size [] [] are = tt
-all_fewest size [] (its ∷ lines) are = absurd are
-all_fewest size (one ∷ parts) [] are = absurd are
-all_fewest size (one ∷ parts) (its ∷ lines) are = (fewest size one its are.0, all_fewest size parts lines are.1)
+all_fewest : (form : Form) (parts : List Part) (lines : List SegmentLine) → AreShownBy form parts lines
+    → AllStandInFewest form parts lines
+all_fewest form [] [] are = tt
+all_fewest form [] (its ∷ lines) are = absurd are
+all_fewest form (one ∷ parts) [] are = absurd are
+all_fewest form (one ∷ parts) (its ∷ lines) are = (fewest form one its are.0, all_fewest form parts lines are.1)
 
 pub shown_fewest : ShownIsFewest
 shown_fewest report input records parts h are d =
-    all_fewest (bytes_of report.length) parts report.segments.items (same_shown report input records parts h are d).1
+    all_fewest (form_by report) parts report.segments.items (same_shown report input records parts h are d).1
 
 pub shown_readable : ShownIsReadable
 shown_readable report input h = (

@@ -1,5 +1,6 @@
 -- How far segments were compared with the lines of a report, and how a record more changes it.
 use Rattle.std.specs.Prelude.{◌≡◌, ◌↔◌, ℕ, ◌+◌, Bool, true, false, List, [], ◌∷◌, ◌++◌, length, Option, None, Some, slice_get}
+use Rattle.msr_kinds.specs.declared.forms.Form.{Form}
 use Rattle.msr_words.specs.declared.kinds.Run.{Run}
 use Rattle.msr_rows.specs.declared.row.Row.{Row}
 use Rattle.msr_segments.specs.Segments.{row_segment, with_row}
@@ -24,29 +25,29 @@ pub record HasFullRow (size : ℕ) (next : NextRecord) (row : NextRow) : Type 0 
   pub row_is : next.row ≡ Some row
 
 -- the line at that place is there, and is the segment's, in these runs
-pub record IsShownAt (size : ℕ) (lines : List SegmentLine) (place : ℕ) (segment : Segment)
+pub record IsShownAt (form : Form) (lines : List SegmentLine) (place : ℕ) (segment : Segment)
     (runs : List Run) : Type 0 where
   pub line : SegmentLine
   pub at_place : slice_get lines place ≡ Some line
-  pub shown : IsShownAs size segment runs line
+  pub shown : IsShownAs form segment runs line
 
 -- the open segment ended, and is compared with its line
-pub record ComparesSegment (size : ℕ) (lines : List SegmentLine) (old : Compared) (segment : Segment)
+pub record ComparesSegment (form : Form) (lines : List SegmentLine) (old : Compared) (segment : Segment)
     (new : Compared) : Type 0 where
   pub differs : old.agrees ≡ false → new.agrees ≡ false
-  pub agrees : old.agrees ≡ true → (new.agrees ≡ true) ↔ IsShownAt size lines old.place segment old.runs
+  pub agrees : old.agrees ≡ true → (new.agrees ≡ true) ↔ IsShownAt form lines old.place segment old.runs
   pub place : new.agrees ≡ true → new.place ≡ old.place + 1
   pub current : new.current ≡ None
   pub runs : new.runs ≡ []
 
-abbrev pub ComparesEnded : ℕ → List SegmentLine → Compared → Option Segment → Compared → Type 0
-ComparesEnded size lines old None new = new ≡ old
-ComparesEnded size lines old (Some segment) new = ComparesSegment size lines old segment new
+abbrev pub ComparesEnded : Form → List SegmentLine → Compared → Option Segment → Compared → Type 0
+ComparesEnded form lines old None new = new ≡ old
+ComparesEnded form lines old (Some segment) new = ComparesSegment form lines old segment new
 
 -- a row that begins a segment ends the open one
-abbrev pub EndsBy : ℕ → List SegmentLine → Step → Compared → Compared → Type 0
-EndsBy size lines Begins old new = ComparesEnded size lines old old.current new
-EndsBy size lines Joins old new = new ≡ old
+abbrev pub EndsBy : Form → List SegmentLine → Step → Compared → Compared → Type 0
+EndsBy form lines Begins old new = ComparesEnded form lines old old.current new
+EndsBy form lines Joins old new = new ≡ old
 
 -- the open segment with one row more, or the row as the open segment
 abbrev pub grown : Option Segment → Row → Segment
@@ -70,13 +71,13 @@ pub record AddsRow (old : Compared) (row : Row) (new : Compared) : Type 0 where
   }) ∷ []
 
 -- a full record: its row ends the open segment if it begins one, and belongs to the one that is open then
-pub record TakesNext (size : ℕ) (lines : List SegmentLine) (old : Compared) (next : NextRow)
+pub record TakesNext (form : Form) (lines : List SegmentLine) (old : Compared) (next : NextRow)
     (new : Compared) : Type 0 where
   pub ended : Compared
-  pub ends : EndsBy size lines next.step old ended
+  pub ends : EndsBy form lines next.step old ended
   pub adds : AddsRow ended next.row new
 
 -- a record that is not full agrees with no report
-abbrev pub TakesRow : ℕ → List SegmentLine → Compared → Option NextRow → Compared → Type 0
-TakesRow size lines old None new = new.agrees ≡ false
-TakesRow size lines old (Some next) new = TakesNext size lines old next new
+abbrev pub TakesRow : Form → List SegmentLine → Compared → Option NextRow → Compared → Type 0
+TakesRow form lines old None new = new.agrees ≡ false
+TakesRow form lines old (Some next) new = TakesNext form lines old next new

@@ -1,6 +1,8 @@
 -- When a report shows that every segment of packed records stands in the fewest records.
 use Rattle.std.specs.Prelude.{◌≡◌, ℕ, ◌+◌, ◌≤◌, false, List, [], ◌∷◌, length, All, IsSome, Result, Ok, Err}
 use Rattle.msr_words.specs.declared.kinds.Run.{Run}
+use Rattle.msr_kinds.specs.declared.forms.Form.{Form}
+use Rattle.msr_kinds.specs.Forms.{all_kinds}
 use Rattle.msr_kinds.specs.Lengths.{bytes_of}
 use Rattle.msr_words.specs.Packing.{IsPacking, IsSeparating}
 use Rattle.msr_rows.specs.declared.row.Row.{Row}
@@ -28,29 +30,33 @@ abbrev pub runs_of_part : Part → List Run
 runs_of_part part = runs_of_rows 0 (rows_of part)
 
 -- The line is the segment's, packed in these runs, and its separators show that fewer do not suffice.
-pub record IsShownAs (size : ℕ) (segment : Segment) (runs : List Run) (line : SegmentLine) : Type 0 where
+pub record IsShownAs (form : Form) (segment : Segment) (runs : List Run) (line : SegmentLine) : Type 0 where
   pub key : line.key ≡ segment.key
   pub start : line.start ≡ segment.start
   pub samples : line.samples ≡ length segment.samples
   pub records : line.records ≡ length runs
-  pub packing : IsPacking size segment.samples runs
-  pub separating : IsSeparating size segment.samples line.separators.items
+  pub packing : IsPacking form segment.samples runs
+  pub separating : IsSeparating form segment.samples line.separators.items
   pub as_many : length runs ≡ length line.separators.items
 
-abbrev pub IsShownBy : ℕ → Part → SegmentLine → Type 0
-IsShownBy size part line = IsShownAs size (segment_of part) (runs_of_part part) line
+abbrev pub IsShownBy : Form → Part → SegmentLine → Type 0
+IsShownBy form part line = IsShownAs form (segment_of part) (runs_of_part part) line
 
 -- each part is shown by the line at its place, and there are as many lines as parts
-abbrev pub AreShownBy : ℕ → List Part → List SegmentLine → Type 0
-AreShownBy size [] [] = Unit {0}
-AreShownBy size [] (line ∷ lines) = ⊥
-AreShownBy size (part ∷ parts) [] = ⊥
-AreShownBy size (part ∷ parts) (line ∷ lines) = IsShownBy size part line × AreShownBy size parts lines
+abbrev pub AreShownBy : Form → List Part → List SegmentLine → Type 0
+AreShownBy form [] [] = Unit {0}
+AreShownBy form [] (line ∷ lines) = ⊥
+AreShownBy form (part ∷ parts) [] = ⊥
+AreShownBy form (part ∷ parts) (line ∷ lines) = IsShownBy form part line × AreShownBy form parts lines
 
 -- the record has that length, and samples
 pub record IsFull (size : ℕ) (found : Record) : Type 0 where
   pub length_is : found.length ≡ size
   pub some : IsSome found.row
+
+-- the records that a report speaks of: of its length, and of any of the five kinds
+abbrev pub form_by : Report → Form
+form_by report = all_kinds report.length
 
 -- how the records are read: with the report's tolerance, and not strictly
 abbrev pub settings_by : Report → Settings
@@ -64,7 +70,7 @@ pub record ShowsLeast (report : Report) (input : List ℕ) : Type 0 where
   pub are_read : AreRead (settings_by report) input records []
   pub division : IsDivision report.tolerance (rows_of_records records) parts
   pub full : All (IsFull (bytes_of report.length)) records
-  pub shown : AreShownBy (bytes_of report.length) parts report.segments.items
+  pub shown : AreShownBy (form_by report) parts report.segments.items
 
 -- The input is readable, and the report does not show that.
 pub record DoesNotShow (report : Report) (input : List ℕ) : Type 0 where
@@ -93,16 +99,16 @@ VerifyAnswers report input (Err Read) = BeginsReadable (settings_by report) inpu
 VerifyAnswers report input (Err Memory) = BeginsReadable (settings_by report) input
 
 -- No packing of the part's segment has fewer records than it stands in, nor than the line says.
-pub record StandsInFewest (size : ℕ) (part : Part) (line : SegmentLine) : Type 0 where
+pub record StandsInFewest (form : Form) (part : Part) (line : SegmentLine) : Type 0 where
   pub records : line.records ≡ length (rows_of part)
-  pub fewest : (other : List Run) → IsPacking size (segment_of part).samples other
+  pub fewest : (other : List Run) → IsPacking form (segment_of part).samples other
       → length (rows_of part) ≤ length other
 
-abbrev pub AllStandInFewest : ℕ → List Part → List SegmentLine → Type 0
-AllStandInFewest size [] [] = Unit {0}
-AllStandInFewest size [] (line ∷ lines) = ⊥
-AllStandInFewest size (part ∷ parts) [] = ⊥
-AllStandInFewest size (part ∷ parts) (line ∷ lines) = StandsInFewest size part line × AllStandInFewest size parts lines
+abbrev pub AllStandInFewest : Form → List Part → List SegmentLine → Type 0
+AllStandInFewest form [] [] = Unit {0}
+AllStandInFewest form [] (line ∷ lines) = ⊥
+AllStandInFewest form (part ∷ parts) [] = ⊥
+AllStandInFewest form (part ∷ parts) (line ∷ lines) = StandsInFewest form part line × AllStandInFewest form parts lines
 
 -- If the report shows it, every segment of the input stands in the fewest records, whatever list of records and
 -- whatever division into segments is asked for: the input has no other.
@@ -111,7 +117,7 @@ ShownIsFewest =
     (report : Report) (input : List ℕ) (records : List Record) (parts : List Part) → ShowsLeast report input
     → AreRead (settings_by report) input records []
     → IsDivision report.tolerance (rows_of_records records) parts
-    → AllStandInFewest (bytes_of report.length) parts report.segments.items
+    → AllStandInFewest (form_by report) parts report.segments.items
 
 -- if the report shows it, the input is readable
 abbrev pub ShownIsReadable : Type 0

@@ -1,10 +1,12 @@
 //! Comparing segments with the lines of a report, one after another.
 ghost use Rattle.std.specs.Prelude.{◌≡◌, ◌↔◌, IsTrue, IfErr, IfOk};
 ghost use Rattle.msr_verdict.specs.Compared.{count_in, grown};
+ghost use Rattle.msr_verdict.specs.Packed.{form_by};
 
 use crate::verdict::Verdict;
-use msr_check::shows_least;
+use msr_check::shows_least_in;
 use msr_input::{NextRow, ReadFault};
+use msr_kinds::Form;
 use msr_report::{Report, SegmentLine};
 use msr_rows::Row;
 use msr_segments::{Segment, Step};
@@ -51,6 +53,13 @@ fn count_in(current: &Option<Segment>) -> u64
     }
 }
 
+/// The form of the records that the report speaks of.
+fn form_by(report: &Report) -> Form
+    ensures { result ≡ form_by report.now }
+{
+    Form::all_kinds(report.length)
+}
+
 /// How far the segments agree with the lines of one report. It keeps the open segment and its runs, and neither once a
 /// segment or a record disagreed.
 #[derive(Drop)]
@@ -71,7 +80,6 @@ impl Model for Comparing {
 
 impl Comparing {
     ghost use Rattle.std.specs.Prelude.{◌≡◌, ◌↔◌, [], length, true, None, OnOk, IfErr, IsTrue};
-    ghost use Rattle.msr_kinds.specs.Lengths.{bytes_of};
     ghost use Rattle.msr_verdict.specs.Compared.{AddsRow, ComparesEnded, EndsBy, IsShownAt, TakesRow};
 
     /// The state before the first record.
@@ -89,7 +97,7 @@ impl Comparing {
     /// Whether the segment, in the runs so far, is shown by the line at its place.
     fn is_shown(&self, report: &Report, segment: &Segment) -> bool
         ensures { IsTrue result
-            ↔ IsShownAt (bytes_of report.now.length) report.now.segments.items self.now.place
+            ↔ IsShownAt (form_by report.now) report.now.segments.items self.now.place
             segment.now self.now.runs }
     {
         let samples = segment.samples.len() as u64;
@@ -97,9 +105,9 @@ impl Comparing {
             return false;
         };
         is_line_of(line, segment, samples, self.runs.len())
-            && shows_least(
+            && shows_least_in(
                 segment.samples.as_slice(),
-                report.length,
+                form_by(report),
                 self.runs.as_slice(),
                 line.separators.as_slice(),
             )
@@ -108,7 +116,7 @@ impl Comparing {
     /// Compares the open segment, if there is one, with its line: it has ended.
     pub(crate) fn end(&mut self, report: &Report)
         ensures { ComparesEnded
-            (bytes_of report.now.length) report.now.segments.items self.old self.old.current self.new }
+            (form_by report.now) report.now.segments.items self.old self.old.current self.new }
     {
         let Some(segment) = self.current.take() else {
             return;
@@ -120,7 +128,7 @@ impl Comparing {
 
     /// Compares the open segment if a row that does so ends it.
     fn end_by(&mut self, report: &Report, step: Step)
-        ensures { EndsBy (bytes_of report.now.length) report.now.segments.items step self.old self.new }
+        ensures { EndsBy (form_by report.now) report.now.segments.items step self.old self.new }
     {
         match step {
             Step::Begins => self.end(report),
@@ -154,7 +162,7 @@ impl Comparing {
     /// Takes the row of the next record, `None` for a record that agrees with no report.
     pub(crate) fn take(&mut self, report: &Report, row: Option<NextRow>) -> Result<(), ReadFault>
         ensures taken { OnOk result (TakesRow
-            (bytes_of report.now.length) report.now.segments.items self.old row self.new) }
+            (form_by report.now) report.now.segments.items self.old row self.new) }
         ensures memory { IfErr result (λ fault. fault ≡ ReadFault.Memory) }
     {
         let Some(next) = row else {

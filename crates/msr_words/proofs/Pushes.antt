@@ -1,12 +1,16 @@
 -- What one more sample does to whether a run fits.
-use Rattle.std.proofs.Common.{◌≡◌, ℕ, ◌+◌, ◌-◌, ◌≤◌, ◌<◌, zero, suc, ap, pos, ◌-ℤ◌, ◌||◌, slice_index_or, Bool, true, false, refl, IsTrue, ◌↔◌, ℤ, List, [], ◌∷◌, ◌++◌, length, arith, length-append}
+use Rattle.std.proofs.Common.{◌≡◌, ℕ, ◌+◌, ◌-◌, ◌≤◌, ◌<◌, zero, suc, ap, pos, ◌-ℤ◌, ◌||◌, ◌&&◌, slice_index_or, Bool, true, false, refl, IsTrue, ◌↔◌, ℤ, List, [], ◌∷◌, ◌++◌, length, arith, length-append}
 use Rattle.std.proofs.lemmas.List.Elements.{All-push, Contains-push, All-contains}
 use Rattle.msr_kinds.specs.declared.kinds.Kind.TheVariants.{Int16, Int24, Int32, Steim1, Steim2}
 use Rattle.msr_words.specs.Segment.{difference_at}
 use Rattle.msr_steim.specs.Word.{FitsBits}
 use Rattle.msr_kinds.specs.declared.kinds.Kind.{Kind}
 use Rattle.msr_words.specs.Bounds.{AreIntegers}
-use Rattle.msr_words.specs.Fit.{Fits, FitsAny}
+use Rattle.msr_kinds.specs.declared.forms.Form.{Form}
+use Rattle.msr_kinds.specs.declared.kinds.Kinds.{Kinds}
+use Rattle.msr_kinds.specs.Kinds.{contains}
+use Rattle.msr_kinds.specs.Lengths.{bytes_of}
+use Rattle.msr_words.specs.Fit.{Fits, FitsAny, FitsIn}
 use Rattle.msr_words.specs.Laws.{most_of}
 use Rattle.msr_words.specs.Trackers.{FollowsIntegers, IsInteger, integers_of}
 use Rattle.msr_words.specs.Lemmas.KindLaws.{int16_by_bits, int24_by_bits, of_integers, prefix_kind, size_kind}
@@ -84,25 +88,36 @@ module _ (kind : Kind) (bytes : ℕ) (are : TakesIntegers kind bytes) (run : Lis
         (λ _. more, λ _. refl),
       )
 
+-- what a tracker says, if the form has records of its kind
+pub taken_in : (kind : Kind) (form : Form) (run : List (ℤ × ℤ)) (kinds : Kinds) (fits answer : Bool)
+    → kinds ≡ form.kinds → answer ≡ (contains kinds kind && fits)
+    → (IsTrue fits ↔ Fits kind (bytes_of form.length) run) → (IsTrue answer ↔ FitsIn kind form run)
+taken_in kind form run kinds fits answer same is says = rw (is, same) (both (contains form.kinds kind) fits says)
+  where
+    both : (chosen fits : Bool) → (IsTrue fits ↔ Fits kind (bytes_of form.length) run)
+        → (IsTrue (chosen && fits) ↔ IsTrue chosen × Fits kind (bytes_of form.length) run)
+    both true fits says = (λ t. (refl, says.0 t), λ h. says.1 h.1)
+    both false fits says = (λ t. absurd cc, λ h. absurd (let no = h.0 in cc))
+
 -- the run fits a record of some kind exactly when one of the trackers says so
-pub any_of : (bytes : ℕ) (run : List (ℤ × ℤ)) (int16 int24 int32 steim1 steim2 : Bool)
-    → (IsTrue int16 ↔ Fits Int16 bytes run) → (IsTrue int24 ↔ Fits Int24 bytes run)
-    → (IsTrue int32 ↔ Fits Int32 bytes run) →
-    (IsTrue steim1 ↔ Fits Steim1 bytes run) → (IsTrue steim2 ↔ Fits Steim2 bytes run)
-    → (IsTrue ((((int16 || int24) || int32) || steim1) || steim2) ↔ FitsAny bytes run)
-any_of bytes run int16 int24 int32 steim1 steim2 a b c d e =
+pub any_of : (form : Form) (run : List (ℤ × ℤ)) (int16 int24 int32 steim1 steim2 : Bool)
+    → (IsTrue int16 ↔ FitsIn Int16 form run) → (IsTrue int24 ↔ FitsIn Int24 form run)
+    → (IsTrue int32 ↔ FitsIn Int32 form run) →
+    (IsTrue steim1 ↔ FitsIn Steim1 form run) → (IsTrue steim2 ↔ FitsIn Steim2 form run)
+    → (IsTrue ((((int16 || int24) || int32) || steim1) || steim2) ↔ FitsAny form run)
+any_of form run int16 int24 int32 steim1 steim2 a b c d e =
     (say int16 int24 int32 steim1 steim2 a.0 b.0 c.0 d.0 e.0, hear)
   where
-    say : (x y z v w : Bool) → (IsTrue x → Fits Int16 bytes run) → (IsTrue y → Fits Int24 bytes run)
-        → (IsTrue z → Fits Int32 bytes run) → (IsTrue v → Fits Steim1 bytes run) → (IsTrue w → Fits Steim2 bytes run) →
-        IsTrue ((((x || y) || z) || v) || w) → FitsAny bytes run
+    say : (x y z v w : Bool) → (IsTrue x → FitsIn Int16 form run) → (IsTrue y → FitsIn Int24 form run)
+        → (IsTrue z → FitsIn Int32 form run) → (IsTrue v → FitsIn Steim1 form run) → (IsTrue w → FitsIn Steim2 form run) →
+        IsTrue ((((x || y) || z) || v) || w) → FitsAny form run
     say true y z v w p q r s u t = (Int16, p refl)
     say false true z v w p q r s u t = (Int24, q refl)
     say false false true v w p q r s u t = (Int32, r refl)
     say false false false true w p q r s u t = (Steim1, s refl)
     say false false false false w p q r s u t = (Steim2, u t)
 
-    hear : FitsAny bytes run → IsTrue ((((int16 || int24) || int32) || steim1) || steim2)
+    hear : FitsAny form run → IsTrue ((((int16 || int24) || int32) || steim1) || steim2)
     hear (Int16, f) = rw (a.1 f) refl
     hear (Int24, f) = elim int16 as (λ x. IsTrue ((((x || int24) || int32) || steim1) || steim2))
         [ true ↦ refl | false ↦ rw (b.1 f) refl ]

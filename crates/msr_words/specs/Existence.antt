@@ -2,6 +2,7 @@
 use Rattle.std.specs.Prelude.{ℕ, ◌⊎◌, ℤ, List}
 use Rattle.msr_steim.specs.declared.word.Version.{Version}
 use Rattle.msr_kinds.specs.declared.kinds.Kind.{Kind}
+use Rattle.msr_kinds.specs.declared.forms.Form.{Form}
 use Rattle.msr_words.specs.Canonical.{IsCanonicalDivision}
 use Rattle.msr_words.specs.Division.{CanDivide}
 use Rattle.msr_words.specs.Fit.{FitsAny, IsFirstKind}
@@ -12,11 +13,11 @@ Decided P = P ⊎ (P → ⊥)
 
 -- a run fits a record of some kind, or it fits none
 abbrev pub FittingIsDecided : Type 0
-FittingIsDecided = (bytes : ℕ) (run : List (ℤ × ℤ)) → Decided (FitsAny bytes run)
+FittingIsDecided = (form : Form) (run : List (ℤ × ℤ)) → Decided (FitsAny form run)
 
 -- of the kinds that a run fits, one is tried first
 abbrev pub FirstKindExists : Type 0
-FirstKindExists = (bytes : ℕ) (run : List (ℤ × ℤ)) → FitsAny bytes run → (kind : Kind) × IsFirstKind bytes run kind
+FirstKindExists = (form : Form) (run : List (ℤ × ℤ)) → FitsAny form run → (kind : Kind) × IsFirstKind form run kind
 
 -- differences that can be divided have a canonical division
 abbrev pub DivisionExists : Type 0

@@ -5,6 +5,9 @@ use Rattle.msr_steim.specs.declared.word.Version.TheVariants.{One, Two}
 use Rattle.msr_steim.specs.Word.{FitsBits}
 use Rattle.msr_kinds.specs.declared.kinds.Kind.{Kind}
 use Rattle.msr_kinds.specs.declared.kinds.Kind.TheVariants.{Int16, Int24, Int32, Steim1, Steim2}
+use Rattle.msr_kinds.specs.declared.forms.Form.{Form}
+use Rattle.msr_kinds.specs.Kinds.{IsChosen}
+use Rattle.msr_kinds.specs.Lengths.{bytes_of}
 use Rattle.msr_words.specs.Division.{CanDivide}
 use Rattle.msr_kinds.specs.RecordLength.{words_of}
 use Rattle.msr_words.specs.Segment.{run_points}
@@ -47,9 +50,13 @@ HasRoom Steim2 bytes run = FitsSteim Two bytes run
 abbrev pub Fits : Kind → ℕ → List (ℤ × ℤ) → Type 0
 Fits kind bytes run = (length run ≤ most_counted) × HasRoom kind bytes run
 
--- it fits a record of some kind
-abbrev pub FitsAny : ℕ → List (ℤ × ℤ) → Type 0
-FitsAny bytes run = (kind : Kind) × Fits kind bytes run
+-- the form has records of that kind, and the run fits one of them
+abbrev pub FitsIn : Kind → Form → List (ℤ × ℤ) → Type 0
+FitsIn kind form run = IsChosen form.kinds kind × Fits kind (bytes_of form.length) run
+
+-- it fits a record of some kind that the form has
+abbrev pub FitsAny : Form → List (ℤ × ℤ) → Type 0
+FitsAny form run = (kind : Kind) × FitsIn kind form run
 
 -- the samples a to b-1 of a segment are a run that fits
 abbrev pub IsRun : (List (ℤ × ℤ) → Type 0) → List ℤ → ℕ → ℕ → Type 0
@@ -64,5 +71,6 @@ rank Int24 = 3
 rank Int32 = 4
 
 -- of the kinds that the run fits, the one that is tried first
-abbrev pub IsFirstKind : ℕ → List (ℤ × ℤ) → Kind → Type 0
-IsFirstKind bytes run kind = Fits kind bytes run × ((other : Kind) → rank other < rank kind → Fits other bytes run → ⊥)
+abbrev pub IsFirstKind : Form → List (ℤ × ℤ) → Kind → Type 0
+IsFirstKind form run kind = FitsIn kind form run
+    × ((other : Kind) → rank other < rank kind → FitsIn other form run → ⊥)

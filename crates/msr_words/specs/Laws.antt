@@ -1,8 +1,11 @@
 -- The laws of a tracker. They hold for lists of any whole numbers.
-use Rattle.std.specs.Prelude.{ℕ, ◌+◌, ◌-◌, ◌*◌, ◌/◌, ◌≤◌, max, min, ℤ, List, [], ◌++◌, length, drop, All}
+use Rattle.std.specs.Prelude.{ℕ, ◌+◌, ◌-◌, ◌*◌, ◌/◌, ◌≤◌, max, min, if◌then◌else◌, ℤ, List, [], ◌++◌, length, drop, All}
 use Rattle.msr_steim.specs.Word.{FitsBits}
 use Rattle.msr_kinds.specs.declared.kinds.Kind.{Kind}
 use Rattle.msr_kinds.specs.declared.kinds.Kind.TheVariants.{Int16, Int24, Int32, Steim1, Steim2}
+use Rattle.msr_kinds.specs.declared.forms.Form.{Form}
+use Rattle.msr_kinds.specs.Kinds.{contains}
+use Rattle.msr_kinds.specs.Lengths.{bytes_of}
 use Rattle.msr_words.specs.Fit.{most_counted}
 use Rattle.msr_kinds.specs.RecordLength.{words_of}
 
@@ -32,17 +35,13 @@ DominanceLaw one other = (front back : List (ℤ × ℤ)) → All (λ p. IsNarro
 abbrev pub SizeLaw : ℕ → (List (ℤ × ℤ) → Type 0) → Type 0
 SizeLaw most fits = (run : List (ℤ × ℤ)) → fits run → length run ≤ most
 
--- if there is room for a header, an empty run fits
-abbrev pub EmptyLaw : (ℕ → List (ℤ × ℤ) → Type 0) → Type 0
-EmptyLaw fits = (bytes : ℕ) → 64 ≤ bytes → fits bytes []
-
--- the laws of what a tracker takes, in a record of each length
-pub record TrackerLaws (look_back : ℕ) (most : ℕ → ℕ) (fits : ℕ → List (ℤ × ℤ) → Type 0) : Type 0 where
-  pub prefix : (bytes : ℕ) → PrefixLaw (fits bytes)
-  pub back_step : (bytes : ℕ) → BackStepLaw look_back (fits bytes)
+-- the laws of what a tracker takes, in a record of each form
+pub record TrackerLaws (look_back : ℕ) (most : Form → ℕ) (fits : Form → List (ℤ × ℤ) → Type 0) : Type 0 where
+  pub prefix : (form : Form) → PrefixLaw (fits form)
+  pub back_step : (form : Form) → BackStepLaw look_back (fits form)
   pub near : look_back ≤ 3
-  pub empty : EmptyLaw fits
-  pub size : (bytes : ℕ) → SizeLaw (most bytes) (fits bytes)
+  pub empty : (form : Form) → fits form []
+  pub size : (form : Form) → SizeLaw (most form) (fits form)
 
 -- each run of at most four samples fits
 abbrev pub FitsShort : (List (ℤ × ℤ) → Type 0) → Type 0
@@ -70,7 +69,11 @@ room_of Steim2 bytes = 7 * words_of bytes
 abbrev pub most_of : Kind → ℕ → ℕ
 most_of kind bytes = min (room_of kind bytes) most_counted
 
--- how many samples a record of any kind has at most: the length of a longest run
-abbrev pub most_any : ℕ → ℕ
-most_any bytes = max (max (most_of Steim2 bytes) (most_of Steim1 bytes))
-    (max (most_of Int16 bytes) (max (most_of Int24 bytes) (most_of Int32 bytes)))
+-- how many samples a record of that kind has at most; none if the form has no such records
+abbrev pub most_in : Kind → Form → ℕ
+most_in kind form = (if contains form.kinds kind then most_of kind (bytes_of form.length) else 0)
+
+-- how many samples a record of the form has at most: the length of a longest run
+abbrev pub most_any : Form → ℕ
+most_any form = max (max (most_in Steim2 form) (most_in Steim1 form))
+    (max (most_in Int16 form) (max (most_in Int24 form) (most_in Int32 form)))

@@ -1,8 +1,10 @@
 //! Trackers: whether the samples pushed so far fit one record, for each kind of record.
 
 ghost use Rattle.std.specs.Prelude.{◌≡◌, ℕ, ◌+◌, ◌^◌, ◌<◌, ◌≤◌, ◌↔◌, ◌++◌, ◌∷◌, ℤ, List, [], IsTrue, map};
+ghost use Rattle.msr_kinds.specs.declared.forms.Form.{Form};
 ghost use Rattle.msr_kinds.specs.declared.kinds.Kind.{Kind};
 ghost use Rattle.msr_kinds.specs.declared.kinds.Kind.TheVariants.{Steim1, Steim2};
+ghost use Rattle.msr_kinds.specs.Forms.{all_kinds};
 ghost use Rattle.msr_kinds.specs.Lengths.{bytes_of};
 ghost use Rattle.msr_kinds.specs.RecordLength.{words_of};
 ghost use Rattle.msr_words.specs.Fit.{Fits};
@@ -18,16 +20,16 @@ use msr_steim::fits_bits;
 
 /// A tracker says, one sample after another, whether what was pushed so far fits one record.
 pub trait Tracker {
-    /// The run, of samples with their differences, fits a record of that many bytes.
-    ghost fits: { ℕ → List (ℤ × ℤ) → Type 0 };
+    /// The run, of samples with their differences, fits a record of that form.
+    ghost fits: { Form → List (ℤ × ℤ) → Type 0 };
 
-    /// The tracker is as it is after that run was pushed, for a record of that many bytes.
-    ghost follows: { ℕ → List (ℤ × ℤ) → Self → Type 0 };
+    /// The tracker is as it is after that run was pushed, for a record of that form.
+    ghost follows: { Form → List (ℤ × ℤ) → Self → Type 0 };
 
     ghost LOOK_BACK: { ℕ };
 
-    /// How many samples a record of that many bytes has at most.
-    ghost most: { ℕ → ℕ };
+    /// How many samples a record of that form has at most.
+    ghost most: { Form → ℕ };
 
     /// How many starts before a cut may be needed: the part after the cut fits with at most
     /// `LOOK_BACK` of the samples before it. If it is 0, each part after a cut fits by itself.
@@ -35,17 +37,17 @@ pub trait Tracker {
 
     /// How many samples a record of that length has at most.
     fn most(record_length: Length) -> usize
-        ensures { result ≡ most (bytes_of record_length) };
+        ensures { result ≡ most (all_kinds record_length) };
 
     /// A tracker that nothing was pushed to.
     fn start(record_length: Length) -> Self
-        ensures { follows (bytes_of record_length) [] result };
+        ensures { follows (all_kinds record_length) [] result };
 
     /// Whether all that was pushed, with this sample and its difference, fits. After a false it answers false.
     fn push(&mut self, sample: i32, diff: i64) -> bool
-        ensures { (bytes : ℕ) (run : List (ℤ × ℤ)) → follows bytes run self.old
-            → follows bytes (run ++ (sample, diff) ∷ []) self.new × (IsTrue result
-            ↔ fits bytes (run ++ (sample, diff) ∷ [])) };
+        ensures { (form : Form) (run : List (ℤ × ℤ)) → follows form run self.old
+            → follows form (run ++ (sample, diff) ∷ []) self.new × (IsTrue result
+            ↔ fits form (run ++ (sample, diff) ∷ [])) };
 
     /// A prefix of what fits fits, and the part after a cut with at most `LOOK_BACK` samples before it, three at most;
     /// an empty run fits, and no run of more than `most` samples does.
@@ -62,7 +64,7 @@ pub trait Codec: Tracker {
         ensures { result ≡ code_of kind };
 
     /// What it takes is what fits a record of that kind.
-    ghost same: { (bytes : ℕ) (run : List (ℤ × ℤ)) → Self.fits bytes run ↔ Fits kind bytes run };
+    ghost same: { (form : Form) (run : List (ℤ × ℤ)) → Self.fits form run ↔ Fits kind (bytes_of form.length) run };
 }
 
 /// The tracker of integers of 16 bits, of 24, or else of 32.
@@ -111,13 +113,13 @@ fn is_taken(sample: i32, bits: u32, left: usize, fits: bool) -> bool
 }
 
 impl<const BITS: u32> Tracker for Integers<BITS> {
-    ghost fits = { Fits (integers_of BITS) };
+    ghost fits = { λ form. Fits (integers_of BITS) (bytes_of form.length) };
 
-    ghost follows = { λ bytes run it. FollowsIntegers (integers_of BITS) bytes run it.left it.fits };
+    ghost follows = { λ form run it. FollowsIntegers (integers_of BITS) (bytes_of form.length) run it.left it.fits };
 
     ghost LOOK_BACK = { 0 };
 
-    ghost most = { most_of (integers_of BITS) };
+    ghost most = { λ form. most_of (integers_of BITS) (bytes_of form.length) };
 
     const LOOK_BACK: usize = 0;
 
@@ -147,7 +149,7 @@ impl<const BITS: u32> Tracker for Integers<BITS> {
 impl<const BITS: u32> Codec for Integers<BITS> {
     ghost kind = { integers_of BITS };
 
-    ghost same = { λ bytes run. (λ h. h, λ h. h) };
+    ghost same = { λ form run. (λ h. h, λ h. h) };
 
     fn code(&self) -> u8 {
         integers_of(BITS).code()
@@ -193,13 +195,14 @@ fn most_after(count: u8, most: u8, capacity: u8) -> u8
 }
 
 impl Tracker for Steim2 {
-    ghost fits = { Fits Steim2 };
+    ghost fits = { λ form. Fits Steim2 (bytes_of form.length) };
 
-    ghost follows = { λ bytes run it. FollowsSteim2 bytes run it.left it.count it.most it.more it.fits };
+    ghost follows = { λ form run it. FollowsSteim2
+        (bytes_of form.length) run it.left it.count it.most it.more it.fits };
 
     ghost LOOK_BACK = { 0 };
 
-    ghost most = { most_of Steim2 };
+    ghost most = { λ form. most_of Steim2 (bytes_of form.length) };
 
     const LOOK_BACK: usize = 0;
 
@@ -241,7 +244,7 @@ impl Tracker for Steim2 {
 impl Codec for Steim2 {
     ghost kind = { Steim2 };
 
-    ghost same = { λ bytes run. (λ h. h, λ h. h) };
+    ghost same = { λ form run. (λ h. h, λ h. h) };
 
     fn code(&self) -> u8 {
         Kind::Steim2.code()
@@ -258,13 +261,14 @@ pub struct Steim1 {
 }
 
 impl Tracker for Steim1 {
-    ghost fits = { Fits Steim1 };
+    ghost fits = { λ form. Fits Steim1 (bytes_of form.length) };
 
-    ghost follows = { λ bytes run it. FollowsSteim1 (words_of bytes) (map (λ p. p.1) run) it.words it.counts it.fits };
+    ghost follows = { λ form run it. FollowsSteim1
+        (words_of (bytes_of form.length)) (map (λ p. p.1) run) it.words it.counts it.fits };
 
     ghost LOOK_BACK = { 1 };
 
-    ghost most = { most_of Steim1 };
+    ghost most = { λ form. most_of Steim1 (bytes_of form.length) };
 
     const LOOK_BACK: usize = 1;
 
@@ -295,7 +299,7 @@ impl Tracker for Steim1 {
 impl Codec for Steim1 {
     ghost kind = { Steim1 };
 
-    ghost same = { λ bytes run. (λ h. h, λ h. h) };
+    ghost same = { λ form run. (λ h. h, λ h. h) };
 
     fn code(&self) -> u8 {
         Kind::Steim1.code()

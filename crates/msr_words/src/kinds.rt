@@ -8,12 +8,12 @@ ghost use Rattle.msr_kinds.specs.declared.kinds.Kind.TheVariants.{Steim1 as Firs
 ghost use Rattle.msr_words.specs.Segment.{points, run_points, differences, difference_at, difference_from};
 ghost use Rattle.msr_words.specs.Division.{CanDivide};
 ghost use Rattle.msr_words.specs.Groups.{IsCapacity, IsLongestGroup};
-ghost use Rattle.msr_words.specs.Laws.{DominanceLaw, look_back_of, most_of};
-ghost use Rattle.msr_words.specs.Fit.{Fits, FitsAny, IsRun, IsFirstKind};
+ghost use Rattle.msr_words.specs.Laws.{DominanceLaw, look_back_of, most_any, most_in, most_of};
+ghost use Rattle.msr_words.specs.Fit.{Fits, FitsAny, FitsIn, IsRun, IsFirstKind};
 
 use crate::counts::{LeastCounts, magnitude};
 use crate::window::Window;
-use msr_kinds::{Kind, Length};
+use msr_kinds::{Form, Kind, Length};
 use msr_steim::fits_bits;
 
 /// The greatest number of samples that the header of a record can count, in 16 bits.
@@ -171,41 +171,54 @@ fn all_of_bits(run: &[i32], bits: u32) -> bool
     run.iter().all(|sample| fits_bits(i64::from(*sample), bits))
 }
 
-/// Whether the samples `start` to `end - 1` of a segment fit one record of that kind.
-pub fn run_fits(
-    kind: Kind,
-    samples: &[i32],
-    start: usize,
-    end: usize,
-    record_length: Length,
-) -> bool
+/// How many samples a record of that kind has at most; none if the form has no such records.
+fn most_in(kind: Kind, form: Form) -> usize
+    ensures { result ≡ most_in kind form }
+{
+    if form.kinds.contains(kind) {
+        kind.most(form.length)
+    } else {
+        0
+    }
+}
+
+/// How many samples a record of that form has at most.
+pub fn longest_run(form: Form) -> usize
+    ensures { result ≡ most_any form }
+{
+    let steim = most_in(Kind::Steim2, form).max(most_in(Kind::Steim1, form));
+    let wide = most_in(Kind::Int24, form).max(most_in(Kind::Int32, form));
+    steim.max(most_in(Kind::Int16, form).max(wide))
+}
+
+/// Whether the samples `start` to `end - 1` of a segment fit one record of that kind, and the form has such records.
+pub fn run_fits(kind: Kind, samples: &[i32], start: usize, end: usize, form: Form) -> bool
     requires order { start ≤ end }
     requires within { end ≤ length samples.now }
-    ensures { IsTrue result ↔ Fits kind (bytes_of record_length) (run_points samples.now start end) }
+    ensures { IsTrue result ↔ FitsIn kind form (run_points samples.now start end) }
 {
+    if !form.kinds.contains(kind) {
+        return false;
+    }
     if start == 0 {
-        kind.fits(None, &samples[..end], record_length)
+        kind.fits(None, &samples[..end], form.length)
     } else {
-        kind.fits(
-            Some(samples[start - 1]),
-            &samples[start..end],
-            record_length,
-        )
+        kind.fits(Some(samples[start - 1]), &samples[start..end], form.length)
     }
 }
 
 /// The first kind, in the order in which they are tried, that the samples `start` to `end - 1` of the segment fit.
-pub fn first_kind(samples: &[i32], start: usize, end: usize, record_length: Length) -> Kind
-    requires { IsRun (FitsAny (bytes_of record_length)) samples.now start end }
-    ensures { IsFirstKind (bytes_of record_length) (run_points samples.now start end) result }
+pub fn first_kind(samples: &[i32], start: usize, end: usize, form: Form) -> Kind
+    requires { IsRun (FitsAny form) samples.now start end }
+    ensures { IsFirstKind form (run_points samples.now start end) result }
 {
-    if run_fits(Kind::Steim2, samples, start, end, record_length) {
+    if run_fits(Kind::Steim2, samples, start, end, form) {
         Kind::Steim2
-    } else if run_fits(Kind::Steim1, samples, start, end, record_length) {
+    } else if run_fits(Kind::Steim1, samples, start, end, form) {
         Kind::Steim1
-    } else if run_fits(Kind::Int16, samples, start, end, record_length) {
+    } else if run_fits(Kind::Int16, samples, start, end, form) {
         Kind::Int16
-    } else if run_fits(Kind::Int24, samples, start, end, record_length) {
+    } else if run_fits(Kind::Int24, samples, start, end, form) {
         Kind::Int24
     } else {
         Kind::Int32

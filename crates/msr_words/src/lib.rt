@@ -22,9 +22,9 @@ pub use division::{groups, one_division};
 pub use existence::{division_exists, fitting_is_decided};
 pub use first_group::sizes_of;
 pub use kinds::{
-    Fitting, Run, difference, difference_after, first_kind, longest_group, run_fits,
+    Fitting, Run, difference, difference_after, first_kind, longest_group, longest_run, run_fits,
     steim2_dominates,
 };
-pub use msr_kinds::{Kind, Length};
+pub use msr_kinds::{Form, Kind, Kinds, Length};
 pub use msr_steim::fits_bits;
 pub use window::{FourSizes, Window};

@@ -11,12 +11,15 @@ use Rattle.msr_steim.specs.declared.word.Version.{Version}
 use Rattle.msr_steim.specs.declared.word.Version.TheVariants.{One, Two}
 use Rattle.msr_steim.specs.Word.{FitsBits}
 use Rattle.msr_words.specs.Division.{CanDivide}
-use Rattle.msr_words.specs.Laws.{PrefixLaw, BackStepLaw, SuffixLaw, SizeLaw, EmptyLaw, FitsShort, TrackerLaws, look_back_of, room_of, most_of, most_any}
+use Rattle.msr_words.specs.Laws.{PrefixLaw, BackStepLaw, SuffixLaw, SizeLaw, FitsShort, TrackerLaws, look_back_of, room_of, most_of, most_in, most_any}
 use Rattle.msr_words.specs.Trackers.{integers_of}
 use Rattle.msr_words.specs.Lemmas.SteimLaws.{places_of, largest_of, prefix_law, back_step_law, size_law, none_divides}
 use Rattle.msr_words.specs.Bounds.{AreIntegers}
-use Rattle.msr_words.specs.Fit.{FitsIntegers, FitsInt32, FitsSteim, HasRoom, Fits, FitsAny}
+use Rattle.msr_words.specs.Fit.{FitsIntegers, FitsInt32, FitsSteim, HasRoom, Fits, FitsIn, FitsAny}
 use Rattle.msr_kinds.specs.RecordLength.{words_of}
+use Rattle.msr_kinds.specs.declared.forms.Form.{Form}
+use Rattle.msr_kinds.specs.Lengths.{bytes_of}
+use Rattle.msr_kinds.proofs.KindLemmas.{int32_is_chosen}
 
 -- if each part after a cut fits by itself, none of the samples before it is needed; and the other way round
 pub back_step_by_suffix : (fits : List (ℤ × ℤ) → Type 0) → SuffixLaw fits → BackStepLaw 0 fits
@@ -136,6 +139,10 @@ size_steim version bytes run h =
     let same = length-map run (λ (p : ℤ × ℤ). p.1) in
     subst (λ l. l ≤ largest_of version * words_of bytes) same size
 
+-- if there is room for a header, an empty run fits
+abbrev pub EmptyLaw : (ℕ → List (ℤ × ℤ) → Type 0) → Type 0
+EmptyLaw fits = (bytes : ℕ) → 64 ≤ bytes → fits bytes []
+
 empty_integers : (bits size : ℕ) → EmptyLaw (FitsIntegers bits size)
 empty_integers bits size bytes h = (All-nil (λ p. FitsBits bits p.0), omega arith)
 
@@ -223,44 +230,59 @@ few_places Int32 = omega arith
 few_places Steim1 = omega arith
 few_places Steim2 = omega arith
 
--- the law holds for a record of any kind
-pub prefix_any : (bytes : ℕ) → PrefixLaw (FitsAny bytes)
-prefix_any bytes front back h = (h.0, prefix_kind h.0 bytes front back h.1)
+-- the laws for a kind that a form has
+pub prefix_in : (kind : Kind) (form : Form) → PrefixLaw (FitsIn kind form)
+prefix_in kind form front back h = (h.0, prefix_kind kind (bytes_of form.length) front back h.1)
 
-pub back_step_any : (bytes : ℕ) → BackStepLaw 1 (FitsAny bytes)
-back_step_any bytes front back h =
-    let r = back_step_more (Fits h.0 bytes) (look_back_of h.0) 1 (few_places h.0)
-    (back_step_kind h.0 bytes) front back h.1 in
+pub back_step_in : (kind : Kind) (form : Form) → BackStepLaw (look_back_of kind) (FitsIn kind form)
+back_step_in kind form front back h =
+    let r = back_step_kind kind (bytes_of form.length) front back h.1 in
     (r.0, r.1, r.2, (h.0, r.3))
 
-pub empty_any : EmptyLaw FitsAny
-empty_any bytes h = (Int32, empty_kind Int32 bytes h)
+-- the laws for a record of any kind that a form has
+pub prefix_any : (form : Form) → PrefixLaw (FitsAny form)
+prefix_any form front back h = (h.0, prefix_in h.0 form front back h.1)
 
-within_any : (kind : Kind) (bytes : ℕ) → most_of kind bytes ≤ most_any bytes
-within_any Int16 bytes = omega arith
-within_any Int24 bytes = omega arith
-within_any Int32 bytes = omega arith
-within_any Steim1 bytes = omega arith
-within_any Steim2 bytes = omega arith
+pub back_step_any : (form : Form) → BackStepLaw 1 (FitsAny form)
+back_step_any form front back h =
+    let r = back_step_more (FitsIn h.0 form) (look_back_of h.0) 1 (few_places h.0)
+    (back_step_in h.0 form) front back h.1 in
+    (r.0, r.1, r.2, (h.0, r.3))
 
-pub size_any : (bytes : ℕ) → SizeLaw (most_any bytes) (FitsAny bytes)
-size_any bytes run h =
-    let size = size_kind h.0 bytes run h.1 in
-    let more = within_any h.0 bytes in
+pub empty_any : (form : Form) → FitsAny form []
+empty_any form =
+    let least = form.length.least in
+    (Int32, (int32_is_chosen form.kinds, empty_kind Int32 (bytes_of form.length) (omega arith)))
+
+within_any : (kind : Kind) (form : Form) → most_in kind form ≤ most_any form
+within_any Int16 form = omega arith
+within_any Int24 form = omega arith
+within_any Int32 form = omega arith
+within_any Steim1 form = omega arith
+within_any Steim2 form = omega arith
+
+pub size_any : (form : Form) → SizeLaw (most_any form) (FitsAny form)
+size_any form run h =
+    let size = size_kind h.0 (bytes_of form.length) run h.1.1 in
+    let same : most_in h.0 form ≡ most_of h.0 (bytes_of form.length) = rw h.1.0 refl in
+    let more = within_any h.0 form in
     omega arith
 
--- a few samples fit a record of any length, as 32-bit integers
-pub short_any : (bytes : ℕ) → 256 ≤ bytes → FitsShort (FitsAny bytes)
-short_any bytes h run short = (Int32, (omega arith, omega arith))
+-- a few samples fit a record of any form, as 32-bit integers
+pub short_any : (form : Form) → FitsShort (FitsAny form)
+short_any form run short =
+    let least = form.length.least in
+    (Int32, (int32_is_chosen form.kinds, (omega arith, omega arith)))
 
 -- the laws of the trackers
-pub kind_laws : (kind : Kind) → TrackerLaws (look_back_of kind) (most_of kind) (Fits kind)
+pub kind_laws : (kind : Kind) → TrackerLaws
+    (look_back_of kind) (λ form. most_of kind (bytes_of form.length)) (λ form. Fits kind (bytes_of form.length))
 kind_laws kind = record {
-  prefix = prefix_kind kind;
-  back_step = back_step_kind kind;
+  prefix = λ form. prefix_kind kind (bytes_of form.length);
+  back_step = λ form. back_step_kind kind (bytes_of form.length);
   near = let few = few_places kind in omega arith;
-  empty = empty_kind kind;
-  size = size_kind kind;
+  empty = λ form. let least = form.length.least in empty_kind kind (bytes_of form.length) (omega arith);
+  size = λ form. size_kind kind (bytes_of form.length);
 }
 
 -- what holds of each kind of integers
@@ -270,9 +292,10 @@ of_integers P a b c bits = elim (bits == 16) as (λ one. P (cond one Int16 (cond
   | false ↦ elim (bits == 24) as (λ two. P (cond two Int24 Int32)) [ true ↦ b | false ↦ c ]
 ]
 
-pub integers_laws : (bits : ℕ) → TrackerLaws 0 (most_of (integers_of bits)) (Fits (integers_of bits))
-integers_laws = of_integers (λ kind. TrackerLaws 0 (most_of kind) (Fits kind)) (kind_laws Int16) (kind_laws Int24)
-    (kind_laws Int32)
+pub integers_laws : (bits : ℕ) → TrackerLaws 0 (λ form. most_of (integers_of bits) (bytes_of form.length))
+    (λ form. Fits (integers_of bits) (bytes_of form.length))
+integers_laws = of_integers (λ kind. TrackerLaws 0 (λ form. most_of kind (bytes_of form.length))
+    (λ form. Fits kind (bytes_of form.length))) (kind_laws Int16) (kind_laws Int24) (kind_laws Int32)
 
 pub any_laws : TrackerLaws 1 most_any FitsAny
 any_laws = record {

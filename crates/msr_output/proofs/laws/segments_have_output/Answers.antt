@@ -4,7 +4,7 @@ use Rattle.msr_output.proofs.laws.segments_have_output.Goals as goal
 
 pub returns : goal.returns
 returns c = record {
-  whole = λ size segments power writable. let o = has_output size segments power writable in
+  whole = λ form segments writable. let o = has_output form segments writable in
       (o.packed, o.rows, o.bytes, o.same, o.output);
   prefix = prefix_of_output;
   stay = written_longer;

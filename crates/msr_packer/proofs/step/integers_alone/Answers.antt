@@ -1,22 +1,28 @@
 use Rattle.std.proofs.Common.{arith, refl, ◌-◌, [], ◌∷◌, inl, inr}
+use Rattle.msr_kinds.specs.Kinds.{IsChosen}
 use Rattle.msr_kinds.specs.declared.kinds.Kind.TheVariants.{Int16, Steim1, Steim2}
 use Rattle.msr_words.specs.Lemmas.KindLaws.{int16_by_bits}
 use Rattle.msr_words.proofs.WordRoom.{wide_of_steim1, wide_of_steim2}
 use Rattle.msr_packer.specs.declared.step.StepRun.{StepRun}
 use Rattle.msr_packer.specs.Steps.{longer_kinds}
 use Rattle.msr_packer.proofs.StepsByKinds.{reordered, skipped}
-use Rattle.msr_packer.proofs.EndsByKind.{empty_run, longer_ends, longest_step, none_with_wide}
+use Rattle.msr_packer.proofs.EndsByKind.{empty_run, end_if_chosen, longer_ends, longest_step, none_with_wide}
 use Rattle.msr_packer.proofs.step.integers_alone.Goals as goal
 
 pub furthest_integers-int16-requires-clause-are : goal.furthest_integers-int16-requires-clause-are
-furthest_integers-int16-requires-clause-are c = int16_by_bits c.args.record_length.bytes (omega arith)
+furthest_integers-int16-requires-clause-are c =
+    let least = c.args.form.length.least in
+    int16_by_bits c.args.form.length.bytes (omega arith)
 
 pub with_wide_integers-requires : goal.with_wide_integers-requires
 with_wide_integers-requires c =
-    let bytes = c.args.record_length.bytes in
+    let form = c.args.form in
+    let bytes = c.args.form.length.bytes in
+    let least = c.args.form.length.least in
     let samples = c.args.samples.now in
     let g = c.args.frontier in
     let e16 = c.furthest_integers-int16.result in
+    let chosen : IsChosen c.args.form.kinds Int16 = cc (c.contains.ensures, c.if-not-contains.false) in
     let is = c.furthest_integers-int16.ensures in
     let by_int16 : StepRun = record { start = c.args.frontier; end = c.furthest_integers-int16.result; kind = Int16 } in
     let up = is.fits.0 in
@@ -26,14 +32,14 @@ with_wide_integers-requires c =
     (omega arith) wide in
     let none1 = none_with_wide bytes samples g Steim1 (wide_of_steim1 bytes) (c.furthest_integers-int16.result - 1)
     (omega arith) wide in
-    let one = longest_step bytes samples g Int16 e16 refl is in
-    let two = skipped bytes samples g Steim2 (Int16 ∷ []) by_int16 refl one
-    (λ s b le run. let less = none2 s b le run in omega arith) in
-    let three = skipped bytes samples g Steim1 (Steim2 ∷ Int16 ∷ []) by_int16 refl two
-    (λ s b le run. let less = none1 s b le run in omega arith) in
+    let one = longest_step form samples g Int16 e16 refl (end_if_chosen form samples g Int16 e16 chosen is) in
+    let two = skipped form samples g Steim2 (Int16 ∷ []) by_int16 refl one
+    (λ s b le run. let less = none2 s b le (run.0, run.1, run.2.1) in omega arith) in
+    let three = skipped form samples g Steim1 (Steim2 ∷ Int16 ∷ []) by_int16 refl two
+    (λ s b le run. let less = none1 s b le (run.0, run.1, run.2.1) in omega arith) in
     record {
       within = c.requires;
-      step = reordered bytes samples g longer_kinds (Steim1 ∷ Steim2 ∷ Int16 ∷ []) (λ kind among. elim among [
+      step = reordered form samples g longer_kinds (Steim1 ∷ Steim2 ∷ Int16 ∷ []) (λ kind among. elim among [
         | inl e ↦ inl e
         | inr more ↦ elim more [
           | inl e ↦ inr (inr (inl e))
@@ -43,9 +49,10 @@ with_wide_integers-requires c =
           ]
         ]
       ]) by_int16 three;
-      ends = longer_ends bytes samples g e16 g g e16 (empty_run bytes samples g Steim2 (omega arith) c.requires)
-          (empty_run bytes samples g Steim1 (omega arith) c.requires) is.fits
-          (λ c near run. let less = none2 g c (omega arith) run in absurd (omega arith))
-          (λ c near run. let less = none1 g c (omega arith) run in absurd (omega arith))
-          (λ c near run. inl (is.furthest c run)) _ refl refl refl;
+      ends = longer_ends form samples g e16 g g e16 (empty_run bytes samples g Steim2 (omega arith) (omega arith))
+          (λ on. absurd (omega arith)) (empty_run bytes samples g Steim1 (omega arith) (omega arith))
+          (λ on. absurd (omega arith)) is.fits (λ _. chosen)
+          (λ c near run. let less = none2 g c (omega arith) (run.0, run.1, run.2.1) in absurd (omega arith))
+          (λ c near run. let less = none1 g c (omega arith) (run.0, run.1, run.2.1) in absurd (omega arith))
+          (λ c near run. inl (is.furthest c (run.0, run.1, run.2.1))) _ refl refl refl;
     }

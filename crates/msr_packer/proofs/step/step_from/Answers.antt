@@ -3,29 +3,31 @@ use Rattle.msr_kinds.specs.declared.kinds.Kind.TheVariants.{Int16, Steim1, Steim
 use Rattle.msr_words.specs.Lemmas.KindLaws.{int16_by_bits}
 use Rattle.msr_packer.specs.declared.step.StepRun.{StepRun}
 use Rattle.msr_packer.proofs.StepsByKinds.{not_shorter, one_covered, one_more, skipped, starts_here}
-use Rattle.msr_packer.proofs.EndsByKind.{empty_run, longer_ends, longest_step}
+use Rattle.msr_packer.proofs.EndsByKind.{empty_run, longer_ends, longest_step, run_or_none}
 use Rattle.msr_packer.proofs.step.step_from.Goals as goal
 
 pub integers_end-int16-requires-clause-are : goal.integers_end-int16-requires-clause-are
-integers_end-int16-requires-clause-are c = int16_by_bits c.args.record_length.bytes (omega arith)
+integers_end-int16-requires-clause-are c =
+    let least = c.args.form.length.least in
+    int16_by_bits c.args.form.length.bytes (omega arith)
 
 pub with_wide_integers-requires-clause-step : goal.with_wide_integers-requires-clause-step
 with_wide_integers-requires-clause-step c =
-    let bytes = c.args.record_length.bytes in
+    let form = c.args.form in
     let samples = c.args.samples.now in
     let g = c.args.frontier in
-    let by_steim2 : StepRun = record { start = c.args.frontier; end = c.steim2_reach-reach.result.end; kind = Steim2 } in
+    let e2 = c.steim2_end-reach.result.end in
+    let by_steim2 : StepRun = record { start = c.args.frontier; end = c.steim2_end-reach.result.end; kind = Steim2 } in
     let by_int16 : StepRun = record { start = c.args.frontier; end = c.integers_end-int16.result; kind = Int16 } in
-    let one = longest_step bytes samples g Steim2 c.steim2_reach-reach.result.end refl
-    (record { fits = c.steim2_reach-reach.ensures.fits; furthest = c.steim2_reach-reach.ensures.furthest }) in
-    let two = one_covered bytes samples g Int16 (Steim2 ∷ []) by_steim2 by_int16 c.or-best.result Steim2
-    c.steim2_reach-reach.result.end refl one c.integers_end-int16.ensures.fits (inl refl)
-    c.steim2_reach-reach.ensures.fits c.integers_end-int16.ensures.past
+    let one = longest_step form samples g Steim2 e2 refl c.steim2_end-reach.ensures.end in
+    let two = one_covered form samples g Int16 (Steim2 ∷ []) by_steim2 by_int16 c.or-best.result Steim2
+    e2 refl one c.integers_end-int16.ensures.fits c.integers_end-int16.ensures.chosen (inl refl)
+    (run_or_none form samples g Steim2 e2 c.steim2_end-reach.ensures.end) c.integers_end-int16.ensures.past
     c.or-best.ensures.one c.or-best.ensures.first c.or-best.ensures.second in
     let over = not_shorter c.or-best.result by_steim2 c.or-best.ensures.first in
-    skipped bytes samples g Steim1 (Int16 ∷ Steim2 ∷ []) c.or-best.result
+    skipped form samples g Steim1 (Int16 ∷ Steim2 ∷ []) c.or-best.result
     (starts_here by_steim2 by_int16 c.or-best.result g refl refl c.or-best.ensures.one) two
-    (λ s b le run. elim (c.steim1_is_short.ensures c.if-steim1_is_short.true s b le run) [
+    (λ s b le run. elim (c.steim1_is_short.ensures.short c.if-steim1_is_short.true s b le run) [
       | inl m ↦ omega arith
       | inr m ↦ omega arith
     ])
@@ -33,12 +35,14 @@ with_wide_integers-requires-clause-step c =
 pub with_wide_integers-requires-clause-ends : goal.with_wide_integers-requires-clause-ends
 with_wide_integers-requires-clause-ends c =
     let g = c.args.frontier in
-    longer_ends c.args.record_length.bytes c.args.samples.now g c.or-best.result.end
-    c.steim2_reach-reach.result.end g c.integers_end-int16.result
-    c.steim2_reach-reach.ensures.fits (empty_run c.args.record_length.bytes c.args.samples.now g Steim1
-    (omega arith) c.requires) c.integers_end-int16.ensures.fits
-    (λ e near run. c.steim2_reach-reach.ensures.furthest e run)
-    (λ e near run. elim (c.steim1_is_short.ensures c.if-steim1_is_short.true g e (omega arith) run) [
+    let least = c.args.form.length.least in
+    let two = c.steim2_end-reach.ensures.end in
+    longer_ends c.args.form c.args.samples.now g c.or-best.result.end
+    c.steim2_end-reach.result.end g c.integers_end-int16.result two.fits two.chosen
+    (empty_run c.args.form.length.bytes c.args.samples.now g Steim1 (omega arith) (omega arith)) (λ on. absurd (omega arith))
+    c.integers_end-int16.ensures.fits c.integers_end-int16.ensures.chosen
+    (λ e near run. two.furthest e run)
+    (λ e near run. elim (c.steim1_is_short.ensures.short c.if-steim1_is_short.true g e (omega arith) run) [
       | inl m ↦ inr m
       | inr m ↦ absurd (omega arith)
     ])
@@ -46,25 +50,28 @@ with_wide_integers-requires-clause-ends c =
 
 pub with_wide_integers-requires-2-clause-step : goal.with_wide_integers-requires-2-clause-step
 with_wide_integers-requires-2-clause-step c =
-    let bytes = c.args.record_length.bytes in
+    let form = c.args.form in
     let samples = c.args.samples.now in
     let g = c.args.frontier in
-    let by_steim2 : StepRun = record { start = c.args.frontier; end = c.steim2_reach-reach.result.end; kind = Steim2 } in
+    let e2 = c.steim2_end-reach.result.end in
+    let by_steim2 : StepRun = record { start = c.args.frontier; end = c.steim2_end-reach.result.end; kind = Steim2 } in
     let by_int16 : StepRun = record { start = c.args.frontier; end = c.integers_end-int16.result; kind = Int16 } in
-    let one = longest_step bytes samples g Steim2 c.steim2_reach-reach.result.end refl
-    (record { fits = c.steim2_reach-reach.ensures.fits; furthest = c.steim2_reach-reach.ensures.furthest }) in
-    let two = one_covered bytes samples g Int16 (Steim2 ∷ []) by_steim2 by_int16 c.or-best.result Steim2
-    c.steim2_reach-reach.result.end refl one c.integers_end-int16.ensures.fits (inl refl)
-    c.steim2_reach-reach.ensures.fits c.integers_end-int16.ensures.past
+    let one = longest_step form samples g Steim2 e2 refl c.steim2_end-reach.ensures.end in
+    let two = one_covered form samples g Int16 (Steim2 ∷ []) by_steim2 by_int16 c.or-best.result Steim2
+    e2 refl one c.integers_end-int16.ensures.fits c.integers_end-int16.ensures.chosen (inl refl)
+    (run_or_none form samples g Steim2 e2 c.steim2_end-reach.ensures.end) c.integers_end-int16.ensures.past
     c.or-best.ensures.one c.or-best.ensures.first c.or-best.ensures.second in
-    one_more bytes samples g Steim1 (Int16 ∷ Steim2 ∷ []) c.or-best.result c.steim1_step-by_steim1.result c.or.result
+    one_more form samples g Steim1 (Int16 ∷ Steim2 ∷ []) c.or-best.result c.steim1_step-by_steim1.result c.or.result
     two c.steim1_step-by_steim1.ensures c.or.ensures.one c.or.ensures.first c.or.ensures.second
 
 pub with_wide_integers-requires-2-clause-ends : goal.with_wide_integers-requires-2-clause-ends
 with_wide_integers-requires-2-clause-ends c =
-    longer_ends c.args.record_length.bytes c.args.samples.now c.args.frontier c.or.result.end
-    c.steim2_reach-reach.result.end c.steim1_reach.result c.integers_end-int16.result
-    c.steim2_reach-reach.ensures.fits c.steim1_reach.ensures.fits c.integers_end-int16.ensures.fits
-    (λ e near run. c.steim2_reach-reach.ensures.furthest e run)
-    (λ e near run. inl (c.steim1_reach.ensures.furthest e run))
+    let two = c.steim2_end-reach.ensures.end in
+    let chosen = c.steim1_is_short.ensures.chosen c.if-steim1_is_short.false in
+    longer_ends c.args.form c.args.samples.now c.args.frontier c.or.result.end
+    c.steim2_end-reach.result.end c.steim1_reach.result c.integers_end-int16.result
+    two.fits two.chosen c.steim1_reach.ensures.fits (λ _. chosen)
+    c.integers_end-int16.ensures.fits c.integers_end-int16.ensures.chosen
+    (λ e near run. two.furthest e run)
+    (λ e near run. inl (c.steim1_reach.ensures.furthest e (run.0, run.1, run.2.1)))
     (λ e near run. c.integers_end-int16.ensures.past c.args.frontier e (omega arith) run) _ refl refl refl

@@ -10,18 +10,18 @@ returns-clause-streaming c =
     let count = start_of held.current - 1 in
     let value = c.unneeded.ensures in
     let f = c.forget.ensures in
-    let may = may_forget held.record_length.bytes
+    let may = may_forget held.form
     (length held.samples.items) held.current c.args.growing.now.start s.sound.inside s.is_growing.near in
     let long = ap length f.samples ∙ length-drop count held.samples.items in
     let few = s.few in
     record {
       sound = f.sound;
       stays = f.stays s.stays;
-      is_growing = rw (f.size, f.samples)
-          (growing_forgets held.record_length.bytes held.samples.items (frontier_of held.current)
+      is_growing = rw (f.form, f.samples)
+          (growing_forgets held.form held.samples.items (frontier_of held.current)
           (frontier_of c.forget.new.self.current) count c.args.growing.now _ s.is_growing may f.frontier
           (omega arith) refl);
-      few = rw f.size (omega arith);
+      few = rw f.form (omega arith);
     }
 
 pub returns-clause-behind : goal.returns-clause-behind
@@ -30,7 +30,7 @@ returns-clause-behind c =
     let count = start_of held.current - 1 in
     let f = c.forget.ensures in
     let long = ap length f.samples ∙ length-drop count held.samples.items in
-    let few = growing_few held.record_length.bytes held.samples.items
+    let few = growing_few held.form held.samples.items
     (frontier_of held.current) c.args.growing.now c.requires.is_growing in
     let frontier = f.frontier in
-    rw f.size (omega arith)
+    rw f.form (omega arith)

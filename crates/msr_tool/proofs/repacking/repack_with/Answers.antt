@@ -31,7 +31,7 @@ records-init g c =
             (rw c.settings_of.ensures.same at c.new-reader.ensures.strict);
         lined = c.new-writer.ensures.none (g.W.Sink.device c.args.sink.now);
         goes_on = rw c.new-writer.ensures.last tt;
-        size = rw (c.new-writer.ensures.size, c.length.ensures.same) refl;
+        form = rw (c.new-writer.ensures.form, c.form_chosen.ensures) refl;
         calm = calm_same (g.W.Sink.device c.args.sink.now);
         encoded = rw c.new-writer.ensures.last tt;
       };
@@ -74,7 +74,7 @@ one_taken g c m =
     let u = c.records.invariant.under in
     more _ _ _ _ _ _ _ u.packed u.joining c.in-Some.next.row m
     (c.in_ok-take.ensures.written _ u.packed u.joining.current u.lined) c.in_ok-take.ensures.last
-    (c.in_ok-take.ensures.encoded u.encoded) (rw c.in_ok-take.ensures.size u.size)
+    (c.in_ok-take.ensures.encoded u.encoded) (rw c.in_ok-take.ensures.form u.form)
 
 pub returns-in_err-next-clause-does : goal.returns-in_err-next-clause-does
 returns-in_err-next-clause-does g c =
@@ -83,7 +83,7 @@ returns-in_err-next-clause-does g c =
     let given = map segment_of_packed u.packed ++ option_to_list u.joining.current in
     let why = c.in_err-next.field-0.0 in
     let stops = why_stopped g (goal.at.returns-in_err-next-clause-does g c).In_err-next in
-    let prefix = rw u.size at (prefix_lined _ _ c.records.writer u.packed u.joining.current u.goes_on u.lined) in
+    let prefix = rw u.form at (prefix_lined _ _ c.records.writer u.packed u.joining.current u.goes_on u.lined) in
     rw (p.1, p.2) (read_ends _ (settings_of c.args.options) _ _ _ _ _ given why u.rows.has_read.came.steady
     c.next_record.ensures.few u.calm.steady stops (read_failed c.args.options _ _ _ _ given why stops prefix))
 
@@ -114,7 +114,7 @@ returns-in_err-take-clause-does g c =
     let p = err_from_is_err_and c.from_residual-in_err-take.result c.from_residual-in_err-take.ensures.1 in
     let u = c.records.invariant.under in
     let m = one_read g (goal.at.returns-in_err-take-clause-does g c).After-take in
-    let stops = rw u.size at (c.in_err-take.ensures.written
+    let stops = rw u.form at (c.in_err-take.ensures.written
     (g.W.Sink.device c.args.sink.now) u.packed u.joining.current u.lined) in
     let after = more_read _ _ _ _ _ u.joining c.in-Some.next.row m in
     rw (p.1, p.2) (write_ends _ _ _ _ _ _ _ _ c.in_err-take.field-0.0 m.rows.has_read.came.steady u.calm.steady
@@ -160,7 +160,7 @@ records-preserved-in-Continue-branch-4 g c =
     record {
       under = flushed _ _ _ _ _ _ _ _ _ taken
           (c.in_ok-flush.ensures.written _ taken.packed taken.joining.current taken.lined)
-          c.flush.ensures.last c.flush.ensures.size;
+          c.flush.ensures.last c.flush.ensures.form;
       ready = λ is_before_reads. inr c.in_ok-flush.ensures.none_wait;
     }
 
@@ -176,7 +176,7 @@ returns-in_err-segments-clause-does g c =
     let u = c.records.invariant.under in
     let end = rw c.in_default.is at (c.in_ok-next.ensures.read
     (g.R.Source.device c.args.source.now) u.rows.records u.rows.answers u.rows.has_read) in
-    let stops = rw u.size at (c.in_err-segments.ensures.written
+    let stops = rw u.form at (c.in_err-segments.ensures.written
     (g.W.Sink.device c.args.sink.now) u.packed u.joining.current u.lined) in
     rw (p.1, p.2) (write_ends _ _ _ _ _ _ _ _ c.in_err-segments.field-0.0 end.none.read.came.steady u.calm.steady
     c.finish.ensures.few stops (write_failed c.args.options _ _ _ _ c.in_err-segments.field-0.0
@@ -196,10 +196,10 @@ returns-clause-does g c =
     (g.R.Source.device c.args.source.now) u.rows.records u.rows.answers u.rows.has_read) in
     let gave = rows_end _ _ _ _ _ _ _ _ c.counts-counts.result u.rows end c.next_record.ensures.settings
     c.counts-counts.ensures in
-    let wrote = rw u.size at (c.in_ok-segments.ensures.written
+    let wrote = rw u.form at (c.in_ok-segments.ensures.written
     (g.W.Sink.device c.args.sink.now) u.packed u.joining.current u.lined) in
-    let is_first : IsFirst (bytes_of c.length-2.result) c.tolerance.result c.counts-counts.result = record {
-      is_length = is_length c.length-2.result;
+    let is_first : IsFirst (bytes_of c.length.result) c.tolerance.result c.counts-counts.result = record {
+      is_length = is_length c.length.result;
       least = c.tolerance.ensures.in_range.0;
       most = c.tolerance.ensures.in_range.1;
       read = search rules;
@@ -211,4 +211,4 @@ returns-clause-does g c =
     (rw c.tolerance.ensures.same at c.tolerance.ensures.in_range.0)
     (rw c.tolerance.ensures.same at c.tolerance.ensures.in_range.1) (omega arith)
     c.output_keeps_segments.ensures c.output_has_size.ensures
-    c.length-2.ensures.same c.tolerance.ensures.same refl refl is_first)
+    c.length.ensures.same c.tolerance.ensures.same refl refl is_first)

@@ -1,8 +1,8 @@
 use Rattle.std.proofs.Common.{◌∷◌, ◌++◌, [], ap, ◌∙◌}
 use Rattle.std.proofs.lemmas.Result.{err_from_is_err_and}
-use Rattle.msr_kinds.specs.Lengths.{bytes_of}
 use Rattle.msr_segments.specs.Spans.{Following}
 use Rattle.msr_input.specs.Rows.{answer_told}
+use Rattle.msr_verdict.specs.Packed.{form_by}
 use Rattle.msr_verdict.proofs.ComparingStates.{follows_none, follows_step}
 use Rattle.msr_verdict.proofs.StoppedReading.{as_answer, read_fails, read_tells, stops_so, memory_fails, done, settings_none}
 use Rattle.msr_verdict.proofs.verify.verify_packed.Goals as goal
@@ -14,7 +14,7 @@ records-init g c = record {
   read = c.new-reader.ensures.none (g.R.Source.device c.args.source.now);
   settings = settings_none c.args.report.now c.new-reader.result c.new-reader.ensures.following
       c.new-reader.ensures.strict;
-  follows = follows_none (bytes_of c.args.report.now.length) c.args.report.now.segments.items
+  follows = follows_none (form_by c.args.report.now) c.args.report.now.segments.items
       c.new-reader.result.following c.new-comparing.result
       (ap (λ (f : Following). f.current) c.new-reader.ensures.following) c.new-comparing.ensures;
 }
@@ -48,7 +48,7 @@ records-preserved g c =
       answers = u.answers ++ answer_told c.in-Some.next.row;
       read = one.read;
       settings = c.next_record.ensures.settings ∙ u.settings;
-      follows = follows_step (bytes_of c.args.report.now.length) c.args.report.now.segments.items
+      follows = follows_step (form_by c.args.report.now) c.args.report.now.segments.items
           c.records.reader.following c.next_record.new.self.following u.records one.found c.in-Some.next
           c.full_row.result c.records.comparing c.take.new.self u.follows one.length_is one.row_is
           (rw c.in-Some.is at c.in_ok-next.ensures.step) c.full_row.ensures c.in_ok-take.ensures.taken;

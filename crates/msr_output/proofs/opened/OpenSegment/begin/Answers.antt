@@ -10,7 +10,6 @@ returns-clause-begun c =
 pub returns-clause-can : goal.returns-clause-can
 returns-clause-can c =
     let fits : FitsSigned w64 c.args.start = search rules in
-    let size = c.args.record_length in
     record {
       segment = empty_segment c.args.key c.args.start;
       runs = [];
@@ -20,6 +19,5 @@ returns-clause-can c =
         quality = c.requires.quality;
         normal = c.requires.normal;
       };
-      size = record { exponent = size.exponent; power = size.power; least = size.from; most = size.to };
       in_time = rw (to_z-of_z fits) at c.empty_span_is_in_time.ensures;
     }

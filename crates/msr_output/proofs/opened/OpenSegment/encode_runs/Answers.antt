@@ -10,7 +10,7 @@ loop-number-preserved c =
       least = c.number_after_this-number.ensures.least;
       most = c.number_after_this-number.ensures.most;
       can = e.can;
-      size = c.encode_next.ensures.size ∙ i.size;
+      form = c.encode_next.ensures.form ∙ i.form;
       count = c.encode_next.ensures.count ∙ i.count;
       key = c.encode_next.ensures.key ∙ i.key;
       start = c.encode_next.ensures.start ∙ i.start;
@@ -19,7 +19,7 @@ loop-number-preserved c =
           let n = rw c.if-branch.true at e.appends segment (runs ++ a.more) a.is_open in
           appends_one c.args.whole segment runs c.loop-number.self c.encode_next.new.self c.args.first_number
           c.loop-number.number c.number_after_this-number.result c.args.out.now.items c.loop-number.out.items
-          c.encode_next.new.out.items a n.0 c.encode_next.ensures.size n.1 n.2
+          c.encode_next.new.out.items a n.0 c.encode_next.ensures.form n.1 n.2
           c.number_after_this-number.ensures.next;
     }
 
@@ -30,4 +30,4 @@ returns-clause-appends c = λ segment runs o.
     let n = rw c.if-branch.false at c.in_ok-encode_next.ensures.appends segment (runs ++ a.more) a.is_open in
     appends_last c.args.whole segment runs c.loop-number.self c.encode_next.new.self c.args.first_number
     c.loop-number.number c.args.out.now.items c.loop-number.out.items c.encode_next.new.out.items a
-    c.encode_next.ensures.size n.0 n.1 n.2
+    c.encode_next.ensures.form n.0 n.1 n.2

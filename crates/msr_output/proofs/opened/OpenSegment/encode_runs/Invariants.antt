@@ -11,7 +11,7 @@ invariant-loop-number l = record {
   least : 1 ≤ l.number;
   most : l.number ≤ 999_999;
   can : CanGoOn l.whole l.self;
-  size : l.self.size ≡ l.initial.self.size;
+  form : l.self.form ≡ l.initial.self.form;
   count : pushed l.self.packer ≡ pushed l.initial.self.packer;
   key : l.self.key ≡ l.initial.self.key;
   start : l.self.start ≡ l.initial.self.start;

@@ -35,7 +35,7 @@ returns c = λ segment separator key_is start_is shown.
     let appended : OnOk c.encode_record.result
     (AppendsRecord c.args.out.now.items c.encode_record.new.out.items own.key c.unwrap-first.result
     c.args.number (sample_before segment.samples c.args.run.start)
-    (slice_range segment.samples c.args.run.start c.args.run.end) c.args.run.kind (bytes_of own.record_length)) =
+    (slice_range segment.samples c.args.run.start c.args.run.end) c.args.run.kind (bytes_of own.form.length)) =
     rw (
       to_z-of_z first_fits,
       c.sample_before.ensures ∙ shows.before_run
@@ -44,5 +44,5 @@ returns c = λ segment separator key_is start_is shown.
           ∙ shows.run,
     ) at c.encode_record.ensures.appended in
     rw (← c.self.view_is) (on_ok c.encode_record.result
-    (λ a. record_of_run (bytes_of own.record_length) c.args.number segment c.args.run c.unwrap-first.result _ _
+    (λ a. record_of_run (bytes_of own.form.length) c.args.number segment c.args.run c.unwrap-first.result _ _
     (rw (key, start) at nominal) (rw key at a)) appended)

@@ -1,4 +1,3 @@
-use Rattle.msr_kinds.specs.Lengths.{bytes_of}
 use Rattle.msr_output.proofs.OpenSegments.{match_as}
 use Rattle.msr_output.proofs.opened.OpenSegment.push.Goals as goal
 
@@ -8,4 +7,4 @@ returns-clause-taken c = λ segment runs o.
     match_as c.push_all.result (λ p. record { key = q.key; start = q.start; gives = p })
     (λ p. record { key = q.key; start = q.start; gives = p })
     (c.push_all.ensures.taken
-    (bytes_of c.self.inside.record_length) segment.samples runs c.self.inside.separators.items q.gives)
+    c.self.inside.form segment.samples runs c.self.inside.separators.items q.gives)

@@ -6,4 +6,4 @@ pub returns-clause-begun : goal.returns-clause-begun
 returns-clause-begun c = λ first now packed rows h.
     let fits : FitsSigned w64 c.args.start = search rules in
     rw (← c.self.view_is) (begun_empty first now _ packed rows c.begin.result c.args.key c.args.start
-    c.begin.ensures.size (rw (to_z-of_z fits) at c.begin.ensures.begun) (rw (← c.self.view_is) at h))
+    c.begin.ensures.form (rw (to_z-of_z fits) at c.begin.ensures.begun) (rw (← c.self.view_is) at h))

@@ -5,31 +5,31 @@ use Rattle.msr_packer.proofs.InBlocks.{packs_held, packs_more}
 use Rattle.msr_packer.proofs.blocks.BlockPacker.push_all.Goals as goal
 
 pub returns-in_err-extend_from_slice-clause-taken : goal.returns-in_err-extend_from_slice-clause-taken
-returns-in_err-extend_from_slice-clause-taken c = λ bytes before runs separators p.
+returns-in_err-extend_from_slice-clause-taken c = λ form before runs separators p.
     let e = err_from_is_err_and c.from_residual.result c.from_residual.ensures.1 in
-    let q = packs_held bytes before runs separators c.self.inside.held c.make_room.new.self c.self.inside.ended
-    c.make_room.ensures.size (c.make_room.ensures.holds before runs separators) c.make_room.ensures.stays
+    let q = packs_held form before runs separators c.self.inside.held c.make_room.new.self c.self.inside.ended
+    c.make_room.ensures.form (c.make_room.ensures.holds before runs separators) c.make_room.ensures.stays
     (rw (← c.self.view_is) at p) in
     rw e.1 (record {
-      size = q.size;
+      of_form = q.of_form;
       holds = rw c.in_err-extend_from_slice.ensures.items q.holds;
       stays = rw c.in_err-extend_from_slice.ensures.items q.stays;
       goes_on = q.goes_on;
     })
 
 pub returns-clause-taken : goal.returns-clause-taken
-returns-clause-taken c = λ bytes before runs separators p.
-    let q = packs_held bytes before runs separators c.self.inside.held c.make_room.new.self c.self.inside.ended
-    c.make_room.ensures.size (c.make_room.ensures.holds before runs separators) c.make_room.ensures.stays
+returns-clause-taken c = λ form before runs separators p.
+    let q = packs_held form before runs separators c.self.inside.held c.make_room.new.self c.self.inside.ended
+    c.make_room.ensures.form (c.make_room.ensures.holds before runs separators) c.make_room.ensures.stays
     (rw (← c.self.view_is) at p) in
     let room = c.make_room.new.self in
     let new : HeldSamples = record {
-      record_length = room.record_length;
+      form = room.form;
       samples = c.extend_from_slice.new.self;
       offset = room.offset;
       current = room.current;
       from = room.from;
       to = room.to;
     } in
-    packs_more bytes before runs separators room new c.args.samples.now c.self.inside.ended
-    (rw q.size at room.record_length.least) refl refl refl c.in_ok-extend_from_slice.ensures.items q
+    packs_more form before runs separators room new c.args.samples.now c.self.inside.ended
+    refl refl refl c.in_ok-extend_from_slice.ensures.items q

@@ -13,6 +13,6 @@ returns-clause-holds c = λ samples runs separators h.
     let start : start_of c.args.self.now.current ≡ c.in-Some.current.start = ap start_of c.in-Some.is in
     let some : 0 < c.unneeded-count.result = let never = c.if-count-eq0.false in grind arith in
     rw c.remove_front.ensures
-    (window_less c.args.self.now.record_length.bytes samples runs separators c.args.self.now.samples.items
+    (window_less c.args.self.now.form samples runs separators c.args.self.now.samples.items
     c.args.self.now.offset c.unneeded-count.result c.in-Some.current _ w (omega arith) (omega arith)
     (omega arith) (omega arith) refl refl)

@@ -6,12 +6,12 @@ use Rattle.msr_packer.proofs.held.HeldSamples.go_on.Goals as goal
 pub piece_of-piece-requires : goal.piece_of-piece-requires
 piece_of-piece-requires c =
     let sound = c.requires.sound in
-    let s = next_stepped c.args.self.now.record_length.bytes c.args.self.now.record_length.least
+    let s = next_stepped c.args.self.now.form
     c.args.self.now.samples.items c.args.self.now.current c.args.step c.requires.next in
     let within = c.requires.next.step.reached.1 in
     let order = c.requires.next.step.reached.0 in
     record {
-      bytes = c.args.self.now.record_length.bytes;
+      form = c.args.self.now.form;
       number = length c.args.self.now.samples.items;
       inside = sound.inside;
       within = omega arith;
@@ -20,12 +20,11 @@ piece_of-piece-requires c =
 
 pub returns-clause-given : goal.returns-clause-given
 returns-clause-given c =
-    let bytes = c.args.self.now.record_length.bytes in
-    let enough = c.args.self.now.record_length.least in
+    let form = c.args.self.now.form in
     let held = c.args.self.now.samples.items in
     let next = c.requires.next in
     let step = c.args.step in
-    let s = next_stepped bytes enough held c.args.self.now.current step next in
+    let s = next_stepped form held c.args.self.now.current step next in
     let on = s.on in
     let few = s.few in
     let frontier = next.frontier in
@@ -34,7 +33,7 @@ returns-clause-given c =
     let reached = next.step.reached.0 in
     let from = c.start_of-self.ensures in
     let later : start_of c.args.self.now.current ≤ step.start =
-    start_before bytes (length held) c.args.self.now.current step.start c.requires.sound.inside s.near in
+    start_before form (length held) c.args.self.now.current step.start c.requires.sound.inside s.near in
     record {
       sound = record {
         number = c.requires.sound.number;
@@ -42,15 +41,15 @@ returns-clause-given c =
         order = omega arith;
         within = omega arith;
       };
-      size = refl;
+      form = refl;
       held = refl;
       offset = refl;
       holds = λ samples runs separators w.
           rw c.piece_of-piece.ensures
-          (window_next bytes enough samples runs separators held c.args.self.now.offset c.args.self.now.current
+          (window_next form samples runs separators held c.args.self.now.offset c.args.self.now.current
           step w next);
       shows = λ samples runs separators w.
           rw (c.piece_of-piece.ensures, from)
-          (shows_next bytes samples runs separators held c.args.self.now.offset c.args.self.now.current
+          (shows_next form samples runs separators held c.args.self.now.offset c.args.self.now.current
           step.start w);
     }

@@ -5,7 +5,7 @@ use Rattle.msr_packer.proofs.held.HeldSamples.step_past.Goals as goal
 
 pub returns-clause-stays : goal.returns-clause-stays
 returns-clause-stays c = λ enough stays.
-    let s = next_stepped c.args.self.now.record_length.bytes c.args.self.now.record_length.least
+    let s = next_stepped c.args.self.now.form
     c.args.self.now.samples.items c.args.self.now.current c.next-step.result
     (rw c.as_slice.ensures.value at c.next-step.ensures) in
     let few = s.few in
@@ -15,7 +15,7 @@ returns-clause-stays c = λ enough stays.
 
 pub returns-clause-order : goal.returns-clause-order
 returns-clause-order c =
-    let s = next_stepped c.args.self.now.record_length.bytes c.args.self.now.record_length.least
+    let s = next_stepped c.args.self.now.form
     c.args.self.now.samples.items c.args.self.now.current c.next-step.result
     (rw c.as_slice.ensures.value at c.next-step.ensures) in
     let on = s.on in
@@ -31,7 +31,7 @@ returns-clause-furthest c = λ start end le more run.
 
 pub returns-clause-fewer : goal.returns-clause-fewer
 returns-clause-fewer c =
-    let s = next_stepped c.args.self.now.record_length.bytes c.args.self.now.record_length.least
+    let s = next_stepped c.args.self.now.form
     c.args.self.now.samples.items c.args.self.now.current c.next-step.result
     (rw c.as_slice.ensures.value at c.next-step.ensures) in
     let on = s.on in

@@ -18,7 +18,7 @@ last_piece-last-requires-clause-end c =
     elim (cases_lt (frontier_of held.current) (length held.samples.items)) as
     (λ _. length c.step_past-first.new.self.samples.items ≤ frontier_of c.step_past-first.new.self.current) [
       | inl more ↦
-          let run = growing_run held.record_length.bytes held.samples.items (frontier_of held.current)
+          let run = growing_run held.form held.samples.items (frontier_of held.current)
           (length held.samples.items) c.self.inside.growing (omega arith) t.is_growing in
           let far = e.furthest c.self.inside.growing.start (length held.samples.items) t.is_growing.before
           (omega arith) run in
@@ -27,16 +27,16 @@ last_piece-last-requires-clause-end c =
     ]
 
 pub returns : goal.returns
-returns c = λ bytes samples runs separators s.
+returns c = λ form samples runs separators s.
     let held = c.self.inside.held in
     let q = (rw (← c.self.view_is) at s).packs in
-    let l = leaves bytes samples runs separators held.samples.items held.offset held.current q.holds in
+    let l = leaves form samples runs separators held.samples.items held.offset held.current q.holds in
     let g = c.step_past-first.ensures.given in
     let first = pieces_of c.step_past-first.result in
     let last = pieces_of c.last_piece-last.result in
     let canonical = c.last_piece-last.ensures.canonical samples (runs ++ runs_of first)
     (separators ++ separators_of first) (g.holds samples runs separators
-    (holds_in bytes samples runs separators held q.size q.holds)) in
+    (holds_in form samples runs separators held q.of_form q.holds)) in
     record {
       canonical = rw (
         c.both.ensures,
@@ -47,7 +47,7 @@ returns c = λ bytes samples runs separators s.
             (runs_of last),
         ← append_assoc separators (separators_of first) (separators_of last),
       )
-          (rw (g.size, q.size) at canonical);
+          (rw (g.form, q.of_form) at canonical);
       given = held.offset + start_of held.current;
       joined = l.joined;
       from_there = rw (c.remove_front.ensures, c.last_piece-last.ensures.held, g.held, c.start_of-start.ensures)

@@ -15,7 +15,7 @@ returns-in_err-push-clause-written g c = λ start packed current h.
     rw (p.1, p.2, ← c.self.view_is) (stops_at_last _ start
     (g.W.Sink.device c.end.new.sink) packed current last.segment Memory last.is
     (stops_pushing start (g.W.Sink.device c.end.new.sink) c.end.new.self packed last.segment c.in_ok-line.line
-    _ c.in_ok-line.ensures.size wrote))
+    _ c.in_ok-line.ensures.form wrote))
 
 pub returns-clause-written : goal.returns-clause-written
 returns-clause-written g c = λ start packed current h.
@@ -23,7 +23,7 @@ returns-clause-written g c = λ start packed current h.
     let l = rw (← c.self.view_is) at h in
     let last = last_of start (g.W.Sink.device c.args.sink.now) _ packed current c.in-Some.segment is l in
     let wrote = c.in_ok-line.ensures.written start packed last.segment last.begun in
-    let goes : GoesOn c.self.inside.writer.size c.in-Some.segment =
+    let goes : GoesOn c.self.inside.writer.form c.in-Some.segment =
     rw is at (rw (← c.self.view_is) at c.requires.last) in
     let is_form = c.line_has_form.ensures (line_proper start
     (g.W.Sink.device c.end.new.sink) c.end.new.self packed last.segment c.in_ok-line.line c.in-Some.segment

@@ -8,10 +8,10 @@ returns-in_err-finish-clause-written g c = λ start packed current h.
     let m = c.in_ok-end_last.ensures.written start packed current h in
     let wrote = lined_none start (g.W.Sink.device c.end_last.new.sink) _ m.all
     (rw (← c.all.view_is) at c.in_ok-end_last.ensures.last) (rw (← c.all.view_is) at m.after) in
-    let same_size = rw (← c.all.view_is) at c.in_ok-end_last.ensures.size in
+    let same_form = rw (← c.all.view_is) at c.in_ok-end_last.ensures.form in
     rw (p.1, p.2) (stops_finishing _ start
     (g.W.Sink.device c.finish.new.sink) c.all.inside.writer m.all packed current c.in_err-finish.field-0.0
-    same_size m.same (c.in_err-finish.ensures.written start m.all wrote.0 wrote.1))
+    same_form m.same (c.in_err-finish.ensures.written start m.all wrote.0 wrote.1))
 
 pub returns-clause-written : goal.returns-clause-written
 returns-clause-written g c = λ start packed current h.
@@ -24,7 +24,7 @@ returns-clause-written g c = λ start packed current h.
       rows = wrote.0;
       writing = c.all.inside.writer;
       same = m.same;
-      same_size = rw (← c.all.view_is) at c.in_ok-end_last.ensures.size;
+      same_form = rw (← c.all.view_is) at c.in_ok-end_last.ensures.form;
       written = c.in_ok-finish.ensures.written start m.all wrote.0 wrote.1;
       are_lines = l.are_lines;
       forms = l.forms;

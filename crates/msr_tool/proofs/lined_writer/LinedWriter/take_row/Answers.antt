@@ -20,4 +20,4 @@ returns-in_ok-end_last-in-Begins-clause-written g c = λ start packed current h.
     (Some (empty_segment row.key row.start)) begun) in
     rw c.in-Begins.is (took_first _ _ start
     (g.W.Sink.device c.push.new.sink) c.push.new.self packed m.all current row c.push.result
-    (c.begin.ensures.size ∙ c.in_ok-end_last-in-Begins.ensures.size) m.same wrote)
+    (c.begin.ensures.form ∙ c.in_ok-end_last-in-Begins.ensures.form) m.same wrote)

@@ -2,8 +2,8 @@ use Rattle.std.proofs.Common.{rules, ◌≡◌, ◌∙◌, sym, ap, length, Some
 use Rattle.std.specs.Prelude.{slice_get}
 use Rattle.std.proofs.lemmas.Bool.{both_ways}
 use Rattle.std.proofs.lemmas.Option.{slice_get-get_or}
-use Rattle.msr_kinds.specs.Lengths.{bytes_of}
 use Rattle.msr_report.specs.declared.report.SegmentLine.{SegmentLine}
+use Rattle.msr_verdict.specs.Packed.{form_by}
 use Rattle.msr_verdict.proofs.Lines.{IsLineOf, shown_at, other_line}
 use Rattle.msr_verdict.proofs.comparing.Comparing.is_shown.Goals as goal
 
@@ -22,10 +22,11 @@ returns-then-is_line_of c =
       c.as_slice.ensures,
       c.as_slice-then-is_line_of.ensures.value,
       c.as_slice-then-is_line_of-2.ensures.value,
-    ) at c.shows_least.ensures.exact in
+      c.form_by.ensures,
+    ) at c.shows_least_in.ensures.exact in
     rw (← c.self.view_is) (shown_at
-    (bytes_of c.args.report.now.length) c.self.inside.place c.args.report.now.segments.items c.args.segment.now
-    c.self.inside.runs.items c.in-Some.line.now c.shows_least.result at is exact)
+    (form_by c.args.report.now) c.self.inside.place c.args.report.now.segments.items c.args.segment.now
+    c.self.inside.runs.items c.in-Some.line.now c.shows_least_in.result at is exact)
 
 pub returns-else-is_line_of : goal.returns-else-is_line_of
 returns-else-is_line_of c =
@@ -36,7 +37,7 @@ returns-else-is_line_of c =
     ∙ ap (λ (l : SegmentLine). Some l) (sym (look.3.1 c.in-Some.line.now))) in
     let runs : c.len.result ≡ length c.self.inside.runs.items = search rules in
     rw (← c.self.view_is) (other_line
-    (bytes_of c.args.report.now.length) c.self.inside.place c.args.report.now.segments.items c.args.segment.now
+    (form_by c.args.report.now) c.self.inside.place c.args.report.now.segments.items c.args.segment.now
     c.self.inside.runs.items c.in-Some.line.now c.is_line_of.result at
     (λ is. both_ways c.is_line_of.result c.if-is_line_of.false
     (c.is_line_of.ensures.1 (is.key, is.start, is.samples ∙ sym c.len-samples.ensures, is.records ∙ sym runs)))

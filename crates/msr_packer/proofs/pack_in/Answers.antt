@@ -2,7 +2,7 @@ use Rattle.std.proofs.Common.{rules, ◌^◌, arith, length, ◌<◌, ◌≤◌}
 use Rattle.msr_packer.specs.HeldSamples.{frontier_of}
 use Rattle.msr_packer.proofs.Holding.{ends_with, next_stepped, window_next}
 use Rattle.msr_packer.proofs.Least.{found}
-use Rattle.msr_packer.proofs.pack.Goals as goal
+use Rattle.msr_packer.proofs.pack_in.Goals as goal
 
 pub piece_of-requires : goal.piece_of-requires
 piece_of-requires c =
@@ -11,9 +11,9 @@ piece_of-requires c =
     let order = next.step.reached.0 in
     let within = next.step.reached.1 in
     record {
-      bytes = c.args.record_length.bytes;
+      form = c.args.form;
       number = length c.args.samples.now;
-      inside = c.loop-record_length.invariant.inside;
+      inside = c.loop-form.invariant.inside;
       within = omega arith;
       counted = omega arith;
     }
@@ -22,52 +22,51 @@ pub piece_of-requires-2 : goal.piece_of-requires-2
 piece_of-requires-2 c =
     let fits : length c.args.samples.now < 2 ^ 64 = search rules in
     record {
-      bytes = c.args.record_length.bytes;
+      form = c.args.form;
       number = length c.args.samples.now;
-      inside = c.loop-record_length.invariant.inside;
+      inside = c.loop-form.invariant.inside;
       within = omega arith;
       counted = omega arith;
     }
 
-pub loop-record_length-smaller : goal.loop-record_length-smaller
-loop-record_length-smaller c =
+pub loop-form-smaller : goal.loop-form-smaller
+loop-form-smaller c =
     let samples = c.args.samples.now in
     let next = c.next-next.ensures in
-    let s = next_stepped c.args.record_length.bytes c.args.record_length.least samples c.loop-record_length.current
+    let s = next_stepped c.args.form samples c.loop-form.current
     c.next-next.result next in
     let on = s.on in
     let within = next.step.reached.1 in
     let end : c.next-next.result.end ≤ length samples = omega arith in
     omega arith
 
-pub loop-record_length-preserved : goal.loop-record_length-preserved
-loop-record_length-preserved c =
-    let i = c.loop-record_length.invariant in
-    let bytes = c.args.record_length.bytes in
-    let enough = c.args.record_length.least in
+pub loop-form-preserved : goal.loop-form-preserved
+loop-form-preserved c =
+    let i = c.loop-form.invariant in
+    let form = c.args.form in
     let samples = c.args.samples.now in
-    let current = c.loop-record_length.current in
+    let current = c.loop-form.current in
     let next = c.next-next.ensures in
-    let s = next_stepped bytes enough samples current c.next-next.result next in
+    let s = next_stepped form samples current c.next-next.result next in
     let frontier = next.frontier in
     let before = next.step.before in
     let on = s.on in
     rw (c.in_ok-add.ensures.runs, c.in_ok-add.ensures.separators, c.piece_of.ensures)
     (record {
-      window = window_next bytes enough samples c.loop-record_length.packing.runs.items
-          c.loop-record_length.packing.separators.items samples 0 current c.next-next.result i.window next;
+      window = window_next form samples c.loop-form.packing.runs.items
+          c.loop-form.packing.separators.items samples 0 current c.next-next.result i.window next;
       inside = record { before = before; on = omega arith; within = next.step.reached.1; short = s.few };
     })
 
 pub returns : goal.returns
 returns c =
-    let i = c.loop-record_length.invariant in
-    let bytes = c.args.record_length.bytes in
+    let i = c.loop-form.invariant in
+    let form = c.args.form in
     let samples = c.args.samples.now in
-    let done : length samples ≤ frontier_of c.loop-record_length.current = omega arith in
-    let f = found bytes samples c.args.record_length.least _ _
-    (ends_with bytes samples c.loop-record_length.packing.runs.items
-    c.loop-record_length.packing.separators.items samples 0 c.loop-record_length.current i.window done) in
+    let done : length samples ≤ frontier_of c.loop-form.current = omega arith in
+    let f = found form samples _ _
+    (ends_with form samples c.loop-form.packing.runs.items
+    c.loop-form.packing.separators.items samples 0 c.loop-form.current i.window done) in
     rw (c.in_ok-add-2.ensures.runs, c.in_ok-add-2.ensures.separators, c.piece_of-2.ensures)
     (record {
       packing = f.packing;

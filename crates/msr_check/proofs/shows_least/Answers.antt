@@ -1,7 +1,0 @@
-use Rattle.msr_words.proofs.Certificate.{least_by_separators}
-use Rattle.msr_check.proofs.shows_least.Goals as goal
-
-pub returns-then-is_packing-clause-least : goal.returns-then-is_packing-clause-least
-returns-then-is_packing-clause-least c t =
-    least_by_separators c.args.record_length.bytes c.args.samples.now c.args.runs.now c.args.separators.now
-    (c.separates.ensures.0 t) c.if-runs-separators.false
