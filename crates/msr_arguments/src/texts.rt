@@ -99,8 +99,8 @@ not shown  The report does not show that: a record has another length or no samp
            of samples or records, or its separators do not agree. It does not say that
            fewer records are possible. Status 3.
 
-Nothing is said of the file that PACKED was made from. If msrepack made it, repack
-that file again with the same options: the same input gives the same records.
+Nothing is said of the file that PACKED was made from: `msrepack compare` says whether
+it has the same segments.
 
 The report is read with the form that `msrepack repack` writes. If it has another, one
 line on standard error names its first wrong line, counted from 1; if PACKED has a
@@ -137,7 +137,7 @@ differ segment K sample N only in ONE
 differ segment K only in ONE          or, in both of these, OTHER
 
 Neither file is trusted, and it does not matter what wrote them. If one has a fault, one
-line on standard error names the file, at which byte and why, and nothing is compared.
+line on standard error names the file, at which byte and why, and there is no answer.
 
 Status 0 if they are the same, 3 if they differ, 1 after a fault, 2 if the command line
 is wrong.";
