@@ -1,5 +1,5 @@
 -- If nothing waits, the records that are decided were written.
-use Rattle.std.proofs.Common.{◌≡◌, ◌≤◌, ℕ, ◌+◌, List, [], ◌++◌, ◌∙◌, length, map, refl, append-nil, Some, None}
+use Rattle.std.proofs.Common.{◌≡◌, ℕ, ◌+◌, List, [], ◌++◌, ◌∙◌, length, map, refl, append-nil, Some, None}
 use Rattle.std.specs.List.{flat_map}
 use Rattle.std.specs.Option.{option_to_list}
 use Rattle.msr_kinds.specs.declared.forms.Form.{Form}
