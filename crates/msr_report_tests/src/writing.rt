@@ -88,7 +88,7 @@ fn write<W: Sink>(
     requires quality { IsTrue (is_quality segment.now.key.quality) }
     requires normal { is_pending segment.now.key.activity segment.now.key.correction ≡ false }
     requires in_time { SegmentIsInTime segment.now }
-    ensures size { writer.new.size ≡ writer.old.size }
+    ensures form { writer.new.form ≡ writer.old.form }
     ensures failures { (W.device sink.new).failures ≤ (W.device sink.old).failures + 128 }
     ensures interruptions { (W.device sink.new).interruptions ≤ (W.device sink.old).interruptions + 128 }
 {
