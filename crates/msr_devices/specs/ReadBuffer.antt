@@ -1,8 +1,8 @@
 -- What stands in a read buffer, and what filling it does.
 use Rattle.std.specs.Prelude.{◌≡◌, ℕ, ◌*◌, ◌^◌, ◌<◌, ◌≤◌, Bool, true, false, nat_le, if◌then◌else◌, max, List, [], length}
 use Rattle.msr_devices.specs.Device.{Device, HasLeft, GivesOnto, HasFailed, IsCalm, IsSteady}
-use Rattle.msr_devices.specs.declared.read_buffer.FillFault.{FillFault}
-use Rattle.msr_devices.specs.declared.read_buffer.FillFault.TheVariants.{Read, Memory}
+use Rattle.msr_devices.specs.declared.fault.DeviceFault.{DeviceFault}
+use Rattle.msr_devices.specs.declared.fault.DeviceFault.TheVariants.{Failed, Memory}
 
 -- the bytes that were read and not yet consumed; whether none are left after them; and for how many bytes
 -- there is memory
@@ -33,8 +33,8 @@ pub record IsFilled (want : ℕ) (old new : Device) (before after : Window) : Ty
 
 -- The source failed: what came before it did stands there, and is less than was wanted. Or the memory was refused
 -- that the bytes wanted take: then nothing was read.
-abbrev pub StopsFilling : ℕ → Device → Device → Window → Window → FillFault → Type 0
-StopsFilling want old new before after Read =
+abbrev pub StopsFilling : ℕ → Device → Device → Window → Window → DeviceFault → Type 0
+StopsFilling want old new before after Failed =
     HasFailed old new × Fills old new before after × (before.ended ≡ false) × (after.ended ≡ false)
     × (length after.bytes < want)
 StopsFilling want old new before after Memory = (new ≡ old) × (after ≡ before) × (before.room < want)

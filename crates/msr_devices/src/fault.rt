@@ -1,43 +1,39 @@
-//! What a loop over a device answers when the device failed, and why writing stops.
+//! What a loop over a device answers when the device failed, and why reading or writing stops.
 ghost use Rattle.std.specs.Prelude.{◌≡◌};
-ghost use Rattle.msr_devices.specs.declared.fault.WriteFault.TheVariants.{Write, Memory};
+ghost use Rattle.msr_devices.specs.declared.fault.DeviceFault.TheVariants.{Failed, Memory};
 
 use std::alloc::AllocError;
 use thiserror::Error;
 
-/// The source failed, or was interrupted 64 times in a row.
+/// The device failed, or was interrupted 64 times in a row; a sink also if it accepted 0 bytes of a write that was not
+/// empty.
 #[derive(Clone, Copy, Debug, PartialEq, Eq, Error)]
-#[error("the source failed")]
-pub struct SourceFault;
+#[error("the device failed")]
+pub struct DeviceFailed;
 
-/// The sink failed, accepted 0 bytes of a write that was not empty, or was interrupted 64 times in a row.
+/// Why a buffer was not filled from a source, or records or a text were not written whole to a sink.
 #[derive(Clone, Copy, Debug, PartialEq, Eq, Error)]
-#[error("the sink failed")]
-pub struct SinkFault;
-
-/// Why records or a text were not written whole.
-#[derive(Clone, Copy, Debug, PartialEq, Eq, Error)]
-pub enum WriteFault {
-    /// The sink failed, accepted nothing, or was interrupted 64 times in a row.
-    #[error("write fault")]
-    Write,
+pub enum DeviceFault {
+    /// As in [`DeviceFailed`].
+    #[error("the device failed")]
+    Failed,
     /// Memory was refused.
     #[error("out of memory")]
     Memory,
 }
 
-impl From<SinkFault> for WriteFault {
-    ghost from_gives = { λ _ e. e ≡ Write };
+impl From<DeviceFailed> for DeviceFault {
+    ghost from_gives = { λ _ e. e ≡ Failed };
 
-    fn from(_: SinkFault) -> WriteFault {
-        WriteFault::Write
+    fn from(_: DeviceFailed) -> DeviceFault {
+        DeviceFault::Failed
     }
 }
 
-impl From<AllocError> for WriteFault {
+impl From<AllocError> for DeviceFault {
     ghost from_gives = { λ _ e. e ≡ Memory };
 
-    fn from(_: AllocError) -> WriteFault {
-        WriteFault::Memory
+    fn from(_: AllocError) -> DeviceFault {
+        DeviceFault::Memory
     }
 }

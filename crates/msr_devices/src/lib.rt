@@ -14,8 +14,8 @@ mod write_buffer;
 
 pub use adapters::{FromRead, FromWrite};
 pub use device::{Sink, Source};
-pub use fault::{SinkFault, SourceFault, WriteFault};
+pub use fault::{DeviceFailed, DeviceFault};
 pub use loops::{read_some, write_all, write_some};
 pub use memory::{Behavior, TestSink, TestSource};
-pub use read_buffer::{FillFault, ReadBuffer};
+pub use read_buffer::ReadBuffer;
 pub use write_buffer::WriteBuffer;

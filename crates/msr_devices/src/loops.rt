@@ -3,7 +3,7 @@ ghost use Rattle.std.specs.Prelude.{◌≡◌, ◌+◌, ◌<◌, ◌≤◌, ◌^
 ghost use Rattle.msr_devices.specs.Device.{CanCountCall, HasLeft, Gives, GivesOnto, Takes, Moves, HasFailed, IsCalm, IsSteady, CountsFew};
 
 use crate::device::{Sink, Source};
-use crate::fault::{SinkFault, SourceFault};
+use crate::fault::DeviceFailed;
 use std::io::ErrorKind;
 
 /// A device that is interrupted so often in a row has failed.
@@ -11,7 +11,7 @@ const MOST_INTERRUPTIONS: u32 = 64;
 
 /// Reads some bytes into the start of `buf`, again after an interruption. `Ok(0)` says that none are left, or
 /// that `buf` is empty.
-pub fn read_some<R: Source>(source: &mut R, buf: &mut [u8]) -> Result<usize, SourceFault>
+pub fn read_some<R: Source>(source: &mut R, buf: &mut [u8]) -> Result<usize, DeviceFailed>
     requires { CanCountCall (R.device source.old) }
     ensures within { IfOk result (λ n. n ≤ length buf.new) }
     ensures bytes { IfOk result (λ n. Gives (R.device source.old) (R.device source.new) (take n buf.new)) }
@@ -28,12 +28,12 @@ pub fn read_some<R: Source>(source: &mut R, buf: &mut [u8]) -> Result<usize, Sou
             Ok(n) => return Ok(n),
             Err(error) => {
                 if error.kind() != ErrorKind::Interrupted {
-                    return Err(SourceFault);
+                    return Err(DeviceFailed);
                 }
             }
         }
     }
-    Err(SourceFault)
+    Err(DeviceFailed)
 }
 
 /// Reads after the first `filled` bytes of `room` until `want` are filled, or no bytes are left: then it gives `true`.
@@ -42,7 +42,7 @@ pub(crate) fn read_until<R: Source>(
     room: &mut [u8],
     filled: &mut usize,
     want: usize,
-) -> Result<bool, SourceFault>
+) -> Result<bool, DeviceFailed>
     requires count { CanCountCall (R.device source.old) }
     requires within { filled.old ≤ length room.old }
     requires want { want ≤ length room.old }
@@ -70,7 +70,7 @@ pub(crate) fn read_until<R: Source>(
 }
 
 /// Writes some bytes from the start of `buf`, again after an interruption. A call that accepts none is a failure.
-pub fn write_some<W: Sink>(sink: &mut W, buf: &[u8]) -> Result<usize, SinkFault>
+pub fn write_some<W: Sink>(sink: &mut W, buf: &[u8]) -> Result<usize, DeviceFailed>
     requires count { CanCountCall (W.device sink.old) }
     requires some { 0 < length buf.now }
     ensures within { IfOk result (λ n. n ≤ length buf.now) }
@@ -85,21 +85,21 @@ pub fn write_some<W: Sink>(sink: &mut W, buf: &[u8]) -> Result<usize, SinkFault>
 {
     for tried in 0..MOST_INTERRUPTIONS {
         match sink.write(buf) {
-            Ok(0) => return Err(SinkFault),
+            Ok(0) => return Err(DeviceFailed),
             Ok(n) => return Ok(n),
             Err(error) => {
                 if error.kind() != ErrorKind::Interrupted {
-                    return Err(SinkFault);
+                    return Err(DeviceFailed);
                 }
             }
         }
     }
-    Err(SinkFault)
+    Err(DeviceFailed)
 }
 
 /// Writes all of `buf`. At an `Err` a prefix of it was written, and how much is not told: `WriteBuffer` keeps
 /// what was not.
-pub fn write_all<W: Sink>(sink: &mut W, buf: &[u8]) -> Result<(), SinkFault>
+pub fn write_all<W: Sink>(sink: &mut W, buf: &[u8]) -> Result<(), DeviceFailed>
     requires { CanCountCall (W.device sink.old) }
     ensures all { OnOk result (Takes (W.device sink.old) (W.device sink.new) buf.now) }
     ensures calm { OnOk result (IsCalm (W.device sink.old) (W.device sink.new)) }
@@ -109,7 +109,7 @@ pub fn write_all<W: Sink>(sink: &mut W, buf: &[u8]) -> Result<(), SinkFault>
 {
     match write_counted(sink, buf) {
         Ok(()) => Ok(()),
-        Err(PartialFault { written: _ }) => Err(SinkFault),
+        Err(PartialFault { written: _ }) => Err(DeviceFailed),
     }
 }
 
@@ -137,7 +137,7 @@ pub(crate) fn write_counted<W: Sink>(sink: &mut W, buf: &[u8]) -> Result<(), Par
     while written < buf.len() {
         match write_some(sink, &buf[written..]) {
             Ok(n) => written += n,
-            Err(SinkFault) => return Err(PartialFault { written }),
+            Err(DeviceFailed) => return Err(PartialFault { written }),
         }
     }
     Ok(())

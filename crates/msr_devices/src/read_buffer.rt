@@ -2,41 +2,12 @@
 ghost use Rattle.std.specs.Prelude.{◌≡◌, ◌⊎◌, ◌≤◌, ◌+◌, ◌-◌, [], length, take, drop, slice_range, true, false, IsOk, OnOk, OnErr, MatchResult};
 ghost use Rattle.msr_devices.specs.Device.{CanCountCall, CountsFew};
 ghost use Rattle.msr_devices.specs.ReadBuffer.{IsFilled, StopsFilling, room_for};
-ghost use Rattle.msr_devices.specs.declared.read_buffer.FillFault.TheVariants.{Read, Memory};
 
 use crate::device::Source;
-use crate::fault::SourceFault;
+use crate::fault::DeviceFault;
 use crate::loops::read_until;
 use std::alloc::{AllocError, Global};
 use std::marker::Model;
-use thiserror::Error;
-
-/// Why a read buffer was not filled.
-#[derive(Clone, Copy, Debug, PartialEq, Eq, Error)]
-pub enum FillFault {
-    /// The source failed, or was interrupted 64 times in a row.
-    #[error("the source failed")]
-    Read,
-    /// The buffer could not grow.
-    #[error("out of memory")]
-    Memory,
-}
-
-impl From<SourceFault> for FillFault {
-    ghost from_gives = { λ _ e. e ≡ Read };
-
-    fn from(_: SourceFault) -> FillFault {
-        FillFault::Read
-    }
-}
-
-impl From<AllocError> for FillFault {
-    ghost from_gives = { λ _ e. e ≡ Memory };
-
-    fn from(_: AllocError) -> FillFault {
-        FillFault::Memory
-    }
-}
 
 /// For how many bytes memory is taken at first.
 const PIECE: usize = 65_536;
@@ -95,7 +66,7 @@ impl ReadBuffer {
     /// Reads until at least `want` bytes stand there or no more are left, and makes no further read then. Each
     /// read may bring as many as there is room for, and this grows only if those wanted do not fit. At an
     /// `Err` the bytes that came stand there, and a further call goes on.
-    pub fn fill<R: Source>(&mut self, source: &mut R, want: usize) -> Result<(), FillFault>
+    pub fn fill<R: Source>(&mut self, source: &mut R, want: usize) -> Result<(), DeviceFault>
         requires { CanCountCall (R.device source.old) }
         ensures filled { MatchResult result (λ _. IsFilled want (R.device source.old)
             (R.device source.new) self.old self.new) (StopsFilling want (R.device source.old) (R.device

@@ -4,7 +4,7 @@ ghost use Rattle.msr_devices.specs.Device.{CanCountCall, CountsFew, HasFailed, I
 ghost use Rattle.msr_devices.specs.WriteBuffer.{Passes};
 
 use crate::device::Sink;
-use crate::fault::SinkFault;
+use crate::fault::DeviceFailed;
 use crate::loops::{PartialFault, write_counted};
 use std::alloc::Global;
 
@@ -29,7 +29,7 @@ impl WriteBuffer {
     }
 
     /// Writes all that waits if it is 64 KiB or more.
-    pub fn flush_full<W: Sink>(&mut self, sink: &mut W) -> Result<(), SinkFault>
+    pub fn flush_full<W: Sink>(&mut self, sink: &mut W) -> Result<(), DeviceFailed>
         requires { CanCountCall (W.device sink.old) }
         ensures passes { Passes (W.device sink.old) (W.device sink.new) self.old.bytes.items [] self.new.bytes.items }
         ensures calm { OnOk result (IsCalm (W.device sink.old) (W.device sink.new)) }
@@ -46,7 +46,7 @@ impl WriteBuffer {
     }
 
     /// Writes all that waits. At an `Err` what was not written waits.
-    pub fn flush<W: Sink>(&mut self, sink: &mut W) -> Result<(), SinkFault>
+    pub fn flush<W: Sink>(&mut self, sink: &mut W) -> Result<(), DeviceFailed>
         requires { CanCountCall (W.device sink.old) }
         ensures passes { Passes (W.device sink.old) (W.device sink.new) self.old.bytes.items [] self.new.bytes.items }
         ensures empty { OnOk result (self.new.bytes.items ≡ []) }
@@ -63,7 +63,7 @@ impl WriteBuffer {
                 let left = self.bytes.len() - written;
                 self.bytes.copy_within(written.., 0);
                 self.bytes.truncate(left);
-                Err(SinkFault)
+                Err(DeviceFailed)
             }
         }
     }

@@ -11,8 +11,8 @@ use Rattle.msr_input.specs.Steps.{CameBefore, StopsDecoding, fault_of_fill}
 use Rattle.msr_input.proofs.SettledRefusals.{held_some}
 use Rattle.msr_devices.specs.Device.{Device, GivesOnto}
 use Rattle.msr_devices.specs.ReadBuffer.{Window, IsFilled, StopsFilling, room_for}
-use Rattle.msr_devices.specs.declared.read_buffer.FillFault.{FillFault}
-use Rattle.msr_devices.specs.declared.read_buffer.FillFault.TheVariants as filling
+use Rattle.msr_devices.specs.declared.fault.DeviceFault.{DeviceFault}
+use Rattle.msr_devices.specs.declared.fault.DeviceFault.TheVariants as filling
 use Rattle.msr_devices.proofs.Chaining.{calm_same, calm_calm, calm_failed, steady_steady, onto_more}
 
 -- before the first read
@@ -68,9 +68,9 @@ none_more : (w w' more : List ℕ) → w' ≡ w ++ more → length w' < length w
 none_more w w' [] whole few = whole ∙ append-nil w
 none_more w w' (x ∷ more) whole few = absurd (omega (arith, ap length whole, length-append w (x ∷ more), few))
 
-pub came_short : (a b c : Device) (w w' w'' : Window) (n : ℕ) (fill : FillFault) → IsFilled 0 a b w w'
+pub came_short : (a b c : Device) (w w' w'' : Window) (n : ℕ) (fill : DeviceFault) → IsFilled 0 a b w w'
     → w'.ended ≡ false → StopsFilling n b c w' w'' fill → CameBefore a c w w'' (fault_of_fill fill)
-came_short a b c w w' w'' n filling.Read first unended stops =
+came_short a b c w w' w'' n filling.Failed first unended stops =
     let one = first.fills.onto in
     let two = stops.1.onto in (
       calm_failed a b c (first.calm unended) stops.0,
@@ -80,9 +80,9 @@ came_short a b c w w' w'' n filling.Read first unended stops =
 came_short a b c w w' w'' n filling.Memory first unended stops = rw (stops.0, stops.1) first
 
 pub refused_short : (takes : List ℕ → Type 0) (strict : Bool) (b c : Device) (w' w'' : Window) (offset : ℕ)
-    (fill : FillFault) → (HoldsRecord w'.bytes → ⊥) → StopsFilling (length w'.bytes + 1) b c w' w'' fill
+    (fill : DeviceFault) → (HoldsRecord w'.bytes → ⊥) → StopsFilling (length w'.bytes + 1) b c w' w'' fill
     → StopsDecoding takes strict w'' offset (fault_of_fill fill)
-refused_short takes strict b c w' w'' offset filling.Read none stops =
+refused_short takes strict b c w' w'' offset filling.Failed none stops =
     let same : w''.bytes ≡ w'.bytes = none_more w'.bytes w''.bytes stops.1.onto.more stops.1.onto.whole stops.4 in
     λ holds. none (rw same at holds)
 refused_short takes strict b c w' w'' offset filling.Memory none stops = inl (rw stops.1 (omega (arith, stops.2)))

@@ -8,8 +8,8 @@ use Rattle.msr_rows.specs.declared.fault.FaultKind.{FaultKind}
 use Rattle.msr_rows.specs.declared.fault.FaultKind.TheVariants as refusal
 use Rattle.msr_devices.specs.Device.{Device, GivesOnto, HasFailed}
 use Rattle.msr_devices.specs.ReadBuffer.{Window, IsFilled}
-use Rattle.msr_devices.specs.declared.read_buffer.FillFault.{FillFault}
-use Rattle.msr_devices.specs.declared.read_buffer.FillFault.TheVariants as filling
+use Rattle.msr_devices.specs.declared.fault.DeviceFault.{DeviceFault}
+use Rattle.msr_devices.specs.declared.fault.DeviceFault.TheVariants as filling
 use Rattle.msr_segments.specs.Spans.{Following, Overruns, IsStep}
 use Rattle.msr_segments.specs.Segments.{row_span}
 use Rattle.msr_segments.specs.declared.follow.Step.{Step}
@@ -23,8 +23,8 @@ use Rattle.msr_input.specs.declared.outline.RowOutline.{RowOutline}
 use Rattle.msr_input.specs.declared.fault.ReadFault.TheVariants as fault
 
 -- why reading stops if the bytes of a record did not come
-abbrev pub fault_of_fill : FillFault → ReadFault
-fault_of_fill filling.Read = fault.Read
+abbrev pub fault_of_fill : DeviceFault → ReadFault
+fault_of_fill filling.Failed = fault.Read
 fault_of_fill filling.Memory = fault.Memory
 
 -- Running out of memory is a fault of its own; every other refusal is one of the input.

@@ -2,7 +2,7 @@
 ghost use Rattle.std.specs.Prelude.{◌≡◌};
 ghost use Rattle.msr_input.specs.Steps.{fault_of_fill, fault_at};
 
-use msr_devices::FillFault;
+use msr_devices::DeviceFault;
 use msr_rows::FaultKind;
 use thiserror::Error;
 
@@ -30,13 +30,13 @@ pub enum ReadFault {
     Memory,
 }
 
-impl From<FillFault> for ReadFault {
+impl From<DeviceFault> for ReadFault {
     ghost from_gives = { λ fill fault. fault ≡ fault_of_fill fill };
 
-    fn from(fault: FillFault) -> ReadFault {
+    fn from(fault: DeviceFault) -> ReadFault {
         match fault {
-            FillFault::Read => ReadFault::Read,
-            FillFault::Memory => ReadFault::Memory,
+            DeviceFault::Failed => ReadFault::Read,
+            DeviceFault::Memory => ReadFault::Memory,
         }
     }
 }

@@ -6,7 +6,7 @@ use Rattle.msr_devices.proofs.Chaining.{takes_append, calm_calm, calm_failed}
 use Rattle.msr_rows.specs.declared.row.Row.{Row}
 use Rattle.msr_output.specs.Output.{Packed, segment_of_packed}
 use Rattle.msr_output.specs.Writing.{Writing, HasWritten, HasWrittenAll, StopsWriting}
-use Rattle.msr_devices.specs.declared.fault.WriteFault.TheVariants.{Write}
+use Rattle.msr_devices.specs.declared.fault.DeviceFault.TheVariants.{Failed}
 
 -- its bytes went through the sink or wait
 pub more_whole : (old now : Device) (bytes taken waiting more filled left : List ℕ) → bytes ≡ taken ++ waiting
@@ -65,7 +65,7 @@ written_all start old now w packed rows h p calm =
 -- or the sink failed before
 pub stopped_all : (start old now : Device) (w : Writing) (packed : List Packed) (rows : List Row) (left : List ℕ)
     → HasWritten start old w packed rows → Passes old now w.waiting [] left → HasFailed old now
-    → StopsWriting w.form start now (map segment_of_packed packed) Write
+    → StopsWriting w.form start now (map segment_of_packed packed) Failed
 stopped_all start old now w packed rows left h p failed =
     let whole : h.bytes ≡ (h.taken ++ p.taken) ++ left = h.whole
     ∙ ap (λ (l : List ℕ). h.taken ++ l) (sym (append-nil w.waiting) ∙ p.whole)

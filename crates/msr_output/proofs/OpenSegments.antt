@@ -28,7 +28,7 @@ use Rattle.msr_segments.specs.declared.joiner.Segment.{Segment}
 use Rattle.msr_output.specs.Opened.{AppendsMore, AppendsSome, CanEncode, CanGoOn, Gives, HasBegun, IsOpen, Opened, empty_segment, longer_by}
 use Rattle.msr_output.specs.Output.{AreWritten, Cut, IsPrefixOfOutput, IsPacked, IsWritableSegment, Packed, cuts_at, cuts_of, next_number, number_after, sample_before, segment_of_packed}
 use Rattle.msr_output.specs.Writing.{AppendsRecordOfRun, HasWritten, StopsWriting, Writing}
-use Rattle.msr_devices.specs.declared.fault.WriteFault.TheVariants.{Memory, Write}
+use Rattle.msr_devices.specs.declared.fault.DeviceFault.TheVariants.{Failed, Memory}
 use Rattle.msr_output.proofs.Appending.{appends_more, appends_nothing, cuts_further, number_after-append, written_append}
 use Rattle.msr_output.proofs.Existing.{all_left, all_right, prefix_of_output, is_packed_by, written_longer}
 use Rattle.msr_output.proofs.BetweenSegments.{more_whole, short_sum}
@@ -257,7 +257,7 @@ pub begun_failed : (start old now : Device) (w : Writing) (packed : List Packed)
     → IsWritableSegment segment → other.form ≡ opened.form → (h : HasBegun start old w packed segment opened)
     → AppendsSome whole segment h.runs other w.number w.waiting filled next
     → Passes old now filled [] left → HasFailed old now
-    → StopsWriting w.form start now (map segment_of_packed packed ++ segment ∷ []) Write
+    → StopsWriting w.form start now (map segment_of_packed packed ++ segment ∷ []) Failed
 begun_failed start old now w packed segment opened other whole filled left next writable form h a p failed =
     let rest = gives_rest whole w.form segment.samples
     (h.runs ++ a.more) other.separators other.packer (rw (form ∙ h.form) at a.is_open.gives) in

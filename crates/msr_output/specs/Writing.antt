@@ -8,8 +8,8 @@ use Rattle.msr_rows.specs.declared.row.Row.{Row}
 use Rattle.msr_segments.specs.declared.joiner.Segment.{Segment}
 use Rattle.msr_report.specs.declared.report.SegmentLine.{SegmentLine}
 use Rattle.msr_output.specs.Output.{Packed, Cut, IsRecordOfRun, AreWritten, IsOutput, IsPrefixOfOutput, number_after, cuts_of}
-use Rattle.msr_devices.specs.declared.fault.WriteFault.{WriteFault}
-use Rattle.msr_devices.specs.declared.fault.WriteFault.TheVariants.{Write, Memory}
+use Rattle.msr_devices.specs.declared.fault.DeviceFault.{DeviceFault}
+use Rattle.msr_devices.specs.declared.fault.DeviceFault.TheVariants.{Failed, Memory}
 
 -- what a writer shows: the form of its records, the next sequence number, and the bytes that wait
 pub record Writing : Type 0 where
@@ -77,6 +77,6 @@ pub record HasWrittenPrefix (form : Form) (start now : Device) (segments : List 
   pub prefix : IsPrefixOfOutput form segments taken
 
 -- The sink failed; or memory was refused, and the sink did not fail.
-abbrev pub StopsWriting : Form → Device → Device → List Segment → WriteFault → Type 0
-StopsWriting form start now segments Write = HasWrittenPrefix form start now segments × HasFailed start now
+abbrev pub StopsWriting : Form → Device → Device → List Segment → DeviceFault → Type 0
+StopsWriting form start now segments Failed = HasWrittenPrefix form start now segments × HasFailed start now
 StopsWriting form start now segments Memory = HasWrittenPrefix form start now segments × IsSteady start now

@@ -1,6 +1,6 @@
 //! A writer of segments.
 use crate::opened::OpenSegment;
-use msr_devices::{Sink, WriteBuffer, WriteFault};
+use msr_devices::{DeviceFault, Sink, WriteBuffer};
 use msr_kinds::Form;
 use msr_record::{Key, samples_have_32_bits};
 use msr_report::SegmentLine;
@@ -82,7 +82,7 @@ impl SegmentWriter {
         sink: &mut W,
         segment: &mut OpenSegment,
         samples: &[i32],
-    ) -> Result<(), WriteFault>
+    ) -> Result<(), DeviceFault>
         requires count { CanCountCall (W.device sink.old) }
         requires can { CanGoOn false segment.old }
         requires form { segment.old.form ≡ self.old.form }
@@ -117,7 +117,7 @@ impl SegmentWriter {
         &mut self,
         sink: &mut W,
         segment: OpenSegment,
-    ) -> Result<SegmentLine, WriteFault>
+    ) -> Result<SegmentLine, DeviceFault>
         requires count { CanCountCall (W.device sink.old) }
         requires can { CanGoOn false segment }
         requires form { segment.form ≡ self.old.form }
@@ -137,7 +137,7 @@ impl SegmentWriter {
     }
 
     /// Writes all that waits, while segments may still come.
-    pub fn flush<W: Sink>(&mut self, sink: &mut W) -> Result<(), WriteFault>
+    pub fn flush<W: Sink>(&mut self, sink: &mut W) -> Result<(), DeviceFault>
         requires { CanCountCall (W.device sink.old) }
         ensures written { (start : Device) (packed : List Packed) (rows : List Row)
             → HasWritten start (W.device sink.old) self.old packed rows
@@ -161,7 +161,7 @@ impl SegmentWriter {
     }
 
     /// Writes all that waits.
-    pub fn finish<W: Sink>(self, sink: &mut W) -> Result<(), WriteFault>
+    pub fn finish<W: Sink>(self, sink: &mut W) -> Result<(), DeviceFault>
         requires { CanCountCall (W.device sink.old) }
         ensures written { (start : Device) (packed : List Packed) (rows : List Row)
             → HasWritten start (W.device sink.old) self packed rows

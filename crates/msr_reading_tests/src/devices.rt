@@ -1,8 +1,8 @@
 //! msr_devices: what devices do, which no clause says: how a test device plays, how large the
 //! pieces are, and each call once.
 use msr_devices::{
-    Behavior, FillFault, FromRead, FromWrite, ReadBuffer, SinkFault, SourceFault, TestSink,
-    TestSource, WriteBuffer, read_some, write_all, write_some,
+    Behavior, DeviceFailed, DeviceFault, FromRead, FromWrite, ReadBuffer, TestSink, TestSource,
+    WriteBuffer, read_some, write_all, write_some,
 };
 use msr_fixtures::expect;
 use std::alloc::{AllocError, Global};
@@ -56,7 +56,7 @@ fn fills(alloc: Global, row: Played) -> bool {
     let want = if came == 14 {
         Ok(())
     } else {
-        Err(FillFault::Read)
+        Err(DeviceFault::Failed)
     };
     buffer.fill(&mut source, 14) == want && Some(buffer.bytes()) == TEXT.get(..came)
 }
@@ -100,7 +100,7 @@ fn sinks_play_their_behavior(rt: HostRuntime) -> Result<(), Fail> {
 fn goes_on(alloc: Global, fails_at: u64) -> bool {
     let mut source = TestSource::new(TEXT, behavior(1, 0, Some(fails_at)));
     let mut buffer = ReadBuffer::new(alloc);
-    let failed = buffer.fill(&mut source, 20) == Err(FillFault::Read)
+    let failed = buffer.fill(&mut source, 20) == Err(DeviceFault::Failed)
         && !buffer.has_ended()
         && buffer.bytes().len() as u64 == fails_at;
     failed && buffer.fill(&mut source, 20) == Ok(()) && buffer.has_ended() && buffer.bytes() == TEXT
@@ -136,7 +136,7 @@ fn writes_on(alloc: Global, fails_at: u64) -> Result<bool, AllocError> {
     let mut buffer = WriteBuffer::new(alloc);
     buffer.bytes.extend_from_slice(TEXT)?;
     let waits = buffer.flush_full(&mut sink) == Ok(()) && sink.bytes().is_empty();
-    let failed = buffer.flush(&mut sink) == Err(SinkFault)
+    let failed = buffer.flush(&mut sink) == Err(DeviceFailed)
         && sink.bytes().len() + buffer.bytes.len() == 14;
     Ok(waits && failed && buffer.flush(&mut sink) == Ok(()) && sink.bytes() == TEXT)
 }
@@ -174,7 +174,7 @@ impl Write for Noted {
 }
 
 /// The least room that a reader is given for that many bytes, and then for 100000; 0 if fewer bytes came.
-fn least_room(alloc: Global, want: usize) -> Result<usize, FillFault> {
+fn least_room(alloc: Global, want: usize) -> Result<usize, DeviceFault> {
     let mut noted = Noted { least: usize::MAX };
     let mut source = FromRead::new(&mut noted);
     let mut buffer = ReadBuffer::new(alloc);
@@ -232,15 +232,10 @@ fn writers_of_std(rt: HostRuntime) -> Result<(), Fail> {
 
 #[test]
 fn texts_of_failures(rt: HostRuntime) -> Result<(), Fail> {
-    let devices = format!(in rt.alloc(); "{SourceFault}, {SinkFault}")?;
+    let (failed, memory) = (DeviceFault::Failed, DeviceFault::Memory);
+    let texts = format!(in rt.alloc(); "{DeviceFailed}, {failed}, {memory}")?;
     expect(
-        devices.as_str() == "the source failed, the sink failed",
-        "devices",
-    )?;
-    let (read, memory) = (FillFault::Read, FillFault::Memory);
-    let filling = format!(in rt.alloc(); "{read}, {memory}")?;
-    expect(
-        filling.as_str() == "the source failed, out of memory",
-        "filling",
+        texts.as_str() == "the device failed, the device failed, out of memory",
+        "texts",
     )
 }

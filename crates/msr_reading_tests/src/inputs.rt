@@ -1,7 +1,7 @@
 //! msr_input: what readers do, which no clause says: printed faults, sources that play, and each
 //! call once.
 use crate::devices::expect_at;
-use msr_devices::{Behavior, FillFault, TestSource};
+use msr_devices::{Behavior, DeviceFault, TestSource};
 use msr_fixtures::{Edit, START, expect, int32_record};
 use msr_header::HeaderFault;
 use msr_input::{Fault, NextOutline, NextRecord, ReadFault, RowReader, Settings};
@@ -519,8 +519,8 @@ fn texts(rt: HostRuntime) -> Result<(), Fail> {
     expect(text.as_str() == "offset 0: 5 OtherBlockette 500", "a fault")?;
     for (fault, text) in [
         (ReadFault::Input(fault), "offset 0: 5 OtherBlockette 500"),
-        (FillFault::Read.into(), "read fault"),
-        (FillFault::Memory.into(), "out of memory"),
+        (DeviceFault::Failed.into(), "read fault"),
+        (DeviceFault::Memory.into(), "out of memory"),
     ] {
         expect(is_text(rt.alloc(), fault, text)?, text)?;
     }

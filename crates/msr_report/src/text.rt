@@ -7,18 +7,18 @@ ghost use Rattle.msr_report.specs.Writing.{TakesPrefix};
 
 use crate::lines::{push_end_line, push_first_lines, push_segment};
 use crate::report::Report;
-use msr_devices::{Sink, WriteBuffer, WriteFault};
+use msr_devices::{DeviceFault, Sink, WriteBuffer};
 use std::alloc::Global;
 
 impl Report {
     /// Writes the text of the report. At an `Err` the sink took a prefix of it.
-    pub fn write_text<W: Sink>(&self, alloc: Global, sink: &mut W) -> Result<(), WriteFault>
+    pub fn write_text<W: Sink>(&self, alloc: Global, sink: &mut W) -> Result<(), DeviceFault>
         requires report { IsProper self.now }
         requires count { CanCountCall (W.device sink.old) }
         ensures text { (text : List ℕ) × (IsReportText self.now text
             × MatchResult result (λ _. Takes (W.device sink.old) (W.device sink.new) text)
             (λ _. TakesPrefix (W.device sink.old) (W.device sink.new) text)) }
-        ensures write { IsErrOf result WriteFault.Write ↔ HasFailed (W.device sink.old) (W.device sink.new) }
+        ensures write { IsErrOf result DeviceFault.Failed ↔ HasFailed (W.device sink.old) (W.device sink.new) }
         ensures calm { OnOk result (IsCalm (W.device sink.old) (W.device sink.new)) }
         ensures few { CountsFew (W.device sink.old) (W.device sink.new) }
     {

@@ -2,8 +2,8 @@
 use Rattle.std.proofs.Common.{◌≡◌, ◌∙◌, ◌⊎◌, inl, inr, ap, sym, refl, subst, List, ℕ, true, false, [], ◌++◌, ◌↔◌, append_assoc, drop, Ok, Err, IsErrOf}
 use Rattle.msr_devices.specs.Device.{Device, Gives, HasFailed, HasLeft, IsCalm, IsSteady}
 use Rattle.msr_devices.specs.ReadBuffer.{Window, IsFilled, StopsFilling}
-use Rattle.msr_devices.specs.declared.read_buffer.FillFault.{FillFault}
-use Rattle.msr_devices.specs.declared.read_buffer.FillFault.TheVariants as fill
+use Rattle.msr_devices.specs.declared.fault.DeviceFault.{DeviceFault}
+use Rattle.msr_devices.specs.declared.fault.DeviceFault.TheVariants as fill
 use Rattle.msr_devices.proofs.Chaining.{calm_calm, calm_failed, gives_append, left_of, steady_sound, steady_steady}
 use Rattle.msr_report_reader.specs.Draft.{Follows, IsStep, IsConsumed}
 use Rattle.msr_report_reader.specs.Reading.{ReadsReport, fault_of_fill}
@@ -16,9 +16,9 @@ use Rattle.msr_report_reader.specs.declared.fault.ReportFault.{ReportFault}
 use Rattle.msr_report_reader.specs.declared.fault.ReportFault.TheVariants.{Line, Read, Memory}
 use Rattle.msr_report_reader.proofs.Steps.{drop_taken}
 
-pub stopped : (source : Device) (why : FillFault)
+pub stopped : (source : Device) (why : DeviceFault)
     → (text : List ℕ) × HasLeft source text × ReadsReport text (Err (fault_of_fill why))
-stopped source fill.Read = let left = left_of source in (left.0, left.1, tt)
+stopped source fill.Failed = let left = left_of source in (left.0, left.1, tt)
 stopped source fill.Memory = let left = left_of source in (left.0, left.1, tt)
 
 -- the fault of the bytes that came is that of the whole text, however it goes on
@@ -31,10 +31,10 @@ judged start now bytes Read came fault = absurd (fault [])
 judged start now bytes Memory came fault = let left = left_of start in (left.0, left.1, tt)
 
 -- a source that was not read to its end failed, or memory was refused
-pub stopped_tells : {T : Type 0} (start old new : Device) (want : ℕ) (before after : Window) (why : FillFault)
+pub stopped_tells : {T : Type 0} (start old new : Device) (want : ℕ) (before after : Window) (why : DeviceFault)
     → IsCalm start old → StopsFilling want old new before after why
     → IsErrOf {T = T} (Err (fault_of_fill why)) Read ↔ HasFailed start new
-stopped_tells start old new want before after fill.Read calm stops =
+stopped_tells start old new want before after fill.Failed calm stops =
     ((λ e. calm_failed start old new calm stops.0), (λ has_failed. refl))
 stopped_tells start old new want before after fill.Memory calm stops = (
   (λ e. absurd cc),

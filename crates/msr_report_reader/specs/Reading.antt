@@ -1,7 +1,7 @@
 -- What reading a report from a source gives.
 use Rattle.std.specs.Prelude.{ℕ, List, Result, Ok, Err}
-use Rattle.msr_devices.specs.declared.read_buffer.FillFault.{FillFault}
-use Rattle.msr_devices.specs.declared.read_buffer.FillFault.TheVariants as fill
+use Rattle.msr_devices.specs.declared.fault.DeviceFault.{DeviceFault}
+use Rattle.msr_devices.specs.declared.fault.DeviceFault.TheVariants as fill
 use Rattle.msr_report.specs.Proper.{IsProper}
 use Rattle.msr_report.specs.Text.{IsReportText}
 use Rattle.msr_report.specs.declared.report.Report.{Report}
@@ -11,8 +11,8 @@ use Rattle.msr_report_reader.specs.declared.fault.ReportFault.{ReportFault}
 use Rattle.msr_report_reader.specs.declared.fault.ReportFault.TheVariants.{Line, Read, Memory}
 
 -- the fault of reading to which a fault of filling leads
-abbrev pub fault_of_fill : FillFault → ReportFault
-fault_of_fill fill.Read = Read
+abbrev pub fault_of_fill : DeviceFault → ReportFault
+fault_of_fill fill.Failed = Read
 fault_of_fill fill.Memory = Memory
 
 -- The report is proper, each of its fields is in the range of its type, and the text is its.

@@ -3,7 +3,7 @@ ghost use Rattle.std.specs.Prelude.{◌≡◌};
 ghost use Rattle.msr_report_reader.specs.declared.fault.ReportFault.TheVariants.{Read, Memory};
 ghost use Rattle.msr_report_reader.specs.Reading.{fault_of_fill};
 
-use msr_devices::FillFault;
+use msr_devices::DeviceFault;
 use std::alloc::{AllocError, AllocFailed};
 use thiserror::Error;
 
@@ -37,13 +37,13 @@ impl<T: Drop> From<AllocFailed<T>> for ReportFault {
     }
 }
 
-impl From<FillFault> for ReportFault {
+impl From<DeviceFault> for ReportFault {
     ghost from_gives = { λ fill e. e ≡ fault_of_fill fill };
 
-    fn from(fault: FillFault) -> ReportFault {
+    fn from(fault: DeviceFault) -> ReportFault {
         match fault {
-            FillFault::Read => ReportFault::Read,
-            FillFault::Memory => ReportFault::Memory,
+            DeviceFault::Failed => ReportFault::Read,
+            DeviceFault::Memory => ReportFault::Memory,
         }
     }
 }

@@ -3,7 +3,7 @@ ghost use Rattle.std.specs.Prelude.{◌≡◌, ◌<◌, ◌^◌, All, IfOk, IsTr
 ghost use Rattle.msr_header.specs.Reading.{is_quality};
 ghost use Rattle.msr_report.specs.Proper.{IsProper, IsProperLine, records_of};
 
-use msr_devices::{Behavior, TestSink, WriteFault};
+use msr_devices::{Behavior, DeviceFault, TestSink};
 use msr_fixtures::{START, key_at};
 use msr_record::Key;
 use msr_report::{Counts, Report, SegmentLine, has_text, one_text};
@@ -117,7 +117,7 @@ fn is_written(alloc: Global, report: &Report, fails_at: Option<u64>, size: usize
     let mut sink = TestSink::new(Vec::new(alloc), behavior);
     let fault = report.write_text(alloc, &mut sink).err();
     let want = if fails_at.is_some() {
-        Some(WriteFault::Write)
+        Some(DeviceFault::Failed)
     } else {
         None
     };

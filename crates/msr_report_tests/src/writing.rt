@@ -5,7 +5,7 @@ ghost use Rattle.msr_rows.specs.Correction.{is_pending};
 ghost use Rattle.msr_segments.specs.Segments.{SegmentIsInTime};
 
 use msr_base::SampleVec;
-use msr_devices::{Behavior, Sink, TestSink, WriteFault};
+use msr_devices::{Behavior, DeviceFault, Sink, TestSink};
 use msr_fixtures::{Edit, START, key_at};
 use msr_output::{SegmentWriter, one_output, output_has_size, output_keeps_segments};
 use msr_report::SegmentLine;
@@ -82,7 +82,7 @@ fn write<W: Sink>(
     writer: &mut SegmentWriter,
     sink: &mut W,
     segment: &Segment,
-) -> Result<SegmentLine, WriteFault>
+) -> Result<SegmentLine, DeviceFault>
     requires failures { (W.device sink.old).failures < 2 ^ 64 - 128 }
     requires interruptions { (W.device sink.old).interruptions < 2 ^ 64 - 128 }
     requires quality { IsTrue (is_quality segment.now.key.quality) }
@@ -104,7 +104,7 @@ fn written(
     alloc: Global,
     count: usize,
     behavior: Behavior,
-) -> Result<(Option<WriteFault>, TestSink), AllocError> {
+) -> Result<(Option<DeviceFault>, TestSink), AllocError> {
     let segment = zeros(rt, alloc, count)?;
     assert!(rt; is_writable(&segment));
     let mut sink = TestSink::accepting_nothing(Vec::new(alloc), behavior);
@@ -154,7 +154,7 @@ fn holds_prefix(
 ) -> Result<bool, AllocError> {
     let (fault, sink) = written(rt, alloc, row.count, behavior(row.most, Some(failing)))?;
     let want = if failing < row.calls {
-        Some(WriteFault::Write)
+        Some(DeviceFault::Failed)
     } else {
         None
     };
@@ -192,17 +192,6 @@ fn what_waits_is_flushed(rt: HostRuntime) -> Result<(), Fail> {
     assert!(rt; sink.bytes().is_empty());
     assert!(rt; writer.flush(&mut sink) == Ok(()));
     assert!(rt; sink.bytes().len() == 512);
-    Ok(())
-}
-
-fn is_told(alloc: Global, fault: WriteFault, text: &str) -> Result<bool, AllocError> {
-    Ok(format!(in alloc; "{fault}")?.as_str() == text)
-}
-
-#[test]
-fn shows_faults(rt: HostRuntime) -> Result<(), Fail> {
-    assert!(rt; is_told(rt.alloc(), WriteFault::Write, "write fault")?);
-    assert!(rt; is_told(rt.alloc(), WriteFault::Memory, "out of memory")?);
     Ok(())
 }
 

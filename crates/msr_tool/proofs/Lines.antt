@@ -23,8 +23,8 @@ use Rattle.msr_report_reader.proofs.SegmentsRead.{all_more}
 use Rattle.msr_output.specs.Opened.{Opened, CanGoOn, HasBegun, count_of}
 use Rattle.msr_output.specs.Output.{Packed, segment_of_packed, count_of_runs}
 use Rattle.msr_output.specs.Writing.{Writing, IsLineOf, HasWritten, HasWrittenPrefix, WritesSegment, StopsWriting}
-use Rattle.msr_devices.specs.declared.fault.WriteFault.{WriteFault}
-use Rattle.msr_devices.specs.declared.fault.WriteFault.TheVariants as write
+use Rattle.msr_devices.specs.declared.fault.DeviceFault.{DeviceFault}
+use Rattle.msr_devices.specs.declared.fault.DeviceFault.TheVariants as write
 use Rattle.msr_tool.specs.Fault.{fault_of_writing}
 use Rattle.msr_output.specs.Decided.{IsEncoded}
 use Rattle.msr_output.proofs.OpenSegments.{packs_count, refused_now, writable_now}
@@ -86,9 +86,9 @@ prefix_of start now writing packed rows h = record {
   };
 }
 
-pub stops_lining : (form : Form) (start now : Device) (segments : List Segment) (fault : WriteFault)
+pub stops_lining : (form : Form) (start now : Device) (segments : List Segment) (fault : DeviceFault)
     → StopsWriting form start now segments fault → StopsLining form start now segments (fault_of_writing fault)
-stops_lining form start now segments write.Write h = h
+stops_lining form start now segments write.Failed h = h
 stops_lining form start now segments write.Memory h = h
 
 -- there is no memory for the line
@@ -227,7 +227,7 @@ took_first form other start now lined packed all current row (Err found) same_fo
 
 -- what waits is not written
 pub stops_finishing : (form : Form) (start now : Device) (w : Writing) (all packed : List Packed)
-    (current : Option Segment) (fault : WriteFault) → w.form ≡ form
+    (current : Option Segment) (fault : DeviceFault) → w.form ≡ form
     → map segment_of_packed all ≡ map segment_of_packed packed ++ option_to_list current
     → StopsWriting w.form start now (map segment_of_packed all) fault
     → StopsLining form start now (map segment_of_packed packed ++ option_to_list current) (fault_of_writing fault)
@@ -333,7 +333,7 @@ lined_flushed start old now lined w' packed current goes none begun h = record {
 }
 
 stops_so : (start old now : Device) (w : Writing) (packed : List Packed) (current : Option Segment)
-    (last : Option Opened) (fault : WriteFault) → IfSome last (GoesOn w.form)
+    (last : Option Opened) (fault : DeviceFault) → IfSome last (GoesOn w.form)
     → ((rows : List Row) → HasWritten start old w packed rows
     → StopsWriting w.form start now (map segment_of_packed packed) fault)
     → ((segment : Segment) (opened : Opened) → CanGoOn false opened → HasBegun start old w packed segment opened
@@ -349,7 +349,7 @@ stops_so start old now w packed (Some segment) (Some opened) fault goes none beg
     stops_lining w.form start now (map segment_of_packed packed ++ segment ∷ []) fault (begun segment opened goes.can h)
 
 pub stops_flushing : (start old now : Device) (lined : Lined) (packed : List Packed) (current : Option Segment)
-    (fault : WriteFault) → IfSome lined.last (GoesOn lined.writing.form)
+    (fault : DeviceFault) → IfSome lined.last (GoesOn lined.writing.form)
     → ((rows : List Row) → HasWritten start old lined.writing packed rows
     → StopsWriting lined.writing.form start now (map segment_of_packed packed) fault)
     → ((segment : Segment) (opened : Opened) → CanGoOn false opened

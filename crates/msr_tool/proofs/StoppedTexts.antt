@@ -6,8 +6,8 @@ use Rattle.msr_devices.proofs.Chaining.{takes_none}
 use Rattle.msr_report.specs.Text.{IsReportText}
 use Rattle.msr_report.specs.Writing.{TakesPrefix}
 use Rattle.msr_report.specs.declared.report.Report.{Report}
-use Rattle.msr_devices.specs.declared.fault.WriteFault.{WriteFault}
-use Rattle.msr_devices.specs.declared.fault.WriteFault.TheVariants as write
+use Rattle.msr_devices.specs.declared.fault.DeviceFault.{DeviceFault}
+use Rattle.msr_devices.specs.declared.fault.DeviceFault.TheVariants as write
 use Rattle.msr_verdict.specs.declared.verdict.Verdict.{Verdict}
 use Rattle.msr_tool.specs.Answer.{Answers}
 use Rattle.msr_tool.specs.Checking.{CheckAnswers, IsChecked}
@@ -42,14 +42,14 @@ repack_stops choice source0 source records0 records text why does =
       answers = untold choice a.0 a.1 why a.4;
     }
 
-cut_answers : (choice : Choice) (input written told : List ℕ) (why : WriteFault) →
+cut_answers : (choice : Choice) (input written told : List ℕ) (why : DeviceFault) →
     IsReportedInPart choice input written told → ReportAnswers choice input written told (Err (fault_of_writing why))
-cut_answers choice input written told write.Write part = inr part
+cut_answers choice input written told write.Failed part = inr part
 cut_answers choice input written told write.Memory part = inr part
 
 -- the text of the report is not written whole
 pub text_stops : (choice : Choice) (source0 source records0 records text0 text : Device) (whole : List ℕ)
-    (report : Report) (why : WriteFault) → ReadsAndWrites (Answers choice) source0 source records0 records (Ok report)
+    (report : Report) (why : DeviceFault) → ReadsAndWrites (Answers choice) source0 source records0 records (Ok report)
     → IsReportText report whole → TakesPrefix text0 text whole
     → Reports choice source0 records0 records text0 text (Err (fault_of_writing why))
 text_stops choice source0 source records0 records text0 text whole report why does is_text prefix =

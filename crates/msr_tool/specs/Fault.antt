@@ -5,8 +5,8 @@ use Rattle.msr_report_reader.specs.declared.fault.ReportFault.TheVariants as rep
 use Rattle.msr_input.specs.declared.fault.ReadFault.{ReadFault}
 use Rattle.msr_input.specs.declared.fault.ReadFault.TheVariants as read
 use Rattle.msr_devices.specs.Device.{Device, CountsFew, HasFailed, HasLeft, Takes}
-use Rattle.msr_devices.specs.declared.fault.WriteFault.{WriteFault}
-use Rattle.msr_devices.specs.declared.fault.WriteFault.TheVariants as write
+use Rattle.msr_devices.specs.declared.fault.DeviceFault.{DeviceFault}
+use Rattle.msr_devices.specs.declared.fault.DeviceFault.TheVariants as write
 use Rattle.msr_tool.specs.declared.fault.ToolFault.{ToolFault}
 use Rattle.msr_tool.specs.declared.fault.ToolFault.TheVariants.{Input, Report, Read, Write, Memory}
 
@@ -20,8 +20,8 @@ fault_of_report (report.Line line) = Report line
 fault_of_report report.Read = Read
 fault_of_report report.Memory = Memory
 
-abbrev pub fault_of_writing : WriteFault → ToolFault
-fault_of_writing write.Write = Write
+abbrev pub fault_of_writing : DeviceFault → ToolFault
+fault_of_writing write.Failed = Write
 fault_of_writing write.Memory = Memory
 
 -- What a call did with a source and a sink. What it answers is so of the bytes that the source had, and of those that

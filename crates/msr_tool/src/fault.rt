@@ -3,7 +3,7 @@ ghost use Rattle.std.specs.Prelude.{◌≡◌};
 ghost use Rattle.msr_tool.specs.Fault.{fault_of_reading, fault_of_report, fault_of_writing};
 ghost use Rattle.msr_tool.specs.declared.fault.ToolFault.TheVariants.{Write, Memory};
 
-use msr_devices::{SinkFault, WriteFault};
+use msr_devices::{DeviceFailed, DeviceFault};
 use msr_input::{Fault, ReadFault};
 use msr_report_reader::ReportFault;
 use std::alloc::{AllocError, AllocFailed};
@@ -62,21 +62,21 @@ impl From<ReportFault> for ToolFault {
     }
 }
 
-impl From<WriteFault> for ToolFault {
+impl From<DeviceFault> for ToolFault {
     ghost from_gives = { λ fault e. e ≡ fault_of_writing fault };
 
-    fn from(fault: WriteFault) -> ToolFault {
+    fn from(fault: DeviceFault) -> ToolFault {
         match fault {
-            WriteFault::Write => ToolFault::Write,
-            WriteFault::Memory => ToolFault::Memory,
+            DeviceFault::Failed => ToolFault::Write,
+            DeviceFault::Memory => ToolFault::Memory,
         }
     }
 }
 
-impl From<SinkFault> for ToolFault {
+impl From<DeviceFailed> for ToolFault {
     ghost from_gives = { λ _ e. e ≡ Write };
 
-    fn from(_: SinkFault) -> ToolFault {
+    fn from(_: DeviceFailed) -> ToolFault {
         ToolFault::Write
     }
 }

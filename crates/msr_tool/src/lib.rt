@@ -21,7 +21,7 @@ pub use laws::{
 };
 pub use list::list_segments;
 pub use msr_devices::{
-    Behavior, FromRead, FromWrite, Sink, Source, TestSink, TestSource, WriteFault,
+    Behavior, DeviceFault, FromRead, FromWrite, Sink, Source, TestSink, TestSource,
 };
 pub use msr_input::Fault;
 pub use msr_kinds::Length;

@@ -7,7 +7,7 @@ ghost use Rattle.msr_totals.specs.Totals.{saturated};
 ghost use Rattle.msr_walk.specs.Day.{IsReportKept, IsShown, RepacksDay};
 
 use crate::outcome::{DayFault, Repacked};
-use msr_devices::{FillFault, ReadBuffer};
+use msr_devices::{DeviceFault, ReadBuffer};
 use msr_header::{read_header, record_length};
 use msr_report::Report;
 use msr_tool::{
@@ -75,8 +75,8 @@ pub(crate) fn first_length<S: Source>(
     let mut front = ReadBuffer::new(alloc);
     match front.fill(source, LONGEST) {
         Ok(()) => {}
-        Err(FillFault::Memory) => return Err(AllocError),
-        Err(FillFault::Read) => return Ok(None),
+        Err(DeviceFault::Memory) => return Err(AllocError),
+        Err(DeviceFault::Failed) => return Ok(None),
     }
     match read_header(front.bytes()) {
         Ok(header) if header.exponent <= 16 => Ok(Length::new(record_length(header.exponent))),
