@@ -132,10 +132,10 @@ module _ (bytes : ℕ) (samples : List ℤ) (g : ℕ) where
             last = λ s le lt run. le;
           }
 
--- ---- steps with one kind, of those that a form has
+-- ---- steps with records of one kind
 
 module _ (records : Records) (samples : List ℤ) (g : ℕ) where
-  -- the end is that of the kind, if the form has it
+  -- the end is that of the kind, if there are records of it
   pub end_if_chosen : (kind : Kind) (end : ℕ) → IsChosen records.kinds kind
       → IsEnd kind records.bytes samples g end → IsEndIn kind records samples g end
   end_if_chosen kind end chosen is = record {
@@ -176,8 +176,7 @@ module _ (records : Records) (samples : List ℤ) (g : ℕ) where
     | inr not ↦ let up = is.fits.0 in omega arith
   ]
 
-  -- a run that is as long as it can be from the frontier; one of no samples is of another kind, if the form does not
-  -- have that one
+  -- a run that is as long as it can be from the frontier; one of no samples is of another kind, if no record is of that
   pub longest_step : (kind shown : Kind) (h : ℕ) → 64 ≤ records.bytes → IsChosen records.kinds shown
       → (IsChosen records.kinds kind → shown ≡ kind) → look_back_of kind ≡ 0 → IsEndIn kind records samples g h
       → IsStepAmong (kind ∷ []) records samples g (record { start = g; end = h; kind = shown })
@@ -237,7 +236,7 @@ longer_rank kind among = elim among [
 ]
 
 module _ (records : Records) (samples : List ℤ) (g : ℕ) where
-  -- an end past the frontier is of a kind that the form has; so a run that ends no later is of that kind, or empty
+  -- an end past the frontier is of a kind of the records; so a run that ends no later is of that kind, or empty
   of_kind : (kind : Kind) (end c : ℕ) → (g < end → IsChosen records.kinds kind) → g ≤ c → c ≤ end
       → IsChosen records.kinds kind ⊎ (c ≡ g)
   of_kind kind end c chosen from to = elim (cases_lt g end) [
@@ -298,7 +297,7 @@ module _ (records : Records) (samples : List ℤ) (g : ℕ) where
       past Int24 among c near run = absurd (let r = longer_rank Int24 among in omega arith)
       past Int32 among c near run = absurd (let r = longer_rank Int32 among in omega arith)
 
-  -- a run of one of them reaches to the greatest of their ends; it is of a kind that the form has, or empty
+  -- a run of one of them reaches to the greatest of their ends; it is of a kind of the records, or empty
   pub reached_by : (end reached : ℕ) (ends : Ends) → reached ≡ max (max ends.steim2 ends.steim1) ends.int16
       → AreEndsAmong longer_kinds records samples g end ends
       → (kind : Kind) × Among longer_kinds kind × (g ≤ reached) × (reached ≤ length samples)
@@ -397,7 +396,7 @@ module _ (records : Records) (samples : List ℤ) (g : ℕ) where
 
 module _ (records : Records) (samples : List ℤ) (g end : ℕ) (ends : Ends) (are : AreEnds records samples g end ends)
     (c : ℕ) (near : end ≤ c + 1) (order : g ≤ c) (within : c ≤ length samples) where
-  -- the first kind of the form of which the end is not before the cut
+  -- the first kind of the records of which the end is not before the cut
   pub first_by_ends : (kind : Kind) → IsChosen records.kinds kind
       → ((other : Kind) → rank other < rank kind → IsChosen records.kinds other → end_of ends other < c)
       → c ≤ end_of ends kind → IsFirstKind records (run_points samples g c) kind

@@ -38,12 +38,12 @@ starts_here step other result g here there either = elim either [
 ]
 
 module _ (records : Records) (samples : List ℤ) (g : ℕ) where
-  -- a run that fits, and is of a kind that the form has
+  -- a run that fits one of the records of its kind
   without_choice : (kind : Kind) (s b : ℕ) → IsRun (FitsIn kind records) samples s b
       → IsRun (Fits kind records.bytes) samples s b
   without_choice kind s b run = (run.0, run.1, run.2.1)
 
-  -- the step with records of one kind, which the form has
+  -- the step with records of one kind
   pub one_kind : (kind : Kind) (h a : ℕ) → IsChosen records.kinds kind → g ≤ h → (h ≡ g → a ≡ g)
       → IsStep (Fits kind records.bytes) samples g h a
       → IsStepAmong (kind ∷ []) records samples g (record { start = a; end = h; kind = kind })
@@ -206,7 +206,7 @@ module _ (records : Records) (samples : List ℤ) (g : ℕ) where
     last = λ kind among. is.last kind (each kind among);
   }
 
-  -- with records of all kinds that the form has
+  -- with all of the records
   pub of_form : (step : StepRun) → IsStepAmong every_kind records samples g step
       → IsStep (FitsAny records) samples g step.end step.start
   of_form step is = record {
