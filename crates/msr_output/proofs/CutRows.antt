@@ -9,7 +9,7 @@ use Rattle.msr_time.specs.SampleRate.{IsRoundedNominal}
 use Rattle.msr_words.specs.declared.kinds.Run.{Run}
 use Rattle.msr_kinds.specs.declared.forms.Form.{Form}
 use Rattle.msr_kinds.specs.Lengths.{bytes_of}
-use Rattle.msr_words.specs.Fit.{FitsIn, IsRun}
+use Rattle.msr_words.specs.Fit.{FitsIn, IsRun, records_of}
 use Rattle.msr_words.specs.Packing.{Joins}
 use Rattle.msr_rows.specs.declared.row.Key.{Key}
 use Rattle.msr_rows.specs.declared.row.Row.{Row}
@@ -68,7 +68,7 @@ take_range : (a b : ℕ) (xs : List ℤ) → a ≤ b → take a xs ++ slice_rang
 take_range a b xs within = let e : a + (b - a) ≡ b = omega arith in rw e at (sym (take-add a (b - a) xs))
 
 abbrev pub IsFitting : Form → List ℤ → Run → Type 0
-IsFitting form samples run = IsRun (FitsIn run.kind form) samples run.start run.end
+IsFitting form samples run = IsRun (FitsIn run.kind (records_of form)) samples run.start run.end
 
 same_segment : (a b : Segment) → a.key ≡ b.key → a.start ≡ b.start → a.samples ≡ b.samples → a ≡ b
 same_segment a b key start samples =

@@ -10,6 +10,7 @@ use Rattle.msr_segments.specs.declared.joiner.Segment.{Segment}
 use Rattle.msr_output.specs.Decided.{IsDecidedOutput, IsEncoded}
 use Rattle.msr_output.specs.Opened.{HasBegun, Opened}
 use Rattle.msr_output.specs.Output.{Packed, cuts_of, segment_of_packed}
+use Rattle.msr_words.specs.Fit.{records_of}
 use Rattle.msr_output.specs.Writing.{HasWritten, Writing}
 
 -- the bytes that went into the sink are decided, in records of that form
@@ -66,9 +67,11 @@ begun_decided start now w packed segment opened h encoded none =
         all = refl;
         packings = h.packings;
         decided = (
-          begins_all w.form segment.samples h.runs opened.separators opened.packer.held opened.packer.offset
+          begins_all (records_of w.form) w.form.length.least segment.samples h.runs opened.separators
+              opened.packer.held opened.packer.offset
               opened.packer.current p.holds p.stays,
-          leaves_few w.form segment.samples h.runs opened.separators opened.packer.held opened.packer.offset
+          leaves_few (records_of w.form) segment.samples h.runs opened.separators opened.packer.held
+              opened.packer.offset
               opened.packer.current p.holds (rw p.of_form at encoded),
         );
         records = rw (← none_waits h.bytes h.taken w.waiting h.whole none) h.records;

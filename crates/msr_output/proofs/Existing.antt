@@ -8,7 +8,7 @@ use Rattle.std.proofs.lemmas.List.Elements.{All-nil, All-cons, All-head, All-tai
 use Rattle.msr_time.specs.SampleRate.{SampleRate, period_of, IsRoundedNominal}
 use Rattle.msr_time.proofs.RateLemmas.{nominal_is, quotient_bounds}
 use Rattle.msr_words.specs.declared.kinds.Run.{Run}
-use Rattle.msr_words.specs.Fit.{Fits}
+use Rattle.msr_words.specs.Fit.{Fits, records_of}
 use Rattle.msr_words.specs.Packing.{IsCanonical}
 use Rattle.msr_kinds.specs.declared.forms.Form.{Form}
 use Rattle.msr_kinds.specs.Lengths.{bytes_of}
@@ -130,10 +130,10 @@ record HasPacked (form : Form) (segment : Segment) : Type 0 where
   is_packed : IsPacked form packed
 
 pub is_packed_by : (form : Form) (segment : Segment) (runs : List Run) (separators : List ℕ)
-    → IsCanonical form segment.samples runs separators
+    → IsCanonical (records_of form) segment.samples runs separators
     → IsPacked form (record { segment = segment; runs = runs; separators = separators })
 is_packed_by form segment runs separators canonical =
-    let f = found form segment.samples runs separators canonical in
+    let f = found (records_of form) segment.samples form.length.least runs separators canonical in
     record {
       packing = f.packing;
       least = f.least;
@@ -144,7 +144,7 @@ is_packed_by form segment runs separators canonical =
 
 packed_of : (form : Form) (segment : Segment) → HasPacked form segment
 packed_of form segment =
-    let p = has_packing form segment.samples in
+    let p = has_packing (records_of form) segment.samples form.length.least in
     record {
       packed = record { segment = segment; runs = p.others; separators = p.places };
       same = refl;
@@ -215,7 +215,7 @@ all_right P (x ∷ xs) ys all = all_right P xs ys (All-tail P x (xs ++ ys) all)
 pub prefix_of_output : (form : Form) (packed : List Packed) (segment : Segment) (runs others : List Run)
     (separators : List ℕ) (more : List Segment) (rows : List Row) (bytes : List ℕ)
     → All (IsPacked form) packed → IsWritableSegment segment
-    → IsCanonical form segment.samples (runs ++ others) separators
+    → IsCanonical (records_of form) segment.samples (runs ++ others) separators
     → AreWritten (bytes_of form.length) 1 (flat_map cuts_of packed ++ cuts_at segment runs) rows bytes
     → IsPrefixOfOutput form (map segment_of_packed packed ++ segment ∷ more) bytes
 prefix_of_output form packed segment runs others separators more rows bytes packings writable canonical written =

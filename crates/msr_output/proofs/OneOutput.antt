@@ -6,6 +6,7 @@ use Rattle.std.proofs.lemmas.List.Elements.{All-head, All-tail}
 use Rattle.msr_time.proofs.NominalLemmas.{nominal_one}
 use Rattle.msr_kinds.specs.declared.forms.Form.{Form}
 use Rattle.msr_kinds.specs.Lengths.{bytes_of}
+use Rattle.msr_words.specs.Fit.{records_of}
 use Rattle.msr_words.specs.declared.kinds.Run.{Run}
 use Rattle.msr_words.specs.Packing.{IsCanonical}
 use Rattle.msr_packer.proofs.Canonical.{one_packing}
@@ -50,9 +51,10 @@ same_packed a b segment runs separators =
 
 one_packed : (form : Form) (a b : Packed) → a.segment ≡ b.segment → IsPacked form a → IsPacked form b → a ≡ b
 one_packed form a b segment first second =
-    let canonical : IsCanonical form b.segment.samples a.runs a.separators =
-    subst (λ (s : Segment). IsCanonical form s.samples a.runs a.separators) segment first.canonical in
-    let both = one_packing form b.segment.samples a.runs b.runs a.separators b.separators canonical second.canonical in
+    let canonical : IsCanonical (records_of form) b.segment.samples a.runs a.separators =
+    subst (λ (s : Segment). IsCanonical (records_of form) s.samples a.runs a.separators) segment first.canonical in
+    let both = one_packing (records_of form) b.segment.samples a.runs b.runs a.separators b.separators canonical
+    second.canonical in
     same_packed a b segment both.0 both.1
 
 all_packed : (form : Form) (packed others : List Packed) → map segment_of_packed packed ≡ map segment_of_packed others

@@ -9,7 +9,7 @@ use Rattle.msr_devices.specs.Device.{Device, HasFailed, IsCalm}
 use Rattle.msr_devices.specs.WriteBuffer.{Passes}
 use Rattle.msr_devices.proofs.Chaining.{calm_calm, calm_failed, takes_append}
 use Rattle.msr_words.specs.declared.kinds.Run.{Run}
-use Rattle.msr_words.specs.Fit.{FitsIn, IsRun}
+use Rattle.msr_words.specs.Fit.{FitsIn, IsRun, records_of}
 use Rattle.msr_words.specs.Packing.{IsCanonical}
 use Rattle.msr_kinds.specs.declared.forms.Form.{Form}
 use Rattle.msr_kinds.specs.Lengths.{bytes_of}
@@ -38,32 +38,36 @@ use Rattle.msr_output.proofs.Runs.{points_of_run}
 
 -- they begin the packing of the samples
 pub gives_rest : (whole : Bool) (form : Form) (samples : List ℤ) (runs : List Run) (separators : List ℕ)
-    (packer : Holding) → Gives whole form samples runs separators packer → HasRest form samples runs separators
+    (packer : Holding) → Gives whole form samples runs separators packer
+    → HasRest (records_of form) samples runs separators
 gives_rest false form samples runs separators packer p =
-    begins_rest form samples runs separators packer.held packer.offset packer.current p.holds
+    begins_rest (records_of form) form.length.least samples runs separators packer.held packer.offset packer.current
+    p.holds
 gives_rest true form samples runs separators packer p =
-    last_begin form samples runs separators packer packer.ended p.left
+    last_begin (records_of form) form.length.least samples runs separators packer packer.ended p.left
 
 pub record FitsThere (form : Form) (samples : List ℤ) (run : Run) : Type 0 where
   pub some : run.start < run.end
-  pub fits : IsRun (FitsIn run.kind form) samples run.start run.end
+  pub fits : IsRun (FitsIn run.kind (records_of form)) samples run.start run.end
 
 -- so each is a run that fits
 pub given_fits : (form : Form) (samples : List ℤ) (runs : List Run) (run : Run) (separators : List ℕ)
-    → HasRest form samples (runs ++ run ∷ []) separators → FitsThere form samples run
+    → HasRest (records_of form) samples (runs ++ run ∷ []) separators → FitsThere form samples run
 given_fits form samples runs run separators rest =
-    let f = found form samples ((runs ++ run ∷ []) ++ rest.others) (separators ++ rest.places) rest.canonical in
+    let f = found (records_of form) samples form.length.least ((runs ++ run ∷ []) ++ rest.others)
+    (separators ++ rest.places) rest.canonical in
     let same : (runs ++ run ∷ []) ++ rest.others ≡ runs ++ run ∷ rest.others =
     append_assoc runs (run ∷ []) rest.others in
     let somes : All (λ r. r.start < r.end) (runs ++ run ∷ rest.others) =
     subst (All (λ r. r.start < r.end)) same f.packing.none_empty in
-    let fits : All (λ r. IsRun (FitsIn r.kind form) samples r.start r.end) (runs ++ run ∷ rest.others) =
-    subst (All (λ r. IsRun (FitsIn r.kind form) samples r.start r.end)) same f.packing.each_fits in
+    let fits : All (λ r. IsRun (FitsIn r.kind (records_of form)) samples r.start r.end) (runs ++ run ∷ rest.others) =
+    subst (All (λ r. IsRun (FitsIn r.kind (records_of form)) samples r.start r.end)) same f.packing.each_fits in
     record {
       some = All-head (λ r. r.start < r.end) run rest.others
           (all_right (λ r. r.start < r.end) runs (run ∷ rest.others) somes);
-      fits = All-head (λ r. IsRun (FitsIn r.kind form) samples r.start r.end) run rest.others
-          (all_right (λ r. IsRun (FitsIn r.kind form) samples r.start r.end) runs (run ∷ rest.others) fits);
+      fits = All-head (λ r. IsRun (FitsIn r.kind (records_of form)) samples r.start r.end) run rest.others
+          (all_right (λ r. IsRun (FitsIn r.kind (records_of form)) samples r.start r.end) runs (run ∷ rest.others)
+          fits);
     }
 
 pub before_same : (samples : List ℤ) (i : ℕ) → before_place samples i ≡ sample_before samples i
@@ -104,12 +108,14 @@ can_encode whole opened piece separators packer can gives shows =
 
 -- the runs that were given lie in the samples
 pub runs_within : (form : Form) (samples : List ℤ) (runs : List Run) (separators : List ℕ)
-    → HasRest form samples runs separators → All (λ run. (run.start ≤ run.end) × (run.end ≤ length samples)) runs
+    → HasRest (records_of form) samples runs separators → All
+    (λ run. (run.start ≤ run.end) × (run.end ≤ length samples)) runs
 runs_within form samples runs separators rest =
-    let f = found form samples (runs ++ rest.others) (separators ++ rest.places) rest.canonical in
-    All-weaker (λ r. IsRun (FitsIn r.kind form) samples r.start r.end)
+    let f = found (records_of form) samples form.length.least (runs ++ rest.others) (separators ++ rest.places)
+    rest.canonical in
+    All-weaker (λ r. IsRun (FitsIn r.kind (records_of form)) samples r.start r.end)
     (λ r. (r.start ≤ r.end) × (r.end ≤ length samples)) (λ r is. (is.0, is.1)) runs
-    (all_left (λ r. IsRun (FitsIn r.kind form) samples r.start r.end) runs rest.others f.packing.each_fits)
+    (all_left (λ r. IsRun (FitsIn r.kind (records_of form)) samples r.start r.end) runs rest.others f.packing.each_fits)
 
 -- ---- the segment grows
 
@@ -280,7 +286,7 @@ pub begun_refused : (start now : Device) (w : Writing) (packed : List Packed) (s
     (opened : Opened) → IsWritableSegment target
     → (h : HasBegun start now w packed segment opened)
     → AreWritten (bytes_of w.form.length) 1 (flat_map cuts_of packed ++ cuts_at target h.runs) h.rows h.bytes
-    → HasRest w.form target.samples h.runs opened.separators
+    → HasRest (records_of w.form) target.samples h.runs opened.separators
     → StopsWriting w.form start now (map segment_of_packed packed ++ target ∷ []) Memory
 begun_refused start now w packed segment target opened writable h records rest =
     let all = prefix_of_output w.form packed target h.runs rest.others (opened.separators ++ rest.places)
@@ -302,7 +308,8 @@ refused_longer start now w packed segment more opened writable h =
     let p = rw h.form at h.is_open.gives in
     let within = runs_within w.form segment.samples h.runs opened.separators
     (gives_rest false w.form segment.samples h.runs opened.separators opened.packer p) in
-    let b = begins_all w.form segment.samples h.runs opened.separators opened.packer.held
+    let b = begins_all (records_of w.form) w.form.length.least segment.samples h.runs opened.separators
+    opened.packer.held
     opened.packer.offset opened.packer.current p.holds p.stays more in
     begun_refused start now w packed segment (longer_by segment more) opened writable h
     (records_longer (bytes_of w.form.length) 1 (flat_map cuts_of packed) segment more h.runs h.rows h.bytes within
@@ -320,7 +327,7 @@ refused_now start now w packed segment opened writable h =
 -- ---- what can be written
 
 pub packs_count : (form : Form) (samples : List ℤ) (runs : List Run) (separators : List ℕ) (packer : Holding)
-    → Packs form samples runs separators packer → pushed packer ≡ length samples
+    → Packs (records_of form) samples runs separators packer → pushed packer ≡ length samples
 packs_count form samples runs separators packer p =
     let within = p.holds.within in
     let long = ap length p.holds.window ∙ length-drop packer.offset samples in
@@ -388,7 +395,7 @@ pub begun_whole : (start old now : Device) (w : Writing) (packed : List Packed) 
     (opened other : Opened) (filled left : List ℕ) (next : ℕ) → other.form ≡ opened.form
     → (h : HasBegun start old w packed segment opened)
     → (a : AppendsSome true segment h.runs other w.number w.waiting filled next)
-    → IsCanonical w.form segment.samples (h.runs ++ a.more) other.separators
+    → IsCanonical (records_of w.form) segment.samples (h.runs ++ a.more) other.separators
     → Passes old now filled [] left → IsCalm old now
     → HasWritten start now (record { form = w.form; number = next; waiting = left })
     (packed ++ record { segment = segment; runs = h.runs ++ a.more; separators = other.separators } ∷ [])
@@ -440,7 +447,7 @@ appends_one whole segment runs opened other first number next old mid new a run 
 pub appends_last : (whole : Bool) (segment : Segment) (runs : List Run) (opened other : Opened) (first number : ℕ)
     (old mid new : List ℕ) → (a : AppendsSome whole segment runs opened first old mid number)
     → other.form ≡ opened.form → IsOpen whole segment (runs ++ a.more) other
-    → new ≡ mid → (whole ≡ true → IsCanonical other.form segment.samples (runs ++ a.more) other.separators)
+    → new ≡ mid → (whole ≡ true → IsCanonical (records_of other.form) segment.samples (runs ++ a.more) other.separators)
     → AppendsMore whole segment runs other first old new number
 appends_last whole segment runs opened other first number old mid new a form is_open same all = record {
   some = record {

@@ -4,6 +4,7 @@ use Rattle.std.specs.List.{flat_map}
 use Rattle.std.specs.Option.{option_to_list}
 use Rattle.msr_kinds.specs.declared.forms.Form.{Form}
 use Rattle.msr_kinds.specs.Lengths.{bytes_of}
+use Rattle.msr_words.specs.Fit.{records_of}
 use Rattle.msr_words.specs.declared.kinds.Run.{Run}
 use Rattle.msr_packer.specs.Blocks.{HoldsFew}
 use Rattle.msr_packer.specs.HeldSamples.{BeginsAll, LeavesFew}
@@ -17,7 +18,7 @@ use Rattle.msr_output.specs.Output.{AreWritten, Cut, IsPacked, Packed, cuts_at, 
 abbrev pub AreDecided : Form → Option Segment → List Run → List ℕ → Type 0
 AreDecided form None runs separators = runs ≡ []
 AreDecided form (Some segment) runs separators =
-    BeginsAll form segment.samples runs separators × LeavesFew form segment.samples runs
+    BeginsAll (records_of form) segment.samples runs separators × LeavesFew (records_of form) segment.samples runs
 
 abbrev pub cuts_so_far : Option Segment → List Run → List Cut
 cuts_so_far None runs = []

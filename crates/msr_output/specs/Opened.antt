@@ -6,7 +6,7 @@ use Rattle.msr_devices.specs.Device.{Device, Takes, IsCalm}
 use Rattle.msr_header.specs.Reading.{is_quality}
 use Rattle.msr_words.specs.declared.kinds.Run.{Run}
 use Rattle.msr_kinds.specs.declared.forms.Form.{Form}
-use Rattle.msr_words.specs.Fit.{Fits}
+use Rattle.msr_words.specs.Fit.{Fits, records_of}
 use Rattle.msr_kinds.specs.Lengths.{bytes_of}
 use Rattle.msr_words.specs.Packing.{IsCanonical}
 use Rattle.msr_words.specs.Segment.{points}
@@ -53,8 +53,8 @@ longer_by segment more = record { key = segment.key; start = segment.start; samp
 
 -- these runs and separators were given, of samples that others may follow, or of all
 abbrev pub Gives : Bool → Form → List ℤ → List Run → List ℕ → Holding → Type 0
-Gives false form samples runs separators packer = Packs form samples runs separators packer
-Gives true form samples runs separators packer = PacksLast form samples runs separators packer
+Gives false form samples runs separators packer = Packs (records_of form) samples runs separators packer
+Gives true form samples runs separators packer = PacksLast (records_of form) samples runs separators packer
 
 -- The samples of this segment were pushed, all of them if it is whole, and its first runs were given.
 pub record IsOpen (whole : Bool) (segment : Segment) (runs : List Run) (opened : Opened) : Type 0 where
@@ -92,7 +92,7 @@ pub record AppendsSome (whole : Bool) (segment : Segment) (runs : List Run) (ope
 pub record AppendsMore (whole : Bool) (segment : Segment) (runs : List Run) (opened : Opened) (number : ℕ)
     (old new : List ℕ) (next : ℕ) : Type 0 where
   pub some : AppendsSome whole segment runs opened number old new next
-  pub all : whole ≡ true → IsCanonical opened.form segment.samples (runs ++ some.more) opened.separators
+  pub all : whole ≡ true → IsCanonical (records_of opened.form) segment.samples (runs ++ some.more) opened.separators
 
 -- From the one state of the sink to the other the records of these segments, and those of the first runs of the open
 -- one, were written or wait.
@@ -121,4 +121,4 @@ EncodesNext whole segment runs opened number old new true =
     × AppendsRecordOfRun (bytes_of opened.form.length) number segment run old new
 EncodesNext whole segment runs opened number old new false =
     IsOpen whole segment runs opened × (new ≡ old)
-    × (whole ≡ true → IsCanonical opened.form segment.samples runs opened.separators)
+    × (whole ≡ true → IsCanonical (records_of opened.form) segment.samples runs opened.separators)

@@ -4,6 +4,7 @@ use Rattle.std.specs.Prelude.{◌≡◌, ℕ, zero, suc, ◌+◌, ◌*◌, ◌�
 use Rattle.std.specs.Int.{w32}
 use Rattle.std.specs.List.{flat_map}
 use Rattle.msr_time.specs.SampleRate.{IsRoundedNominal}
+use Rattle.msr_words.specs.Fit.{records_of}
 use Rattle.msr_words.specs.Packing.{IsPacking, IsLeast, IsSeparating, IsCanonical}
 use Rattle.msr_kinds.specs.declared.forms.Form.{Form}
 use Rattle.msr_kinds.specs.Lengths.{bytes_of}
@@ -26,11 +27,11 @@ segment_of_packed packed = packed.segment
 -- The runs are a packing of the segment into records of that form, and no packing has fewer. No two of the
 -- separators, which are as many as the runs, fit one record. Both are the one canonical choice.
 pub record IsPacked (form : Form) (packed : Packed) : Type 0 where
-  pub packing : IsPacking form packed.segment.samples packed.runs
-  pub least : IsLeast form packed.segment.samples packed.runs
-  pub separating : IsSeparating form packed.segment.samples packed.separators
+  pub packing : IsPacking (records_of form) packed.segment.samples packed.runs
+  pub least : IsLeast (records_of form) packed.segment.samples packed.runs
+  pub separating : IsSeparating (records_of form) packed.segment.samples packed.separators
   pub as_many : length packed.runs ≡ length packed.separators
-  pub canonical : IsCanonical form packed.segment.samples packed.runs packed.separators
+  pub canonical : IsCanonical (records_of form) packed.segment.samples packed.runs packed.separators
 
 -- the sample before a run of a segment, if there is one
 abbrev pub sample_before : List ℤ → ℕ → Option ℤ
@@ -158,7 +159,7 @@ FirstRecordsArePrefix =
     (form : Form) (packed : List Packed) (segment : Segment) (runs others : List Run) (separators : List ℕ)
     (more : List Segment) (rows : List Row) (bytes : List ℕ)
     → All (IsPacked form) packed → IsWritableSegment segment
-    → IsCanonical form segment.samples (runs ++ others) separators
+    → IsCanonical (records_of form) segment.samples (runs ++ others) separators
     → AreWritten (bytes_of form.length) 1 (flat_map cuts_of packed ++ cuts_at segment runs) rows bytes
     → IsPrefixOfOutput form (map segment_of_packed packed ++ segment ∷ more) bytes
 

@@ -1,6 +1,7 @@
 //! A segment that is written while its samples come.
 ghost use Rattle.std.specs.Prelude.{◌≡◌, ℕ, ℤ, List, [], ◌++◌, ◌+◌, ◌<◌, ◌≤◌, ◌^◌, length, IfOk, IfSome, IsNone, OnOk, IsTrue, MatchResult, true, false};
 ghost use Rattle.msr_header.specs.Reading.{is_quality};
+ghost use Rattle.msr_words.specs.Fit.{records_of};
 ghost use Rattle.msr_words.specs.declared.kinds.Run.{Run};
 ghost use Rattle.msr_kinds.specs.declared.forms.Form.{Form};
 ghost use Rattle.msr_kinds.specs.Lengths.{bytes_of};
@@ -78,7 +79,7 @@ fn next_piece(packer: &mut BlockPacker, whole: bool) -> Option<Piece>
         → IfSome result (Shows samples packer.new.shown packer.new.before) }
     ensures all { (form : Form) (samples : List ℤ) (runs : List Run) (separators : List ℕ)
         → Gives whole form samples runs separators packer.old
-        → whole ≡ true → IsNone result → IsCanonical form samples runs separators }
+        → whole ≡ true → IsNone result → IsCanonical (records_of form) samples runs separators }
     ensures fewer { IfSome result (λ _. left_of packer.new < left_of packer.old) }
     ensures count { pushed packer.new ≡ pushed packer.old }
     ensures few { whole ≡ false → IsNone result → HoldsFew packer.new }

@@ -4,14 +4,12 @@ use Rattle.std.specs.Prelude.{slice_index_or, cond, count_by}
 use Rattle.std.proofs.lemmas.Bool.{cases_lt}
 use Rattle.std.proofs.lemmas.List.{map-append}
 use Rattle.std.proofs.lemmas.List.Sums.{sum_by-append, sum_by_push}
-use Rattle.msr_kinds.specs.declared.forms.Form.{Form}
+use Rattle.msr_words.specs.Fit.{Records, Fits, FitsIn, IsRun, IsFirstKind, rank}
 use Rattle.msr_kinds.specs.declared.kinds.Kind.{Kind}
 use Rattle.msr_kinds.specs.declared.kinds.Kind.TheVariants.{Int16, Int24, Int32, Steim1, Steim2}
 use Rattle.msr_words.specs.Bounds.{BeginsWithFour, IsEnd, is_wide}
 use Rattle.msr_kinds.specs.Kinds.{IsChosen}
-use Rattle.msr_kinds.specs.Lengths.{bytes_of}
 use Rattle.msr_kinds.proofs.KindLemmas.{int32_is_chosen}
-use Rattle.msr_words.specs.Fit.{Fits, FitsIn, IsRun, IsFirstKind, rank}
 use Rattle.msr_words.specs.Laws.{BackStepLaw, look_back_of, most_of}
 use Rattle.msr_kinds.specs.RecordLength.{words_of}
 use Rattle.msr_words.specs.Segment.{difference_at, run_points}
@@ -134,12 +132,12 @@ module _ (bytes : ℕ) (samples : List ℤ) (g : ℕ) where
             last = λ s le lt run. le;
           }
 
--- ---- steps with one kind, of those that a form has
+-- ---- steps with records of one kind
 
-module _ (form : Form) (samples : List ℤ) (g : ℕ) where
-  -- the end is that of the kind, if the form has it
-  pub end_if_chosen : (kind : Kind) (end : ℕ) → IsChosen form.kinds kind
-      → IsEnd kind (bytes_of form.length) samples g end → IsEndIn kind form samples g end
+module _ (records : Records) (samples : List ℤ) (g : ℕ) where
+  -- the end is that of the kind, if there are records of it
+  pub end_if_chosen : (kind : Kind) (end : ℕ) → IsChosen records.kinds kind
+      → IsEnd kind records.bytes samples g end → IsEndIn kind records samples g end
   end_if_chosen kind end chosen is = record {
     fits = is.fits;
     chosen = λ _. chosen;
@@ -147,70 +145,69 @@ module _ (form : Form) (samples : List ℤ) (g : ℕ) where
   }
 
   -- else it is the frontier
-  pub end_if_not : (kind : Kind) → (IsChosen form.kinds kind → ⊥) → g ≤ length samples
-      → IsEndIn kind form samples g g
-  end_if_not kind not within =
-      let least = form.length.least in
-      record {
-        fits = empty_run (bytes_of form.length) samples g kind (omega arith) within;
-        chosen = λ on. absurd (omega arith);
-        furthest = λ b run. absurd (not run.2.0);
-      }
+  pub end_if_not : (kind : Kind) → 64 ≤ records.bytes → (IsChosen records.kinds kind → ⊥) → g ≤ length samples
+      → IsEndIn kind records samples g g
+  end_if_not kind header not within = record {
+    fits = empty_run records.bytes samples g kind header within;
+    chosen = λ on. absurd (omega arith);
+    furthest = λ b run. absurd (not run.2.0);
+  }
 
   -- the run to the end is of that kind, or empty
-  pub run_or_none : (kind : Kind) (end : ℕ) → IsEndIn kind form samples g end
-      → IsRun (FitsIn kind form) samples g end ⊎ (end ≡ g)
+  pub run_or_none : (kind : Kind) (end : ℕ) → IsEndIn kind records samples g end
+      → IsRun (FitsIn kind records) samples g end ⊎ (end ≡ g)
   run_or_none kind end is = elim (cases_lt g end) [
     | inl on ↦ inl (is.fits.0, is.fits.1, (is.chosen on, is.fits.2))
     | inr not ↦ let up = is.fits.0 in inr (omega arith)
   ]
 
   -- if each part after a cut fits by itself, no earlier start reaches further
-  pub none_past : (kind : Kind) (h : ℕ) → look_back_of kind ≡ 0 → IsEndIn kind form samples g h → (s b : ℕ) → s ≤ g
-      → IsRun (FitsIn kind form) samples s b → b ≤ h
+  pub none_past : (kind : Kind) (h : ℕ) → look_back_of kind ≡ 0 → IsEndIn kind records samples g h → (s b : ℕ) → s ≤ g
+      → IsRun (FitsIn kind records) samples s b → b ≤ h
   none_past kind h alone is s b le run = elim (cases_lt g b) [
     | inl past ↦
-        let cut = back_step_run (FitsIn kind form) 0
-        (subst (λ places. BackStepLaw places (FitsIn kind form)) alone (back_step_in kind form)) samples s g b le
+        let cut = back_step_run (FitsIn kind records) 0
+        (subst (λ places. BackStepLaw places (FitsIn kind records)) alone (back_step_in kind records)) samples s g b le
         (omega arith) run in
         let high = cut.3 in
         let low = cut.2 in
         let same : cut.0 ≡ g = omega arith in
-        is.furthest b (subst (λ x. IsRun (FitsIn kind form) samples x b) same cut.4)
+        is.furthest b (subst (λ x. IsRun (FitsIn kind records) samples x b) same cut.4)
     | inr not ↦ let up = is.fits.0 in omega arith
   ]
 
-  -- a run that is as long as it can be from the frontier
-  pub longest_step : (kind : Kind) (h : ℕ) → look_back_of kind ≡ 0 → IsEndIn kind form samples g h
-      → IsStepAmong (kind ∷ []) form samples g (record { start = g; end = h; kind = kind })
-  longest_step kind h alone is = record {
+  -- a run that is as long as it can be from the frontier; one of no samples is of another kind, if no record is of that
+  pub longest_step : (kind shown : Kind) (h : ℕ) → 64 ≤ records.bytes → IsChosen records.kinds shown
+      → (IsChosen records.kinds kind → shown ≡ kind) → look_back_of kind ≡ 0 → IsEndIn kind records samples g h
+      → IsStepAmong (kind ∷ []) records samples g (record { start = g; end = h; kind = shown })
+  longest_step kind shown h header chosen same alone is = record {
     before = omega arith;
     past = is.fits.0;
-    reached = is.fits;
-    chosen = is.chosen;
+    reached = elim (run_or_none kind h is) [
+      | inl run ↦ subst (λ k. IsRun (FitsIn k records) samples g h) (sym (same run.2.0)) run
+      | inr none ↦ subst (λ e. IsRun (FitsIn shown records) samples g e) (sym none) nothing
+    ];
     still = λ _. refl;
     furthest = λ k among s b le run. elim among [
-      | inl e ↦ none_past kind h alone is s b le (subst (λ k. IsRun (FitsIn k form) samples s b) e run)
+      | inl e ↦ none_past kind h alone is s b le (subst (λ k. IsRun (FitsIn k records) samples s b) e run)
       | inr none ↦ absurd none
     ];
     last = λ k among s le run. le;
   }
-
-  -- 32-bit integers take one sample more at least
-  pub int32_past : (end : ℕ) → g < length samples → IsEnd Int32 (bytes_of form.length) samples g end → g < end
-  int32_past end within is =
-      let least = form.length.least in
-      let l = length-run_points samples g (g + 1) (omega arith) (omega arith) in
-      let most = is.furthest (g + 1) (omega arith, omega arith, (omega arith, omega arith)) in
-      omega arith
+    where
+      nothing : IsRun (FitsIn shown records) samples g g
+      nothing =
+          let run = empty_run records.bytes samples g shown header
+          (let up = is.fits.0 in let in' = is.fits.1 in omega arith) in
+          (run.0, run.1, (chosen, run.2))
 
   -- the step of Steim-1, of the best of the starts
-  pub steim1_found : (end : ℕ) → IsChosen form.kinds Steim1 → IsEnd Steim1 (bytes_of form.length) samples g end
-      → (back h a : ℕ) → min g 1 < back → IsBest (Fits Steim1 (bytes_of form.length)) samples g back h a
-      → IsStepAmong (Steim1 ∷ []) form samples g (record { start = a; end = h; kind = Steim1 })
+  pub steim1_found : (end : ℕ) → IsChosen records.kinds Steim1 → IsEnd Steim1 records.bytes samples g end
+      → (back h a : ℕ) → min g 1 < back → IsBest (Fits Steim1 records.bytes) samples g back h a
+      → IsStepAmong (Steim1 ∷ []) records samples g (record { start = a; end = h; kind = Steim1 })
   steim1_found end chosen is back h a all best =
-      one_kind form samples g Steim1 h a chosen best.past still
-      (step_found (Fits Steim1 (bytes_of form.length)) samples g 1 (back_step_kind Steim1 (bytes_of form.length)) back
+      one_kind records samples g Steim1 h a chosen best.past still
+      (step_found (Fits Steim1 records.bytes) samples g 1 (back_step_kind Steim1 records.bytes) back
       h a all best)
     where
       still : h ≡ g → a ≡ g
@@ -219,7 +216,7 @@ module _ (form : Form) (samples : List ℤ) (g : ℕ) where
           let least = best.furthest g end (omega arith) (omega arith) is.fits in
           let here : end ≡ h = omega arith in
           let l = best.last g (omega arith) (omega arith)
-          (subst (λ b. IsRun (Fits Steim1 (bytes_of form.length)) samples g b) here is.fits) in
+          (subst (λ b. IsRun (Fits Steim1 records.bytes) samples g b) here is.fits) in
           let low = best.before in
           omega arith
 
@@ -238,37 +235,37 @@ longer_rank kind among = elim among [
   ]
 ]
 
-module _ (form : Form) (samples : List ℤ) (g : ℕ) where
-  -- an end past the frontier is of a kind that the form has; so a run that ends no later is of that kind, or empty
-  of_kind : (kind : Kind) (end c : ℕ) → (g < end → IsChosen form.kinds kind) → g ≤ c → c ≤ end
-      → IsChosen form.kinds kind ⊎ (c ≡ g)
+module _ (records : Records) (samples : List ℤ) (g : ℕ) where
+  -- an end past the frontier is of a kind of the records; so a run that ends no later is of that kind, or empty
+  of_kind : (kind : Kind) (end c : ℕ) → (g < end → IsChosen records.kinds kind) → g ≤ c → c ≤ end
+      → IsChosen records.kinds kind ⊎ (c ≡ g)
   of_kind kind end c chosen from to = elim (cases_lt g end) [
     | inl on ↦ inl (chosen on)
     | inr not ↦ inr (omega arith)
   ]
 
   -- of the kinds of which records are longer than those of 24-bit integers can be
-  pub longer_ends : (end e2 e1 e16 : ℕ) → IsRun (Fits Steim2 (bytes_of form.length)) samples g e2
-      → (g < e2 → IsChosen form.kinds Steim2)
-      → IsRun (Fits Steim1 (bytes_of form.length)) samples g e1 → (g < e1 → IsChosen form.kinds Steim1)
-      → IsRun (Fits Int16 (bytes_of form.length)) samples g e16 → (g < e16 → IsChosen form.kinds Int16) →
-      ((c : ℕ) → end ≤ c + 1 → IsRun (FitsIn Steim2 form) samples g c → c ≤ e2)
-      → ((c : ℕ) → end ≤ c + 1 → IsRun (FitsIn Steim1 form) samples g c → (c ≤ e1) ⊎ (c ≤ e2)) →
-      ((c : ℕ) → end ≤ c + 1 → IsRun (FitsIn Int16 form) samples g c → (c ≤ e16) ⊎ (c ≤ e2)) → (ends : Ends)
-      → ends.steim2 ≡ e2 → ends.steim1 ≡ e1 → ends.int16 ≡ e16 → AreEndsAmong longer_kinds form samples g end ends
+  pub longer_ends : (end e2 e1 e16 : ℕ) → IsRun (Fits Steim2 records.bytes) samples g e2
+      → (g < e2 → IsChosen records.kinds Steim2)
+      → IsRun (Fits Steim1 records.bytes) samples g e1 → (g < e1 → IsChosen records.kinds Steim1)
+      → IsRun (Fits Int16 records.bytes) samples g e16 → (g < e16 → IsChosen records.kinds Int16) →
+      ((c : ℕ) → end ≤ c + 1 → IsRun (FitsIn Steim2 records) samples g c → c ≤ e2)
+      → ((c : ℕ) → end ≤ c + 1 → IsRun (FitsIn Steim1 records) samples g c → (c ≤ e1) ⊎ (c ≤ e2)) →
+      ((c : ℕ) → end ≤ c + 1 → IsRun (FitsIn Int16 records) samples g c → (c ≤ e16) ⊎ (c ≤ e2)) → (ends : Ends)
+      → ends.steim2 ≡ e2 → ends.steim1 ≡ e1 → ends.int16 ≡ e16 → AreEndsAmong longer_kinds records samples g end ends
   longer_ends end e2 e1 e16 two chosen_two one chosen_one sixteen chosen_sixteen past_two past_one past_sixteen ends
       is2 is1 is16 =
       record { fit = fit; chosen = chosen; past = past }
     where
       fit : (kind : Kind) → Among longer_kinds kind
-          → IsRun (Fits kind (bytes_of form.length)) samples g (end_of ends kind)
+          → IsRun (Fits kind records.bytes) samples g (end_of ends kind)
       fit Steim2 among = rw is2 two
       fit Steim1 among = rw is1 one
       fit Int16 among = rw is16 sixteen
       fit Int24 among = absurd (let r = longer_rank Int24 among in omega arith)
       fit Int32 among = absurd (let r = longer_rank Int32 among in omega arith)
 
-      chosen : (kind : Kind) → Among longer_kinds kind → g < end_of ends kind → IsChosen form.kinds kind
+      chosen : (kind : Kind) → Among longer_kinds kind → g < end_of ends kind → IsChosen records.kinds kind
       chosen Steim2 among on = chosen_two (omega arith)
       chosen Steim1 among on = chosen_one (omega arith)
       chosen Int16 among on = chosen_sixteen (omega arith)
@@ -277,16 +274,16 @@ module _ (form : Form) (samples : List ℤ) (g : ℕ) where
 
       -- a run of a kind that ends no later than Steim-2
       by_two : (kind : Kind) → Among longer_kinds kind → rank Steim2 ≤ rank kind → (c : ℕ)
-          → IsRun (FitsIn kind form) samples g c → c ≤ e2 → g ≤ end_of ends kind
-          → (other : Kind) × Among longer_kinds other × IsChosen form.kinds other × (rank other ≤ rank kind)
+          → IsRun (FitsIn kind records) samples g c → c ≤ e2 → g ≤ end_of ends kind
+          → (other : Kind) × Among longer_kinds other × IsChosen records.kinds other × (rank other ≤ rank kind)
           × (c ≤ end_of ends other)
       by_two kind among low c run le from = elim (of_kind Steim2 e2 c chosen_two run.0 le) [
         | inl has ↦ (Steim2, inr (inr (inl refl)), has, low, rw is2 le)
         | inr none ↦ (kind, among, run.2.0, omega arith, omega arith)
       ]
 
-      past : (kind : Kind) → Among longer_kinds kind → (c : ℕ) → end ≤ c + 1 → IsRun (FitsIn kind form) samples g c
-          → (other : Kind) × Among longer_kinds other × IsChosen form.kinds other × (rank other ≤ rank kind)
+      past : (kind : Kind) → Among longer_kinds kind → (c : ℕ) → end ≤ c + 1 → IsRun (FitsIn kind records) samples g c
+          → (other : Kind) × Among longer_kinds other × IsChosen records.kinds other × (rank other ≤ rank kind)
           × (c ≤ end_of ends other)
       past Steim2 among c near run = (Steim2, among, run.2.0, omega arith, rw is2 (past_two c near run))
       past Steim1 among c near run = elim (past_one c near run) [
@@ -300,11 +297,11 @@ module _ (form : Form) (samples : List ℤ) (g : ℕ) where
       past Int24 among c near run = absurd (let r = longer_rank Int24 among in omega arith)
       past Int32 among c near run = absurd (let r = longer_rank Int32 among in omega arith)
 
-  -- a run of one of them reaches to the greatest of their ends; it is of a kind that the form has, or empty
+  -- a run of one of them reaches to the greatest of their ends; it is of a kind of the records, or empty
   pub reached_by : (end reached : ℕ) (ends : Ends) → reached ≡ max (max ends.steim2 ends.steim1) ends.int16
-      → AreEndsAmong longer_kinds form samples g end ends
+      → AreEndsAmong longer_kinds records samples g end ends
       → (kind : Kind) × Among longer_kinds kind × (g ≤ reached) × (reached ≤ length samples)
-      × (IsRun (FitsIn kind form) samples g reached ⊎ (reached ≡ g))
+      × (IsRun (FitsIn kind records) samples g reached ⊎ (reached ≡ g))
   reached_by end reached ends is are = elim (cases_lt (max ends.steim2 ends.steim1) ends.int16) [
     | inl sixteen ↦ at Int16 (inr (inl refl)) (omega arith)
     | inr not ↦ elim (cases_lt ends.steim2 ends.steim1) [
@@ -315,14 +312,14 @@ module _ (form : Form) (samples : List ℤ) (g : ℕ) where
     where
       at : (kind : Kind) → Among longer_kinds kind → end_of ends kind ≡ reached
           → (kind : Kind) × Among longer_kinds kind × (g ≤ reached) × (reached ≤ length samples)
-          × (IsRun (FitsIn kind form) samples g reached ⊎ (reached ≡ g))
+          × (IsRun (FitsIn kind records) samples g reached ⊎ (reached ≡ g))
       at kind among same =
-          let run = subst (IsRun (Fits kind (bytes_of form.length)) samples g) same (are.fit kind among) in (
+          let run = subst (IsRun (Fits kind records.bytes) samples g) same (are.fit kind among) in (
             kind,
             among,
             run.0,
             run.1,
-            elim (of_kind kind reached reached (subst (λ e. g < e → IsChosen form.kinds kind) same
+            elim (of_kind kind reached reached (subst (λ e. g < e → IsChosen records.kinds kind) same
                 (are.chosen kind among)) run.0 (omega arith)) [
                   | inl has ↦ inl (run.0, run.1, (has, run.2))
                   | inr none ↦ inr none
@@ -331,12 +328,12 @@ module _ (form : Form) (samples : List ℤ) (g : ℕ) where
 
   -- and of all kinds
   pub all_ends : (end last reached : ℕ) (ends all : Ends) → reached ≡ max (max ends.steim2 ends.steim1) ends.int16
-      → end ≤ last → g < last → AreEndsAmong longer_kinds form samples g end ends → all.steim2 ≡ ends.steim2
+      → end ≤ last → AreEndsAmong longer_kinds records samples g end ends → all.steim2 ≡ ends.steim2
       → all.steim1 ≡ ends.steim1 → all.int16 ≡ ends.int16 →
-      IsRun (Fits Int24 (bytes_of form.length)) samples g all.int24 → (g < all.int24 → IsChosen form.kinds Int24)
-      → NonePast Int24 form samples g all.int24 reached
-      → IsEnd Int32 (bytes_of form.length) samples g all.int32 → AreEnds form samples g last all
-  all_ends end last reached ends all greatest over on are is2 is1 is16 run24 chosen24 past24 end32 =
+      IsRun (Fits Int24 records.bytes) samples g all.int24 → (g < all.int24 → IsChosen records.kinds Int24)
+      → NonePast Int24 records samples g all.int24 reached
+      → IsEnd Int32 records.bytes samples g all.int32 → AreEnds records samples g last all
+  all_ends end last reached ends all greatest over are is2 is1 is16 run24 chosen24 past24 end32 =
       record { fit = fit; chosen = chosen; past = past }
     where
       same : (kind : Kind) → Among longer_kinds kind → end_of all kind ≡ end_of ends kind
@@ -347,38 +344,38 @@ module _ (form : Form) (samples : List ℤ) (g : ℕ) where
       same Int32 among = absurd (let r = longer_rank Int32 among in omega arith)
 
       fit : (kind : Kind) → Among every_kind kind
-          → IsRun (Fits kind (bytes_of form.length)) samples g (end_of all kind)
+          → IsRun (Fits kind records.bytes) samples g (end_of all kind)
       fit Int32 among = end32.fits
       fit Int24 among = run24
       fit Steim1 among = rw is1 (are.fit Steim1 (inl refl))
       fit Int16 among = rw is16 (are.fit Int16 (inr (inl refl)))
       fit Steim2 among = rw is2 (are.fit Steim2 (inr (inr (inl refl))))
 
-      chosen : (kind : Kind) → Among every_kind kind → g < end_of all kind → IsChosen form.kinds kind
-      chosen Int32 among past = int32_is_chosen form.kinds
+      chosen : (kind : Kind) → Among every_kind kind → g < end_of all kind → IsChosen records.kinds kind
+      chosen Int32 among past = int32_is_chosen records.kinds
       chosen Int24 among past = chosen24 past
       chosen Steim1 among past = are.chosen Steim1 (inl refl) (omega arith)
       chosen Int16 among past = are.chosen Int16 (inr (inl refl)) (omega arith)
       chosen Steim2 among past = are.chosen Steim2 (inr (inr (inl refl))) (omega arith)
 
       longer : (kind : Kind) → Among longer_kinds kind → (c : ℕ) → last ≤ c + 1
-          → IsRun (FitsIn kind form) samples g c → (other : Kind) × Among every_kind other
-          × IsChosen form.kinds other × (rank other ≤ rank kind) × (c ≤ end_of all other)
+          → IsRun (FitsIn kind records) samples g c → (other : Kind) × Among every_kind other
+          × IsChosen records.kinds other × (rank other ≤ rank kind) × (c ≤ end_of all other)
       longer kind among c near run = let p = are.past kind among c (omega arith) run in
           (p.0, inr (inr p.1), p.2, p.3, rw (same p.0 p.1) p.4)
 
       -- one of the longer kinds reaches as far as a run of 24-bit integers, or the run is empty
       by_longer : (kind : Kind) → Among every_kind kind → rank kind ≤ rank Int24 → (c : ℕ)
-          → IsRun (FitsIn Int24 form) samples g c → c ≤ end_of all kind
-          → (other : Kind) × Among every_kind other × IsChosen form.kinds other × (rank other ≤ rank Int24)
+          → IsRun (FitsIn Int24 records) samples g c → c ≤ end_of all kind
+          → (other : Kind) × Among every_kind other × IsChosen records.kinds other × (rank other ≤ rank Int24)
           × (c ≤ end_of all other)
       by_longer kind among low c run le = elim (of_kind kind (end_of all kind) c (chosen kind among) run.0 le) [
         | inl has ↦ (kind, among, has, low, le)
         | inr none ↦ (Int24, each_kind Int24, run.2.0, omega arith, (let up = run24.0 in omega arith))
       ]
 
-      past : (kind : Kind) → Among every_kind kind → (c : ℕ) → last ≤ c + 1 → IsRun (FitsIn kind form) samples g c
-          → (other : Kind) × Among every_kind other × IsChosen form.kinds other × (rank other ≤ rank kind)
+      past : (kind : Kind) → Among every_kind kind → (c : ℕ) → last ≤ c + 1 → IsRun (FitsIn kind records) samples g c
+          → (other : Kind) × Among every_kind other × IsChosen records.kinds other × (rank other ≤ rank kind)
           × (c ≤ end_of all other)
       past Int32 among c near run = (Int32, among, run.2.0, omega arith, end32.furthest c (run.0, run.1, run.2.1))
       past Int24 among c near run = elim (past24 g c (omega arith) run) [
@@ -397,16 +394,16 @@ module _ (form : Form) (samples : List ℤ) (g : ℕ) where
 
 -- ---- the kind of a run that is cut
 
-module _ (form : Form) (samples : List ℤ) (g end : ℕ) (ends : Ends) (are : AreEnds form samples g end ends) (c : ℕ)
-    (near : end ≤ c + 1) (order : g ≤ c) (within : c ≤ length samples) where
-  -- the first kind of the form of which the end is not before the cut
-  pub first_by_ends : (kind : Kind) → IsChosen form.kinds kind
-      → ((other : Kind) → rank other < rank kind → IsChosen form.kinds other → end_of ends other < c)
-      → c ≤ end_of ends kind → IsFirstKind form (run_points samples g c) kind
+module _ (records : Records) (samples : List ℤ) (g end : ℕ) (ends : Ends) (are : AreEnds records samples g end ends)
+    (c : ℕ) (near : end ≤ c + 1) (order : g ≤ c) (within : c ≤ length samples) where
+  -- the first kind of the records of which the end is not before the cut
+  pub first_by_ends : (kind : Kind) → IsChosen records.kinds kind
+      → ((other : Kind) → rank other < rank kind → IsChosen records.kinds other → end_of ends other < c)
+      → c ≤ end_of ends kind → IsFirstKind records (run_points samples g c) kind
   first_by_ends kind chosen before le = (
     (
       chosen,
-      (prefix_run (Fits kind (bytes_of form.length)) (prefix_kind kind (bytes_of form.length)) samples g c
+      (prefix_run (Fits kind records.bytes) (prefix_kind kind records.bytes) samples g c
           (end_of ends kind) order le (are.fit kind (each_kind kind))).2,
     ),
     λ other less fits.
@@ -418,20 +415,21 @@ module _ (form : Form) (samples : List ℤ) (g end : ℕ) (ends : Ends) (are : A
   )
 
   -- a run that fits some kind, and reaches past the end of each but the last
-  pub last_by_ends : (some : Kind) → FitsIn some form (run_points samples g c)
-      → ((other : Kind) → rank other < rank Int32 → IsChosen form.kinds other → end_of ends other < c)
-      → IsFirstKind form (run_points samples g c) Int32
-  last_by_ends some fits before = first_by_ends Int32 (int32_is_chosen form.kinds) before
+  pub last_by_ends : (some : Kind) → FitsIn some records (run_points samples g c)
+      → ((other : Kind) → rank other < rank Int32 → IsChosen records.kinds other → end_of ends other < c)
+      → IsFirstKind records (run_points samples g c) Int32
+  last_by_ends some fits before = first_by_ends Int32 (int32_is_chosen records.kinds) before
       (reached (are.past some (each_kind some) c near (order, within, fits)))
     where
-      reached : (other : Kind) × Among every_kind other × IsChosen form.kinds other × (rank other ≤ rank some)
+      reached : (other : Kind) × Among every_kind other × IsChosen records.kinds other × (rank other ≤ rank some)
           × (c ≤ end_of ends other) → c ≤ end_of ends Int32
       reached p = elim (cases_lt (rank p.0) (rank Int32)) [
         | inl lower ↦ let short = before p.0 lower p.2 in let up = p.4 in absurd (omega arith)
         | inr last ↦ subst (λ k. c ≤ end_of ends k) (rank_same p.0 Int32 (let few = few_kinds p.0 in omega arith)) p.4
       ]
 
-module _ (form : Form) (samples : List ℤ) (g end : ℕ) (ends : Ends) (are : AreEnds form samples g end ends) where
+module _ (records : Records) (samples : List ℤ) (g end : ℕ) (ends : Ends)
+    (are : AreEnds records samples g end ends) where
   none_first : (kind : Kind) → rank kind ≤ rank Steim2 → (c : ℕ) → end_of ends Steim2 < c → c ≤ end_of ends kind → ⊥
   none_first Steim2 low c past le = omega arith
   none_first Steim1 low c past le = omega arith
@@ -442,19 +440,19 @@ module _ (form : Form) (samples : List ℤ) (g end : ℕ) (ends : Ends) (are : A
   -- a run that starts before the frontier is of no kind before Steim-1, if that of Steim-2 from the frontier ends
   -- before it
   pub not_before : (s c : ℕ) → s ≤ g → end ≤ c + 1 → c ≤ length samples → ends.steim2 < c
-      → FitsIn Steim1 form (run_points samples s c) → IsFirstKind form (run_points samples s c) Steim1
+      → FitsIn Steim1 records (run_points samples s c) → IsFirstKind records (run_points samples s c) Steim1
   not_before s c before near within past fits = (fits, λ other lower room. none other lower room)
     where
-      none : (other : Kind) → rank other < rank Steim1 → FitsIn other form (run_points samples s c) → ⊥
+      none : (other : Kind) → rank other < rank Steim1 → FitsIn other records (run_points samples s c) → ⊥
       none Steim2 lower room =
           let first = (are.fit Steim2 (each_kind Steim2)).0 in
-          let cut = back_step_run (FitsIn Steim2 form) 0 (back_step_in Steim2 form) samples s g c before
+          let cut = back_step_run (FitsIn Steim2 records) 0 (back_step_in Steim2 records) samples s g c before
           (omega arith) (omega arith, within, room) in
           let high = cut.3 in
           let low = cut.2 in
           let same : cut.0 ≡ g = omega arith in
           let p = are.past Steim2 (each_kind Steim2) c near
-          (subst (λ x. IsRun (FitsIn Steim2 form) samples x c) same cut.4) in
+          (subst (λ x. IsRun (FitsIn Steim2 records) samples x c) same cut.4) in
           none_first p.0 p.3 c past p.4
       none Steim1 lower room = omega arith
       none Int16 lower room = omega arith

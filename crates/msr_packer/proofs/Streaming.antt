@@ -2,11 +2,9 @@
 use Rattle.std.proofs.Common.{◌≡◌, ℕ, zero, suc, ◌+◌, ◌-◌, ◌<◌, ◌≤◌, ◌⊎◌, ℤ, List, [], ◌∷◌, ◌++◌, length, drop, take, Option, Some, None, sym, ap, ◌∙◌, subst, arith, inl, inr, length-append, length-drop, length-take}
 use Rattle.std.proofs.lemmas.Bool.{cases_lt}
 use Rattle.std.proofs.lemmas.List.{take-append-drop, take-take}
-use Rattle.msr_kinds.specs.declared.forms.Form.{Form}
+use Rattle.msr_words.specs.Fit.{Records, Fits, FitsIn, FitsAny, IsRun}
 use Rattle.msr_kinds.specs.Kinds.{IsChosen}
-use Rattle.msr_kinds.specs.Lengths.{bytes_of}
 use Rattle.msr_words.specs.Segment.{run_points}
-use Rattle.msr_words.specs.Fit.{Fits, FitsIn, FitsAny, IsRun}
 use Rattle.msr_words.specs.Laws.{most_any}
 use Rattle.msr_words.specs.Lemmas.KindLaws.{back_step_any, empty_any, empty_kind}
 use Rattle.msr_words.specs.Packing.{IsStep}
@@ -23,21 +21,21 @@ use Rattle.msr_packer.proofs.Windows.{near_by_one, run_points_stay, run_points_w
 
 -- ---- the run that takes the samples after the frontier
 
-pub growing_run : (form : Form) (samples : List ℤ) (g n : ℕ) (growing : GrowingRun) → n ≤ length samples
-    → IsGrowing form samples g n growing → IsRun (FitsAny form) samples growing.start n
-growing_run form samples g n growing within is = let b = is.before in let p = is.past in
+pub growing_run : (records : Records) (samples : List ℤ) (g n : ℕ) (growing : GrowingRun) → n ≤ length samples
+    → IsGrowing records samples g n growing → IsRun (FitsAny records) samples growing.start n
+growing_run records samples g n growing within is = let b = is.before in let p = is.past in
     (omega arith, within, (kind_of_tracker growing.tracker, is.tracked.fits))
 
 -- so the step from there reaches the last sample
-pub growing_reaches : (form : Form) (samples : List ℤ) (g n h a : ℕ) (growing : GrowingRun) → n ≤ length samples
-    → IsGrowing form samples g n growing → IsStep (FitsAny form) samples g h a → n ≤ h
-growing_reaches form samples g n h a growing within is step =
-    step.furthest growing.start n is.before (growing_run form samples g n growing within is)
+pub growing_reaches : (records : Records) (samples : List ℤ) (g n h a : ℕ) (growing : GrowingRun) → n ≤ length samples
+    → IsGrowing records samples g n growing → IsStep (FitsAny records) samples g h a → n ≤ h
+growing_reaches records samples g n h a growing within is step =
+    step.furthest growing.start n is.before (growing_run records samples g n growing within is)
 
 -- samples that follow change nothing of those before
-pub growing_more : (form : Form) (samples more : List ℤ) (g n : ℕ) (growing : GrowingRun) → n ≤ length samples
-    → IsGrowing form samples g n growing → IsGrowing form (samples ++ more) g n growing
-growing_more form samples more g n growing within is =
+pub growing_more : (records : Records) (samples more : List ℤ) (g n : ℕ) (growing : GrowingRun) → n ≤ length samples
+    → IsGrowing records samples g n growing → IsGrowing records (samples ++ more) g n growing
+growing_more records samples more g n growing within is =
     let b = is.before in
     let p = is.past in
     let same = run_points_stay samples more growing.start n (omega arith) within in
@@ -52,11 +50,12 @@ growing_more form samples more g n growing within is =
     }
 
 -- nor do samples that are taken away before its start
-pub growing_less : (form : Form) (held : List ℤ) (g g' k : ℕ) (growing growing' : GrowingRun)
-    → IsGrowing form held g (length held) growing → k < growing.start → g' + k ≡ g → growing'.start + k ≡ growing.start
+pub growing_less : (records : Records) (held : List ℤ) (g g' k : ℕ) (growing growing' : GrowingRun)
+    → IsGrowing records held g (length held) growing → k < growing.start → g' + k ≡ g → growing'.start + k
+    ≡ growing.start
     → growing'.tracker ≡ growing.tracker
-    → IsGrowing form (drop k held) g' (length (drop k held)) growing'
-growing_less form held g g' k growing growing' is small frontier start tracker =
+    → IsGrowing records (drop k held) g' (length (drop k held)) growing'
+growing_less records held g g' k growing growing' is small frontier start tracker =
     let b = is.before in
     let n = is.near in
     let p = is.past in
@@ -78,26 +77,22 @@ growing_less form held g g' k growing growing' is small frontier start tracker =
     }
 
 -- before the first sample
-pub begun : (form : Form) (samples : List ℤ) (start : ℕ) (tracker : KindTracker)
-    → IsChosen form.kinds (kind_of_tracker tracker) → Follows (bytes_of form.length) [] tracker
-    → IsTracked form samples start start tracker
-begun form samples start tracker chosen follows =
-    let least = form.length.least in
-    record {
-      follows = rw run_points_none follows;
-      fits = (
-        chosen,
-        rw run_points_none (empty_kind (kind_of_tracker tracker) (bytes_of form.length) (omega arith)),
-      );
-    }
+pub begun : (records : Records) → 256 ≤ records.bytes → (samples : List ℤ) (start : ℕ) (tracker : KindTracker)
+    → IsChosen records.kinds (kind_of_tracker tracker) → Follows records.bytes [] tracker
+    → IsTracked records samples start start tracker
+begun records enough samples start tracker chosen follows = record {
+  follows = rw run_points_none follows;
+  fits = (chosen, rw run_points_none (empty_kind (kind_of_tracker tracker) records.bytes (omega arith)));
+}
 
 -- when the step is found that ends with the samples
-pub growing_of : (form : Form) (samples : List ℤ) (g h a : ℕ) (growing : GrowingRun) → g ≤ h
+pub growing_of : (records : Records) (samples : List ℤ) (g h a : ℕ) (growing : GrowingRun) → g ≤ h
     → h ≡ length samples
-    → IsStep (FitsAny form) samples g h a → growing.start ≡ a
-    → IsTracked form samples a (length samples) growing.tracker → IsGrowing form samples g (length samples) growing
-growing_of form samples g h a growing order all step start tracked =
-    let near = near_by_one (FitsAny form) (back_step_any form) samples g h a order step in
+    → IsStep (FitsAny records) samples g h a → growing.start ≡ a
+    → IsTracked records samples a (length samples) growing.tracker
+    → IsGrowing records samples g (length samples) growing
+growing_of records samples g h a growing order all step start tracked =
+    let near = near_by_one (FitsAny records) (back_step_any records) samples g h a order step in
     let before = step.before in
     record {
       before = omega arith;
@@ -107,24 +102,24 @@ growing_of form samples g h a growing order all step start tracked =
     }
 
 -- so a longest run at most is held after the frontier
-pub growing_few : (form : Form) (held : List ℤ) (g : ℕ) (growing : GrowingRun)
-    → IsGrowing form held g (length held) growing
-    → length held ≤ g + most_any form
-growing_few form held g growing is =
+pub growing_few : (records : Records) (held : List ℤ) (g : ℕ) (growing : GrowingRun)
+    → IsGrowing records held g (length held) growing
+    → length held ≤ g + most_any records
+growing_few records held g growing is =
     let b = is.before in
-    let any = growing_run form held g (length held) growing (omega arith) is in
-    let size = run_size form held growing.start (length held) (kind_of_tracker growing.tracker)
+    let any = growing_run records held g (length held) growing (omega arith) is in
+    let size = run_size records held growing.start (length held) (kind_of_tracker growing.tracker)
     (any.0, any.1, is.tracked.fits) in
     omega arith
 
 -- samples that are taken away, if any
-pub growing_forgets : (form : Form) (held : List ℤ) (g g' k : ℕ) (growing growing' : GrowingRun)
-    → IsGrowing form held g (length held) growing → (k ≡ 0) ⊎ (k < growing.start) → g' + k ≡ g
+pub growing_forgets : (records : Records) (held : List ℤ) (g g' k : ℕ) (growing growing' : GrowingRun)
+    → IsGrowing records held g (length held) growing → (k ≡ 0) ⊎ (k < growing.start) → g' + k ≡ g
     → growing'.start + k ≡ growing.start → growing'.tracker ≡ growing.tracker
-    → IsGrowing form (drop k held) g' (length (drop k held)) growing'
-growing_forgets form held g g' k growing growing' is (inr small) frontier start tracker =
-    growing_less form held g g' k growing growing' is small frontier start tracker
-growing_forgets form held g g' k growing growing' is (inl none) frontier start tracker =
+    → IsGrowing records (drop k held) g' (length (drop k held)) growing'
+growing_forgets records held g g' k growing growing' is (inr small) frontier start tracker =
+    growing_less records held g g' k growing growing' is small frontier start tracker
+growing_forgets records held g g' k growing growing' is (inl none) frontier start tracker =
     let here : g' ≡ g = omega arith in
     let from : growing'.start ≡ growing.start = omega arith in
     rw none (record {
@@ -134,10 +129,11 @@ growing_forgets form held g g' k growing growing' is (inl none) frontier start t
       tracked = rw (from, tracker) is.tracked;
     })
 
-pub may_forget : (form : Form) (number : ℕ) (current : Option RunToCut) (from : ℕ) → InsideIfAny form number current
+pub may_forget : (records : Records) (number : ℕ) (current : Option RunToCut) (from : ℕ)
+    → InsideIfAny records number current
     → frontier_of current ≤ from + 1 → (start_of current - 1 ≡ 0) ⊎ (start_of current - 1 < from)
-may_forget form number None from inside near = inl (omega arith)
-may_forget form number (Some c) from inside near = elim (cases_lt 1 c.start) [
+may_forget records number None from inside near = inl (omega arith)
+may_forget records number (Some c) from inside near = elim (cases_lt 1 c.start) [
   | inl some ↦ let before = inside.before in let on = inside.on in inr (omega arith)
   | inr none ↦ inl (omega arith)
 ]
@@ -145,16 +141,16 @@ may_forget form number (Some c) from inside near = elim (cases_lt 1 c.start) [
 -- ---- the step that some samples decide
 
 -- the samples after the one that decides it change nothing
-pub decided_sooner : (form : Form) (front more : List ℤ) (g n : ℕ) (found : StepWithEnds) → found.step.end < length front
-    → IsDecided form (front ++ more) g n found → IsDecided form front g n found
-decided_sooner form front more g n found inside is = record {
+pub decided_sooner : (records : Records) → 256 ≤ records.bytes → (front more : List ℤ) (g n : ℕ) (found : StepWithEnds)
+    → found.step.end < length front → IsDecided records (front ++ more) g n found → IsDecided records front g n found
+decided_sooner records enough front more g n found inside is = record {
   step = record {
     before = is.step.before;
-    reached = run_was (FitsAny form) front more found.step.start found.step.end (omega arith) is.step.reached;
-    furthest = λ s b le r. is.step.furthest s b le (run_stays (FitsAny form) front more s b r);
-    last = λ s le r. is.step.last s le (run_stays (FitsAny form) front more s found.step.end r);
+    reached = run_was (FitsAny records) front more found.step.start found.step.end (omega arith) is.step.reached;
+    furthest = λ s b le r. is.step.furthest s b le (run_stays (FitsAny records) front more s b r);
+    last = λ s le r. is.step.last s le (run_stays (FitsAny records) front more s found.step.end r);
   };
-  kind = run_was (FitsIn found.step.kind form) front more found.step.start found.step.end (omega arith) is.kind;
+  kind = run_was (FitsIn found.step.kind records) front more found.step.start found.step.end (omega arith) is.kind;
   ends = record {
     fit = λ kind among.
         let fit = is.ends.fit kind among in
@@ -165,27 +161,28 @@ decided_sooner form front more g n found inside is = record {
               let here = is.step.furthest g g (omega arith) (
                 omega arith,
                 omega arith,
-                rw run_points_none (empty_any form),
+                rw run_points_none (empty_any records (omega arith)),
               ) in
               omega arith
         ] in
-        run_was (Fits kind (bytes_of form.length)) front more g (end_of found.ends kind) (omega arith) fit;
+        run_was (Fits kind records.bytes) front more g (end_of found.ends kind) (omega arith) fit;
     chosen = is.ends.chosen;
-    past = λ kind among c near r. is.ends.past kind among c near (run_stays (FitsIn kind form) front more g c r);
+    past = λ kind among c near r. is.ends.past kind among c near (run_stays (FitsIn kind records) front more g c r);
   };
   before_last = inside;
   past = is.past;
 }
 
 -- a step that is decided is decided by the samples up to the one after its end
-pub decided_there : (form : Form) (held : List ℤ) (g n : ℕ) (found : StepWithEnds) → IsDecided form held g n found
-    → IsDecided form (take (found.step.end + 1) held) g n found
-decided_there form held g n found is =
+pub decided_there : (records : Records) → 256 ≤ records.bytes → (held : List ℤ) (g n : ℕ) (found : StepWithEnds)
+    → IsDecided records held g n found
+    → IsDecided records (take (found.step.end + 1) held) g n found
+decided_there records enough held g n found is =
     let end = found.step.end + 1 in
     let last = is.before_last in
     let long = length-take end held in
-    decided_sooner form (take end held) (drop end held) g n found (omega arith)
-    (subst (λ xs. IsDecided form xs g n found) (sym (take-append-drop end held)) is)
+    decided_sooner records enough (take end held) (drop end held) g n found (omega arith)
+    (subst (λ xs. IsDecided records xs g n found) (sym (take-append-drop end held)) is)
 
 take_behind : (xs ys : List ℤ) (m n : ℕ) → m ≡ length xs + n → take m (xs ++ ys) ≡ xs ++ take n ys
 take_behind [] ys m n e = let same : m ≡ n = omega arith in ap (λ k. take k ys) same

@@ -1,6 +1,6 @@
 -- Which pieces a packer of blocks of samples has given.
 use Rattle.std.specs.Prelude.{◌≡◌, ℕ, ◌+◌, ◌-◌, ◌≤◌, Bool, true, false, ℤ, List, ◌++◌, length, Option, if◌then◌else◌}
-use Rattle.msr_kinds.specs.declared.forms.Form.{Form}
+use Rattle.msr_words.specs.Fit.{Records, records_of}
 use Rattle.msr_words.specs.declared.kinds.Run.{Run}
 use Rattle.msr_words.specs.Laws.{most_any}
 use Rattle.msr_words.specs.Packing.{IsCanonical}
@@ -8,11 +8,11 @@ use Rattle.msr_packer.specs.HeldSamples.{BeginsAll, IsWindow, LeavesFew, Stays, 
 use Rattle.msr_packer.specs.declared.held.RunToCut.{RunToCut}
 use Rattle.msr_packer.specs.declared.held.HeldSamples.{HeldSamples}
 
--- What a packer of blocks shows: the form of its records, the samples that it holds and how many stand before them,
+-- What a packer of blocks shows: its records, the samples that it holds and how many stand before them,
 -- the step whose piece comes next, the samples of the piece that was given last with the one before them, and whether
 -- all pieces were given.
 pub record Holding : Type 0 where
-  pub form : Form
+  pub records : Records
   pub held : List ℤ
   pub offset : ℕ
   pub current : Option RunToCut
@@ -22,7 +22,7 @@ pub record Holding : Type 0 where
 
 abbrev pub holding_of : HeldSamples → Bool → Holding
 holding_of held ended = record {
-  form = held.form;
+  records = records_of held.form;
   held = held.samples.items;
   offset = held.offset;
   current = held.current;
@@ -35,26 +35,25 @@ holding_of held ended = record {
 abbrev pub pushed : Holding → ℕ
 pushed packer = packer.offset + length packer.held
 
--- After these samples were pushed to a packer of records of that form, these runs and
--- separators were given.
-pub record Packs (form : Form) (samples : List ℤ) (runs : List Run) (separators : List ℕ)
+-- After these samples were pushed to a packer of these records, these runs and separators were given.
+pub record Packs (records : Records) (samples : List ℤ) (runs : List Run) (separators : List ℕ)
     (packer : Holding) : Type 0 where
-  pub of_form : packer.form ≡ form
-  pub holds : IsWindow form samples runs separators packer.held packer.offset packer.current
+  pub of_form : packer.records ≡ records
+  pub holds : IsWindow records samples runs separators packer.held packer.offset packer.current
   pub stays : Stays packer.current (length packer.held)
   pub goes_on : packer.ended ≡ false
 
 -- what is left, if no sample follows
-abbrev pub LeftAt : Bool → Form → List ℤ → List Run → List ℕ → Holding → Type 0
-LeftAt false form samples runs separators packer =
-    IsWindow form samples runs separators packer.held packer.offset packer.current
-LeftAt true form samples runs separators packer = IsCanonical form samples runs separators
+abbrev pub LeftAt : Bool → Records → List ℤ → List Run → List ℕ → Holding → Type 0
+LeftAt false records samples runs separators packer =
+    IsWindow records samples runs separators packer.held packer.offset packer.current
+LeftAt true records samples runs separators packer = IsCanonical records samples runs separators
 
 -- After these samples, which no sample follows, these runs and separators were given.
-pub record PacksLast (form : Form) (samples : List ℤ) (runs : List Run) (separators : List ℕ)
+pub record PacksLast (records : Records) (samples : List ℤ) (runs : List Run) (separators : List ℕ)
     (packer : Holding) : Type 0 where
-  pub of_form : packer.form ≡ form
-  pub left : LeftAt packer.ended form samples runs separators packer
+  pub of_form : packer.records ≡ records
+  pub left : LeftAt packer.ended records samples runs separators packer
 
 -- how many steps can be left at most
 abbrev pub left_of : Holding → ℕ
@@ -62,25 +61,25 @@ left_of packer = (if packer.ended then 0 else 1) + (length packer.held - frontie
 
 -- at most one longest run is held after the frontier
 abbrev pub HoldsFew : Holding → Type 0
-HoldsFew packer = length packer.held ≤ frontier_of packer.current + most_any packer.form
+HoldsFew packer = length packer.held ≤ frontier_of packer.current + most_any packer.records
 
 -- whatever samples follow, the pieces that were given begin their canonical packing
 abbrev pub BlocksBeginAll : Type 0
-BlocksBeginAll = (form : Form) (samples : List ℤ) (runs : List Run) (separators : List ℕ) (packer : Holding)
-    → Packs form samples runs separators packer → BeginsAll form samples runs separators
+BlocksBeginAll = (records : Records) (samples : List ℤ) (runs : List Run) (separators : List ℕ) (packer : Holding)
+    → 256 ≤ records.bytes → Packs records samples runs separators packer → BeginsAll records samples runs separators
 
 -- if no sample follows, the pieces that were given begin the canonical packing of all
 abbrev pub LastBlocksBegin : Type 0
-LastBlocksBegin = (form : Form) (samples : List ℤ) (runs : List Run) (separators : List ℕ) (packer : Holding)
-    → PacksLast form samples runs separators packer
-    → (others : List Run) × (places : List ℕ) × IsCanonical form samples (runs ++ others) (separators ++ places)
+LastBlocksBegin = (records : Records) (samples : List ℤ) (runs : List Run) (separators : List ℕ) (packer : Holding)
+    → 256 ≤ records.bytes → PacksLast records samples runs separators packer
+    → (others : List Run) × (places : List ℕ) × IsCanonical records samples (runs ++ others) (separators ++ places)
 
 -- if no piece is decided, at most two longest runs of samples were pushed and not given
 abbrev pub BlocksLeaveFew : Type 0
-BlocksLeaveFew = (form : Form) (samples : List ℤ) (runs : List Run) (separators : List ℕ) (packer : Holding)
-    → Packs form samples runs separators packer → HoldsFew packer → LeavesFew form samples runs
+BlocksLeaveFew = (records : Records) (samples : List ℤ) (runs : List Run) (separators : List ℕ) (packer : Holding)
+    → Packs records samples runs separators packer → HoldsFew packer → LeavesFew records samples runs
 
 -- what holds of a packer while samples may follow holds of it if none follows
 abbrev pub BlocksEnd : Type 0
-BlocksEnd = (form : Form) (samples : List ℤ) (runs : List Run) (separators : List ℕ) (packer : Holding)
-    → Packs form samples runs separators packer → PacksLast form samples runs separators packer
+BlocksEnd = (records : Records) (samples : List ℤ) (runs : List Run) (separators : List ℕ) (packer : Holding)
+    → Packs records samples runs separators packer → PacksLast records samples runs separators packer

@@ -1,11 +1,9 @@
 -- What is known of a step that is not decided yet.
 use Rattle.std.specs.Prelude.{ℕ, ◌+◌, ◌<◌, ◌≤◌, ℤ, List, length, map}
-use Rattle.msr_kinds.specs.declared.forms.Form.{Form}
+use Rattle.msr_words.specs.Fit.{Records, FitsAny, FitsIn, IsRun}
 use Rattle.msr_kinds.specs.declared.kinds.Kind.{Kind}
 use Rattle.msr_kinds.specs.declared.kinds.Kind.TheVariants as kinds
-use Rattle.msr_words.specs.Fit.{FitsAny, FitsIn, IsRun}
 use Rattle.msr_words.specs.Packing.{IsStep}
-use Rattle.msr_kinds.specs.Lengths.{bytes_of}
 use Rattle.msr_kinds.specs.RecordLength.{words_of}
 use Rattle.msr_words.specs.Segment.{run_points}
 use Rattle.msr_words.specs.Trackers.{FollowsIntegers, FollowsSteim1, FollowsSteim2}
@@ -25,29 +23,29 @@ kind_of_tracker (Int32 t) = kinds.Int32
 
 -- the run was pushed to the tracker
 abbrev pub Follows : ℕ → List (ℤ × ℤ) → KindTracker → Type 0
-Follows bytes run (Steim2 t) = FollowsSteim2 bytes run t.left t.count t.most t.more t.fits
-Follows bytes run (Steim1 t) = FollowsSteim1 (words_of bytes) (map (λ p. p.1) run) t.words t.counts t.fits
-Follows bytes run (Int16 t) = FollowsIntegers kinds.Int16 bytes run t.left t.fits
-Follows bytes run (Int24 t) = FollowsIntegers kinds.Int24 bytes run t.left t.fits
-Follows bytes run (Int32 t) = FollowsIntegers kinds.Int32 bytes run t.left t.fits
+Follows bytes run (Steim2 t) = FollowsSteim2 bytes run t
+Follows bytes run (Steim1 t) = FollowsSteim1 (words_of bytes) (map (λ p. p.1) run) t
+Follows bytes run (Int16 t) = FollowsIntegers kinds.Int16 bytes run t
+Follows bytes run (Int24 t) = FollowsIntegers kinds.Int24 bytes run t
+Follows bytes run (Int32 t) = FollowsIntegers kinds.Int32 bytes run t
 
 -- the samples `start` to n-1 were pushed to the tracker, and fit
-pub record IsTracked (form : Form) (samples : List ℤ) (start n : ℕ) (tracker : KindTracker) : Type 0 where
-  pub follows : Follows (bytes_of form.length) (run_points samples start n) tracker
-  pub fits : FitsIn (kind_of_tracker tracker) form (run_points samples start n)
+pub record IsTracked (records : Records) (samples : List ℤ) (start n : ℕ) (tracker : KindTracker) : Type 0 where
+  pub follows : Follows records.bytes (run_points samples start n) tracker
+  pub fits : FitsIn (kind_of_tracker tracker) records (run_points samples start n)
 
 -- a run that starts at the frontier g, or at the sample before it, goes on to the sample n-1 at least
-pub record IsGrowing (form : Form) (samples : List ℤ) (g n : ℕ) (growing : GrowingRun) : Type 0 where
+pub record IsGrowing (records : Records) (samples : List ℤ) (g n : ℕ) (growing : GrowingRun) : Type 0 where
   pub before : growing.start ≤ g
   pub near : g ≤ growing.start + 1
   pub past : g ≤ n
-  pub tracked : IsTracked form samples growing.start n growing.tracker
+  pub tracked : IsTracked records samples growing.start n growing.tracker
 
 -- the step from the frontier g ends before the last sample, so that no further sample changes it; it is the first n of
 -- the samples at least that it takes
-pub record IsDecided (form : Form) (samples : List ℤ) (g n : ℕ) (found : StepWithEnds) : Type 0 where
-  pub step : IsStep (FitsAny form) samples g found.step.end found.step.start
-  pub kind : IsRun (FitsIn found.step.kind form) samples found.step.start found.step.end
-  pub ends : AreEnds form samples g found.step.end found.ends
+pub record IsDecided (records : Records) (samples : List ℤ) (g n : ℕ) (found : StepWithEnds) : Type 0 where
+  pub step : IsStep (FitsAny records) samples g found.step.end found.step.start
+  pub kind : IsRun (FitsIn found.step.kind records) samples found.step.start found.step.end
+  pub ends : AreEnds records samples g found.step.end found.ends
   pub before_last : found.step.end < length samples
   pub past : n ≤ found.step.end

@@ -1,8 +1,7 @@
 -- What a packer holds of a segment: its last samples, and the step after the runs that were given.
 use Rattle.std.specs.Prelude.{◌≡◌, ℕ, zero, suc, ◌+◌, ◌-◌, ◌*◌, ◌<◌, ◌≤◌, ◌^◌, ◌⊎◌, ℤ, List, [], ◌∷◌, ◌++◌, length, drop, map, slice_get, slice_range, Option, Some, None, IfSome, if◌then◌else◌, ◌==◌, ⊤}
-use Rattle.msr_kinds.specs.declared.forms.Form.{Form}
+use Rattle.msr_words.specs.Fit.{Records, records_of, FitsAny, IsFirstKind}
 use Rattle.msr_words.specs.declared.kinds.Run.{Run}
-use Rattle.msr_words.specs.Fit.{FitsAny, IsFirstKind}
 use Rattle.msr_words.specs.Laws.{most_any}
 use Rattle.msr_words.specs.Packing.{Joins, IsCanonical, IsStep}
 use Rattle.msr_words.specs.Segment.{run_points}
@@ -13,18 +12,19 @@ use Rattle.msr_packer.specs.declared.held.Piece.{Piece}
 
 -- The step from the frontier after these runs, with the kinds of its run. Places are counted from the first sample
 -- that is held, which is the segment's first or stands before the run.
-pub record IsRunToCut (form : Form) (samples : List ℤ) (runs : List Run) (separators : List ℕ) (offset : ℕ)
+pub record IsRunToCut (records : Records) (samples : List ℤ) (runs : List Run) (separators : List ℕ) (offset : ℕ)
     (current : RunToCut) : Type 0 where
-  pub so_far : IsSoFar form samples runs separators (offset + current.frontier) (offset + current.end)
+  pub so_far : IsSoFar records samples runs separators (offset + current.frontier) (offset + current.end)
       (offset + current.start) current.whole
   pub one_before : (offset ≡ 0) ⊎ (1 ≤ current.start)
-  pub whole : IsFirstKind form (run_points samples (offset + current.start) (offset + current.end)) current.whole
-  pub short : IsFirstKind form (run_points samples (offset + current.start) (offset + current.end - 1)) current.short
+  pub whole : IsFirstKind records (run_points samples (offset + current.start) (offset + current.end)) current.whole
+  pub short : IsFirstKind records (run_points samples (offset + current.start) (offset + current.end - 1)) current.short
 
 -- what is known of the step after these runs; before the first step no run was given
-abbrev pub StandsAt : Form → List ℤ → List Run → List ℕ → ℕ → Option RunToCut → Type 0
-StandsAt form samples runs separators offset None = (runs ≡ []) × (separators ≡ []) × (offset ≡ 0)
-StandsAt form samples runs separators offset (Some current) = IsRunToCut form samples runs separators offset current
+abbrev pub StandsAt : Records → List ℤ → List Run → List ℕ → ℕ → Option RunToCut → Type 0
+StandsAt records samples runs separators offset None = (runs ≡ []) × (separators ≡ []) × (offset ≡ 0)
+StandsAt records samples runs separators offset (Some current) =
+    IsRunToCut records samples runs separators offset current
 
 -- the frontier of the next step
 abbrev pub frontier_of : Option RunToCut → ℕ
@@ -42,51 +42,51 @@ Stays None number = ⊤
 Stays (Some current) number = current.end < number
 
 -- The last samples are held, with the step after these runs and separators.
-pub record IsWindow (form : Form) (samples : List ℤ) (runs : List Run) (separators : List ℕ) (held : List ℤ)
+pub record IsWindow (records : Records) (samples : List ℤ) (runs : List Run) (separators : List ℕ) (held : List ℤ)
     (offset : ℕ) (current : Option RunToCut) : Type 0 where
   pub window : held ≡ drop offset samples
   pub within : offset ≤ length samples
-  pub at : StandsAt form samples runs separators offset current
+  pub at : StandsAt records samples runs separators offset current
 
 -- the last samples of a segment are held so
 abbrev pub HoldsRest : List ℤ → List Run → List ℕ → HeldSamples → Type 0
 HoldsRest samples runs separators held = IsWindow
-    held.form samples runs separators held.samples.items held.offset held.current
+    (records_of held.form) samples runs separators held.samples.items held.offset held.current
 
 -- the step starts at its frontier or before, ends after it, within `number` samples, and is no
 -- longer than a record
-pub record IsInside (form : Form) (number : ℕ) (current : RunToCut) : Type 0 where
+pub record IsInside (records : Records) (number : ℕ) (current : RunToCut) : Type 0 where
   pub before : current.start ≤ current.frontier
   pub on : current.frontier < current.end
   pub within : current.end ≤ number
-  pub short : current.end ≤ current.start + most_any form
+  pub short : current.end ≤ current.start + most_any records
 
-abbrev pub InsideIfAny : Form → ℕ → Option RunToCut → Type 0
-InsideIfAny form number None = ⊤
-InsideIfAny form number (Some current) = IsInside form number current
+abbrev pub InsideIfAny : Records → ℕ → Option RunToCut → Type 0
+InsideIfAny records number None = ⊤
+InsideIfAny records number (Some current) = IsInside records number current
 
 -- the places are in order, and the samples can be counted
 pub record IsSound (held : HeldSamples) : Type 0 where
   pub number : held.offset + length held.samples.items < 2 ^ 64
-  pub inside : InsideIfAny held.form (length held.samples.items) held.current
+  pub inside : InsideIfAny (records_of held.form) (length held.samples.items) held.current
   pub order : held.from ≤ held.to
   pub within : held.to ≤ length held.samples.items
 
 -- the places of a step, and the one where the next run starts, can be counted from the segment's first sample
 pub record HasPlaces (offset next : ℕ) (current : Option RunToCut) : Type 0 where
-  pub form : Form
+  pub records : Records
   pub number : ℕ
-  pub inside : InsideIfAny form number current
+  pub inside : InsideIfAny records number current
   pub within : next ≤ number
   pub counted : offset + number < 2 ^ 64
 
 -- The step from the next frontier, with the kinds of its run.
-pub record IsNext (form : Form) (held : List ℤ) (current : Option RunToCut) (next : RunToCut) : Type 0 where
+pub record IsNext (records : Records) (held : List ℤ) (current : Option RunToCut) (next : RunToCut) : Type 0 where
   pub frontier : next.frontier ≡ frontier_of current
   pub inside : next.frontier < length held
-  pub step : IsStep (FitsAny form) held next.frontier next.end next.start
-  pub whole : IsFirstKind form (run_points held next.start next.end) next.whole
-  pub short : IsFirstKind form (run_points held next.start (next.end - 1)) next.short
+  pub step : IsStep (FitsAny records) held next.frontier next.end next.start
+  pub whole : IsFirstKind records (run_points held next.start next.end) next.whole
+  pub short : IsFirstKind records (run_points held next.start (next.end - 1)) next.short
 
 -- the piece of a step that is cut where the next run starts
 abbrev pub piece_of : ℕ → Option RunToCut → ℕ → Option Piece
@@ -145,13 +145,13 @@ pub record GivesPiece (old new : HeldSamples) (piece : Option Piece) : Type 0 wh
       → IfSome piece (Shows samples (shown_by new) (before_shown new))
 
 -- These runs and separators are the first of the canonical packing of the samples with whatever follows.
-abbrev pub BeginsAll : Form → List ℤ → List Run → List ℕ → Type 0
-BeginsAll form samples runs separators =
+abbrev pub BeginsAll : Records → List ℤ → List Run → List ℕ → Type 0
+BeginsAll records samples runs separators =
     (more : List ℤ) → (others : List Run) × (places : List ℕ)
-    × IsCanonical form (samples ++ more) (runs ++ others) (separators ++ places)
+    × IsCanonical records (samples ++ more) (runs ++ others) (separators ++ places)
 
 -- The runs that were given join up to a sample; after it stand at most two longest runs.
-pub record LeavesFew (form : Form) (samples : List ℤ) (runs : List Run) : Type 0 where
+pub record LeavesFew (records : Records) (samples : List ℤ) (runs : List Run) : Type 0 where
   pub given : ℕ
   pub joined : Joins 0 runs given
-  pub few : length samples ≤ given + 2 * most_any form
+  pub few : length samples ≤ given + 2 * most_any records

@@ -1,16 +1,15 @@
 -- The first runs of a packing, with the step after them.
 use Rattle.std.specs.Prelude.{ℕ, ◌<◌, ℤ, List, length}
-use Rattle.msr_kinds.specs.declared.forms.Form.{Form}
+use Rattle.msr_words.specs.Fit.{Records, FitsAny, FitsIn, IsRun}
 use Rattle.msr_kinds.specs.declared.kinds.Kind.{Kind}
 use Rattle.msr_words.specs.declared.kinds.Run.{Run}
-use Rattle.msr_words.specs.Fit.{FitsAny, FitsIn, IsRun}
 use Rattle.msr_words.specs.Packing.{CanonicalTo, IsStep, Joins}
 
 -- runs and separators up to the frontier g, from which the step to h starts at a
-pub record IsSoFar (form : Form) (samples : List ℤ) (runs : List Run) (separators : List ℕ) (g h a : ℕ)
+pub record IsSoFar (records : Records) (samples : List ℤ) (runs : List Run) (separators : List ℕ) (g h a : ℕ)
     (kind : Kind) : Type 0 where
-  pub chosen : CanonicalTo form samples 0 runs separators g
+  pub chosen : CanonicalTo records samples 0 runs separators g
   pub joined : Joins 0 runs a
   pub within : g < length samples
-  pub step : IsStep (FitsAny form) samples g h a
-  pub reached : IsRun (FitsIn kind form) samples a h
+  pub step : IsStep (FitsAny records) samples g h a
+  pub reached : IsRun (FitsIn kind records) samples a h

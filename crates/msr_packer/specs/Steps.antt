@@ -1,12 +1,10 @@
 -- Steps from a frontier with records of some kinds.
 use Rattle.std.specs.Prelude.{◌≡◌, ℕ, ◌+◌, ◌<◌, ◌≤◌, ◌⊎◌, min, ℤ, List, [], ◌∷◌, length, All}
 use Rattle.msr_words.specs.Bounds.{IsOfBits}
-use Rattle.msr_kinds.specs.declared.forms.Form.{Form}
+use Rattle.msr_words.specs.Fit.{Records, Fits, FitsIn, IsRun, rank}
 use Rattle.msr_kinds.specs.declared.kinds.Kind.{Kind}
 use Rattle.msr_kinds.specs.declared.kinds.Kind.TheVariants.{Int16, Int24, Int32, Steim1, Steim2}
 use Rattle.msr_kinds.specs.Kinds.{IsChosen}
-use Rattle.msr_kinds.specs.Lengths.{bytes_of}
-use Rattle.msr_words.specs.Fit.{Fits, FitsIn, IsRun, rank}
 use Rattle.msr_words.specs.Laws.{IsNarrow}
 use Rattle.msr_words.specs.Segment.{run_points}
 use Rattle.msr_packer.specs.declared.step.Ends.{Ends}
@@ -17,22 +15,26 @@ abbrev pub Among : List Kind → Kind → Type 0
 Among [] kind = ⊥
 Among (first ∷ kinds) kind = (kind ≡ first) ⊎ Among kinds kind
 
--- With those records of these kinds that the form has, the step reaches as far as any run that starts at or before the
--- frontier g, from the last start that does. If it does not reach past the frontier, its kind means nothing.
-pub record IsStepAmong (kinds : List Kind) (form : Form) (samples : List ℤ) (g : ℕ) (step : StepRun) : Type 0 where
+-- With those of the records that are of these kinds, the step reaches as far as any run that starts at or before the
+-- frontier g, from the last start that does. A step of no samples is of a kind of the records, too.
+pub record IsStepAmong (kinds : List Kind) (records : Records) (samples : List ℤ) (g : ℕ)
+    (step : StepRun) : Type 0 where
   pub before : step.start ≤ g
   pub past : g ≤ step.end
-  pub reached : IsRun (Fits step.kind (bytes_of form.length)) samples step.start step.end
-  pub chosen : g < step.end → IsChosen form.kinds step.kind
+  pub reached : IsRun (FitsIn step.kind records) samples step.start step.end
   pub still : step.end ≡ g → step.start ≡ g
-  pub furthest : (kind : Kind) → Among kinds kind → (s b : ℕ) → s ≤ g → IsRun (FitsIn kind form) samples s b
+  pub furthest : (kind : Kind) → Among kinds kind → (s b : ℕ) → s ≤ g → IsRun (FitsIn kind records) samples s b
       → b ≤ step.end
-  pub last : (kind : Kind) → Among kinds kind → (s : ℕ) → s ≤ g → IsRun (FitsIn kind form) samples s step.end
+  pub last : (kind : Kind) → Among kinds kind → (s : ℕ) → s ≤ g → IsRun (FitsIn kind records) samples s step.end
       → s ≤ step.start
 
 -- a step reaches at least as far as another, and starts no earlier if it reaches as far
 pub record NotLess (step other : StepRun) : Type 0 where
   pub further : (other.end < step.end) ⊎ ((other.end ≡ step.end) × (other.start ≤ step.start))
+
+-- it reaches further, or starts later and reaches as far
+pub record IsBetter (step other : StepRun) : Type 0 where
+  pub further : (other.end < step.end) ⊎ ((other.end ≡ step.end) × (other.start < step.start))
 
 -- the differences of the samples a to b-1 are narrow
 abbrev pub AreNarrow : List ℤ → ℕ → ℕ → Type 0
@@ -42,15 +44,15 @@ AreNarrow samples a b = All (λ p. IsNarrow p.1) (run_points samples a b)
 abbrev pub AreNarrowThrough : List ℤ → ℕ → ℕ → Type 0
 AreNarrowThrough samples a b = AreNarrow samples a (min (b + 1) (length samples))
 
--- the greatest end of a run of that kind from the frontier g; g itself, if the form has no records of that kind
-pub record IsEndIn (kind : Kind) (form : Form) (samples : List ℤ) (g end : ℕ) : Type 0 where
-  pub fits : IsRun (Fits kind (bytes_of form.length)) samples g end
-  pub chosen : g < end → IsChosen form.kinds kind
-  pub furthest : (b : ℕ) → IsRun (FitsIn kind form) samples g b → b ≤ end
+-- the greatest end of a run of that kind from the frontier g; g itself, if none of the records is of that kind
+pub record IsEndIn (kind : Kind) (records : Records) (samples : List ℤ) (g end : ℕ) : Type 0 where
+  pub fits : IsRun (Fits kind records.bytes) samples g end
+  pub chosen : g < end → IsChosen records.kinds kind
+  pub furthest : (b : ℕ) → IsRun (FitsIn kind records) samples g b → b ≤ end
 
 -- of the runs of that kind that start at or before the frontier g, each ends at or before one of these ends
-abbrev pub NonePast : Kind → Form → List ℤ → ℕ → ℕ → ℕ → Type 0
-NonePast kind form samples g end other = (s b : ℕ) → s ≤ g → IsRun (FitsIn kind form) samples s b
+abbrev pub NonePast : Kind → Records → List ℤ → ℕ → ℕ → ℕ → Type 0
+NonePast kind records samples g end other = (s b : ℕ) → s ≤ g → IsRun (FitsIn kind records) samples s b
     → (b ≤ end) ⊎ (b ≤ other)
 
 -- the end of a run of each kind
@@ -61,14 +63,15 @@ end_of ends Int16 = ends.int16
 end_of ends Int24 = ends.int24
 end_of ends Int32 = ends.int32
 
--- Runs of these kinds from the frontier g to their ends fit; one that the form does not have ends there. If a step
+-- Runs of these kinds from the frontier g to their ends fit; one of a kind that no record is of ends there. If a step
 -- reaches to `end`, a run from g to there, or to the sample before it, fits one of them only if it ends at or before the
 -- end of that kind, or of one that is tried before it.
-pub record AreEndsAmong (kinds : List Kind) (form : Form) (samples : List ℤ) (g end : ℕ) (ends : Ends) : Type 0 where
-  pub fit : (kind : Kind) → Among kinds kind → IsRun (Fits kind (bytes_of form.length)) samples g (end_of ends kind)
-  pub chosen : (kind : Kind) → Among kinds kind → g < end_of ends kind → IsChosen form.kinds kind
-  pub past : (kind : Kind) → Among kinds kind → (c : ℕ) → end ≤ c + 1 → IsRun (FitsIn kind form) samples g c
-      → (other : Kind) × Among kinds other × IsChosen form.kinds other × (rank other ≤ rank kind)
+pub record AreEndsAmong (kinds : List Kind) (records : Records) (samples : List ℤ) (g end : ℕ)
+    (ends : Ends) : Type 0 where
+  pub fit : (kind : Kind) → Among kinds kind → IsRun (Fits kind records.bytes) samples g (end_of ends kind)
+  pub chosen : (kind : Kind) → Among kinds kind → g < end_of ends kind → IsChosen records.kinds kind
+  pub past : (kind : Kind) → Among kinds kind → (c : ℕ) → end ≤ c + 1 → IsRun (FitsIn kind records) samples g c
+      → (other : Kind) × Among kinds other × IsChosen records.kinds other × (rank other ≤ rank kind)
       × (c ≤ end_of ends other)
 
 -- the kinds of which records are longer than those of 24-bit integers can be
@@ -78,8 +81,8 @@ longer_kinds = Steim1 ∷ Int16 ∷ Steim2 ∷ []
 abbrev pub every_kind : List Kind
 every_kind = Int32 ∷ Int24 ∷ longer_kinds
 
-abbrev pub AreEnds : Form → List ℤ → ℕ → ℕ → Ends → Type 0
-AreEnds form samples g end ends = AreEndsAmong every_kind form samples g end ends
+abbrev pub AreEnds : Records → List ℤ → ℕ → ℕ → Ends → Type 0
+AreEnds records samples g end ends = AreEndsAmong every_kind records samples g end ends
 
 -- the samples a to b-1 are of that many bits
 abbrev pub AreOfBits : ℕ → List ℤ → ℕ → ℕ → Type 0

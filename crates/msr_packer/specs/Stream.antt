@@ -1,6 +1,6 @@
 -- Which pieces a packer of a stream has given. It shows what a packer of blocks does, and has never ended.
 use Rattle.std.specs.Prelude.{◌≡◌, ℕ, ◌+◌, ◌*◌, ◌≤◌, ℤ, List, ◌++◌, length, drop}
-use Rattle.msr_kinds.specs.declared.forms.Form.{Form}
+use Rattle.msr_words.specs.Fit.{Records, records_of}
 use Rattle.msr_words.specs.declared.kinds.Run.{Run}
 use Rattle.msr_words.specs.Laws.{most_any}
 use Rattle.msr_words.specs.Packing.{Joins, IsCanonical}
@@ -16,32 +16,32 @@ use Rattle.msr_packer.specs.declared.growing.GrowingRun.{GrowingRun}
 pub record IsStreaming (held : HeldSamples) (growing : GrowingRun) : Type 0 where
   pub sound : IsSound held
   pub stays : Stays held.current (length held.samples.items)
-  pub is_growing : IsGrowing held.form held.samples.items (frontier_of held.current)
+  pub is_growing : IsGrowing (records_of held.form) held.samples.items (frontier_of held.current)
       (length held.samples.items) growing
-  pub few : length held.samples.items ≤ 2 * most_any held.form + 2
+  pub few : length held.samples.items ≤ 2 * most_any (records_of held.form) + 2
 
--- After these samples were pushed to a packer of records of that form, these runs and
--- separators were given. It holds at most two longest runs, a sample before them and one after.
-pub record Streams (form : Form) (samples : List ℤ) (runs : List Run) (separators : List ℕ)
+-- After these samples were pushed to a packer of these records, these runs and separators were given. It holds at most
+-- two longest runs, a sample before them and one after.
+pub record Streams (records : Records) (samples : List ℤ) (runs : List Run) (separators : List ℕ)
     (packer : Holding) : Type 0 where
-  pub packs : Packs form samples runs separators packer
+  pub packs : Packs records samples runs separators packer
   pub behind : HoldsFew packer
-  pub few : length packer.held ≤ 2 * most_any packer.form + 2
+  pub few : length packer.held ≤ 2 * most_any packer.records + 2
 
 -- whatever samples follow, the pieces that were given begin their canonical packing
 abbrev pub PiecesBeginAll : Type 0
-PiecesBeginAll = (form : Form) (samples : List ℤ) (runs : List Run) (separators : List ℕ) (packer : Holding)
-    → Streams form samples runs separators packer → BeginsAll form samples runs separators
+PiecesBeginAll = (records : Records) (samples : List ℤ) (runs : List Run) (separators : List ℕ) (packer : Holding)
+    → 256 ≤ records.bytes → Streams records samples runs separators packer → BeginsAll records samples runs separators
 
 -- at most two longest runs of samples were pushed and not given
 abbrev pub StreamLeavesFew : Type 0
-StreamLeavesFew = (form : Form) (samples : List ℤ) (runs : List Run) (separators : List ℕ) (packer : Holding)
-    → Streams form samples runs separators packer → LeavesFew form samples runs
+StreamLeavesFew = (records : Records) (samples : List ℤ) (runs : List Run) (separators : List ℕ) (packer : Holding)
+    → Streams records samples runs separators packer → LeavesFew records samples runs
 
 -- The last pieces, of which there may be none, and the samples from the first of them on.
-pub record IsEnd (form : Form) (samples : List ℤ) (runs : List Run) (separators : List ℕ) (pieces : List Piece)
+pub record IsEnd (records : Records) (samples : List ℤ) (runs : List Run) (separators : List ℕ) (pieces : List Piece)
     (rest : List ℤ) : Type 0 where
-  pub canonical : IsCanonical form samples (runs ++ runs_of pieces) (separators ++ separators_of pieces)
+  pub canonical : IsCanonical records samples (runs ++ runs_of pieces) (separators ++ separators_of pieces)
   pub given : ℕ
   pub joined : Joins 0 runs given
   pub from_there : rest ≡ drop given samples

@@ -1,7 +1,7 @@
 //! The packing of a segment whose samples come in blocks.
 
 ghost use Rattle.std.specs.Prelude.{◌≡◌, ℕ, ℤ, List, [], ◌++◌, ◌+◌, ◌*◌, ◌^◌, ◌<◌, ◌≤◌, length, IfSome, IsNone, MatchResult};
-ghost use Rattle.msr_kinds.specs.declared.forms.Form.{Form};
+ghost use Rattle.msr_words.specs.Fit.{Records, records_of};
 ghost use Rattle.msr_words.specs.declared.kinds.Run.{Run};
 ghost use Rattle.msr_words.specs.Laws.{most_any};
 ghost use Rattle.msr_words.specs.Packing.{IsCanonical};
@@ -38,7 +38,7 @@ impl Model for BlockPacker {
 impl BlockPacker {
     /// A packer into records of that form, that no sample was pushed to. It takes no memory yet.
     pub fn new(alloc: Global, form: Form) -> BlockPacker
-        ensures none { Packs form [] [] [] result }
+        ensures none { Packs (records_of form) [] [] [] result }
         ensures few { HoldsFew result }
         ensures count { pushed result ≡ 0 }
     {
@@ -53,12 +53,13 @@ impl BlockPacker {
     /// taken.
     pub fn push_all(&mut self, samples: &[i32]) -> Result<(), AllocError>
         requires { pushed self.old + length samples.now < 2 ^ 64 }
-        ensures taken { (form : Form) (before : List ℤ) (runs : List Run) (separators : List ℕ)
-            → Packs form before runs separators self.old
+        ensures taken { (records : Records) (before : List ℤ) (runs : List Run) (separators : List ℕ)
+            → Packs records before runs separators self.old
             → MatchResult result
-            (λ _. Packs form (before ++ samples.now) runs separators self.new)
-            (λ _. Packs form before runs separators self.new) }
-        ensures few { HoldsFew self.old → length self.new.held ≤ 4 * most_any self.old.form + 2 + length samples.now }
+            (λ _. Packs records (before ++ samples.now) runs separators self.new)
+            (λ _. Packs records before runs separators self.new) }
+        ensures few { HoldsFew self.old
+            → length self.new.held ≤ 4 * most_any self.old.records + 2 + length samples.now }
         ensures count { MatchResult result (λ _. pushed self.new ≡ pushed self.old + length samples.now)
             (λ _. pushed self.new ≡ pushed self.old) }
     {
@@ -69,12 +70,12 @@ impl BlockPacker {
 
     /// The next piece, if it is decided whatever samples follow.
     pub fn next_piece(&mut self) -> Option<Piece>
-        ensures given { (form : Form) (samples : List ℤ) (runs : List Run) (separators : List ℕ)
-            → Packs form samples runs separators self.old
-            → Packs form samples (runs ++ runs_of (pieces_of result))
+        ensures given { (records : Records) (samples : List ℤ) (runs : List Run) (separators : List ℕ)
+            → Packs records samples runs separators self.old
+            → Packs records samples (runs ++ runs_of (pieces_of result))
             (separators ++ separators_of (pieces_of result)) self.new }
-        ensures shows { (form : Form) (samples : List ℤ) (runs : List Run) (separators : List ℕ)
-            → Packs form samples runs separators self.old
+        ensures shows { (records : Records) (samples : List ℤ) (runs : List Run) (separators : List ℕ)
+            → Packs records samples runs separators self.old
             → IfSome result (Shows samples self.new.shown self.new.before) }
         ensures few { IsNone result → HoldsFew self.new }
         ensures fewer { IfSome result (λ _. left_of self.new < left_of self.old) }
@@ -86,15 +87,15 @@ impl BlockPacker {
 
     /// The next piece, if no sample follows. If there is none, all pieces were given.
     pub fn last_piece(&mut self) -> Option<Piece>
-        ensures given { (form : Form) (samples : List ℤ) (runs : List Run) (separators : List ℕ)
-            → PacksLast form samples runs separators self.old
-            → PacksLast form samples (runs ++ runs_of (pieces_of result))
+        ensures given { (records : Records) (samples : List ℤ) (runs : List Run) (separators : List ℕ)
+            → PacksLast records samples runs separators self.old
+            → PacksLast records samples (runs ++ runs_of (pieces_of result))
             (separators ++ separators_of (pieces_of result)) self.new }
-        ensures all { (form : Form) (samples : List ℤ) (runs : List Run) (separators : List ℕ)
-            → PacksLast form samples runs separators self.old
-            → IsNone result → IsCanonical form samples runs separators }
-        ensures shows { (form : Form) (samples : List ℤ) (runs : List Run) (separators : List ℕ)
-            → PacksLast form samples runs separators self.old
+        ensures all { (records : Records) (samples : List ℤ) (runs : List Run) (separators : List ℕ)
+            → PacksLast records samples runs separators self.old
+            → IsNone result → IsCanonical records samples runs separators }
+        ensures shows { (records : Records) (samples : List ℤ) (runs : List Run) (separators : List ℕ)
+            → PacksLast records samples runs separators self.old
             → IfSome result (Shows samples self.new.shown self.new.before) }
         ensures fewer { IfSome result (λ _. left_of self.new < left_of self.old) }
         ensures count { pushed self.new ≡ pushed self.old }

@@ -2,14 +2,12 @@
 //! is not decided, and need not be looked for.
 
 ghost use Rattle.std.specs.Prelude.{◌≡◌, ℕ, ◌+◌, ◌<◌, ◌≤◌, ◌-ℤ◌, [], length, pos, slice_index_or, IfSome, IsNone};
-ghost use Rattle.msr_kinds.specs.declared.forms.Form.{Form};
-ghost use Rattle.msr_kinds.specs.Kinds.{IsChosen};
 ghost use Rattle.msr_kinds.specs.Lengths.{bytes_of};
-ghost use Rattle.msr_words.specs.Fit.{Fits, FitsIn, IsRun};
+ghost use Rattle.msr_words.specs.Fit.{Fits, FitsIn, IsRun, Records, records_of};
 ghost use Rattle.msr_words.specs.Segment.{difference_at, run_points};
 ghost use Rattle.msr_packer.specs.Growing.{Follows, IsDecided, IsGrowing, IsTracked, kind_of_tracker};
 
-use crate::step::{StepWithEnds, next_step};
+use crate::step::{StepWithEnds, next_step, tried_first};
 use msr_kinds::{Form, Kind, Length};
 use msr_words::{Int16, Int24, Int32, Steim1, Steim2, Tracker};
 
@@ -44,13 +42,15 @@ fn difference_between(before: i32, sample: i32) -> i64
 /// The tracker after the samples from one on, if it takes them all.
 fn all_taken<C: Tracker + Drop>(mut tracker: C, samples: &[i32], from: usize) -> Option<C>
     requires { from ≤ length samples.now }
-    ensures all { (form : Form) (start : ℕ) → start ≤ from → C.follows form (run_points samples.now start from) tracker
-        → C.fits form (run_points samples.now start from)
-        → IfSome result (λ t. C.follows form (run_points samples.now start (length samples.now)) t
-        × C.fits form (run_points samples.now start (length samples.now))) }
-    ensures none { (form : Form) (start : ℕ) → start ≤ from → C.follows form (run_points samples.now start from) tracker
-        → C.fits form (run_points samples.now start from)
-        → IsNone result → C.fits form (run_points samples.now start (length samples.now)) → ⊥ }
+    ensures all { (records : Records) (start : ℕ) → start ≤ from
+        → C.follows records (run_points samples.now start from) tracker
+        → C.fits records (run_points samples.now start from)
+        → IfSome result (λ t. C.follows records (run_points samples.now start (length samples.now)) t
+        × C.fits records (run_points samples.now start (length samples.now))) }
+    ensures none { (records : Records) (start : ℕ) → start ≤ from
+        → C.follows records (run_points samples.now start from) tracker
+        → C.fits records (run_points samples.now start from)
+        → IsNone result → C.fits records (run_points samples.now start (length samples.now)) → ⊥ }
 {
     let mut last = sample_before(samples, from);
     for at in from..samples.len() {
@@ -79,43 +79,31 @@ impl KindTracker {
     }
 
     /// The tracker after the samples from one on, if it takes them all.
-    fn after(self, samples: &[i32], from: usize) -> Option<KindTracker>
+    fn after(&self, samples: &[i32], from: usize) -> Option<KindTracker>
         requires { from ≤ length samples.now }
-        ensures all { (form : Form) (start : ℕ) → start ≤ from → IsTracked form samples.now start from self
-            → IfSome result (IsTracked form samples.now start (length samples.now)) }
-        ensures none { (form : Form) (start : ℕ) → start ≤ from → IsTracked form samples.now start from self
-            → IsNone result → Fits (kind_of_tracker self) (bytes_of form.length)
+        ensures all { (records : Records) (start : ℕ) → start ≤ from → IsTracked records samples.now start from self.now
+            → IfSome result (IsTracked records samples.now start (length samples.now)) }
+        ensures none { (records : Records) (start : ℕ) → start ≤ from → IsTracked records samples.now start from self.now
+            → IsNone result → Fits (kind_of_tracker self.now) records.bytes
             (run_points samples.now start (length samples.now)) → ⊥ }
     {
         match self {
             KindTracker::Steim2(tracker) => {
-                Some(KindTracker::Steim2(all_taken(tracker, samples, from)?))
+                Some(KindTracker::Steim2(all_taken(*tracker, samples, from)?))
             }
             KindTracker::Steim1(tracker) => {
-                Some(KindTracker::Steim1(all_taken(tracker, samples, from)?))
+                Some(KindTracker::Steim1(all_taken(*tracker, samples, from)?))
             }
-            KindTracker::Int16(tracker) => Some(KindTracker::Int16(all_taken(
-                tracker, samples, from,
-            )?)),
-            KindTracker::Int24(tracker) => Some(KindTracker::Int24(all_taken(
-                tracker, samples, from,
-            )?)),
-            KindTracker::Int32(tracker) => Some(KindTracker::Int32(all_taken(
-                tracker, samples, from,
-            )?)),
+            KindTracker::Int16(tracker) => {
+                Some(KindTracker::Int16(all_taken(*tracker, samples, from)?))
+            }
+            KindTracker::Int24(tracker) => {
+                Some(KindTracker::Int24(all_taken(*tracker, samples, from)?))
+            }
+            KindTracker::Int32(tracker) => {
+                Some(KindTracker::Int32(all_taken(*tracker, samples, from)?))
+            }
         }
-    }
-}
-
-/// The kind of which a run is taken to be as long as nothing is known of its samples.
-#[inline(always)]
-fn tried_first(form: Form) -> Kind
-    ensures { IsChosen form.kinds result }
-{
-    if form.kinds.contains(Kind::Steim2) {
-        Kind::Steim2
-    } else {
-        Kind::Int32
     }
 }
 
@@ -129,9 +117,9 @@ pub(crate) struct GrowingRun {
 impl GrowingRun {
     /// The run from `start` to the last sample, with a tracker of a kind that it fits.
     fn of(samples: &[i32], form: Form, start: usize, kind: Kind) -> GrowingRun
-        requires { IsRun (FitsIn kind form) samples.now start (length samples.now) }
+        requires { IsRun (FitsIn kind (records_of form)) samples.now start (length samples.now) }
         ensures start { result.start ≡ start }
-        ensures tracked { IsTracked form samples.now start (length samples.now) result.tracker }
+        ensures tracked { IsTracked (records_of form) samples.now start (length samples.now) result.tracker }
     {
         let begun = KindTracker::new(kind, form.length);
         match begun.after(samples, start) {
@@ -146,7 +134,7 @@ impl GrowingRun {
     /// The run of the one sample after a frontier: of the kind that is tried first if the sample fits that, else of Int32.
     pub(crate) fn first(samples: &[i32], form: Form, frontier: usize) -> GrowingRun
         requires { length samples.now ≡ frontier + 1 }
-        ensures { IsGrowing form samples.now frontier (length samples.now) result }
+        ensures { IsGrowing (records_of form) samples.now frontier (length samples.now) result }
     {
         let begun = KindTracker::new(tried_first(form), form.length);
         match begun.after(samples, frontier) {
@@ -160,7 +148,7 @@ impl GrowingRun {
 
     /// An empty run at the start of a segment.
     pub(crate) fn empty(form: Form) -> GrowingRun
-        ensures { IsGrowing form [] 0 0 result }
+        ensures { IsGrowing (records_of form) [] 0 0 result }
     {
         GrowingRun {
             start: 0,
@@ -179,10 +167,10 @@ impl GrowingRun {
         likely: Kind,
     ) -> Option<StepWithEnds>
         requires within { from ≤ length samples.now }
-        requires growing { IsGrowing form samples.now frontier from self.old }
-        ensures open { IsNone result → IsGrowing form samples.now frontier
+        requires growing { IsGrowing (records_of form) samples.now frontier from self.old }
+        ensures open { IsNone result → IsGrowing (records_of form) samples.now frontier
             (length samples.now) self.new }
-        ensures decided { IfSome result (IsDecided form samples.now frontier from) }
+        ensures decided { IfSome result (IsDecided (records_of form) samples.now frontier from) }
     {
         if let Some(tracker) = self.tracker.after(samples, from) {
             self.tracker = tracker;

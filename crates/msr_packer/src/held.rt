@@ -2,7 +2,7 @@
 
 ghost use Rattle.std.specs.Prelude.{◌≡◌, ℕ, ℤ, List, [], ◌++◌, ◌+◌, ◌-◌, ◌*◌, ◌<◌, ◌≤◌, ◌⊎◌, length, drop, IfSome, IsNone, IsSome, Some};
 ghost use Rattle.msr_words.specs.declared.kinds.Run.{Run};
-ghost use Rattle.msr_words.specs.Fit.{FitsAny, FitsIn, IsRun};
+ghost use Rattle.msr_words.specs.Fit.{FitsAny, FitsIn, IsRun, records_of};
 ghost use Rattle.msr_words.specs.Laws.{most_any};
 ghost use Rattle.msr_words.specs.Packing.{IsCanonical, IsStep};
 ghost use Rattle.msr_packer.specs.HeldSamples.{GivesPiece, HasPlaces, HoldsRest, IsNext, IsSound, Shows, Stays, before_shown, frontier_of, piece_of, pieces_of, runs_of, separators_of, shown_by, start_of};
@@ -103,11 +103,11 @@ impl RunToCut {
         found: StepWithEnds,
     ) -> RunToCut
         requires inside { frontier_of current < length samples.now }
-        requires step { IsStep (FitsAny form) samples.now
+        requires step { IsStep (FitsAny (records_of form)) samples.now
             (frontier_of current) found.step.end found.step.start }
-        requires kind { IsRun (FitsIn found.step.kind form) samples.now found.step.start found.step.end }
-        requires ends { AreEnds form samples.now (frontier_of current) found.step.end found.ends }
-        ensures next { IsNext form samples.now current result }
+        requires kind { IsRun (FitsIn found.step.kind (records_of form)) samples.now found.step.start found.step.end }
+        requires ends { AreEnds (records_of form) samples.now (frontier_of current) found.step.end found.ends }
+        ensures next { IsNext (records_of form) samples.now current result }
         ensures end { result.end ≡ found.step.end }
     {
         let frontier = frontier_of(current);
@@ -124,7 +124,7 @@ impl RunToCut {
     /// The next step.
     pub(crate) fn next(samples: &[i32], form: Form, current: Option<RunToCut>) -> RunToCut
         requires { frontier_of current < length samples.now }
-        ensures { IsNext form samples.now current result }
+        ensures { IsNext (records_of form) samples.now current result }
     {
         let found = next_step(samples, form, frontier_of(current), likely_of(current));
         RunToCut::of(samples, form, current, found)
@@ -179,7 +179,7 @@ impl HeldSamples {
     /// Goes on to the next step, and gives the piece before it, which is shown.
     pub(crate) fn go_on(&mut self, step: RunToCut) -> Option<Piece>
         requires sound { IsSound self.old }
-        requires next { IsNext self.old.form self.old.samples.items self.old.current step }
+        requires next { IsNext (records_of self.old.form) self.old.samples.items self.old.current step }
         ensures given { GivesPiece self.old self.new result }
         ensures none { IsNone result → shown_by self.new ≡ [] }
         ensures current { self.new.current ≡ Some step }
@@ -197,7 +197,7 @@ impl HeldSamples {
     pub(crate) fn step_past(&mut self, beyond: usize) -> Option<Piece>
         requires { IsSound self.old }
         ensures given { GivesPiece self.old self.new result }
-        ensures stays { most_any self.old.form ≤ beyond
+        ensures stays { most_any (records_of self.old.form) ≤ beyond
             → Stays self.old.current (length self.old.samples.items) → Stays self.new.current (length
             self.old.samples.items) }
         ensures few { IsNone result → IsSome self.old.current
@@ -207,7 +207,7 @@ impl HeldSamples {
         ensures order { frontier_of self.old.current ≤ frontier_of self.new.current }
         ensures furthest { (start end : ℕ) → start ≤ frontier_of self.old.current
             → frontier_of self.old.current + beyond < length self.old.samples.items
-            → IsRun (FitsAny self.old.form) self.old.samples.items start end
+            → IsRun (FitsAny (records_of self.old.form)) self.old.samples.items start end
             → end ≤ frontier_of self.new.current }
         ensures fewer { IfSome result (λ _. frontier_of self.old.current < frontier_of self.new.current) }
     {
@@ -222,7 +222,7 @@ impl HeldSamples {
     pub(crate) fn next_piece(&mut self, beyond: usize) -> Option<Piece>
         requires { IsSound self.old }
         ensures given { GivesPiece self.old self.new result }
-        ensures stays { most_any self.old.form ≤ beyond
+        ensures stays { most_any (records_of self.old.form) ≤ beyond
             → Stays self.old.current (length self.old.samples.items) → Stays self.new.current (length
             self.old.samples.items) }
         ensures few { IsNone result → length self.old.samples.items ≤ frontier_of self.new.current + beyond }
@@ -246,7 +246,7 @@ impl HeldSamples {
         ensures current { self.new.current ≡ self.old.current }
         ensures canonical { (samples : List ℤ) (runs : List Run) (separators : List ℕ)
             → HoldsRest samples runs separators self.old
-            → IsCanonical self.old.form samples (runs ++ runs_of (pieces_of result))
+            → IsCanonical (records_of self.old.form) samples (runs ++ runs_of (pieces_of result))
             (separators ++ separators_of (pieces_of result)) }
         ensures shows { (samples : List ℤ) (runs : List Run) (separators : List ℕ)
             → HoldsRest samples runs separators self.old
@@ -318,7 +318,7 @@ impl HeldSamples {
         ensures number { self.new.offset + length self.new.samples.items
             ≡ self.old.offset + length self.old.samples.items }
         ensures few { length self.old.samples.items ≤ frontier_of self.old.current + most_any
-            self.old.form → length self.new.samples.items ≤ 4 * most_any self.old.form + 2 }
+            (records_of self.old.form) → length self.new.samples.items ≤ 4 * most_any (records_of self.old.form) + 2 }
     {
         let unneeded = self.unneeded();
         if unneeded >= self.samples.len() - unneeded {

@@ -10,12 +10,11 @@ mod step;
 mod stream;
 
 ghost use Rattle.std.specs.Prelude.{◌≡◌, ◌↔◌, IsTrue, ℕ, ◌+◌, ◌≤◌, length, ◌++◌, IfOk, List, OnOk, ℤ};
-ghost use Rattle.msr_kinds.specs.declared.forms.Form.{Form};
 ghost use Rattle.msr_kinds.specs.Forms.{all_kinds};
 ghost use Rattle.msr_kinds.specs.Kinds.{IsChosen};
 ghost use Rattle.msr_words.specs.declared.kinds.Run.{Run};
 ghost use Rattle.msr_words.specs.Segment.{run_points};
-ghost use Rattle.msr_words.specs.Fit.{FitsIn, IsRun, IsFirstKind};
+ghost use Rattle.msr_words.specs.Fit.{FitsIn, IsRun, IsFirstKind, Records, records_of};
 ghost use Rattle.msr_packer.specs.HeldSamples.{pieces_of, runs_of, separators_of};
 ghost use Rattle.msr_packer.specs.Steps.{AreEnds};
 ghost use Rattle.msr_words.specs.Packing.{IsPacking, IsSeparating, IsLeast, IsCanonical};
@@ -50,10 +49,10 @@ fn reaches(form: Form, kind: Kind, end: usize, cut: usize) -> bool
 /// it, but for a run that starts before the frontier and that Steim-2 may fit, too.
 fn kind_of(samples: &[i32], form: Form, frontier: usize, found: StepWithEnds, end: usize) -> Kind
     requires before { found.step.start ≤ frontier }
-    requires ends { AreEnds form samples.now frontier found.step.end found.ends }
-    requires fits { IsRun (FitsIn found.step.kind form) samples.now found.step.start end }
+    requires ends { AreEnds (records_of form) samples.now frontier found.step.end found.ends }
+    requires fits { IsRun (FitsIn found.step.kind (records_of form)) samples.now found.step.start end }
     requires near { found.step.end ≤ end + 1 }
-    ensures { IsFirstKind form (run_points samples.now found.step.start end) result }
+    ensures { IsFirstKind (records_of form) (run_points samples.now found.step.start end) result }
 {
     if found.step.start < frontier {
         // a run of Steim-2 from there would fit from the frontier on as well
@@ -92,24 +91,25 @@ impl Packing {
 
 /// The packing of the segment in the fewest records of that length, of any kinds.
 pub fn pack(alloc: Global, samples: &[i32], record_length: Length) -> Result<Packing, AllocError>
-    ensures packing { IfOk result (λ p. IsPacking (all_kinds record_length) samples.now p.runs.items) }
-    ensures least { IfOk result (λ p. IsLeast (all_kinds record_length) samples.now p.runs.items) }
-    ensures separating { IfOk result (λ p. IsSeparating (all_kinds record_length) samples.now p.separators.items) }
+    ensures packing { IfOk result (λ p. IsPacking (records_of (all_kinds record_length)) samples.now p.runs.items) }
+    ensures least { IfOk result (λ p. IsLeast (records_of (all_kinds record_length)) samples.now p.runs.items) }
+    ensures separating { IfOk result (λ p. IsSeparating (records_of (all_kinds record_length)) samples.now
+        p.separators.items) }
     ensures as_many { IfOk result (λ p. length p.runs.items ≡ length p.separators.items) }
     ensures canonical { IfOk result (λ p. IsCanonical
-        (all_kinds record_length) samples.now p.runs.items p.separators.items) }
+        (records_of (all_kinds record_length)) samples.now p.runs.items p.separators.items) }
 {
     pack_in(alloc, samples, Form::all_kinds(record_length))
 }
 
 /// The packing of the segment in the fewest records of that form.
 pub fn pack_in(alloc: Global, samples: &[i32], form: Form) -> Result<Packing, AllocError>
-    ensures packing { IfOk result (λ p. IsPacking form samples.now p.runs.items) }
-    ensures least { IfOk result (λ p. IsLeast form samples.now p.runs.items) }
-    ensures separating { IfOk result (λ p. IsSeparating form samples.now p.separators.items) }
+    ensures packing { IfOk result (λ p. IsPacking (records_of form) samples.now p.runs.items) }
+    ensures least { IfOk result (λ p. IsLeast (records_of form) samples.now p.runs.items) }
+    ensures separating { IfOk result (λ p. IsSeparating (records_of form) samples.now p.separators.items) }
     ensures as_many { IfOk result (λ p. length p.runs.items ≡ length p.separators.items) }
     ensures canonical { IfOk result (λ p. IsCanonical
-        form samples.now p.runs.items p.separators.items) }
+        (records_of form) samples.now p.runs.items p.separators.items) }
 {
     let mut packing = Packing {
         runs: Vec::new(alloc),
@@ -127,7 +127,7 @@ pub fn pack_in(alloc: Global, samples: &[i32], form: Form) -> Result<Packing, Al
 
 /// For each segment and form of records at most one packing with its separators is the canonical one.
 pub fn one_packing()
-    ensures { (form : Form) (samples : List ℤ) (runs others : List Run) (separators places : List ℕ)
-        → IsCanonical form samples runs separators → IsCanonical form samples others places → (runs
+    ensures { (records : Records) (samples : List ℤ) (runs others : List Run) (separators places : List ℕ)
+        → IsCanonical records samples runs separators → IsCanonical records samples others places → (runs
         ≡ others) × (separators ≡ places) }
 {}

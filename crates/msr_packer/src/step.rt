@@ -5,12 +5,12 @@ ghost use Rattle.msr_kinds.specs.declared.kinds.Kind.TheVariants.{Int32 as Integ
 ghost use Rattle.msr_words.specs.Bounds.{AreIntegers, BeginsWithFour, IsEnd, IsOfBits, is_wide};
 ghost use Rattle.msr_kinds.specs.Kinds.{IsChosen};
 ghost use Rattle.msr_kinds.specs.Lengths.{bytes_of};
-ghost use Rattle.msr_words.specs.Fit.{Fits, FitsAny, FitsIn, IsRun};
+ghost use Rattle.msr_words.specs.Fit.{Fits, FitsAny, FitsIn, IsRun, records_of};
 ghost use Rattle.msr_words.specs.Packing.{IsStep};
 ghost use Rattle.msr_words.specs.Laws.{IsNarrow, look_back_of};
 ghost use Rattle.msr_words.specs.Segment.{difference_at, run_points};
 ghost use Rattle.msr_words.specs.Window.{IsSize};
-ghost use Rattle.msr_packer.specs.Steps.{AreEnds, AreEndsAmong, AreNarrowThrough, AreOfBits, IsEndIn, IsStepAmong, NonePast, NotLess, longer_kinds};
+ghost use Rattle.msr_packer.specs.Steps.{AreEnds, AreEndsAmong, AreNarrowThrough, AreOfBits, IsBetter, IsEndIn, IsStepAmong, NonePast, NotLess, longer_kinds};
 
 use crate::steim1::steim1_reach;
 use msr_kinds::{Form, Kind, Length};
@@ -30,7 +30,7 @@ pub(crate) struct StepRun {
 impl StepRun {
     /// The step that reaches further; of two that reach as far, the one that starts later.
     fn or(self, other: StepRun) -> StepRun
-        ensures one { (result ≡ self) ⊎ (result ≡ other) }
+        ensures one { (result ≡ self) ⊎ ((result ≡ other) × IsBetter other self) }
         ensures first { NotLess result self }
         ensures second { NotLess result other }
     {
@@ -110,7 +110,7 @@ fn steim2_reach(samples: &[i32], record_length: Length, start: usize) -> Reach
 #[inline(always)]
 fn steim2_end(samples: &[i32], form: Form, frontier: usize) -> Reach
     requires { frontier ≤ length samples.now }
-    ensures end { IsEndIn SecondSteim form samples.now frontier result.end }
+    ensures end { IsEndIn SecondSteim (records_of form) samples.now frontier result.end }
     ensures chosen { IsTrue result.narrow → IsChosen form.kinds SecondSteim }
     ensures narrow { IsTrue result.narrow → AreNarrowThrough samples.now frontier result.end }
 {
@@ -225,7 +225,7 @@ fn integers_end(
     requires small { bits ≤ 32 }
     ensures fits { IsRun (Fits kind (bytes_of form.length)) samples.now frontier result }
     ensures chosen { frontier < result → IsChosen form.kinds kind }
-    ensures past { NonePast kind form samples.now frontier result end }
+    ensures past { NonePast kind (records_of form) samples.now frontier result end }
 {
     if !form.kinds.contains(kind) {
         return frontier;
@@ -249,13 +249,13 @@ fn int32_end(samples: &[i32], record_length: Length, frontier: usize) -> usize
 /// It does not if the form has none, if the differences are narrow, nor if there are too many: each takes a quarter of a
 /// word at least.
 fn steim1_is_short(samples: &[i32], form: Form, frontier: usize, reach: Reach, end: usize) -> bool
-    requires reach { IsEndIn SecondSteim form samples.now frontier reach.end }
+    requires reach { IsEndIn SecondSteim (records_of form) samples.now frontier reach.end }
     requires chosen { IsTrue reach.narrow → IsChosen form.kinds SecondSteim }
     requires narrow { IsTrue reach.narrow → AreNarrowThrough samples.now frontier reach.end }
     requires order { reach.end ≤ end }
     requires within { end ≤ length samples.now }
     ensures short { IsTrue result → (s b : ℕ) → s ≤ frontier
-        → IsRun (FitsIn FirstSteim form) samples.now s b → (b ≤ reach.end) ⊎ (b + 1 < end) }
+        → IsRun (FitsIn FirstSteim (records_of form)) samples.now s b → (b ≤ reach.end) ⊎ (b + 1 < end) }
     ensures chosen { IsFalse result → IsChosen form.kinds FirstSteim }
 {
     if !form.kinds.contains(Kind::Steim1) {
@@ -291,7 +291,7 @@ fn steim1_step(samples: &[i32], form: Form, frontier: usize, end: usize) -> Step
     requires within { frontier ≤ length samples.now }
     requires chosen { IsChosen form.kinds FirstSteim }
     requires end { IsEnd FirstSteim (bytes_of form.length) samples.now frontier end }
-    ensures { IsStepAmong (FirstSteim ∷ []) form samples.now frontier result }
+    ensures { IsStepAmong (FirstSteim ∷ []) (records_of form) samples.now frontier result }
 {
     let here = StepRun {
         start: frontier,
@@ -338,12 +338,12 @@ fn with_wide_integers(
     step: StepRun,
     ends: Ends,
 ) -> StepWithEnds
-    requires within { frontier < length samples.now }
-    requires step { IsStepAmong longer_kinds form samples.now frontier step }
-    requires ends { AreEndsAmong longer_kinds form samples.now frontier step.end ends }
-    ensures step { IsStep (FitsAny form) samples.now frontier result.step.end result.step.start }
-    ensures kind { IsRun (FitsIn result.step.kind form) samples.now result.step.start result.step.end }
-    ensures ends { AreEnds form samples.now frontier result.step.end result.ends }
+    requires within { frontier ≤ length samples.now }
+    requires step { IsStepAmong longer_kinds (records_of form) samples.now frontier step }
+    requires ends { AreEndsAmong longer_kinds (records_of form) samples.now frontier step.end ends }
+    ensures step { IsStep (FitsAny (records_of form)) samples.now frontier result.step.end result.step.start }
+    ensures kind { IsRun (FitsIn result.step.kind (records_of form)) samples.now result.step.start result.step.end }
+    ensures ends { AreEnds (records_of form) samples.now frontier result.step.end result.ends }
 {
     let reached = ends.steim2.max(ends.steim1).max(ends.int16);
     let int24 = integers_end(samples, form, frontier, reached, Kind::Int24, 24);
@@ -373,13 +373,13 @@ fn with_wide_integers(
 /// The step from a frontier with records of integers alone, if those of 16 bits, which the form has, reach so far that
 /// too many of the differences up to there are of more than 10 bits for a record of differences.
 fn integers_alone(samples: &[i32], form: Form, frontier: usize) -> Option<StepWithEnds>
-    requires { frontier < length samples.now }
+    requires { frontier ≤ length samples.now }
     ensures step { IfSome result (λ found. IsStep
-        (FitsAny form) samples.now frontier found.step.end found.step.start) }
+        (FitsAny (records_of form)) samples.now frontier found.step.end found.step.start) }
     ensures kind { IfSome result (λ found. IsRun
-        (FitsIn found.step.kind form) samples.now found.step.start found.step.end) }
+        (FitsIn found.step.kind (records_of form)) samples.now found.step.start found.step.end) }
     ensures ends { IfSome result (λ found. AreEnds
-        form samples.now frontier found.step.end found.ends) }
+        (records_of form) samples.now frontier found.step.end found.ends) }
 {
     if !form.kinds.contains(Kind::Int16) {
         return None;
@@ -410,10 +410,10 @@ fn integers_alone(samples: &[i32], form: Form, frontier: usize) -> Option<StepWi
 /// The step from a frontier. `likely` is the kind that is tried first if it is Int16; the step is the same whatever it
 /// is.
 pub(crate) fn next_step(samples: &[i32], form: Form, frontier: usize, likely: Kind) -> StepWithEnds
-    requires { frontier < length samples.now }
-    ensures step { IsStep (FitsAny form) samples.now frontier result.step.end result.step.start }
-    ensures kind { IsRun (FitsIn result.step.kind form) samples.now result.step.start result.step.end }
-    ensures ends { AreEnds form samples.now frontier result.step.end result.ends }
+    requires { frontier ≤ length samples.now }
+    ensures step { IsStep (FitsAny (records_of form)) samples.now frontier result.step.end result.step.start }
+    ensures kind { IsRun (FitsIn result.step.kind (records_of form)) samples.now result.step.start result.step.end }
+    ensures ends { AreEnds (records_of form) samples.now frontier result.step.end result.ends }
 {
     if likely == Kind::Int16 {
         match integers_alone(samples, form, frontier) {
@@ -424,19 +424,32 @@ pub(crate) fn next_step(samples: &[i32], form: Form, frontier: usize, likely: Ki
     step_from(samples, form, frontier)
 }
 
+/// The kind of which a run is taken to be as long as nothing is known of its samples: Steim-2, if the form has it.
+#[inline(always)]
+pub(crate) fn tried_first(form: Form) -> Kind
+    ensures chosen { IsChosen form.kinds result }
+    ensures first { IsChosen form.kinds SecondSteim → result ≡ SecondSteim }
+{
+    if form.kinds.contains(Kind::Steim2) {
+        Kind::Steim2
+    } else {
+        Kind::Int32
+    }
+}
+
 /// The step from a frontier, over all kinds.
 pub(crate) fn step_from(samples: &[i32], form: Form, frontier: usize) -> StepWithEnds
-    requires { frontier < length samples.now }
-    ensures step { IsStep (FitsAny form) samples.now frontier result.step.end result.step.start }
-    ensures kind { IsRun (FitsIn result.step.kind form) samples.now result.step.start result.step.end }
-    ensures ends { AreEnds form samples.now frontier result.step.end result.ends }
+    requires { frontier ≤ length samples.now }
+    ensures step { IsStep (FitsAny (records_of form)) samples.now frontier result.step.end result.step.start }
+    ensures kind { IsRun (FitsIn result.step.kind (records_of form)) samples.now result.step.start result.step.end }
+    ensures ends { AreEnds (records_of form) samples.now frontier result.step.end result.ends }
 {
     let reach = steim2_end(samples, form, frontier);
     let int16 = integers_end(samples, form, frontier, reach.end, Kind::Int16, 16);
     let by_steim2 = StepRun {
         start: frontier,
         end: reach.end,
-        kind: Kind::Steim2,
+        kind: tried_first(form),
     };
     let by_int16 = StepRun {
         start: frontier,

@@ -1,7 +1,7 @@
 //! The packing of a segment whose samples come one after another, or some at a time.
 
 ghost use Rattle.std.specs.Prelude.{◌≡◌, ℕ, ℤ, List, [], ◌∷◌, ◌++◌, ◌+◌, ◌<◌, ◌≤◌, ◌⊎◌, ◌^◌, length, take, MatchResult, IfOk, IsNone};
-ghost use Rattle.msr_kinds.specs.declared.forms.Form.{Form};
+ghost use Rattle.msr_words.specs.Fit.{Records, records_of};
 ghost use Rattle.msr_kinds.specs.Forms.{all_kinds};
 ghost use Rattle.msr_words.specs.declared.kinds.Run.{Run};
 ghost use Rattle.msr_words.specs.Laws.{most_any};
@@ -54,9 +54,9 @@ fn forget(held: &mut HeldSamples, growing: &mut GrowingRun)
         → HoldsRest samples runs separators held.new }
     ensures form { held.new.form ≡ held.old.form }
     ensures number { held.new.offset + length held.new.samples.items ≡ held.old.offset + length held.old.samples.items }
-    ensures near { frontier_of held.new.current ≤ most_any held.new.form + 1 }
+    ensures near { frontier_of held.new.current ≤ most_any (records_of held.new.form) + 1 }
     ensures behind { length held.new.samples.items ≤ frontier_of held.new.current + most_any
-        held.new.form }
+        (records_of held.new.form) }
     ensures from { held.new.from ≡ 0 }
     ensures to { held.new.to ≡ 0 }
     ensures first { IsNone held.new.current → IsNone held.old.current }
@@ -89,7 +89,7 @@ impl Model for StreamPacker {
 impl StreamPacker {
     /// A packer into records of that length, of any kinds, that no sample was pushed to. It takes no memory yet.
     pub fn new(alloc: Global, record_length: Length) -> StreamPacker
-        ensures none { Streams (all_kinds record_length) [] [] [] result }
+        ensures none { Streams (records_of (all_kinds record_length)) [] [] [] result }
         ensures shown { result.shown ≡ [] }
         ensures count { pushed result ≡ 0 }
     {
@@ -98,7 +98,7 @@ impl StreamPacker {
 
     /// The same into records of that form.
     pub fn of(alloc: Global, form: Form) -> StreamPacker
-        ensures none { Streams form [] [] [] result }
+        ensures none { Streams (records_of form) [] [] [] result }
         ensures shown { result.shown ≡ [] }
         ensures count { pushed result ≡ 0 }
     {
@@ -112,14 +112,14 @@ impl StreamPacker {
     /// shows no samples.
     pub fn push(&mut self, sample: i32) -> Result<Option<Piece>, AllocError>
         requires { pushed self.old + 1 < 2 ^ 64 }
-        ensures given { (form : Form) (samples : List ℤ) (runs : List Run) (separators : List ℕ)
-            → Streams form samples runs separators self.old
+        ensures given { (records : Records) (samples : List ℤ) (runs : List Run) (separators : List ℕ)
+            → Streams records samples runs separators self.old
             → MatchResult result
-            (λ piece. Streams form (samples ++ sample ∷ []) (runs ++ runs_of (pieces_of piece))
+            (λ piece. Streams records (samples ++ sample ∷ []) (runs ++ runs_of (pieces_of piece))
             (separators ++ separators_of (pieces_of piece)) self.new)
-            (λ _. Streams form samples runs separators self.new) }
-        ensures shown { (form : Form) (samples : List ℤ) (runs : List Run) (separators : List ℕ)
-            → Streams form samples runs separators self.old
+            (λ _. Streams records samples runs separators self.new) }
+        ensures shown { (records : Records) (samples : List ℤ) (runs : List Run) (separators : List ℕ)
+            → Streams records samples runs separators self.old
             → MatchResult result
             (λ piece. self.new.shown ≡ samples_of (samples ++ sample ∷ []) piece)
             (λ _. self.new.shown ≡ []) }
@@ -135,14 +135,14 @@ impl StreamPacker {
     /// none was taken, and no samples are shown.
     pub fn push_some(&mut self, samples: &[i32]) -> Result<Pushed, AllocError>
         requires { pushed self.old + length samples.now < 2 ^ 64 }
-        ensures given { (form : Form) (before : List ℤ) (runs : List Run) (separators : List ℕ)
-            → Streams form before runs separators self.old
+        ensures given { (records : Records) (before : List ℤ) (runs : List Run) (separators : List ℕ)
+            → Streams records before runs separators self.old
             → MatchResult result
-            (λ taken. Streams form (before ++ take taken.count samples.now) (runs ++ runs_of (pieces_of taken.piece))
+            (λ taken. Streams records (before ++ take taken.count samples.now) (runs ++ runs_of (pieces_of taken.piece))
             (separators ++ separators_of (pieces_of taken.piece)) self.new)
-            (λ _. Streams form before runs separators self.new) }
-        ensures shown { (form : Form) (before : List ℤ) (runs : List Run) (separators : List ℕ)
-            → Streams form before runs separators self.old
+            (λ _. Streams records before runs separators self.new) }
+        ensures shown { (records : Records) (before : List ℤ) (runs : List Run) (separators : List ℕ)
+            → Streams records before runs separators self.old
             → MatchResult result
             (λ taken. self.new.shown ≡ samples_of (before ++ take taken.count samples.now) taken.piece)
             (λ _. self.new.shown ≡ []) }
@@ -188,9 +188,9 @@ impl StreamPacker {
 
     /// The pieces that were not given, if no sample follows: at most two. It takes no memory.
     pub fn end(self) -> Last
-        ensures { (form : Form) (samples : List ℤ) (runs : List Run) (separators : List ℕ)
-            → Streams form samples runs separators self
-            → IsEnd form samples runs separators result.pieces.items result.samples.items }
+        ensures { (records : Records) (samples : List ℤ) (runs : List Run) (separators : List ℕ)
+            → Streams records samples runs separators self
+            → IsEnd records samples runs separators result.pieces.items result.samples.items }
     {
         let mut held = self.held;
         let start = start_of(held.current);

@@ -1,13 +1,9 @@
 -- What was repacked is shown by each report that its report's text is that of.
-use Rattle.std.proofs.Common.{◌≡◌, ◌∙◌, refl, sym, ap, subst, ℕ, ℤ, false, List, [], ◌∷◌, map, length, All, Ok, Err}
-use Rattle.std.proofs.lemmas.List.Elements.{All-weaker}
-use Rattle.msr_kinds.specs.Kinds.{IsChosen}
+use Rattle.std.proofs.Common.{◌≡◌, ◌∙◌, refl, sym, ap, subst, ℕ, false, List, [], ◌∷◌, map, length, All, Ok, Err}
 use Rattle.msr_kinds.specs.Lengths.{bytes_of}
 use Rattle.msr_kinds.specs.declared.forms.Form.{Form as RecordForm}
-use Rattle.msr_kinds.specs.declared.kinds.Kind.{Kind}
-use Rattle.msr_kinds.specs.declared.kinds.Kinds.{Kinds}
-use Rattle.msr_words.specs.declared.kinds.Run.{Run}
-use Rattle.msr_words.specs.Fit.{Fits, FitsIn, IsRun}
+use Rattle.msr_kinds.specs.declared.kinds.Kinds.TheVariants as kinds
+use Rattle.msr_words.specs.Fit.{Records, records_of}
 use Rattle.msr_words.specs.Packing.{IsPacking, IsSeparating}
 use Rattle.msr_segments.specs.Segments.{Part, segment_of, IsDivision}
 use Rattle.msr_report.specs.declared.report.SegmentLine.{SegmentLine}
@@ -20,42 +16,11 @@ use Rattle.msr_verdict.specs.declared.verdict.Verdict.TheVariants.{Least, NotSho
 use Rattle.msr_tool.specs.Shown.{RepackedIsLeast, RepackedIsShown}
 use Rattle.msr_tool.specs.declared.fault.ToolFault.TheVariants as fault
 
--- Forms of the same kinds and as many bytes have the same packings and separating lists.
-record AreSame (a b : RecordForm) : Type 0 where
-  bytes : bytes_of a.length ≡ bytes_of b.length
-  kinds : a.kinds ≡ b.kinds
+-- records of so many bytes, of all kinds
+abbrev of_all_kinds : ℕ → Records
+of_all_kinds bytes = record { bytes = bytes; kinds = kinds.All }
 
-fits_same : (a b : RecordForm) → AreSame a b → (kind : Kind) (run : List (ℤ × ℤ)) → FitsIn kind a run
-    → FitsIn kind b run
-fits_same a b same kind run fits = (
-  subst (λ (kinds : Kinds). IsChosen kinds kind) same.kinds fits.0,
-  subst (λ (n : ℕ). Fits kind n run) same.bytes fits.1,
-)
-
-packing_same : (a b : RecordForm) → AreSame a b → (samples : List ℤ) (runs : List Run) → IsPacking a samples runs
-    → IsPacking b samples runs
-packing_same a b same samples runs is = record {
-  none_empty = is.none_empty;
-  each_fits = All-weaker (λ run. IsRun (FitsIn run.kind a) samples run.start run.end)
-      (λ run. IsRun (FitsIn run.kind b) samples run.start run.end)
-      (λ run fits. (fits.0, fits.1, fits_same a b same run.kind _ fits.2)) runs is.each_fits;
-  joined = is.joined;
-}
-
-separating_same : (a b : RecordForm) → AreSame a b → (samples : List ℤ) (separators : List ℕ)
-    → IsSeparating a samples separators → IsSeparating b samples separators
-separating_same a b same samples separators is =
-    let back : AreSame b a = record { bytes = sym same.bytes; kinds = sym same.kinds } in
-    record {
-      rising = is.rising;
-      within = is.within;
-      apart = λ i j less inside. record {
-        none = λ x y fits. (is.apart i j less inside).none x y
-            (fits.0, fits.1, (fits.2.0, fits_same b a back fits.2.0 _ fits.2.1));
-      };
-    }
-
-same_shown : (a b : RecordForm) → AreSame a b → (part : Part) (line other : SegmentLine)
+same_shown : (a b : RecordForm) → records_of a ≡ records_of b → (part : Part) (line other : SegmentLine)
     → form_line line ≡ form_line other → IsShownBy a part line → IsShownBy b part other
 same_shown a b forms part line other same is =
     let separators : line.separators.items ≡ other.separators.items = ap (λ (l : FormLine). l.separators) same in
@@ -64,14 +29,14 @@ same_shown a b forms part line other same is =
       start = sym (ap (λ (l : FormLine). l.start) same) ∙ is.start;
       samples = sym (ap (λ (l : FormLine). l.samples) same) ∙ is.samples;
       records = sym (ap (λ (l : FormLine). l.records) same) ∙ is.records;
-      packing = packing_same a b forms (segment_of part).samples (runs_of_part part) is.packing;
-      separating = subst (λ (s : List ℕ). IsSeparating b (segment_of part).samples s) separators
-          (separating_same a b forms (segment_of part).samples line.separators.items is.separating);
+      packing = subst (λ r. IsPacking r (segment_of part).samples (runs_of_part part)) forms is.packing;
+      separating = subst (λ (s : List ℕ). IsSeparating (records_of b) (segment_of part).samples s) separators
+          (subst (λ r. IsSeparating r (segment_of part).samples line.separators.items) forms is.separating);
       as_many = is.as_many ∙ ap length separators;
     }
 
 -- lines that say the same show the same
-same_lines : (a b : RecordForm) → AreSame a b → (parts : List Part) (lines others : List SegmentLine)
+same_lines : (a b : RecordForm) → records_of a ≡ records_of b → (parts : List Part) (lines others : List SegmentLine)
     → map form_line lines ≡ map form_line others → AreShownBy a parts lines → AreShownBy b parts others
 same_lines a b forms [] [] [] same are = tt
 same_lines a b forms [] [] (other ∷ others) same are = absurd (cc)
@@ -89,6 +54,8 @@ shows_same : (report other : Report) (input : List ℕ) → form_of report ≡ f
 shows_same report other input same shows =
     let tolerance : report.tolerance ≡ other.tolerance = ap (λ (f : Form). f.tolerance) same in
     let bytes : bytes_of report.length ≡ bytes_of other.length = ap (λ (f : Form). f.bytes) same in
+    let same_records : records_of (form_by report) ≡ records_of (form_by other) =
+    ap (λ (n : ℕ). of_all_kinds n) bytes in
     let lines : map form_line report.segments.items ≡ map form_line other.segments.items =
     ap (λ (f : Form). f.segments) same in
     record {
@@ -98,7 +65,7 @@ shows_same report other input same shows =
           []) tolerance shows.are_read;
       division = subst (λ (t : ℕ). IsDivision t (rows_of_records shows.records) shows.parts) tolerance shows.division;
       full = subst (λ (n : ℕ). All (IsFull n) shows.records) bytes shows.full;
-      shown = same_lines (form_by report) (form_by other) (record { bytes = bytes; kinds = refl }) shows.parts
+      shown = same_lines (form_by report) (form_by other) same_records shows.parts
           report.segments.items other.segments.items lines shows.shown;
     }
 

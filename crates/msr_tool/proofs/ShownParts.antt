@@ -7,6 +7,7 @@ use Rattle.msr_kinds.specs.declared.forms.Form.{Form}
 use Rattle.msr_kinds.specs.Lengths.{bytes_of}
 use Rattle.msr_words.proofs.Runs.{same_run}
 use Rattle.msr_words.specs.declared.kinds.Run.{Run}
+use Rattle.msr_words.specs.Fit.{records_of}
 use Rattle.msr_words.specs.Packing.{Joins, IsSeparating}
 use Rattle.msr_rows.specs.declared.row.Row.{Row}
 use Rattle.msr_segments.specs.declared.joiner.Segment.{Segment}
@@ -89,7 +90,8 @@ is_shown form packed line is its = record {
   samples = its.samples;
   records = its.records;
   packing = is.packing;
-  separating = subst (λ (s : List ℕ). IsSeparating form packed.segment.samples s) (sym its.separators) is.separating;
+  separating = subst (λ (s : List ℕ). IsSeparating (records_of form) packed.segment.samples s) (sym its.separators)
+      is.separating;
   as_many = is.as_many ∙ ap length (sym its.separators);
 }
 

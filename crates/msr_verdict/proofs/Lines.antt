@@ -3,6 +3,7 @@ use Rattle.std.proofs.Common.{◌≡◌, ◌↔◌, ℕ, suc, Bool, List, [], �
 use Rattle.std.specs.Prelude.{IsTrue, slice_get}
 use Rattle.msr_rows.proofs.OneAnswer.{some_same}
 use Rattle.msr_kinds.specs.declared.forms.Form.{Form}
+use Rattle.msr_words.specs.Fit.{records_of}
 use Rattle.msr_words.specs.declared.kinds.Run.{Run}
 use Rattle.msr_words.specs.Packing.{IsPacking, IsSeparating}
 use Rattle.msr_segments.specs.Segments.{Part}
@@ -28,7 +29,8 @@ line_at form place lines segment runs line e at =
 -- such a line shows the segment where its separators do
 pub shown_at : (form : Form) (place : ℕ) (lines : List SegmentLine) (segment : Segment) (runs : List Run)
     (line : SegmentLine) (test : Bool) → slice_get lines place ≡ Some line → IsLineOf segment runs line
-    → IsTrue test ↔ IsPacking form segment.samples runs × IsSeparating form segment.samples line.separators.items
+    → IsTrue test ↔ IsPacking (records_of form) segment.samples runs
+    × IsSeparating (records_of form) segment.samples line.separators.items
     × (length runs ≡ length line.separators.items)
     → IsTrue test ↔ IsShownAt form lines place segment runs
 shown_at form place lines segment runs line test e is exact = (

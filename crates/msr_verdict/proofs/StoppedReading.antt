@@ -5,6 +5,7 @@ use Rattle.std.proofs.lemmas.Bool.{cases_Bool}
 use Rattle.std.proofs.lemmas.List.{append-nil}
 use Rattle.msr_kinds.specs.declared.forms.Form.{Form}
 use Rattle.msr_kinds.specs.Lengths.{bytes_of}
+use Rattle.msr_words.specs.Fit.{records_of}
 use Rattle.msr_words.proofs.Certificate.{least_by_separators}
 use Rattle.msr_rows.specs.declared.row.Record.{Record}
 use Rattle.msr_devices.specs.Device.{Device, HasLeft, HasFailed}
@@ -202,7 +203,11 @@ done report start at now before reading old new verdict u all still k exact =
     let tolerance = ap (λ (s : Settings). s.tolerance) (still ∙ u.settings) in
     let came = all.read.came.begins [] (all.read.came.end all.ended) in
     let are : AreRead (settings_by report) came.0 u.records [] =
-    record { begins = rw all.none_wait at came.2; in_range = rw tolerance at all.read.in_range; agree = λ t. absurd cc } in
+    record {
+      begins = rw all.none_wait at came.2;
+      in_range = rw tolerance at all.read.in_range;
+      agree = λ t. absurd cc;
+    } in
     let d : IsDivision report.tolerance (rows_of_records u.records) (f.parts ++ option_to_list f.last) =
     rw (ap (λ (s : Settings). s.tolerance) u.settings) at f.has_parts.division in
     let compared = compare_last
@@ -218,7 +223,7 @@ fewest : (form : Form) (part : Part) (line : SegmentLine) → IsShownBy form par
 fewest form part line is = record {
   records = is.records ∙ runs_length 0 (rows_of part);
   fewest = λ other packing.
-      let least = least_by_separators form (segment_of part).samples
+      let least = least_by_separators (records_of form) (segment_of part).samples
       (runs_of_part part) line.separators.items is.separating is.as_many other packing in
       omega (arith, least, runs_length 0 (rows_of part));
 }

@@ -1,5 +1,6 @@
 -- When a report shows that every segment of packed records stands in the fewest records.
 use Rattle.std.specs.Prelude.{◌≡◌, ℕ, ◌+◌, ◌≤◌, false, List, [], ◌∷◌, length, All, IsSome, Result, Ok, Err}
+use Rattle.msr_words.specs.Fit.{records_of}
 use Rattle.msr_words.specs.declared.kinds.Run.{Run}
 use Rattle.msr_kinds.specs.declared.forms.Form.{Form}
 use Rattle.msr_kinds.specs.Forms.{all_kinds}
@@ -35,8 +36,8 @@ pub record IsShownAs (form : Form) (segment : Segment) (runs : List Run) (line :
   pub start : line.start ≡ segment.start
   pub samples : line.samples ≡ length segment.samples
   pub records : line.records ≡ length runs
-  pub packing : IsPacking form segment.samples runs
-  pub separating : IsSeparating form segment.samples line.separators.items
+  pub packing : IsPacking (records_of form) segment.samples runs
+  pub separating : IsSeparating (records_of form) segment.samples line.separators.items
   pub as_many : length runs ≡ length line.separators.items
 
 abbrev pub IsShownBy : Form → Part → SegmentLine → Type 0
@@ -101,7 +102,7 @@ VerifyAnswers report input (Err Memory) = BeginsReadable (settings_by report) in
 -- No packing of the part's segment has fewer records than it stands in, nor than the line says.
 pub record StandsInFewest (form : Form) (part : Part) (line : SegmentLine) : Type 0 where
   pub records : line.records ≡ length (rows_of part)
-  pub fewest : (other : List Run) → IsPacking form (segment_of part).samples other
+  pub fewest : (other : List Run) → IsPacking (records_of form) (segment_of part).samples other
       → length (rows_of part) ≤ length other
 
 abbrev pub AllStandInFewest : Form → List Part → List SegmentLine → Type 0

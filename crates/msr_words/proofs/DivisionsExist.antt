@@ -10,15 +10,13 @@ use Rattle.msr_steim.specs.Area.{differences}
 use Rattle.msr_steim.specs.Word.{AreGroups, FitsBits, IsGroup, IsGroupAt, group_width}
 use Rattle.msr_kinds.specs.declared.kinds.Kind.{Kind}
 use Rattle.msr_kinds.specs.declared.kinds.Kind.TheVariants.{Int16, Int24, Int32, Steim1, Steim2}
-use Rattle.msr_kinds.specs.declared.forms.Form.{Form}
+use Rattle.msr_words.specs.Fit.{Records, Fits, FitsAny, FitsIn, FitsIntegers, HasRoom, IsFirstKind, most_counted, rank}
 use Rattle.msr_kinds.specs.declared.kinds.Kinds.{Kinds}
 use Rattle.msr_kinds.specs.Kinds.{IsChosen, contains}
-use Rattle.msr_kinds.specs.Lengths.{bytes_of}
 use Rattle.msr_words.specs.Division.{CanDivide}
 use Rattle.msr_words.specs.Canonical.{DividesFrom, IsCanonicalDivision}
 use Rattle.msr_words.specs.Existence.{Decided}
 use Rattle.msr_kinds.specs.RecordLength.{words_of}
-use Rattle.msr_words.specs.Fit.{Fits, FitsAny, FitsIn, FitsIntegers, HasRoom, IsFirstKind, most_counted, rank}
 use Rattle.msr_words.specs.Lemmas.LeastCounts.{a_group_has_few}
 use Rattle.msr_words.specs.Lemmas.SteimLaws.{head_group, none_divides}
 use Rattle.msr_words.proofs.WrittenDivision.{divides_can, starts_with, with_first}
@@ -227,14 +225,14 @@ chosen_decided kinds kind = elim (contains kinds kind) as (λ chosen. Decided (I
   | false ↦ inr (λ h. cc)
 ]
 
-pub in_decided : (kind : Kind) (form : Form) (run : List (ℤ × ℤ)) → Decided (FitsIn kind form run)
-in_decided kind form run = both_decided (IsChosen form.kinds kind) (Fits kind (bytes_of form.length) run)
-    (chosen_decided form.kinds kind) (fits_decided kind (bytes_of form.length) run)
+pub in_decided : (kind : Kind) (records : Records) (run : List (ℤ × ℤ)) → Decided (FitsIn kind records run)
+in_decided kind records run = both_decided (IsChosen records.kinds kind) (Fits kind records.bytes run)
+    (chosen_decided records.kinds kind) (fits_decided kind records.bytes run)
 
 -- the kind that is tried first
-pub record HasFirstKind (form : Form) (run : List (ℤ × ℤ)) : Type 0 where
+pub record HasFirstKind (records : Records) (run : List (ℤ × ℤ)) : Type 0 where
   pub kind : Kind
-  pub first : IsFirstKind form run kind
+  pub first : IsFirstKind records run kind
 
 -- the kind of a rank
 of_rank : ℕ → Kind
@@ -271,21 +269,21 @@ few_kinds Int32 = omega arith
 pub rank_same : (k l : Kind) → rank k ≡ rank l → k ≡ l
 rank_same k l e = sym (of_its_rank k) ∙ ap of_rank e ∙ of_its_rank l
 
-module _ (form : Form) (run : List (ℤ × ℤ)) where
+module _ (records : Records) (run : List (ℤ × ℤ)) where
   -- the run fits no kind that is tried before the n-th
   abbrev NoneBefore : ℕ → Type 0
-  NoneBefore n = (kind : Kind) → rank kind < n → FitsIn kind form run → ⊥
+  NoneBefore n = (kind : Kind) → rank kind < n → FitsIn kind records run → ⊥
 
-  none_at : (n : ℕ) → NoneBefore n → (FitsIn (of_rank n) form run → ⊥) → NoneBefore (suc n)
+  none_at : (n : ℕ) → NoneBefore n → (FitsIn (of_rank n) records run → ⊥) → NoneBefore (suc n)
   none_at n none not kind lower fits = elim (cases_lt (rank kind) n) [
     | inl less ↦ none kind less fits
-    | inr here ↦ not (subst (λ k. FitsIn k form run) (sym (of_its_rank kind) ∙ ap of_rank (omega arith)) fits)
+    | inr here ↦ not (subst (λ k. FitsIn k records run) (sym (of_its_rank kind) ∙ ap of_rank (omega arith)) fits)
   ]
 
   -- whether some of the kinds from the n-th on fits, and then which is tried first
-  first_from : (left n : ℕ) → NoneBefore n → HasFirstKind form run ⊎ NoneBefore (n + left)
+  first_from : (left n : ℕ) → NoneBefore n → HasFirstKind records run ⊎ NoneBefore (n + left)
   first_from zero n none = inr (subst NoneBefore (omega arith) none)
-  first_from (suc left) n none = elim (in_decided (of_rank n) form run) [
+  first_from (suc left) n none = elim (in_decided (of_rank n) records run) [
     | inl fits ↦ inl (record {
       kind = of_rank n;
       first = (fits, λ other lower h. let low = its_rank n in none other (omega arith) h);
@@ -297,19 +295,19 @@ module _ (form : Form) (run : List (ℤ × ℤ)) where
   ]
 
   -- whether some kind fits, and then which is tried first
-  first_of_kinds : HasFirstKind form run ⊎ (FitsAny form run → ⊥)
+  first_of_kinds : HasFirstKind records run ⊎ (FitsAny records run → ⊥)
   first_of_kinds = elim (first_from 5 0 (λ kind lower h. omega arith)) [
     | inl found ↦ inl found
     | inr never ↦ inr (λ any. never any.0 (few_kinds any.0) any.1)
   ]
 
-  pub any_decided : Decided (FitsAny form run)
+  pub any_decided : Decided (FitsAny records run)
   any_decided = elim first_of_kinds [
     | inl f ↦ inl (f.kind, f.first.0)
     | inr never ↦ inr never
   ]
 
-  pub has_first_kind : FitsAny form run → HasFirstKind form run
+  pub has_first_kind : FitsAny records run → HasFirstKind records run
   has_first_kind any = elim first_of_kinds [
     | inl f ↦ f
     | inr never ↦ absurd (never any)

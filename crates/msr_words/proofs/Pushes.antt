@@ -6,11 +6,9 @@ use Rattle.msr_words.specs.Segment.{difference_at}
 use Rattle.msr_steim.specs.Word.{FitsBits}
 use Rattle.msr_kinds.specs.declared.kinds.Kind.{Kind}
 use Rattle.msr_words.specs.Bounds.{AreIntegers}
-use Rattle.msr_kinds.specs.declared.forms.Form.{Form}
+use Rattle.msr_words.specs.Fit.{Records, Fits, FitsAny, FitsIn}
 use Rattle.msr_kinds.specs.declared.kinds.Kinds.{Kinds}
 use Rattle.msr_kinds.specs.Kinds.{contains}
-use Rattle.msr_kinds.specs.Lengths.{bytes_of}
-use Rattle.msr_words.specs.Fit.{Fits, FitsAny, FitsIn}
 use Rattle.msr_words.specs.Laws.{most_of}
 use Rattle.msr_words.specs.Trackers.{FollowsIntegers, IsInteger, integers_of}
 use Rattle.msr_words.specs.Lemmas.KindLaws.{int16_by_bits, int24_by_bits, of_integers, prefix_kind, size_kind}
@@ -58,7 +56,7 @@ takes_integers bits bytes = of_integers (λ kind. TakesIntegers kind bytes) (tak
 
 -- What one more sample does to whether a run of integers fits.
 module _ (kind : Kind) (bytes : ℕ) (are : TakesIntegers kind bytes) (run : List (ℤ × ℤ)) (x d : ℤ) where
-  not_taken : (left : ℕ) (fits : Bool) → FollowsIntegers kind bytes run left fits
+  not_taken : (left : ℕ) (fits : Bool) → FollowsIntegers kind bytes run (record { left = left; fits = fits })
       → (IsTrue fits × 0 < left × IsInteger kind x → ⊥) → Fits kind bytes (run ++ (x, d) ∷ []) → ⊥
   not_taken left false state refused h = state.past refl (prefix_kind kind bytes run ((x, d) ∷ []) h)
   not_taken left true state refused h =
@@ -66,16 +64,17 @@ module _ (kind : Kind) (bytes : ℕ) (are : TakesIntegers kind bytes) (run : Lis
       let few = size_kind kind bytes (run ++ (x, d) ∷ []) h in
       refused (refl, omega (arith, length-append run ((x, d) ∷ []), r, few), are.needs run x d h)
 
-  pub push_no : (left : ℕ) (fits : Bool) → FollowsIntegers kind bytes run left fits
+  pub push_no : (left : ℕ) (fits : Bool) → FollowsIntegers kind bytes run (record { left = left; fits = fits })
       → (IsTrue fits × 0 < left × IsInteger kind x → ⊥) →
-      FollowsIntegers kind bytes (run ++ (x, d) ∷ []) left false × (IsTrue false ↔ Fits kind bytes (run ++ (x, d) ∷ []))
+      FollowsIntegers kind bytes (run ++ (x, d) ∷ []) (record { left = left; fits = false })
+      × (IsTrue false ↔ Fits kind bytes (run ++ (x, d) ∷ []))
   push_no left fits state refused =
       let not = not_taken left fits state refused in
       (record { so_far = λ t. cc; room = λ t. cc; past = λ _. not }, (λ t. cc, λ h. absurd (not h)))
 
-  pub push_yes : (left : ℕ) (fits : Bool) → FollowsIntegers kind bytes run left fits
+  pub push_yes : (left : ℕ) (fits : Bool) → FollowsIntegers kind bytes run (record { left = left; fits = fits })
       → IsTrue fits × 0 < left × IsInteger kind x →
-      FollowsIntegers kind bytes (run ++ (x, d) ∷ []) (left - 1) fits
+      FollowsIntegers kind bytes (run ++ (x, d) ∷ []) (record { left = left - 1; fits = fits })
       × (IsTrue true ↔ Fits kind bytes (run ++ (x, d) ∷ []))
   push_yes left fits state accepted =
       let r = state.room accepted.0 in
@@ -88,36 +87,37 @@ module _ (kind : Kind) (bytes : ℕ) (are : TakesIntegers kind bytes) (run : Lis
         (λ _. more, λ _. refl),
       )
 
--- what a tracker says, if the form has records of its kind
-pub taken_in : (kind : Kind) (form : Form) (run : List (ℤ × ℤ)) (kinds : Kinds) (fits answer : Bool)
-    → kinds ≡ form.kinds → answer ≡ (contains kinds kind && fits)
-    → (IsTrue fits ↔ Fits kind (bytes_of form.length) run) → (IsTrue answer ↔ FitsIn kind form run)
-taken_in kind form run kinds fits answer same is says = rw (is, same) (both (contains form.kinds kind) fits says)
+-- what a tracker says, if there are records of its kind
+pub taken_in : (kind : Kind) (records : Records) (run : List (ℤ × ℤ)) (kinds : Kinds) (fits answer : Bool)
+    → kinds ≡ records.kinds → answer ≡ (contains kinds kind && fits)
+    → (IsTrue fits ↔ Fits kind records.bytes run) → (IsTrue answer ↔ FitsIn kind records run)
+taken_in kind records run kinds fits answer same is says = rw (is, same) (both (contains records.kinds kind) fits says)
   where
-    both : (chosen fits : Bool) → (IsTrue fits ↔ Fits kind (bytes_of form.length) run)
-        → (IsTrue (chosen && fits) ↔ IsTrue chosen × Fits kind (bytes_of form.length) run)
+    both : (chosen fits : Bool) → (IsTrue fits ↔ Fits kind records.bytes run)
+        → (IsTrue (chosen && fits) ↔ IsTrue chosen × Fits kind records.bytes run)
     both true fits says = (λ t. (refl, says.0 t), λ h. says.1 h.1)
     both false fits says = (λ t. absurd cc, λ h. absurd (let no = h.0 in cc))
 
 -- the run fits a record of some kind exactly when one of the trackers says so
-pub any_of : (form : Form) (run : List (ℤ × ℤ)) (int16 int24 int32 steim1 steim2 : Bool)
-    → (IsTrue int16 ↔ FitsIn Int16 form run) → (IsTrue int24 ↔ FitsIn Int24 form run)
-    → (IsTrue int32 ↔ FitsIn Int32 form run) →
-    (IsTrue steim1 ↔ FitsIn Steim1 form run) → (IsTrue steim2 ↔ FitsIn Steim2 form run)
-    → (IsTrue ((((int16 || int24) || int32) || steim1) || steim2) ↔ FitsAny form run)
-any_of form run int16 int24 int32 steim1 steim2 a b c d e =
+pub any_of : (records : Records) (run : List (ℤ × ℤ)) (int16 int24 int32 steim1 steim2 : Bool)
+    → (IsTrue int16 ↔ FitsIn Int16 records run) → (IsTrue int24 ↔ FitsIn Int24 records run)
+    → (IsTrue int32 ↔ FitsIn Int32 records run) →
+    (IsTrue steim1 ↔ FitsIn Steim1 records run) → (IsTrue steim2 ↔ FitsIn Steim2 records run)
+    → (IsTrue ((((int16 || int24) || int32) || steim1) || steim2) ↔ FitsAny records run)
+any_of records run int16 int24 int32 steim1 steim2 a b c d e =
     (say int16 int24 int32 steim1 steim2 a.0 b.0 c.0 d.0 e.0, hear)
   where
-    say : (x y z v w : Bool) → (IsTrue x → FitsIn Int16 form run) → (IsTrue y → FitsIn Int24 form run)
-        → (IsTrue z → FitsIn Int32 form run) → (IsTrue v → FitsIn Steim1 form run) → (IsTrue w → FitsIn Steim2 form run) →
-        IsTrue ((((x || y) || z) || v) || w) → FitsAny form run
+    say : (x y z v w : Bool) → (IsTrue x → FitsIn Int16 records run) → (IsTrue y → FitsIn Int24 records run)
+        → (IsTrue z → FitsIn Int32 records run) → (IsTrue v → FitsIn Steim1 records run)
+        → (IsTrue w → FitsIn Steim2 records run) →
+        IsTrue ((((x || y) || z) || v) || w) → FitsAny records run
     say true y z v w p q r s u t = (Int16, p refl)
     say false true z v w p q r s u t = (Int24, q refl)
     say false false true v w p q r s u t = (Int32, r refl)
     say false false false true w p q r s u t = (Steim1, s refl)
     say false false false false w p q r s u t = (Steim2, u t)
 
-    hear : FitsAny form run → IsTrue ((((int16 || int24) || int32) || steim1) || steim2)
+    hear : FitsAny records run → IsTrue ((((int16 || int24) || int32) || steim1) || steim2)
     hear (Int16, f) = rw (a.1 f) refl
     hear (Int24, f) = elim int16 as (λ x. IsTrue ((((x || int24) || int32) || steim1) || steim2))
         [ true ↦ refl | false ↦ rw (b.1 f) refl ]

@@ -43,7 +43,7 @@ module _ (words own : ℕ) (ds : List ℤ) (d : ℤ) (counts new : LeastCounts) 
       let division = ends_is_division One words d ds in
       (λ t. division.0 (turned.0 t), λ can. turned.1 (division.1 can))
 
-  pub follows_on : FollowsSteim1 words (ds ++ d ∷ []) own new result
+  pub follows_on : FollowsSteim1 words (ds ++ d ∷ []) (record { words = own; counts = new; fits = result })
   follows_on = record {
     words_is = own_is;
     countable = few;
@@ -60,8 +60,10 @@ module _ (bytes : ℕ) (run : List (ℤ × ℤ)) (x d : ℤ) (own : ℕ) (counts
       → Fits Steim1 bytes more
   fits_steim1 more few h = let size = size_steim One bytes more h in (omega arith, h)
 
-  pub push_steim1_dead : FollowsSteim1 (words_of bytes) (map (λ p. p.1) run) own counts false →
-      FollowsSteim1 (words_of bytes) (map (λ p. p.1) (run ++ (x, d) ∷ [])) own counts false
+  pub push_steim1_dead : FollowsSteim1 (words_of bytes) (map (λ p. p.1) run)
+      (record { words = own; counts = counts; fits = false }) →
+      FollowsSteim1 (words_of bytes) (map (λ p. p.1) (run ++ (x, d) ∷ []))
+      (record { words = own; counts = counts; fits = false })
       × (IsTrue false ↔ Fits Steim1 bytes (run ++ (x, d) ∷ []))
   push_steim1_dead state =
       let not = λ (h : FitsSteim One bytes (run ++ (x, d) ∷ [])). state.past refl
@@ -70,9 +72,11 @@ module _ (bytes : ℕ) (run : List (ℤ × ℤ)) (x d : ℤ) (own : ℕ) (counts
         (λ t. cc, λ h. absurd (not h.1)),
       )
 
-  pub push_steim1 : FollowsSteim1 (words_of bytes) (map (λ p. p.1) run) own counts true
+  pub push_steim1 : FollowsSteim1 (words_of bytes) (map (λ p. p.1) run)
+      (record { words = own; counts = counts; fits = true })
       → (new : LeastCounts) (result : Bool) → CountsOn own counts new d result →
-      FollowsSteim1 (words_of bytes) (map (λ p. p.1) (run ++ (x, d) ∷ [])) own new result
+      FollowsSteim1 (words_of bytes) (map (λ p. p.1) (run ++ (x, d) ∷ []))
+      (record { words = own; counts = new; fits = result })
       × (IsTrue result ↔ Fits Steim1 bytes (run ++ (x, d) ∷ []))
   push_steim1 state new result on =
       let exact : IsTrue result ↔ FitsSteim One bytes (run ++ (x, d) ∷ []) =
@@ -84,6 +88,6 @@ module _ (bytes : ℕ) (run : List (ℤ × ℤ)) (x d : ℤ) (own : ℕ) (counts
       )
 
 pub steim1_start : (words own : ℕ) (counts : LeastCounts) → own ≡ words → 4 * words ≤ most_counted
-    → AreCounts words [] counts → FollowsSteim1 words [] own counts true
+    → AreCounts words [] counts → FollowsSteim1 words [] (record { words = own; counts = counts; fits = true })
 steim1_start words own counts e few counted =
     record { words_is = e; countable = few; counted = λ t. counted; past = λ f. cc }

@@ -16,7 +16,12 @@ use Rattle.msr_words.specs.Lemmas.KindLaws.{prefix_kind, size_kind}
 use Rattle.msr_words.proofs.Parts.{HasDivision, division_back, division_rest, first_fits, none_left, one_group, no_groups}
 use Rattle.msr_words.specs.Groups.{IsCapacity}
 use Rattle.msr_words.proofs.Steim2Groups.{IsOfBits, IsSteim2Group, bits_from, bits_to, capacity_at, division_from, division_to, row, row_of, steim2_bits, steim2_parts}
-use Rattle.msr_words.specs.Trackers.{FollowsSteim2}
+use Rattle.msr_words.specs.Trackers.{FollowsSteim2, Steim2SoFar}
+
+-- a tracker with these fields
+abbrev tracker : ℕ → ℕ → ℕ → ℕ → Bool → Steim2SoFar
+tracker left count most more fits =
+    record { left = left; count = count; most = most; more = more; fits = fits }
 
 -- what a Steim-2 tracker says of differences that fit so far, over the parts of groups
 pub record IsOpen (words : ℕ) (ds : List ℤ) (left count most : ℕ) : Type 0 where
@@ -29,7 +34,7 @@ pub record IsOpen (words : ℕ) (ds : List ℤ) (left count most : ℕ) : Type 0
       ↔ HasDivision IsSteim2Group (suc left) (group ++ tail))
 
 module _ (bytes : ℕ) (run : List (ℤ × ℤ)) (left count most more : ℕ) where
-  open_of : FollowsSteim2 bytes run left count most more true
+  open_of : FollowsSteim2 bytes run (tracker left count most more true)
       → IsOpen (words_of bytes) (map (λ p. p.1) run) left count most
   open_of state = record {
     group = state.group;
@@ -52,7 +57,7 @@ module _ (bytes : ℕ) (run : List (ℤ × ℤ)) (left count most more : ℕ) wh
   }
 
   follows_of : IsOpen (words_of bytes) (map (λ p. p.1) run) left count most
-      → length run + more ≡ most_of Steim2 bytes → FollowsSteim2 bytes run left count most more true
+      → length run + more ≡ most_of Steim2 bytes → FollowsSteim2 bytes run (tracker left count most more true)
   follows_of state number = record {
     group = state.group;
     size = state.size;
@@ -79,8 +84,8 @@ module _ (bytes : ℕ) (run : List (ℤ × ℤ)) (left count most more : ℕ) wh
   }
 
   -- a run that does not fit
-  refused_of : {fits : Bool} (before : List (ℤ × ℤ)) → FollowsSteim2 bytes before left count most more fits
-      → (Fits Steim2 bytes run → ⊥) → FollowsSteim2 bytes run left count most more false
+  refused_of : {fits : Bool} (before : List (ℤ × ℤ)) → FollowsSteim2 bytes before (tracker left count most more fits)
+      → (Fits Steim2 bytes run → ⊥) → FollowsSteim2 bytes run (tracker left count most more false)
   refused_of before state never = record {
     group = state.group;
     size = state.size;
@@ -222,7 +227,7 @@ module _ (words left count most : ℕ) (ds : List ℤ) (state : IsOpen words ds 
 -- ---- the tracker before the first sample
 
 pub steim2_start : (bytes left more : ℕ) → words_of bytes ≡ suc left → more ≡ most_of Steim2 bytes
-    → FollowsSteim2 bytes [] left 0 7 more true
+    → FollowsSteim2 bytes [] (tracker left 0 7 more true)
 steim2_start bytes left more e number =
     let state : IsOpen (words_of bytes) [] left 0 7 = record {
       group = [];
@@ -243,24 +248,24 @@ steim2_start bytes left more e number =
 -- the tracker after a run, and whether it says that the run fits
 abbrev pub IsPushed : ℕ → List (ℤ × ℤ) → ℕ → ℕ → ℕ → ℕ → Bool → Type 0
 IsPushed bytes run left count most more fits =
-    FollowsSteim2 bytes run left count most more fits × (IsTrue fits ↔ Fits Steim2 bytes run)
+    FollowsSteim2 bytes run (tracker left count most more fits) × (IsTrue fits ↔ Fits Steim2 bytes run)
 
 module _ (bytes : ℕ) (run : List (ℤ × ℤ)) (x d : ℤ) (left count most more : ℕ) where
   last : map (λ p. p.1) (run ++ (x, d) ∷ []) ≡ map (λ p. p.1) run ++ d ∷ []
   last = map-append (λ (p : ℤ × ℤ). p.1) run ((x, d) ∷ [])
 
-  refused : {fits : Bool} → FollowsSteim2 bytes run left count most more fits
+  refused : {fits : Bool} → FollowsSteim2 bytes run (tracker left count most more fits)
       → (Fits Steim2 bytes (run ++ (x, d) ∷ []) → ⊥) → IsPushed bytes (run ++ (x, d) ∷ []) left count most more false
   refused state never = (
     refused_of bytes (run ++ (x, d) ∷ []) left count most more run state never,
     (λ t. cc, λ h. absurd (never h)),
   )
 
-  pub push_steim2_dead : FollowsSteim2 bytes run left count most more false
+  pub push_steim2_dead : FollowsSteim2 bytes run (tracker left count most more false)
       → IsPushed bytes (run ++ (x, d) ∷ []) left count most more false
   push_steim2_dead state = refused state (λ h. state.past refl (prefix_kind Steim2 bytes run ((x, d) ∷ []) h))
 
-  module _ (state : FollowsSteim2 bytes run left count most more true) where
+  module _ (state : FollowsSteim2 bytes run (tracker left count most more true)) where
     -- a record has no more samples
     pub push_steim2_full : more ≡ 0 → IsPushed bytes (run ++ (x, d) ∷ []) left count most more false
     push_steim2_full none = refused state (λ h.

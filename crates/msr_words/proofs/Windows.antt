@@ -6,11 +6,10 @@ use Rattle.std.proofs.lemmas.Int.{ints}
 use Rattle.std.proofs.Math.Nat.{pow-le-pow_right}
 use Rattle.std.proofs.lemmas.List.{get_or-set_other, get_or-set_same, length-drop}
 use Rattle.msr_steim.specs.Word.{FitsBits}
-use Rattle.msr_words.specs.declared.window.Window.{Window}
 use Rattle.msr_words.specs.FirstGroup.{IsSizeAt}
 use Rattle.msr_words.specs.Groups.{IsLongestGroup}
 use Rattle.msr_words.specs.Segment.{difference_at, differences}
-use Rattle.msr_words.specs.Window.{AreSeen, AreTaken, IsSize, IsTaken, IsWindow}
+use Rattle.msr_words.specs.Window.{AreSeen, AreTaken, IsSize, IsTaken, IsWindow, Stretch}
 use Rattle.msr_words.proofs.FillSizes.{from_inside, longest_0, longest_1, longest_2, longest_3, longest_4, longest_5, longest_6, longest_7, seven_of, there}
 use Rattle.msr_words.proofs.Plain.{length-differences}
 
@@ -51,7 +50,7 @@ module _ (samples : List ℤ) (first i : ℕ) (sizes : List ℕ) (kept : List �
 
 -- ---- from the samples on
 
-pub window_on : (samples : List ℤ) (at at' : ℕ) (window : Window) → at ≤ at' → IsWindow samples at window
+pub window_on : (samples : List ℤ) (at at' : ℕ) (window : Stretch) → at ≤ at' → IsWindow samples at window
     → IsWindow samples at' window
 window_on samples at at' window le is = record {
   before = (let b = is.before in omega arith);
@@ -63,7 +62,7 @@ window_on samples at at' window le is = record {
   taken = is.taken;
 }
 
-pub window_seen : (samples : List ℤ) (at : ℕ) (window : Window) (before : Option ℤ) → IsWindow samples at window
+pub window_seen : (samples : List ℤ) (at : ℕ) (window : Stretch) (before : Option ℤ) → IsWindow samples at window
     → at + 7 ≤ window.end
     → AreSeen (drop at (differences before samples)) window.sizes window.kept (at - window.first)
 window_seen samples at window before is seven =

@@ -2,22 +2,22 @@
 use Rattle.std.specs.Prelude.{ℕ, ◌⊎◌, ℤ, List}
 use Rattle.msr_steim.specs.declared.word.Version.{Version}
 use Rattle.msr_kinds.specs.declared.kinds.Kind.{Kind}
-use Rattle.msr_kinds.specs.declared.forms.Form.{Form}
+use Rattle.msr_words.specs.Fit.{Records, FitsAny, IsFirstKind}
 use Rattle.msr_words.specs.Canonical.{IsCanonicalDivision}
 use Rattle.msr_words.specs.Division.{CanDivide}
-use Rattle.msr_words.specs.Fit.{FitsAny, IsFirstKind}
 
 -- it holds, or it does not
 abbrev pub Decided : Type 0 → Type 0
 Decided P = P ⊎ (P → ⊥)
 
--- a run fits a record of some kind, or it fits none
+-- a run fits one of some records, or it fits none
 abbrev pub FittingIsDecided : Type 0
-FittingIsDecided = (form : Form) (run : List (ℤ × ℤ)) → Decided (FitsAny form run)
+FittingIsDecided = (records : Records) (run : List (ℤ × ℤ)) → Decided (FitsAny records run)
 
 -- of the kinds that a run fits, one is tried first
 abbrev pub FirstKindExists : Type 0
-FirstKindExists = (form : Form) (run : List (ℤ × ℤ)) → FitsAny form run → (kind : Kind) × IsFirstKind form run kind
+FirstKindExists = (records : Records) (run : List (ℤ × ℤ)) → FitsAny records run
+    → (kind : Kind) × IsFirstKind records run kind
 
 -- differences that can be divided have a canonical division
 abbrev pub DivisionExists : Type 0

@@ -5,6 +5,7 @@ use Rattle.msr_steim.specs.declared.word.Version.TheVariants.{One, Two}
 use Rattle.msr_steim.specs.Word.{FitsBits}
 use Rattle.msr_kinds.specs.declared.kinds.Kind.{Kind}
 use Rattle.msr_kinds.specs.declared.kinds.Kind.TheVariants.{Int16, Int24, Int32, Steim1, Steim2}
+use Rattle.msr_kinds.specs.declared.kinds.Kinds.{Kinds}
 use Rattle.msr_kinds.specs.declared.forms.Form.{Form}
 use Rattle.msr_kinds.specs.Kinds.{IsChosen}
 use Rattle.msr_kinds.specs.Lengths.{bytes_of}
@@ -50,13 +51,23 @@ HasRoom Steim2 bytes run = FitsSteim Two bytes run
 abbrev pub Fits : Kind → ℕ → List (ℤ × ℤ) → Type 0
 Fits kind bytes run = (length run ≤ most_counted) × HasRoom kind bytes run
 
--- the form has records of that kind, and the run fits one of them
-abbrev pub FitsIn : Kind → Form → List (ℤ × ℤ) → Type 0
-FitsIn kind form run = IsChosen form.kinds kind × Fits kind (bytes_of form.length) run
+-- Records of any number of bytes, of some of the kinds. Those that are written are of a form, which has one of nine
+-- lengths.
+pub record Records : Type 0 where
+  pub bytes : ℕ
+  pub kinds : Kinds
 
--- it fits a record of some kind that the form has
-abbrev pub FitsAny : Form → List (ℤ × ℤ) → Type 0
-FitsAny form run = (kind : Kind) × FitsIn kind form run
+-- the records of a form
+abbrev pub records_of : Form → Records
+records_of form = record { bytes = bytes_of form.length; kinds = form.kinds }
+
+-- there are records of that kind among these, and the run fits one of them
+abbrev pub FitsIn : Kind → Records → List (ℤ × ℤ) → Type 0
+FitsIn kind records run = IsChosen records.kinds kind × Fits kind records.bytes run
+
+-- it fits one of these records, of whichever kind
+abbrev pub FitsAny : Records → List (ℤ × ℤ) → Type 0
+FitsAny records run = (kind : Kind) × FitsIn kind records run
 
 -- the samples a to b-1 of a segment are a run that fits
 abbrev pub IsRun : (List (ℤ × ℤ) → Type 0) → List ℤ → ℕ → ℕ → Type 0
@@ -71,6 +82,6 @@ rank Int24 = 3
 rank Int32 = 4
 
 -- of the kinds that the run fits, the one that is tried first
-abbrev pub IsFirstKind : Form → List (ℤ × ℤ) → Kind → Type 0
-IsFirstKind form run kind = FitsIn kind form run
-    × ((other : Kind) → rank other < rank kind → FitsIn other form run → ⊥)
+abbrev pub IsFirstKind : Records → List (ℤ × ℤ) → Kind → Type 0
+IsFirstKind records run kind = FitsIn kind records run
+    × ((other : Kind) → rank other < rank kind → FitsIn other records run → ⊥)

@@ -3,10 +3,8 @@ use Rattle.std.specs.Prelude.{ℕ, ◌+◌, ◌-◌, ◌*◌, ◌/◌, ◌≤◌
 use Rattle.msr_steim.specs.Word.{FitsBits}
 use Rattle.msr_kinds.specs.declared.kinds.Kind.{Kind}
 use Rattle.msr_kinds.specs.declared.kinds.Kind.TheVariants.{Int16, Int24, Int32, Steim1, Steim2}
-use Rattle.msr_kinds.specs.declared.forms.Form.{Form}
+use Rattle.msr_words.specs.Fit.{Records, most_counted}
 use Rattle.msr_kinds.specs.Kinds.{contains}
-use Rattle.msr_kinds.specs.Lengths.{bytes_of}
-use Rattle.msr_words.specs.Fit.{most_counted}
 use Rattle.msr_kinds.specs.RecordLength.{words_of}
 
 -- what a run begins with fits if the run does
@@ -35,13 +33,14 @@ DominanceLaw one other = (front back : List (ℤ × ℤ)) → All (λ p. IsNarro
 abbrev pub SizeLaw : ℕ → (List (ℤ × ℤ) → Type 0) → Type 0
 SizeLaw most fits = (run : List (ℤ × ℤ)) → fits run → length run ≤ most
 
--- the laws of what a tracker takes, in a record of each form
-pub record TrackerLaws (look_back : ℕ) (most : Form → ℕ) (fits : Form → List (ℤ × ℤ) → Type 0) : Type 0 where
-  pub prefix : (form : Form) → PrefixLaw (fits form)
-  pub back_step : (form : Form) → BackStepLaw look_back (fits form)
+-- the laws of what a tracker takes, in records of any number of bytes and any choice of kinds; if there is room for a
+-- header, an empty run fits
+pub record TrackerLaws (look_back : ℕ) (most : Records → ℕ) (fits : Records → List (ℤ × ℤ) → Type 0) : Type 0 where
+  pub prefix : (records : Records) → PrefixLaw (fits records)
+  pub back_step : (records : Records) → BackStepLaw look_back (fits records)
   pub near : look_back ≤ 3
-  pub empty : (form : Form) → fits form []
-  pub size : (form : Form) → SizeLaw (most form) (fits form)
+  pub empty : (records : Records) → 64 ≤ records.bytes → fits records []
+  pub size : (records : Records) → SizeLaw (most records) (fits records)
 
 -- each run of at most four samples fits
 abbrev pub FitsShort : (List (ℤ × ℤ) → Type 0) → Type 0
@@ -69,11 +68,11 @@ room_of Steim2 bytes = 7 * words_of bytes
 abbrev pub most_of : Kind → ℕ → ℕ
 most_of kind bytes = min (room_of kind bytes) most_counted
 
--- how many samples a record of that kind has at most; none if the form has no such records
-abbrev pub most_in : Kind → Form → ℕ
-most_in kind form = (if contains form.kinds kind then most_of kind (bytes_of form.length) else 0)
+-- how many samples a record of that kind has at most; none if there are no such records among these
+abbrev pub most_in : Kind → Records → ℕ
+most_in kind records = (if contains records.kinds kind then most_of kind records.bytes else 0)
 
--- how many samples a record of the form has at most: the length of a longest run
-abbrev pub most_any : Form → ℕ
-most_any form = max (max (most_in Steim2 form) (most_in Steim1 form))
-    (max (most_in Int16 form) (max (most_in Int24 form) (most_in Int32 form)))
+-- how many samples one of these records has at most: the length of a longest run
+abbrev pub most_any : Records → ℕ
+most_any records = max (max (most_in Steim2 records) (most_in Steim1 records))
+    (max (most_in Int16 records) (max (most_in Int24 records) (most_in Int32 records)))

@@ -1,4 +1,4 @@
--- What the fields of a tracker say of the samples pushed so far.
+-- What contracts see of a tracker, and what that says of the samples pushed so far.
 use Rattle.std.specs.Prelude.{◌≡◌, ◌==◌, ℕ, ◌+◌, ◌*◌, ◌≤◌, ℤ, List, ◌++◌, suc, ◌↔◌, ⊤, cond, length, map, All, IsTrue, IsFalse, Bool, Some, reverse}
 use Rattle.msr_steim.specs.Word.{FitsBits, group_width}
 use Rattle.msr_steim.specs.declared.word.Version.TheVariants.{One, Two}
@@ -21,29 +21,49 @@ IsInteger Int16 x = FitsBits 16 x
 IsInteger Int24 x = FitsBits 24 x
 IsInteger _ x = ⊤
 
+-- Of a tracker of integers: how many more samples a record has room for, and whether all fit so far.
+pub record IntegersSoFar : Type 0 where
+  pub left : ℕ
+  pub fits : Bool
+
 -- `left` more of these integers may come while the run fits
-pub record FollowsIntegers (kind : Kind) (bytes : ℕ) (run : List (ℤ × ℤ)) (left : ℕ) (fits : Bool) : Type 0 where
-  pub so_far : IsTrue fits → Fits kind bytes run
-  pub room : IsTrue fits → length run + left ≡ most_of kind bytes
-  pub past : IsFalse fits → Fits kind bytes run → ⊥
+pub record FollowsIntegers (kind : Kind) (bytes : ℕ) (run : List (ℤ × ℤ)) (it : IntegersSoFar) : Type 0 where
+  pub so_far : IsTrue it.fits → Fits kind bytes run
+  pub room : IsTrue it.fits → length run + it.left ≡ most_of kind bytes
+  pub past : IsFalse it.fits → Fits kind bytes run → ⊥
+
+-- Of a tracker of Steim-2: the words left after the open one, the differences in that one, how many as large as the
+-- greatest of them it has room for, how many samples more a record has at most, and whether all fit so far.
+pub record Steim2SoFar : Type 0 where
+  pub left : ℕ
+  pub count : ℕ
+  pub most : ℕ
+  pub more : ℕ
+  pub fits : Bool
 
 -- What still fits depends on the open group alone: its differences, of which as many as `most` have room in one word,
 -- and the words left. A record has `more` samples more at most.
-pub record FollowsSteim2 (bytes : ℕ) (run : List (ℤ × ℤ)) (left count most more : ℕ) (fits : Bool) : Type 0 where
+pub record FollowsSteim2 (bytes : ℕ) (run : List (ℤ × ℤ)) (it : Steim2SoFar) : Type 0 where
   pub group : List ℤ
-  pub size : length group ≡ count
-  pub room : count ≤ most
-  pub limit : most ≤ 7
-  pub bits : (n width : ℕ) → group_width Two n ≡ Some width → (All (FitsBits width) group ↔ n ≤ most)
-  pub so_far : IsTrue fits → (tail : List ℤ) →
-      (CanDivide Two (words_of bytes) (map (λ p. p.1) run ++ tail) ↔ CanDivide Two (suc left) (group ++ tail))
-  pub number : IsTrue fits → length run + more ≡ most_of Steim2 bytes
-  pub past : IsFalse fits → Fits Steim2 bytes run → ⊥
+  pub size : length group ≡ it.count
+  pub room : it.count ≤ it.most
+  pub limit : it.most ≤ 7
+  pub bits : (n width : ℕ) → group_width Two n ≡ Some width → (All (FitsBits width) group ↔ n ≤ it.most)
+  pub so_far : IsTrue it.fits → (tail : List ℤ) →
+      (CanDivide Two (words_of bytes) (map (λ p. p.1) run ++ tail) ↔ CanDivide Two (suc it.left) (group ++ tail))
+  pub number : IsTrue it.fits → length run + it.more ≡ most_of Steim2 bytes
+  pub past : IsFalse it.fits → Fits Steim2 bytes run → ⊥
+
+-- Of a tracker of Steim-1: the words of a record, the least numbers of groups, and whether all fit so far.
+pub record Steim1SoFar : Type 0 where
+  pub words : ℕ
+  pub counts : LeastCounts
+  pub fits : Bool
 
 -- The least counts are those of the differences, the newest first. No division into `words` words
 -- has more differences than can be counted.
-pub record FollowsSteim1 (words : ℕ) (ds : List ℤ) (own : ℕ) (counts : LeastCounts) (fits : Bool) : Type 0 where
-  pub words_is : own ≡ words
+pub record FollowsSteim1 (words : ℕ) (ds : List ℤ) (it : Steim1SoFar) : Type 0 where
+  pub words_is : it.words ≡ words
   pub countable : 4 * words ≤ most_counted
-  pub counted : IsTrue fits → AreCounts words (reverse ds) counts
-  pub past : IsFalse fits → CanDivide One words ds → ⊥
+  pub counted : IsTrue it.fits → AreCounts words (reverse ds) it.counts
+  pub past : IsFalse it.fits → CanDivide One words ds → ⊥

@@ -3,7 +3,6 @@ use Rattle.std.specs.Prelude.{◌≡◌, ◌<◌, ◌≤◌, ◌↔◌, ℕ, ◌
 use Rattle.std.specs.Int.{int_wrap, w32}
 use Rattle.msr_steim.specs.Word.{FitsBits}
 use Rattle.msr_words.specs.Segment.{difference_at}
-use Rattle.msr_words.specs.declared.window.Window.{Window}
 
 -- `size` is the size of `d`: `d` is of `width` bits exactly if `size` is below half the power
 abbrev pub IsSize : ℤ → ℕ → Type 0
@@ -25,12 +24,21 @@ pub record AreSeen (ds : List ℤ) (sizes : List ℕ) (kept : List ℤ) (place :
   pub each : (k : ℕ) → k < 7 → IsTaken (get_or ds k (pos 0)) (get_or sizes (place + k) 0)
       (get_or kept (place + k) (pos 0))
 
+-- What contracts see of a window: the samples from `first` to `end - 1`, the size of the difference of each and the
+-- difference itself, cut to 32 bits. For each sample before `until` it has those of the next six, too.
+pub record Stretch : Type 0 where
+  pub first : ℕ
+  pub end : ℕ
+  pub until : ℕ
+  pub sizes : List ℕ
+  pub kept : List ℤ
+
 -- from this place on the window has the first seven of these differences
-abbrev pub Shows : Window → List ℤ → ℕ → Type 0
+abbrev pub Shows : Stretch → List ℤ → ℕ → Type 0
 Shows window ds place = AreSeen ds window.sizes window.kept place
 
 -- a window of these samples that begins at the sample `at` or before it
-pub record IsWindow (samples : List ℤ) (at : ℕ) (window : Window) : Type 0 where
+pub record IsWindow (samples : List ℤ) (at : ℕ) (window : Stretch) : Type 0 where
   pub before : window.first ≤ at
   pub within : window.end ≤ length samples
   pub most : window.end ≤ window.first + 64

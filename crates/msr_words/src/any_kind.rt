@@ -4,13 +4,14 @@ ghost use Rattle.std.specs.Prelude.{◌≡◌, [], ◌&&◌};
 ghost use Rattle.msr_kinds.specs.Forms.{all_kinds};
 ghost use Rattle.msr_kinds.specs.Kinds.{contains};
 ghost use Rattle.msr_words.specs.AnyKind.{FollowsAny};
-ghost use Rattle.msr_words.specs.Fit.{FitsAny};
+ghost use Rattle.msr_words.specs.Fit.{FitsAny, records_of};
 ghost use Rattle.msr_words.specs.Laws.{most_any};
 ghost use Rattle.msr_words.specs.Lemmas.KindLaws.{any_laws};
 
 use crate::codecs::{Int16, Int24, Int32, Steim1, Steim2, Tracker};
 use crate::kinds::longest_run;
 use msr_kinds::{Form, Kind, Kinds, Length};
+use std::marker::Model;
 
 /// The trackers of all kinds, side by side: whether the run fits a record of some kind that the form has.
 #[derive(Clone, Copy, Debug, PartialEq, Eq)]
@@ -23,10 +24,34 @@ pub struct AnyKind {
     steim2: Steim2,
 }
 
+impl Model for AnyKind {
+    ghost use Rattle.msr_words.specs.AnyKind.{AnySoFar};
+
+    ghost Value = { AnySoFar };
+
+    ghost view = { λ it. record {
+      kinds = it.kinds;
+      int16 = it.int16;
+      int24 = it.int24;
+      int32 = it.int32;
+      steim1 = it.steim1;
+      steim2 = it.steim2;
+    } };
+
+    ghost inverse = { λ it. record {
+      kinds = it.kinds;
+      int16 = it.int16;
+      int24 = it.int24;
+      int32 = it.int32;
+      steim1 = it.steim1;
+      steim2 = it.steim2;
+    } };
+}
+
 impl AnyKind {
     /// A tracker for records of that form, that nothing was pushed to.
     pub fn of(form: Form) -> AnyKind
-        ensures { FollowsAny form [] result }
+        ensures { FollowsAny (records_of form) [] result }
     {
         AnyKind {
             kinds: form.kinds,

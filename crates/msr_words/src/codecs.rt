@@ -1,13 +1,11 @@
 //! Trackers: whether the samples pushed so far fit one record, for each kind of record.
 
 ghost use Rattle.std.specs.Prelude.{◌≡◌, ℕ, ◌+◌, ◌^◌, ◌<◌, ◌≤◌, ◌↔◌, ◌++◌, ◌∷◌, ℤ, List, [], IsTrue, map};
-ghost use Rattle.msr_kinds.specs.declared.forms.Form.{Form};
 ghost use Rattle.msr_kinds.specs.declared.kinds.Kind.{Kind};
 ghost use Rattle.msr_kinds.specs.declared.kinds.Kind.TheVariants.{Steim1, Steim2};
 ghost use Rattle.msr_kinds.specs.Forms.{all_kinds};
-ghost use Rattle.msr_kinds.specs.Lengths.{bytes_of};
 ghost use Rattle.msr_kinds.specs.RecordLength.{words_of};
-ghost use Rattle.msr_words.specs.Fit.{Fits};
+ghost use Rattle.msr_words.specs.Fit.{Fits, Records, records_of};
 ghost use Rattle.msr_kinds.specs.Codes.{code_of};
 ghost use Rattle.msr_words.specs.Trackers.{FollowsIntegers, FollowsSteim1, FollowsSteim2, IsInteger, integers_of};
 ghost use Rattle.msr_words.specs.Laws.{TrackerLaws, most_of};
@@ -17,19 +15,20 @@ use crate::counts::{LeastCounts, steim2_capacity};
 use crate::kinds::Fitting;
 use msr_kinds::{Kind, Length};
 use msr_steim::fits_bits;
+use std::marker::Model;
 
 /// A tracker says, one sample after another, whether what was pushed so far fits one record.
 pub trait Tracker {
-    /// The run, of samples with their differences, fits a record of that form.
-    ghost fits: { Form → List (ℤ × ℤ) → Type 0 };
+    /// The run, of samples with their differences, fits one of these records.
+    ghost fits: { Records → List (ℤ × ℤ) → Type 0 };
 
-    /// The tracker is as it is after that run was pushed, for a record of that form.
-    ghost follows: { Form → List (ℤ × ℤ) → Self → Type 0 };
+    /// The tracker is as it is after that run was pushed, for these records.
+    ghost follows: { Records → List (ℤ × ℤ) → Self → Type 0 };
 
     ghost LOOK_BACK: { ℕ };
 
-    /// How many samples a record of that form has at most.
-    ghost most: { Form → ℕ };
+    /// How many samples one of these records has at most.
+    ghost most: { Records → ℕ };
 
     /// How many starts before a cut may be needed: the part after the cut fits with at most
     /// `LOOK_BACK` of the samples before it. If it is 0, each part after a cut fits by itself.
@@ -37,17 +36,17 @@ pub trait Tracker {
 
     /// How many samples a record of that length has at most.
     fn most(record_length: Length) -> usize
-        ensures { result ≡ most (all_kinds record_length) };
+        ensures { result ≡ most (records_of (all_kinds record_length)) };
 
     /// A tracker that nothing was pushed to.
     fn start(record_length: Length) -> Self
-        ensures { follows (all_kinds record_length) [] result };
+        ensures { follows (records_of (all_kinds record_length)) [] result };
 
     /// Whether all that was pushed, with this sample and its difference, fits. After a false it answers false.
     fn push(&mut self, sample: i32, diff: i64) -> bool
-        ensures { (form : Form) (run : List (ℤ × ℤ)) → follows form run self.old
-            → follows form (run ++ (sample, diff) ∷ []) self.new × (IsTrue result
-            ↔ fits form (run ++ (sample, diff) ∷ [])) };
+        ensures { (records : Records) (run : List (ℤ × ℤ)) → follows records run self.old
+            → follows records (run ++ (sample, diff) ∷ []) self.new × (IsTrue result
+            ↔ fits records (run ++ (sample, diff) ∷ [])) };
 
     /// A prefix of what fits fits, and the part after a cut with at most `LOOK_BACK` samples before it, three at most;
     /// an empty run fits, and no run of more than `most` samples does.
@@ -64,7 +63,7 @@ pub trait Codec: Tracker {
         ensures { result ≡ code_of kind };
 
     /// What it takes is what fits a record of that kind.
-    ghost same: { (form : Form) (run : List (ℤ × ℤ)) → Self.fits form run ↔ Fits kind (bytes_of form.length) run };
+    ghost same: { (records : Records) (run : List (ℤ × ℤ)) → Self.fits records run ↔ Fits kind records.bytes run };
 }
 
 /// The tracker of integers of 16 bits, of 24, or else of 32.
@@ -72,6 +71,16 @@ pub trait Codec: Tracker {
 pub struct Integers<const BITS: u32> {
     left: usize,
     fits: bool,
+}
+
+impl<const BITS: u32> Model for Integers<BITS> {
+    ghost use Rattle.msr_words.specs.Trackers.{IntegersSoFar};
+
+    ghost Value = { IntegersSoFar };
+
+    ghost view = { λ it. record { left = it.left; fits = it.fits } };
+
+    ghost inverse = { λ it. record { left = it.left; fits = it.fits } };
 }
 
 /// The tracker of 16-bit integers.
@@ -113,13 +122,13 @@ fn is_taken(sample: i32, bits: u32, left: usize, fits: bool) -> bool
 }
 
 impl<const BITS: u32> Tracker for Integers<BITS> {
-    ghost fits = { λ form. Fits (integers_of BITS) (bytes_of form.length) };
+    ghost fits = { λ records. Fits (integers_of BITS) records.bytes };
 
-    ghost follows = { λ form run it. FollowsIntegers (integers_of BITS) (bytes_of form.length) run it.left it.fits };
+    ghost follows = { λ records. FollowsIntegers (integers_of BITS) records.bytes };
 
     ghost LOOK_BACK = { 0 };
 
-    ghost most = { λ form. most_of (integers_of BITS) (bytes_of form.length) };
+    ghost most = { λ records. most_of (integers_of BITS) records.bytes };
 
     const LOOK_BACK: usize = 0;
 
@@ -149,7 +158,7 @@ impl<const BITS: u32> Tracker for Integers<BITS> {
 impl<const BITS: u32> Codec for Integers<BITS> {
     ghost kind = { integers_of BITS };
 
-    ghost same = { λ form run. (λ h. h, λ h. h) };
+    ghost same = { λ records run. (λ h. h, λ h. h) };
 
     fn code(&self) -> u8 {
         integers_of(BITS).code()
@@ -168,6 +177,28 @@ pub struct Steim2 {
     /// How many samples more a record has at most.
     more: usize,
     fits: bool,
+}
+
+impl Model for Steim2 {
+    ghost use Rattle.msr_words.specs.Trackers.{Steim2SoFar};
+
+    ghost Value = { Steim2SoFar };
+
+    ghost view = { λ it. record {
+      left = it.left;
+      count = it.count;
+      most = it.most;
+      more = it.more;
+      fits = it.fits;
+    } };
+
+    ghost inverse = { λ it. record {
+      left = it.left;
+      count = it.count;
+      most = it.most;
+      more = it.more;
+      fits = it.fits;
+    } };
 }
 
 /// How many words one difference more opens: 0 if it stays in the open word, which has room for `most`, else 1.
@@ -195,14 +226,13 @@ fn most_after(count: u8, most: u8, capacity: u8) -> u8
 }
 
 impl Tracker for Steim2 {
-    ghost fits = { λ form. Fits Steim2 (bytes_of form.length) };
+    ghost fits = { λ records. Fits Steim2 records.bytes };
 
-    ghost follows = { λ form run it. FollowsSteim2
-        (bytes_of form.length) run it.left it.count it.most it.more it.fits };
+    ghost follows = { λ records. FollowsSteim2 records.bytes };
 
     ghost LOOK_BACK = { 0 };
 
-    ghost most = { λ form. most_of Steim2 (bytes_of form.length) };
+    ghost most = { λ records. most_of Steim2 records.bytes };
 
     const LOOK_BACK: usize = 0;
 
@@ -244,7 +274,7 @@ impl Tracker for Steim2 {
 impl Codec for Steim2 {
     ghost kind = { Steim2 };
 
-    ghost same = { λ form run. (λ h. h, λ h. h) };
+    ghost same = { λ records run. (λ h. h, λ h. h) };
 
     fn code(&self) -> u8 {
         Kind::Steim2.code()
@@ -257,18 +287,29 @@ pub struct Steim1 {
     words: u32,
     counts: LeastCounts,
     fits: bool,
-    ghost bound: { words < 2 ^ 31 },
+}
+
+impl Model for Steim1 {
+    ghost use Rattle.std.specs.Prelude.{◌<◌, ◌^◌};
+    ghost use Rattle.msr_words.specs.Trackers.{Steim1SoFar};
+
+    ghost Value = { Steim1SoFar };
+
+    ghost view = { λ it. record { words = it.words; counts = it.counts; fits = it.fits } };
+
+    ghost inverse = { λ it. record { words = it.words; counts = it.counts; fits = it.fits } };
+
+    ghost invariant = { λ it. it.words < 2 ^ 31 };
 }
 
 impl Tracker for Steim1 {
-    ghost fits = { λ form. Fits Steim1 (bytes_of form.length) };
+    ghost fits = { λ records. Fits Steim1 records.bytes };
 
-    ghost follows = { λ form run it. FollowsSteim1
-        (words_of (bytes_of form.length)) (map (λ p. p.1) run) it.words it.counts it.fits };
+    ghost follows = { λ records run. FollowsSteim1 (words_of records.bytes) (map (λ p. p.1) run) };
 
     ghost LOOK_BACK = { 1 };
 
-    ghost most = { λ form. most_of Steim1 (bytes_of form.length) };
+    ghost most = { λ records. most_of Steim1 records.bytes };
 
     const LOOK_BACK: usize = 1;
 
@@ -299,7 +340,7 @@ impl Tracker for Steim1 {
 impl Codec for Steim1 {
     ghost kind = { Steim1 };
 
-    ghost same = { λ form run. (λ h. h, λ h. h) };
+    ghost same = { λ records run. (λ h. h, λ h. h) };
 
     fn code(&self) -> u8 {
         Kind::Steim1.code()

@@ -9,7 +9,7 @@ ghost use Rattle.msr_words.specs.Segment.{points, run_points, differences, diffe
 ghost use Rattle.msr_words.specs.Division.{CanDivide};
 ghost use Rattle.msr_words.specs.Groups.{IsCapacity, IsLongestGroup};
 ghost use Rattle.msr_words.specs.Laws.{DominanceLaw, look_back_of, most_any, most_in, most_of};
-ghost use Rattle.msr_words.specs.Fit.{Fits, FitsAny, FitsIn, IsRun, IsFirstKind};
+ghost use Rattle.msr_words.specs.Fit.{Fits, FitsAny, FitsIn, IsRun, IsFirstKind, records_of};
 
 use crate::counts::{LeastCounts, magnitude};
 use crate::window::Window;
@@ -173,7 +173,7 @@ fn all_of_bits(run: &[i32], bits: u32) -> bool
 
 /// How many samples a record of that kind has at most; none if the form has no such records.
 fn most_in(kind: Kind, form: Form) -> usize
-    ensures { result ≡ most_in kind form }
+    ensures { result ≡ most_in kind (records_of form) }
 {
     if form.kinds.contains(kind) {
         kind.most(form.length)
@@ -184,7 +184,7 @@ fn most_in(kind: Kind, form: Form) -> usize
 
 /// How many samples a record of that form has at most.
 pub fn longest_run(form: Form) -> usize
-    ensures { result ≡ most_any form }
+    ensures { result ≡ most_any (records_of form) }
 {
     let steim = most_in(Kind::Steim2, form).max(most_in(Kind::Steim1, form));
     let wide = most_in(Kind::Int24, form).max(most_in(Kind::Int32, form));
@@ -195,7 +195,7 @@ pub fn longest_run(form: Form) -> usize
 pub fn run_fits(kind: Kind, samples: &[i32], start: usize, end: usize, form: Form) -> bool
     requires order { start ≤ end }
     requires within { end ≤ length samples.now }
-    ensures { IsTrue result ↔ FitsIn kind form (run_points samples.now start end) }
+    ensures { IsTrue result ↔ FitsIn kind (records_of form) (run_points samples.now start end) }
 {
     if !form.kinds.contains(kind) {
         return false;
@@ -209,8 +209,8 @@ pub fn run_fits(kind: Kind, samples: &[i32], start: usize, end: usize, form: For
 
 /// The first kind, in the order in which they are tried, that the samples `start` to `end - 1` of the segment fit.
 pub fn first_kind(samples: &[i32], start: usize, end: usize, form: Form) -> Kind
-    requires { IsRun (FitsAny form) samples.now start end }
-    ensures { IsFirstKind form (run_points samples.now start end) result }
+    requires { IsRun (FitsAny (records_of form)) samples.now start end }
+    ensures { IsFirstKind (records_of form) (run_points samples.now start end) result }
 {
     if run_fits(Kind::Steim2, samples, start, end, form) {
         Kind::Steim2

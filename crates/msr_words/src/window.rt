@@ -12,6 +12,7 @@ ghost use Rattle.msr_words.specs.Segment.{differences};
 ghost use Rattle.msr_words.specs.Window.{IsSize, IsWindow, Shows};
 
 use crate::kinds::longest_group;
+use std::marker::Model;
 
 /// How many differences a window has.
 const PLACES: usize = 64;
@@ -27,6 +28,20 @@ pub struct Window {
     sizes: [u32; 64],
     /// Each difference itself, cut to 32 bits.
     kept: [i32; 64],
+}
+
+impl Model for Window {
+    ghost use Rattle.msr_words.specs.Window.{Stretch};
+
+    ghost Value = { Stretch };
+
+    ghost view = { λ w. record {
+      first = w.first;
+      end = w.end;
+      until = w.until;
+      sizes = w.sizes;
+      kept = w.kept;
+    } };
 }
 
 /// The size of the difference of a sample from the one before it. The test compares numbers of 32 bits, of which a

@@ -3,7 +3,7 @@ use Rattle.std.proofs.lemmas.Bool.{cases_lt}
 use Rattle.msr_kinds.specs.Kinds.{IsChosen}
 use Rattle.msr_kinds.specs.declared.kinds.Kind.{Kind}
 use Rattle.msr_kinds.specs.declared.kinds.Kind.TheVariants.{Int16, Int24, Int32, Steim1, Steim2}
-use Rattle.msr_words.specs.Fit.{FitsIn, IsFirstKind, rank}
+use Rattle.msr_words.specs.Fit.{FitsIn, IsFirstKind, rank, records_of}
 use Rattle.msr_words.specs.Segment.{run_points}
 use Rattle.msr_packer.specs.Steps.{end_of}
 use Rattle.msr_packer.proofs.EndsByKind.{first_by_ends, last_by_ends, not_before}
@@ -20,9 +20,9 @@ ends_before answer chosen cut end says not has = elim (cases_lt end cut) [
 pub returns-then-found-end : goal.returns-then-found-end
 returns-then-found-end c =
     let one : c.args.found.step.kind ≡ Steim1 = search rules in
-    let fits = subst (λ kind. FitsIn kind c.args.form
+    let fits = subst (λ kind. FitsIn kind (records_of c.args.form)
     (run_points c.args.samples.now c.args.found.step.start c.args.end)) one c.requires.fits.2 in
-    not_before c.args.form c.args.samples.now c.args.frontier c.args.found.step.end
+    not_before (records_of c.args.form) c.args.samples.now c.args.frontier c.args.found.step.end
     c.args.found.ends c.requires.ends c.args.found.step.start c.args.end c.requires.before c.requires.near
     c.requires.fits.1 (omega arith) fits
 
@@ -31,8 +31,8 @@ returns-then-reaches c =
     let here : c.args.frontier ≡ c.args.found.step.start = omega arith in
     let order = c.requires.fits.0 in
     let reaches = c.reaches.ensures.0 c.if-reaches.true in
-    subst (λ a. IsFirstKind c.args.form (run_points c.args.samples.now a c.args.end) Steim2) here
-    (first_by_ends c.args.form c.args.samples.now c.args.frontier c.args.found.step.end
+    subst (λ a. IsFirstKind (records_of c.args.form) (run_points c.args.samples.now a c.args.end) Steim2) here
+    (first_by_ends (records_of c.args.form) c.args.samples.now c.args.frontier c.args.found.step.end
     c.args.found.ends c.requires.ends c.args.end c.requires.near (omega arith) c.requires.fits.1 Steim2 reaches.0 before
     reaches.1)
   where
@@ -49,8 +49,8 @@ returns-then-reaches-2 c =
     let here : c.args.frontier ≡ c.args.found.step.start = omega arith in
     let order = c.requires.fits.0 in
     let reaches = c.reaches-else-reaches.ensures.0 c.if-reaches-2.true in
-    subst (λ a. IsFirstKind c.args.form (run_points c.args.samples.now a c.args.end) Steim1) here
-    (first_by_ends c.args.form c.args.samples.now c.args.frontier c.args.found.step.end
+    subst (λ a. IsFirstKind (records_of c.args.form) (run_points c.args.samples.now a c.args.end) Steim1) here
+    (first_by_ends (records_of c.args.form) c.args.samples.now c.args.frontier c.args.found.step.end
     c.args.found.ends c.requires.ends c.args.end c.requires.near (omega arith) c.requires.fits.1 Steim1 reaches.0 before
     reaches.1)
   where
@@ -68,8 +68,8 @@ returns-then-reaches-3 c =
     let here : c.args.frontier ≡ c.args.found.step.start = omega arith in
     let order = c.requires.fits.0 in
     let reaches = c.reaches-else-reaches-2.ensures.0 c.if-reaches-3.true in
-    subst (λ a. IsFirstKind c.args.form (run_points c.args.samples.now a c.args.end) Int16) here
-    (first_by_ends c.args.form c.args.samples.now c.args.frontier c.args.found.step.end
+    subst (λ a. IsFirstKind (records_of c.args.form) (run_points c.args.samples.now a c.args.end) Int16) here
+    (first_by_ends (records_of c.args.form) c.args.samples.now c.args.frontier c.args.found.step.end
     c.args.found.ends c.requires.ends c.args.end c.requires.near (omega arith) c.requires.fits.1 Int16 reaches.0 before
     reaches.1)
   where
@@ -88,8 +88,8 @@ returns-then-reaches-4 c =
     let here : c.args.frontier ≡ c.args.found.step.start = omega arith in
     let order = c.requires.fits.0 in
     let reaches = c.reaches-else-reaches-3.ensures.0 c.if-reaches-4.true in
-    subst (λ a. IsFirstKind c.args.form (run_points c.args.samples.now a c.args.end) Int24) here
-    (first_by_ends c.args.form c.args.samples.now c.args.frontier c.args.found.step.end
+    subst (λ a. IsFirstKind (records_of c.args.form) (run_points c.args.samples.now a c.args.end) Int24) here
+    (first_by_ends (records_of c.args.form) c.args.samples.now c.args.frontier c.args.found.step.end
     c.args.found.ends c.requires.ends c.args.end c.requires.near (omega arith) c.requires.fits.1 Int24 reaches.0 before
     reaches.1)
   where
@@ -108,10 +108,10 @@ pub returns-else-reaches-4 : goal.returns-else-reaches-4
 returns-else-reaches-4 c =
     let here : c.args.frontier ≡ c.args.found.step.start = omega arith in
     let order = c.requires.fits.0 in
-    let fits = subst (λ a. FitsIn c.args.found.step.kind c.args.form
+    let fits = subst (λ a. FitsIn c.args.found.step.kind (records_of c.args.form)
     (run_points c.args.samples.now a c.args.end)) (sym here) c.requires.fits.2 in
-    subst (λ a. IsFirstKind c.args.form (run_points c.args.samples.now a c.args.end) Int32) here
-    (last_by_ends c.args.form c.args.samples.now c.args.frontier c.args.found.step.end
+    subst (λ a. IsFirstKind (records_of c.args.form) (run_points c.args.samples.now a c.args.end) Int32) here
+    (last_by_ends (records_of c.args.form) c.args.samples.now c.args.frontier c.args.found.step.end
     c.args.found.ends c.requires.ends c.args.end c.requires.near
     (omega arith) c.requires.fits.1 c.args.found.step.kind fits before)
   where

@@ -2,5 +2,5 @@ use Rattle.msr_packer.proofs.Canonical.{one_packing}
 use Rattle.msr_packer.proofs.one_packing.Goals as goal
 
 pub returns : goal.returns
-returns c form samples runs others separators places first second =
-    one_packing form samples runs others separators places first second
+returns c records samples runs others separators places first second =
+    one_packing records samples runs others separators places first second

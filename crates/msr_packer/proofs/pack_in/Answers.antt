@@ -2,6 +2,7 @@ use Rattle.std.proofs.Common.{rules, ◌^◌, arith, length, ◌<◌, ◌≤◌}
 use Rattle.msr_packer.specs.HeldSamples.{frontier_of}
 use Rattle.msr_packer.proofs.Holding.{ends_with, next_stepped, window_next}
 use Rattle.msr_packer.proofs.Least.{found}
+use Rattle.msr_words.specs.Fit.{records_of}
 use Rattle.msr_packer.proofs.pack_in.Goals as goal
 
 pub piece_of-requires : goal.piece_of-requires
@@ -11,7 +12,7 @@ piece_of-requires c =
     let order = next.step.reached.0 in
     let within = next.step.reached.1 in
     record {
-      form = c.args.form;
+      records = records_of c.args.form;
       number = length c.args.samples.now;
       inside = c.loop-form.invariant.inside;
       within = omega arith;
@@ -22,7 +23,7 @@ pub piece_of-requires-2 : goal.piece_of-requires-2
 piece_of-requires-2 c =
     let fits : length c.args.samples.now < 2 ^ 64 = search rules in
     record {
-      form = c.args.form;
+      records = records_of c.args.form;
       number = length c.args.samples.now;
       inside = c.loop-form.invariant.inside;
       within = omega arith;
@@ -33,7 +34,7 @@ pub loop-form-smaller : goal.loop-form-smaller
 loop-form-smaller c =
     let samples = c.args.samples.now in
     let next = c.next-next.ensures in
-    let s = next_stepped c.args.form samples c.loop-form.current
+    let s = next_stepped (records_of c.args.form) c.args.form.length.least samples c.loop-form.current
     c.next-next.result next in
     let on = s.on in
     let within = next.step.reached.1 in
@@ -43,17 +44,17 @@ loop-form-smaller c =
 pub loop-form-preserved : goal.loop-form-preserved
 loop-form-preserved c =
     let i = c.loop-form.invariant in
-    let form = c.args.form in
+    let form = records_of c.args.form in
     let samples = c.args.samples.now in
     let current = c.loop-form.current in
     let next = c.next-next.ensures in
-    let s = next_stepped form samples current c.next-next.result next in
+    let s = next_stepped form c.args.form.length.least samples current c.next-next.result next in
     let frontier = next.frontier in
     let before = next.step.before in
     let on = s.on in
     rw (c.in_ok-add.ensures.runs, c.in_ok-add.ensures.separators, c.piece_of.ensures)
     (record {
-      window = window_next form samples c.loop-form.packing.runs.items
+      window = window_next form c.args.form.length.least samples c.loop-form.packing.runs.items
           c.loop-form.packing.separators.items samples 0 current c.next-next.result i.window next;
       inside = record { before = before; on = omega arith; within = next.step.reached.1; short = s.few };
     })
@@ -61,10 +62,10 @@ loop-form-preserved c =
 pub returns : goal.returns
 returns c =
     let i = c.loop-form.invariant in
-    let form = c.args.form in
+    let form = records_of c.args.form in
     let samples = c.args.samples.now in
     let done : length samples ≤ frontier_of c.loop-form.current = omega arith in
-    let f = found form samples _ _
+    let f = found form samples c.args.form.length.least _ _
     (ends_with form samples c.loop-form.packing.runs.items
     c.loop-form.packing.separators.items samples 0 c.loop-form.current i.window done) in
     rw (c.in_ok-add-2.ensures.runs, c.in_ok-add-2.ensures.separators, c.piece_of-2.ensures)

@@ -15,10 +15,8 @@ use Rattle.msr_words.specs.Laws.{PrefixLaw, BackStepLaw, SuffixLaw, SizeLaw, Fit
 use Rattle.msr_words.specs.Trackers.{integers_of}
 use Rattle.msr_words.specs.Lemmas.SteimLaws.{places_of, largest_of, prefix_law, back_step_law, size_law, none_divides}
 use Rattle.msr_words.specs.Bounds.{AreIntegers}
-use Rattle.msr_words.specs.Fit.{FitsIntegers, FitsInt32, FitsSteim, HasRoom, Fits, FitsIn, FitsAny}
+use Rattle.msr_words.specs.Fit.{FitsIntegers, FitsInt32, FitsSteim, HasRoom, Fits, FitsIn, FitsAny, Records}
 use Rattle.msr_kinds.specs.RecordLength.{words_of}
-use Rattle.msr_kinds.specs.declared.forms.Form.{Form}
-use Rattle.msr_kinds.specs.Lengths.{bytes_of}
 use Rattle.msr_kinds.proofs.KindLemmas.{int32_is_chosen}
 
 -- if each part after a cut fits by itself, none of the samples before it is needed; and the other way round
@@ -230,59 +228,55 @@ few_places Int32 = omega arith
 few_places Steim1 = omega arith
 few_places Steim2 = omega arith
 
--- the laws for a kind that a form has
-pub prefix_in : (kind : Kind) (form : Form) → PrefixLaw (FitsIn kind form)
-prefix_in kind form front back h = (h.0, prefix_kind kind (bytes_of form.length) front back h.1)
+-- the laws for records of one kind
+pub prefix_in : (kind : Kind) (records : Records) → PrefixLaw (FitsIn kind records)
+prefix_in kind records front back h = (h.0, prefix_kind kind records.bytes front back h.1)
 
-pub back_step_in : (kind : Kind) (form : Form) → BackStepLaw (look_back_of kind) (FitsIn kind form)
-back_step_in kind form front back h =
-    let r = back_step_kind kind (bytes_of form.length) front back h.1 in
+pub back_step_in : (kind : Kind) (records : Records) → BackStepLaw (look_back_of kind) (FitsIn kind records)
+back_step_in kind records front back h =
+    let r = back_step_kind kind records.bytes front back h.1 in
     (r.0, r.1, r.2, (h.0, r.3))
 
--- the laws for a record of any kind that a form has
-pub prefix_any : (form : Form) → PrefixLaw (FitsAny form)
-prefix_any form front back h = (h.0, prefix_in h.0 form front back h.1)
+-- the laws for records of some of the kinds
+pub prefix_any : (records : Records) → PrefixLaw (FitsAny records)
+prefix_any records front back h = (h.0, prefix_in h.0 records front back h.1)
 
-pub back_step_any : (form : Form) → BackStepLaw 1 (FitsAny form)
-back_step_any form front back h =
-    let r = back_step_more (FitsIn h.0 form) (look_back_of h.0) 1 (few_places h.0)
-    (back_step_in h.0 form) front back h.1 in
+pub back_step_any : (records : Records) → BackStepLaw 1 (FitsAny records)
+back_step_any records front back h =
+    let r = back_step_more (FitsIn h.0 records) (look_back_of h.0) 1 (few_places h.0)
+    (back_step_in h.0 records) front back h.1 in
     (r.0, r.1, r.2, (h.0, r.3))
 
-pub empty_any : (form : Form) → FitsAny form []
-empty_any form =
-    let least = form.length.least in
-    (Int32, (int32_is_chosen form.kinds, empty_kind Int32 (bytes_of form.length) (omega arith)))
+pub empty_any : (records : Records) → 64 ≤ records.bytes → FitsAny records []
+empty_any records header = (Int32, (int32_is_chosen records.kinds, empty_kind Int32 records.bytes header))
 
-within_any : (kind : Kind) (form : Form) → most_in kind form ≤ most_any form
-within_any Int16 form = omega arith
-within_any Int24 form = omega arith
-within_any Int32 form = omega arith
-within_any Steim1 form = omega arith
-within_any Steim2 form = omega arith
+within_any : (kind : Kind) (records : Records) → most_in kind records ≤ most_any records
+within_any Int16 records = omega arith
+within_any Int24 records = omega arith
+within_any Int32 records = omega arith
+within_any Steim1 records = omega arith
+within_any Steim2 records = omega arith
 
-pub size_any : (form : Form) → SizeLaw (most_any form) (FitsAny form)
-size_any form run h =
-    let size = size_kind h.0 (bytes_of form.length) run h.1.1 in
-    let same : most_in h.0 form ≡ most_of h.0 (bytes_of form.length) = rw h.1.0 refl in
-    let more = within_any h.0 form in
+pub size_any : (records : Records) → SizeLaw (most_any records) (FitsAny records)
+size_any records run h =
+    let size = size_kind h.0 records.bytes run h.1.1 in
+    let same : most_in h.0 records ≡ most_of h.0 records.bytes = rw h.1.0 refl in
+    let more = within_any h.0 records in
     omega arith
 
--- a few samples fit a record of any form, as 32-bit integers
-pub short_any : (form : Form) → FitsShort (FitsAny form)
-short_any form run short =
-    let least = form.length.least in
-    (Int32, (int32_is_chosen form.kinds, (omega arith, omega arith)))
+-- a few samples fit a record of any of the lengths, as 32-bit integers
+pub short_any : (records : Records) → 256 ≤ records.bytes → FitsShort (FitsAny records)
+short_any records least run short = (Int32, (int32_is_chosen records.kinds, (omega arith, omega arith)))
 
 -- the laws of the trackers
 pub kind_laws : (kind : Kind) → TrackerLaws
-    (look_back_of kind) (λ form. most_of kind (bytes_of form.length)) (λ form. Fits kind (bytes_of form.length))
+    (look_back_of kind) (λ records. most_of kind records.bytes) (λ records. Fits kind records.bytes)
 kind_laws kind = record {
-  prefix = λ form. prefix_kind kind (bytes_of form.length);
-  back_step = λ form. back_step_kind kind (bytes_of form.length);
+  prefix = λ records. prefix_kind kind records.bytes;
+  back_step = λ records. back_step_kind kind records.bytes;
   near = let few = few_places kind in omega arith;
-  empty = λ form. let least = form.length.least in empty_kind kind (bytes_of form.length) (omega arith);
-  size = λ form. size_kind kind (bytes_of form.length);
+  empty = λ records. empty_kind kind records.bytes;
+  size = λ records. size_kind kind records.bytes;
 }
 
 -- what holds of each kind of integers
@@ -292,10 +286,10 @@ of_integers P a b c bits = elim (bits == 16) as (λ one. P (cond one Int16 (cond
   | false ↦ elim (bits == 24) as (λ two. P (cond two Int24 Int32)) [ true ↦ b | false ↦ c ]
 ]
 
-pub integers_laws : (bits : ℕ) → TrackerLaws 0 (λ form. most_of (integers_of bits) (bytes_of form.length))
-    (λ form. Fits (integers_of bits) (bytes_of form.length))
-integers_laws = of_integers (λ kind. TrackerLaws 0 (λ form. most_of kind (bytes_of form.length))
-    (λ form. Fits kind (bytes_of form.length))) (kind_laws Int16) (kind_laws Int24) (kind_laws Int32)
+pub integers_laws : (bits : ℕ) → TrackerLaws 0 (λ records. most_of (integers_of bits) records.bytes)
+    (λ records. Fits (integers_of bits) records.bytes)
+integers_laws = of_integers (λ kind. TrackerLaws 0 (λ records. most_of kind records.bytes)
+    (λ records. Fits kind records.bytes)) (kind_laws Int16) (kind_laws Int24) (kind_laws Int32)
 
 pub any_laws : TrackerLaws 1 most_any FitsAny
 any_laws = record {

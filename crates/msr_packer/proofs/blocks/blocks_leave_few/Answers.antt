@@ -2,5 +2,5 @@ use Rattle.msr_packer.proofs.Holding.{leaves_few}
 use Rattle.msr_packer.proofs.blocks.blocks_leave_few.Goals as goal
 
 pub returns : goal.returns
-returns c = λ form samples runs separators packer p few. leaves_few form samples runs separators packer.held
+returns c = λ records samples runs separators packer p few. leaves_few records samples runs separators packer.held
     packer.offset packer.current p.holds (rw p.of_form at few)

@@ -3,4 +3,4 @@ use Rattle.msr_packer.proofs.PackingsExist.{has_packing}
 use Rattle.msr_packer.proofs.existence.packing_exists.Goals as goal
 
 pub returns : goal.returns
-returns c = λ form samples. let p = has_packing form samples in (p.others, p.places, p.canonical)
+returns c = λ records samples enough. let p = has_packing records samples enough in (p.others, p.places, p.canonical)

@@ -6,7 +6,7 @@ use Rattle.msr_words.proofs.Runs.{run_points_more, prefix_run}
 use Rattle.msr_packer.proofs.growing.all_taken.Goals as goal
 
 pub returns-then-not-push-clause-none : goal.returns-then-not-push-clause-none
-returns-then-not-push-clause-none g c = λ form start le follows fits none all.
+returns-then-not-push-clause-none g c = λ records start le follows fits none all.
     let in' : c.loop-at.at < length c.args.samples.now = omega arith in
     let far : start ≤ c.loop-at.at = omega arith in
     let more = run_points_more c.args.samples.now start c.loop-at.at far in' in
@@ -14,10 +14,10 @@ returns-then-not-push-clause-none g c = λ form start le follows fits none all.
     let diff : SFits w64 c.difference_between.result = search rules in
     let difference : c.difference_between.result ≡ difference_at c.args.samples.now c.loop-at.at =
     simp to_z-of_z at c.difference_between.ensures ∙ sym (c.loop-at.invariant.last_is in') in
-    let push = simp to_z-of_z at (c.push.ensures form (run_points c.args.samples.now start c.loop-at.at)
-    (c.loop-at.invariant.kept form start le follows fits).0) in
+    let push = simp to_z-of_z at (c.push.ensures records (run_points c.args.samples.now start c.loop-at.at)
+    (c.loop-at.invariant.kept records start le follows fits).0) in
     let pushed = rw (difference, ← more) at push in
-    let shorter = prefix_run (g.C.Tracker.fits form) (g.met.C.Tracker.laws.prefix form) c.args.samples.now start
+    let shorter = prefix_run (g.C.Tracker.fits records) (g.met.C.Tracker.laws.prefix records) c.args.samples.now start
     (c.loop-at.at + 1) (length c.args.samples.now) (omega arith) (omega arith) (omega arith, omega arith, all) in
     let yes = pushed.1.1 shorter.2 in
     let not = c.if-not-push.true in
@@ -36,11 +36,11 @@ loop-at-preserved g c =
           difference_at_later c.args.samples.now (c.loop-at.at + 1) (omega arith)
           ∙ ap (λ n. slice_index_or c.args.samples.now (c.loop-at.at + 1)
           (pos 0) -ℤ slice_index_or c.args.samples.now n (pos 0)) one ∙ simp to_z-of_z refl;
-      kept = λ form start le follows fits.
+      kept = λ records start le follows fits.
           let far : start ≤ c.loop-at.at = omega arith in
           let more = run_points_more c.args.samples.now start c.loop-at.at far in' in
-          let push = simp to_z-of_z at (c.push.ensures form (run_points c.args.samples.now start c.loop-at.at)
-          (c.loop-at.invariant.kept form start le follows fits).0) in
+          let push = simp to_z-of_z at (c.push.ensures records (run_points c.args.samples.now start c.loop-at.at)
+          (c.loop-at.invariant.kept records start le follows fits).0) in
           let pushed = rw (difference, ← more) at push in
           (pushed.0, pushed.1.0 c.if-not-push.false);
     }

@@ -7,6 +7,7 @@ use Rattle.msr_packer.specs.declared.step.StepRun.{StepRun}
 use Rattle.msr_packer.specs.Steps.{longer_kinds}
 use Rattle.msr_packer.proofs.StepsByKinds.{reordered, skipped}
 use Rattle.msr_packer.proofs.EndsByKind.{empty_run, end_if_chosen, longer_ends, longest_step, none_with_wide}
+use Rattle.msr_words.specs.Fit.{records_of}
 use Rattle.msr_packer.proofs.step.integers_alone.Goals as goal
 
 pub furthest_integers-int16-requires-clause-are : goal.furthest_integers-int16-requires-clause-are
@@ -16,7 +17,7 @@ furthest_integers-int16-requires-clause-are c =
 
 pub with_wide_integers-requires : goal.with_wide_integers-requires
 with_wide_integers-requires c =
-    let form = c.args.form in
+    let form = records_of c.args.form in
     let bytes = c.args.form.length.bytes in
     let least = c.args.form.length.least in
     let samples = c.args.samples.now in
@@ -32,7 +33,8 @@ with_wide_integers-requires c =
     (omega arith) wide in
     let none1 = none_with_wide bytes samples g Steim1 (wide_of_steim1 bytes) (c.furthest_integers-int16.result - 1)
     (omega arith) wide in
-    let one = longest_step form samples g Int16 e16 refl (end_if_chosen form samples g Int16 e16 chosen is) in
+    let one = longest_step form samples g Int16 Int16 e16 (omega arith) chosen (λ _. refl) refl
+    (end_if_chosen form samples g Int16 e16 chosen is) in
     let two = skipped form samples g Steim2 (Int16 ∷ []) by_int16 refl one
     (λ s b le run. let less = none2 s b le (run.0, run.1, run.2.1) in omega arith) in
     let three = skipped form samples g Steim1 (Steim2 ∷ Int16 ∷ []) by_int16 refl two

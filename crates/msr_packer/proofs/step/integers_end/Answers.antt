@@ -1,6 +1,7 @@
 use Rattle.std.proofs.Common.{arith, inl, inr}
 use Rattle.msr_kinds.specs.Kinds.{IsChosen}
 use Rattle.msr_packer.proofs.EndsByKind.{empty_run, end_if_chosen, none_longer, none_past}
+use Rattle.msr_words.specs.Fit.{records_of}
 use Rattle.msr_packer.proofs.step.integers_end.Goals as goal
 
 pub returns-then-not-contains-clause-fits : goal.returns-then-not-contains-clause-fits
@@ -34,6 +35,6 @@ returns-clause-chosen c on = cc (c.contains.ensures, c.if-not-contains.false)
 pub returns-clause-past : goal.returns-clause-past
 returns-clause-past c s b le run =
     let chosen : IsChosen c.args.form.kinds c.args.kind = cc (c.contains.ensures, c.if-not-contains.false) in
-    inl (none_past c.args.form c.args.samples.now c.args.frontier c.args.kind c.furthest_integers.result
-    c.requires.alone (end_if_chosen c.args.form c.args.samples.now c.args.frontier c.args.kind
+    inl (none_past (records_of c.args.form) c.args.samples.now c.args.frontier c.args.kind c.furthest_integers.result
+    c.requires.alone (end_if_chosen (records_of c.args.form) c.args.samples.now c.args.frontier c.args.kind
     c.furthest_integers.result chosen c.furthest_integers.ensures) s b le run)

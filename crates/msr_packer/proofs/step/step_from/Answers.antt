@@ -4,6 +4,7 @@ use Rattle.msr_words.specs.Lemmas.KindLaws.{int16_by_bits}
 use Rattle.msr_packer.specs.declared.step.StepRun.{StepRun}
 use Rattle.msr_packer.proofs.StepsByKinds.{not_shorter, one_covered, one_more, skipped, starts_here}
 use Rattle.msr_packer.proofs.EndsByKind.{empty_run, longer_ends, longest_step, run_or_none}
+use Rattle.msr_words.specs.Fit.{records_of}
 use Rattle.msr_packer.proofs.step.step_from.Goals as goal
 
 pub integers_end-int16-requires-clause-are : goal.integers_end-int16-requires-clause-are
@@ -13,13 +14,16 @@ integers_end-int16-requires-clause-are c =
 
 pub with_wide_integers-requires-clause-step : goal.with_wide_integers-requires-clause-step
 with_wide_integers-requires-clause-step c =
-    let form = c.args.form in
+    let form = records_of c.args.form in
     let samples = c.args.samples.now in
     let g = c.args.frontier in
     let e2 = c.steim2_end-reach.result.end in
-    let by_steim2 : StepRun = record { start = c.args.frontier; end = c.steim2_end-reach.result.end; kind = Steim2 } in
+    let by_steim2 : StepRun =
+    record { start = c.args.frontier; end = c.steim2_end-reach.result.end; kind = c.tried_first.result } in
     let by_int16 : StepRun = record { start = c.args.frontier; end = c.integers_end-int16.result; kind = Int16 } in
-    let one = longest_step form samples g Steim2 e2 refl c.steim2_end-reach.ensures.end in
+    let least = c.args.form.length.least in
+    let one = longest_step form samples g Steim2 c.tried_first.result e2 (omega arith) c.tried_first.ensures.chosen
+    c.tried_first.ensures.first refl c.steim2_end-reach.ensures.end in
     let two = one_covered form samples g Int16 (Steim2 ∷ []) by_steim2 by_int16 c.or-best.result Steim2
     e2 refl one c.integers_end-int16.ensures.fits c.integers_end-int16.ensures.chosen (inl refl)
     (run_or_none form samples g Steim2 e2 c.steim2_end-reach.ensures.end) c.integers_end-int16.ensures.past
@@ -37,9 +41,10 @@ with_wide_integers-requires-clause-ends c =
     let g = c.args.frontier in
     let least = c.args.form.length.least in
     let two = c.steim2_end-reach.ensures.end in
-    longer_ends c.args.form c.args.samples.now g c.or-best.result.end
+    longer_ends (records_of c.args.form) c.args.samples.now g c.or-best.result.end
     c.steim2_end-reach.result.end g c.integers_end-int16.result two.fits two.chosen
-    (empty_run c.args.form.length.bytes c.args.samples.now g Steim1 (omega arith) (omega arith)) (λ on. absurd (omega arith))
+    (empty_run c.args.form.length.bytes c.args.samples.now g Steim1 (omega arith) (omega arith))
+    (λ on. absurd (omega arith))
     c.integers_end-int16.ensures.fits c.integers_end-int16.ensures.chosen
     (λ e near run. two.furthest e run)
     (λ e near run. elim (c.steim1_is_short.ensures.short c.if-steim1_is_short.true g e (omega arith) run) [
@@ -50,13 +55,16 @@ with_wide_integers-requires-clause-ends c =
 
 pub with_wide_integers-requires-2-clause-step : goal.with_wide_integers-requires-2-clause-step
 with_wide_integers-requires-2-clause-step c =
-    let form = c.args.form in
+    let form = records_of c.args.form in
     let samples = c.args.samples.now in
     let g = c.args.frontier in
     let e2 = c.steim2_end-reach.result.end in
-    let by_steim2 : StepRun = record { start = c.args.frontier; end = c.steim2_end-reach.result.end; kind = Steim2 } in
+    let by_steim2 : StepRun =
+    record { start = c.args.frontier; end = c.steim2_end-reach.result.end; kind = c.tried_first.result } in
     let by_int16 : StepRun = record { start = c.args.frontier; end = c.integers_end-int16.result; kind = Int16 } in
-    let one = longest_step form samples g Steim2 e2 refl c.steim2_end-reach.ensures.end in
+    let least = c.args.form.length.least in
+    let one = longest_step form samples g Steim2 c.tried_first.result e2 (omega arith) c.tried_first.ensures.chosen
+    c.tried_first.ensures.first refl c.steim2_end-reach.ensures.end in
     let two = one_covered form samples g Int16 (Steim2 ∷ []) by_steim2 by_int16 c.or-best.result Steim2
     e2 refl one c.integers_end-int16.ensures.fits c.integers_end-int16.ensures.chosen (inl refl)
     (run_or_none form samples g Steim2 e2 c.steim2_end-reach.ensures.end) c.integers_end-int16.ensures.past
@@ -68,7 +76,7 @@ pub with_wide_integers-requires-2-clause-ends : goal.with_wide_integers-requires
 with_wide_integers-requires-2-clause-ends c =
     let two = c.steim2_end-reach.ensures.end in
     let chosen = c.steim1_is_short.ensures.chosen c.if-steim1_is_short.false in
-    longer_ends c.args.form c.args.samples.now c.args.frontier c.or.result.end
+    longer_ends (records_of c.args.form) c.args.samples.now c.args.frontier c.or.result.end
     c.steim2_end-reach.result.end c.steim1_reach.result c.integers_end-int16.result
     two.fits two.chosen c.steim1_reach.ensures.fits (λ _. chosen)
     c.integers_end-int16.ensures.fits c.integers_end-int16.ensures.chosen

@@ -1,6 +1,7 @@
 use Rattle.std.proofs.Common.{◌∙◌, ◌-◌, ap, arith, length, length-drop, refl}
 use Rattle.msr_packer.specs.HeldSamples.{frontier_of, start_of}
 use Rattle.msr_packer.proofs.Streaming.{growing_few, growing_forgets, may_forget}
+use Rattle.msr_words.specs.Fit.{records_of}
 use Rattle.msr_packer.proofs.stream.forget.Goals as goal
 
 pub returns-clause-streaming : goal.returns-clause-streaming
@@ -10,7 +11,7 @@ returns-clause-streaming c =
     let count = start_of held.current - 1 in
     let value = c.unneeded.ensures in
     let f = c.forget.ensures in
-    let may = may_forget held.form
+    let may = may_forget (records_of held.form)
     (length held.samples.items) held.current c.args.growing.now.start s.sound.inside s.is_growing.near in
     let long = ap length f.samples ∙ length-drop count held.samples.items in
     let few = s.few in
@@ -18,7 +19,7 @@ returns-clause-streaming c =
       sound = f.sound;
       stays = f.stays s.stays;
       is_growing = rw (f.form, f.samples)
-          (growing_forgets held.form held.samples.items (frontier_of held.current)
+          (growing_forgets (records_of held.form) held.samples.items (frontier_of held.current)
           (frontier_of c.forget.new.self.current) count c.args.growing.now _ s.is_growing may f.frontier
           (omega arith) refl);
       few = rw f.form (omega arith);
@@ -30,7 +31,7 @@ returns-clause-behind c =
     let count = start_of held.current - 1 in
     let f = c.forget.ensures in
     let long = ap length f.samples ∙ length-drop count held.samples.items in
-    let few = growing_few held.form held.samples.items
+    let few = growing_few (records_of held.form) held.samples.items
     (frontier_of held.current) c.args.growing.now c.requires.is_growing in
     let frontier = f.frontier in
     rw f.form (omega arith)

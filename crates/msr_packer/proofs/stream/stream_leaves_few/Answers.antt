@@ -2,5 +2,5 @@ use Rattle.msr_packer.proofs.Holding.{leaves_few}
 use Rattle.msr_packer.proofs.stream.stream_leaves_few.Goals as goal
 
 pub returns : goal.returns
-returns c = λ form samples runs separators packer s. leaves_few form samples runs separators packer.held
+returns c = λ records samples runs separators packer s. leaves_few records samples runs separators packer.held
     packer.offset packer.current s.packs.holds (rw s.packs.of_form at s.behind)

@@ -1,3 +1,4 @@
+use Rattle.msr_words.specs.Fit.{records_of}
 use Rattle.msr_output.proofs.OpenSegments.{match_as}
 use Rattle.msr_output.proofs.opened.OpenSegment.push.Goals as goal
 
@@ -7,4 +8,4 @@ returns-clause-taken c = λ segment runs o.
     match_as c.push_all.result (λ p. record { key = q.key; start = q.start; gives = p })
     (λ p. record { key = q.key; start = q.start; gives = p })
     (c.push_all.ensures.taken
-    c.self.inside.form segment.samples runs c.self.inside.separators.items q.gives)
+    (records_of c.self.inside.form) segment.samples runs c.self.inside.separators.items q.gives)

@@ -3,14 +3,14 @@ use Rattle.msr_packer.proofs.InBlocks.{holds_in, packs_next}
 use Rattle.msr_packer.proofs.blocks.BlockPacker.next_piece.Goals as goal
 
 pub returns-clause-given : goal.returns-clause-given
-returns-clause-given c = λ form samples runs separators p.
+returns-clause-given c = λ records samples runs separators p.
     let most = c.longest_run-most.ensures in
-    packs_next form samples runs separators c.self.inside.held c.next_piece.new.self c.self.inside.ended
+    packs_next records samples runs separators c.self.inside.held c.next_piece.new.self c.self.inside.ended
     c.next_piece.result c.next_piece.ensures.given (c.next_piece.ensures.stays (omega arith))
     (rw (← c.self.view_is) at p)
 
 pub returns-clause-shows : goal.returns-clause-shows
-returns-clause-shows c = λ form samples runs separators p.
+returns-clause-shows c = λ records samples runs separators p.
     let q = rw (← c.self.view_is) at p in
     c.next_piece.ensures.given.shows samples runs separators
-    (holds_in form samples runs separators c.self.inside.held q.of_form q.holds)
+    (holds_in records samples runs separators c.self.inside.held q.of_form q.holds)

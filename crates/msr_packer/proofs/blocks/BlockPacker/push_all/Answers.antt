@@ -1,13 +1,13 @@
 use Rattle.std.proofs.lemmas.Result.{err_from_is_err_and}
-use Rattle.std.proofs.Common.{refl}
+use Rattle.std.proofs.Common.{refl, ◌≤◌, subst}
 use Rattle.msr_packer.specs.declared.held.HeldSamples.{HeldSamples}
 use Rattle.msr_packer.proofs.InBlocks.{packs_held, packs_more}
 use Rattle.msr_packer.proofs.blocks.BlockPacker.push_all.Goals as goal
 
 pub returns-in_err-extend_from_slice-clause-taken : goal.returns-in_err-extend_from_slice-clause-taken
-returns-in_err-extend_from_slice-clause-taken c = λ form before runs separators p.
+returns-in_err-extend_from_slice-clause-taken c = λ records before runs separators p.
     let e = err_from_is_err_and c.from_residual.result c.from_residual.ensures.1 in
-    let q = packs_held form before runs separators c.self.inside.held c.make_room.new.self c.self.inside.ended
+    let q = packs_held records before runs separators c.self.inside.held c.make_room.new.self c.self.inside.ended
     c.make_room.ensures.form (c.make_room.ensures.holds before runs separators) c.make_room.ensures.stays
     (rw (← c.self.view_is) at p) in
     rw e.1 (record {
@@ -18,8 +18,8 @@ returns-in_err-extend_from_slice-clause-taken c = λ form before runs separators
     })
 
 pub returns-clause-taken : goal.returns-clause-taken
-returns-clause-taken c = λ form before runs separators p.
-    let q = packs_held form before runs separators c.self.inside.held c.make_room.new.self c.self.inside.ended
+returns-clause-taken c = λ records before runs separators p.
+    let q = packs_held records before runs separators c.self.inside.held c.make_room.new.self c.self.inside.ended
     c.make_room.ensures.form (c.make_room.ensures.holds before runs separators) c.make_room.ensures.stays
     (rw (← c.self.view_is) at p) in
     let room = c.make_room.new.self in
@@ -31,5 +31,6 @@ returns-clause-taken c = λ form before runs separators p.
       from = room.from;
       to = room.to;
     } in
-    packs_more form before runs separators room new c.args.samples.now c.self.inside.ended
-    refl refl refl c.in_ok-extend_from_slice.ensures.items q
+    packs_more records before runs separators room new c.args.samples.now c.self.inside.ended
+    (subst (λ r. 256 ≤ r.bytes) q.of_form room.form.length.least) refl refl refl
+    c.in_ok-extend_from_slice.ensures.items q

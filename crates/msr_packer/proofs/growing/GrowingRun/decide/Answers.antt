@@ -1,9 +1,5 @@
-use Rattle.std.proofs.Common.{◌≡◌, arith, inl, inr, length, refl, subst}
-use Rattle.std.proofs.lemmas.Bool.{cases_lt}
-use Rattle.msr_kinds.specs.Lengths.{bytes_of}
-use Rattle.msr_words.specs.Fit.{Fits, FitsIn, IsRun}
-use Rattle.msr_words.specs.Segment.{run_points}
-use Rattle.msr_packer.specs.Growing.{kind_of_tracker}
+use Rattle.std.proofs.Common.{◌≡◌, arith, length, subst}
+use Rattle.msr_words.specs.Fit.{FitsIn, IsRun, records_of}
 use Rattle.msr_packer.proofs.Streaming.{growing_of, growing_reaches}
 use Rattle.msr_packer.proofs.growing.GrowingRun.decide.Goals as goal
 
@@ -13,10 +9,22 @@ returns-then-found-samples-clause-decided c = record {
   kind = c.next_step-found.ensures.kind;
   ends = c.next_step-found.ensures.ends;
   before_last = omega arith;
-  past = growing_reaches c.args.form c.args.samples.now c.args.frontier c.args.from
+  past = growing_reaches (records_of c.args.form) c.args.samples.now c.args.frontier c.args.from
       c.next_step-found.result.step.end c.next_step-found.result.step.start c.args.self.now c.requires.within
       c.requires.growing c.next_step-found.ensures.step;
 }
+
+pub returns-in-Some-clause-open : goal.returns-in-Some-clause-open
+returns-in-Some-clause-open c = λ e.
+    let before = c.requires.growing.before in
+    let past = c.requires.growing.past in
+    record {
+      before = before;
+      near = c.requires.growing.near;
+      past = omega arith;
+      tracked = c.in-Some.ensures.all (records_of c.args.form) c.args.self.now.start (omega arith)
+          c.requires.growing.tracked;
+    }
 
 pub returns-clause-open : goal.returns-clause-open
 returns-clause-open c = λ e.
@@ -24,24 +32,12 @@ returns-clause-open c = λ e.
     let within = step.reached.1 in
     let past = c.requires.growing.past in
     let same : c.next_step-found.result.step.end ≡ length c.args.samples.now = omega arith in
-    growing_of c.args.form c.args.samples.now c.args.frontier
+    growing_of (records_of c.args.form) c.args.samples.now c.args.frontier
     c.next_step-found.result.step.end c.next_step-found.result.step.start c.of.result
     (omega arith) same step c.of.ensures.start c.of.ensures.tracked
 
--- the samples up to the n-th fit, and all of them do not: so one is left
 pub next_step-found-requires : goal.next_step-found-requires
-next_step-found-requires c =
-    let before = c.requires.growing.before in
-    let past = c.requires.growing.past in
-    elim (cases_lt c.args.from (length c.args.samples.now)) [
-      | inl less ↦ omega arith
-      | inr all ↦
-          let same : c.args.from ≡ length c.args.samples.now = omega arith in
-          absurd (c.in_default.ensures.none c.args.form c.args.self.now.start (omega arith)
-          c.requires.growing.tracked refl
-          (subst (λ n. Fits (kind_of_tracker c.args.self.now.tracker) (bytes_of c.args.form.length)
-          (run_points c.args.samples.now c.args.self.now.start n)) same c.requires.growing.tracked.fits.1))
-    ]
+next_step-found-requires c = let past = c.requires.growing.past in omega arith
 
 -- the run to the end of the step is one to the last sample
 pub of-requires : goal.of-requires
@@ -49,5 +45,5 @@ of-requires c =
     let run = c.next_step-found.ensures.kind in
     let within = run.1 in
     let same : c.next_step-found.result.step.end ≡ length c.args.samples.now = omega arith in
-    subst (IsRun (FitsIn c.next_step-found.result.step.kind c.args.form) c.args.samples.now
+    subst (IsRun (FitsIn c.next_step-found.result.step.kind (records_of c.args.form)) c.args.samples.now
     c.next_step-found.result.step.start) same run

@@ -1,6 +1,7 @@
 use Rattle.std.proofs.Common.{◌≡◌, ◌<◌, ap, arith, refl}
 use Rattle.msr_packer.specs.HeldSamples.{start_of}
 use Rattle.msr_packer.proofs.Holding.{window_less}
+use Rattle.msr_words.specs.Fit.{records_of}
 use Rattle.msr_packer.proofs.held.HeldSamples.forget.Goals as goal
 
 pub returns-clause-holds : goal.returns-clause-holds
@@ -13,6 +14,6 @@ returns-clause-holds c = λ samples runs separators h.
     let start : start_of c.args.self.now.current ≡ c.in-Some.current.start = ap start_of c.in-Some.is in
     let some : 0 < c.unneeded-count.result = let never = c.if-count-eq0.false in grind arith in
     rw c.remove_front.ensures
-    (window_less c.args.self.now.form samples runs separators c.args.self.now.samples.items
+    (window_less (records_of c.args.self.now.form) samples runs separators c.args.self.now.samples.items
     c.args.self.now.offset c.unneeded-count.result c.in-Some.current _ w (omega arith) (omega arith)
     (omega arith) (omega arith) refl refl)

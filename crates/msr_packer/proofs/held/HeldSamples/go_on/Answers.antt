@@ -1,17 +1,18 @@
 use Rattle.std.proofs.Common.{◌≤◌, arith, length, refl}
 use Rattle.msr_packer.specs.HeldSamples.{start_of}
 use Rattle.msr_packer.proofs.Holding.{next_stepped, shows_next, start_before, window_next}
+use Rattle.msr_words.specs.Fit.{records_of}
 use Rattle.msr_packer.proofs.held.HeldSamples.go_on.Goals as goal
 
 pub piece_of-piece-requires : goal.piece_of-piece-requires
 piece_of-piece-requires c =
     let sound = c.requires.sound in
-    let s = next_stepped c.args.self.now.form
+    let s = next_stepped (records_of c.args.self.now.form) c.args.self.now.form.length.least
     c.args.self.now.samples.items c.args.self.now.current c.args.step c.requires.next in
     let within = c.requires.next.step.reached.1 in
     let order = c.requires.next.step.reached.0 in
     record {
-      form = c.args.self.now.form;
+      records = records_of c.args.self.now.form;
       number = length c.args.self.now.samples.items;
       inside = sound.inside;
       within = omega arith;
@@ -20,11 +21,11 @@ piece_of-piece-requires c =
 
 pub returns-clause-given : goal.returns-clause-given
 returns-clause-given c =
-    let form = c.args.self.now.form in
+    let form = records_of c.args.self.now.form in
     let held = c.args.self.now.samples.items in
     let next = c.requires.next in
     let step = c.args.step in
-    let s = next_stepped form held c.args.self.now.current step next in
+    let s = next_stepped form c.args.self.now.form.length.least held c.args.self.now.current step next in
     let on = s.on in
     let few = s.few in
     let frontier = next.frontier in
@@ -46,7 +47,8 @@ returns-clause-given c =
       offset = refl;
       holds = λ samples runs separators w.
           rw c.piece_of-piece.ensures
-          (window_next form samples runs separators held c.args.self.now.offset c.args.self.now.current
+          (window_next form c.args.self.now.form.length.least samples runs separators held c.args.self.now.offset
+          c.args.self.now.current
           step w next);
       shows = λ samples runs separators w.
           rw (c.piece_of-piece.ensures, from)

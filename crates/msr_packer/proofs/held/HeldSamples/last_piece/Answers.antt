@@ -1,12 +1,13 @@
 use Rattle.std.proofs.Common.{rules, ◌≡◌, arith, length}
 use Rattle.msr_packer.proofs.Holding.{ends_with, shows_next}
+use Rattle.msr_words.specs.Fit.{records_of}
 use Rattle.msr_packer.proofs.held.HeldSamples.last_piece.Goals as goal
 
 pub piece_of-requires : goal.piece_of-requires
 piece_of-requires c =
     let end : c.len-end.result ≡ length c.args.self.now.samples.items = search rules in
     record {
-      form = c.args.self.now.form;
+      records = records_of c.args.self.now.form;
       number = length c.args.self.now.samples.items;
       inside = c.requires.sound.inside;
       within = omega arith;
@@ -17,11 +18,11 @@ pub returns-clause-canonical : goal.returns-clause-canonical
 returns-clause-canonical c = λ samples runs separators w.
     let end : c.len-end.result ≡ length c.args.self.now.samples.items = search rules in
     rw (c.piece_of.ensures, end)
-    (ends_with c.args.self.now.form samples runs separators c.args.self.now.samples.items
+    (ends_with (records_of c.args.self.now.form) samples runs separators c.args.self.now.samples.items
     c.args.self.now.offset c.args.self.now.current w c.requires.end)
 
 pub returns-clause-shows : goal.returns-clause-shows
 returns-clause-shows c = λ samples runs separators w.
     rw (c.piece_of.ensures, c.start_of-self.ensures)
-    (shows_next c.args.self.now.form samples runs separators c.args.self.now.samples.items
+    (shows_next (records_of c.args.self.now.form) samples runs separators c.args.self.now.samples.items
     c.args.self.now.offset c.args.self.now.current c.len-end.result w)

@@ -1,11 +1,12 @@
 use Rattle.std.proofs.Common.{ap, arith, length}
 use Rattle.msr_packer.specs.HeldSamples.{frontier_of}
 use Rattle.msr_packer.proofs.Holding.{if_some, next_stepped, stays_at}
+use Rattle.msr_words.specs.Fit.{records_of}
 use Rattle.msr_packer.proofs.held.HeldSamples.step_past.Goals as goal
 
 pub returns-clause-stays : goal.returns-clause-stays
 returns-clause-stays c = λ enough stays.
-    let s = next_stepped c.args.self.now.form
+    let s = next_stepped (records_of c.args.self.now.form) c.args.self.now.form.length.least
     c.args.self.now.samples.items c.args.self.now.current c.next-step.result
     (rw c.as_slice.ensures.value at c.next-step.ensures) in
     let few = s.few in
@@ -15,7 +16,7 @@ returns-clause-stays c = λ enough stays.
 
 pub returns-clause-order : goal.returns-clause-order
 returns-clause-order c =
-    let s = next_stepped c.args.self.now.form
+    let s = next_stepped (records_of c.args.self.now.form) c.args.self.now.form.length.least
     c.args.self.now.samples.items c.args.self.now.current c.next-step.result
     (rw c.as_slice.ensures.value at c.next-step.ensures) in
     let on = s.on in
@@ -31,7 +32,7 @@ returns-clause-furthest c = λ start end le more run.
 
 pub returns-clause-fewer : goal.returns-clause-fewer
 returns-clause-fewer c =
-    let s = next_stepped c.args.self.now.form
+    let s = next_stepped (records_of c.args.self.now.form) c.args.self.now.form.length.least
     c.args.self.now.samples.items c.args.self.now.current c.next-step.result
     (rw c.as_slice.ensures.value at c.next-step.ensures) in
     let on = s.on in

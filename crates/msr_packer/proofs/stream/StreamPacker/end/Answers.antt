@@ -6,6 +6,7 @@ use Rattle.msr_packer.specs.declared.held.Piece.{Piece}
 use Rattle.msr_packer.proofs.Holding.{leaves}
 use Rattle.msr_packer.proofs.InBlocks.{holds_in}
 use Rattle.msr_packer.proofs.Streaming.{growing_run}
+use Rattle.msr_words.specs.Fit.{records_of}
 use Rattle.msr_packer.proofs.stream.StreamPacker.end.Goals as goal
 
 pub last_piece-last-requires-clause-end : goal.last_piece-last-requires-clause-end
@@ -18,7 +19,7 @@ last_piece-last-requires-clause-end c =
     elim (cases_lt (frontier_of held.current) (length held.samples.items)) as
     (λ _. length c.step_past-first.new.self.samples.items ≤ frontier_of c.step_past-first.new.self.current) [
       | inl more ↦
-          let run = growing_run held.form held.samples.items (frontier_of held.current)
+          let run = growing_run (records_of held.form) held.samples.items (frontier_of held.current)
           (length held.samples.items) c.self.inside.growing (omega arith) t.is_growing in
           let far = e.furthest c.self.inside.growing.start (length held.samples.items) t.is_growing.before
           (omega arith) run in
@@ -27,16 +28,16 @@ last_piece-last-requires-clause-end c =
     ]
 
 pub returns : goal.returns
-returns c = λ form samples runs separators s.
+returns c = λ records samples runs separators s.
     let held = c.self.inside.held in
     let q = (rw (← c.self.view_is) at s).packs in
-    let l = leaves form samples runs separators held.samples.items held.offset held.current q.holds in
+    let l = leaves records samples runs separators held.samples.items held.offset held.current q.holds in
     let g = c.step_past-first.ensures.given in
     let first = pieces_of c.step_past-first.result in
     let last = pieces_of c.last_piece-last.result in
     let canonical = c.last_piece-last.ensures.canonical samples (runs ++ runs_of first)
     (separators ++ separators_of first) (g.holds samples runs separators
-    (holds_in form samples runs separators held q.of_form q.holds)) in
+    (holds_in records samples runs separators held q.of_form q.holds)) in
     record {
       canonical = rw (
         c.both.ensures,

@@ -5,16 +5,17 @@ use Rattle.msr_packer.specs.declared.held.HeldSamples.{HeldSamples}
 use Rattle.msr_packer.proofs.Holding.{shown_if_any, sound_more, stays_at}
 use Rattle.msr_packer.proofs.InBlocks.{holds_in, packs_held, packs_next, packs_pushed}
 use Rattle.msr_packer.proofs.Streaming.{decided_there, held_there, growing_few, growing_more}
+use Rattle.msr_words.specs.Fit.{records_of}
 use Rattle.msr_packer.proofs.stream.StreamPacker.push_some.Goals as goal
 
 pub returns-in_err-extend_from_slice-clause-given : goal.returns-in_err-extend_from_slice-clause-given
-returns-in_err-extend_from_slice-clause-given c = λ form before runs separators s.
+returns-in_err-extend_from_slice-clause-given c = λ records before runs separators s.
     let e = err_from_is_err_and c.from_residual.result c.from_residual.ensures.1 in
     let items = c.in_err-extend_from_slice.ensures.items in
     let own = c.self.inside.held in
     let held = c.forget.new.held in
     let t = c.forget.ensures.streaming in
-    let q = packs_held form before runs separators own held false c.forget.ensures.form
+    let q = packs_held records before runs separators own held false c.forget.ensures.form
     (c.forget.ensures.holds before runs separators) (λ _. t.stays) (rw (← c.self.view_is) at s).packs in
     rw e.1 (record {
       packs = record { of_form = q.of_form; holds = rw items q.holds; stays = rw items q.stays; goes_on = q.goes_on };
@@ -26,7 +27,7 @@ pub decide-requires-clause-growing : goal.decide-requires-clause-growing
 decide-requires-clause-growing c =
     let held = c.forget.new.held in
     let from : c.len-from.result ≡ length held.samples.items = search rules in
-    let more = growing_more held.form held.samples.items (take c.min-count.result c.args.samples.now)
+    let more = growing_more (records_of held.form) held.samples.items (take c.min-count.result c.args.samples.now)
     (frontier_of held.current) (length held.samples.items) c.forget.new.growing
     (omega arith) c.forget.ensures.streaming.is_growing in
     rw (
@@ -37,7 +38,7 @@ decide-requires-clause-growing c =
     ) more
 
 pub returns-in_default-clause-given : goal.returns-in_default-clause-given
-returns-in_default-clause-given c = λ form before runs separators s.
+returns-in_default-clause-given c = λ records before runs separators s.
     let own = c.self.inside.held in
     let held = c.forget.new.held in
     let t = c.forget.ensures.streaming in
@@ -49,11 +50,12 @@ returns-in_default-clause-given c = λ form before runs separators s.
       from = held.from;
       to = held.to;
     } in
-    let m = packs_pushed form before runs separators own held new (take c.min-count.result c.args.samples.now) false
+    let m = packs_pushed records before runs separators own held new (take c.min-count.result c.args.samples.now) false
     c.forget.ensures.form (c.forget.ensures.holds before runs separators) t.stays refl refl refl
     c.in_ok-extend_from_slice.ensures.items (rw (← c.self.view_is) at s).packs in
-    let growing = rw (c.as_slice-seen.ensures.value, c.frontier_of-frontier.ensures) at c.in_default.ensures.open refl in
-    let behind = growing_few held.form new.samples.items
+    let growing = rw (c.as_slice-seen.ensures.value, c.frontier_of-frontier.ensures) at c.in_default.ensures.open refl
+    in
+    let behind = growing_few (records_of held.form) new.samples.items
     (frontier_of held.current) c.decide.new.self growing in
     let near = c.forget.ensures.near in
     rw (append-nil runs, append-nil separators) (record { packs = m; behind = behind; few = omega arith })
@@ -65,8 +67,9 @@ returns-in_default-clause-all c = λ _.
     let frontier = c.frontier_of-frontier.ensures in
     let most = c.longest_run.ensures in
     let count = c.min-count.ensures in
-    let growing = rw (c.as_slice-seen.ensures.value, c.frontier_of-frontier.ensures) at c.in_default.ensures.open refl in
-    let behind = growing_few held.form c.extend_from_slice.new.self.items
+    let growing = rw (c.as_slice-seen.ensures.value, c.frontier_of-frontier.ensures) at c.in_default.ensures.open refl
+    in
+    let behind = growing_few (records_of held.form) c.extend_from_slice.new.self.items
     (frontier_of held.current) c.decide.new.self growing in
     let before = c.forget.ensures.behind in
     let items = ap length c.in_ok-extend_from_slice.ensures.items in
@@ -78,7 +81,7 @@ pub of-next-requires-clause-step : goal.of-next-requires-clause-step
 of-next-requires-clause-step c =
     let held = c.forget.new.held in
     let from : c.len-from.result ≡ length held.samples.items = search rules in
-    let d = decided_there held.form c.extend_from_slice.new.self.items
+    let d = decided_there (records_of held.form) held.form.length.least c.extend_from_slice.new.self.items
     (frontier_of held.current) c.len-from.result c.in-Some.found
     (rw (c.as_slice-seen.ensures.value, c.frontier_of-frontier.ensures) at c.in-Some.ensures.decided) in
     rw (c.as_slice-seen-2.ensures.value, c.truncate.ensures.items) d.step
@@ -87,7 +90,7 @@ pub of-next-requires-clause-kind : goal.of-next-requires-clause-kind
 of-next-requires-clause-kind c =
     let held = c.forget.new.held in
     let from : c.len-from.result ≡ length held.samples.items = search rules in
-    let d = decided_there held.form c.extend_from_slice.new.self.items
+    let d = decided_there (records_of held.form) held.form.length.least c.extend_from_slice.new.self.items
     (frontier_of held.current) c.len-from.result c.in-Some.found
     (rw (c.as_slice-seen.ensures.value, c.frontier_of-frontier.ensures) at c.in-Some.ensures.decided) in
     rw (c.as_slice-seen-2.ensures.value, c.truncate.ensures.items) d.kind
@@ -96,7 +99,7 @@ pub of-next-requires-clause-ends : goal.of-next-requires-clause-ends
 of-next-requires-clause-ends c =
     let held = c.forget.new.held in
     let from : c.len-from.result ≡ length held.samples.items = search rules in
-    let d = decided_there held.form c.extend_from_slice.new.self.items
+    let d = decided_there (records_of held.form) held.form.length.least c.extend_from_slice.new.self.items
     (frontier_of held.current) c.len-from.result c.in-Some.found
     (rw (c.as_slice-seen.ensures.value, c.frontier_of-frontier.ensures) at c.in-Some.ensures.decided) in
     rw (c.as_slice-seen-2.ensures.value, c.truncate.ensures.items) d.ends
@@ -123,7 +126,7 @@ go_on-piece-requires-clause-sound c =
     + 1 - c.len-from.result) c.args.samples.now) c.forget.ensures.streaming.sound refl refl refl refl now (omega arith)
 
 pub returns-clause-given : goal.returns-clause-given
-returns-clause-given c = λ form before runs separators s.
+returns-clause-given c = λ records before runs separators s.
     let own = c.self.inside.held in
     let held = c.forget.new.held in
     let t = c.forget.ensures.streaming in
@@ -145,7 +148,7 @@ returns-clause-given c = λ form before runs separators s.
       to = held.to;
     } in
     let taken = take (found.step.end + 1 - c.len-from.result) c.args.samples.now in
-    let m = packs_pushed form before runs separators own held mid taken false c.forget.ensures.form
+    let m = packs_pushed records before runs separators own held mid taken false c.forget.ensures.form
     (c.forget.ensures.holds before runs separators) t.stays refl refl refl now (rw (← c.self.view_is) at s).packs in
     let g = c.go_on-piece.ensures in
     let end : frontier_of c.go_on-piece.new.self.current ≡ found.step.end = ap frontier_of g.current
@@ -154,11 +157,11 @@ returns-clause-given c = λ form before runs separators s.
     ∙ length-take (found.step.end + 1) c.extend_from_slice.new.self.items in
     let stays : Stays c.go_on-piece.new.self.current (length mid.samples.items) =
     stays_at c.go_on-piece.new.self.current (length mid.samples.items) found.step.end end (omega arith) in
-    let n = packs_next form
+    let n = packs_next records
     (before ++ taken) runs separators mid c.go_on-piece.new.self false c.go_on-piece.result g.given
     (λ _. stays) m in
     let growing = rw (c.as_slice-seen-2.ensures.value, c.of-next.ensures.end) at c.first-self-inside.ensures in
-    let behind = growing_few held.form c.truncate.new.self.items found.step.end
+    let behind = growing_few (records_of held.form) c.truncate.new.self.items found.step.end
     c.first-self-inside.result growing in
     let same = ap length g.given.held in
     let near = c.forget.ensures.near in
@@ -175,7 +178,7 @@ returns-clause-given c = λ form before runs separators s.
     }
 
 pub returns-clause-shown : goal.returns-clause-shown
-returns-clause-shown c = λ form before runs separators s.
+returns-clause-shown c = λ records before runs separators s.
     let own = c.self.inside.held in
     let held = c.forget.new.held in
     let t = c.forget.ensures.streaming in
@@ -196,9 +199,9 @@ returns-clause-shown c = λ form before runs separators s.
       to = held.to;
     } in
     let taken = take (found.step.end + 1 - c.len-from.result) c.args.samples.now in
-    let m = packs_pushed form before runs separators own held mid taken false c.forget.ensures.form
+    let m = packs_pushed records before runs separators own held mid taken false c.forget.ensures.form
     (c.forget.ensures.holds before runs separators) t.stays refl refl refl now (rw (← c.self.view_is) at s).packs in
     let g = c.go_on-piece.ensures in
     shown_if_any (before ++ taken) _ _ c.go_on-piece.result
     (g.given.shows (before ++ taken) runs separators
-    (holds_in form (before ++ taken) runs separators mid m.of_form m.holds)) g.none
+    (holds_in records (before ++ taken) runs separators mid m.of_form m.holds)) g.none

@@ -1,20 +1,19 @@
 use Rattle.std.proofs.lemmas.Int.{to_z-of_z}
-use Rattle.msr_kinds.specs.Lengths.{bytes_of}
 use Rattle.msr_words.proofs.Steim1Pushes.{push_steim1, push_steim1_dead}
 use Rattle.msr_words.proofs.codecs.Steim1Tracker.push.Goals as goal
 
 pub returns-then-not-self : goal.returns-then-not-self
-returns-then-not-self c form run h =
-    rw c.if-not-self.true
-    (push_steim1_dead (bytes_of form.length) run c.args._sample c.args.diff c.args.self.now.words c.args.self.now.counts
-    (rw c.if-not-self.true at h))
+returns-then-not-self c records run h =
+    rw (← c.self.view_is, c.if-not-self.true)
+    (push_steim1_dead records.bytes run c.args._sample c.args.diff c.self.inside.words c.self.inside.counts
+    (rw (← c.self.view_is, c.if-not-self.true) at h))
 
 pub returns : goal.returns
-returns c form run h =
+returns c records run h =
     let fits = c.ranges.diff in
-    push_steim1 (bytes_of form.length) run c.args._sample c.args.diff c.args.self.now.words c.args.self.now.counts
-    (rw c.if-not-self.false at h)
+    push_steim1 records.bytes run c.args._sample c.args.diff c.self.inside.words c.self.inside.counts
+    (rw (← c.self.view_is, c.if-not-self.false) at h)
     _ _ (record {
-      with = λ past counted. simp to_z-of_z at (c.with-self.ensures past counted);
-      within = c.within-self.ensures;
+      with = λ past counted. simp to_z-of_z at (c.with-self-inside.ensures past counted);
+      within = c.within-self-inside.ensures;
     })

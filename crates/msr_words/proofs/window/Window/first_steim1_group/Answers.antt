@@ -54,32 +54,37 @@ module _ (ds : List ℤ) (sizes : List ℕ) (kept : List ℤ) (place : ℕ) (see
 
 pub returns-then-one-two-ge32768-clause-first : goal.returns-then-one-two-ge32768-clause-first
 returns-then-one-two-ge32768-clause-first c ds seen fits =
-    single ds c.args.self.now.sizes c.args.self.now.kept c.args.place seen fits c.if-one-two-ge32768.true
+    single ds c.self.inside.sizes c.self.inside.kept c.args.place (rw (← c.self.view_is) at seen) fits
+    c.if-one-two-ge32768.true
 
 pub returns-then-two-ge128-clause-first : goal.returns-then-two-ge128-clause-first
 returns-then-two-ge128-clause-first c ds seen fits =
-    large ds c.args.self.now.sizes c.args.self.now.kept c.args.place seen fits c.if-one-two-ge32768.false
+    large ds c.self.inside.sizes c.self.inside.kept c.args.place (rw (← c.self.view_is) at seen) fits
+    c.if-one-two-ge32768.false
     c.if-two-ge128.true
 
 pub returns-then-four-ge128-clause-first : goal.returns-then-four-ge128-clause-first
 returns-then-four-ge128-clause-first c ds seen fits =
-    few ds c.args.self.now.sizes c.args.self.now.kept c.args.place seen fits c.if-one-two-ge32768.false
+    few ds c.self.inside.sizes c.self.inside.kept c.args.place (rw (← c.self.view_is) at seen) fits
+    c.if-one-two-ge32768.false
     c.if-four-ge128.true
 
 pub returns-then-one-lt128-clause-first : goal.returns-then-one-lt128-clause-first
 returns-then-one-lt128-clause-first c ds seen fits =
-    four ds c.args.self.now.sizes c.args.self.now.kept c.args.place seen fits c.if-one-lt128.true c.if-four-ge128.false
+    four ds c.self.inside.sizes c.self.inside.kept c.args.place (rw (← c.self.view_is) at seen) fits
+    c.if-one-lt128.true c.if-four-ge128.false
 
 pub returns-else-self-place-lt128-clause-first : goal.returns-else-self-place-lt128-clause-first
 returns-else-self-place-lt128-clause-first c ds seen fits =
-    before ds c.args.self.now.sizes c.args.self.now.kept c.args.place seen fits c.if-one-two-ge32768.false
+    before ds c.self.inside.sizes c.self.inside.kept c.args.place (rw (← c.self.view_is) at seen) fits
+    c.if-one-two-ge32768.false
     c.if-one-lt128.false c.if-self-place-lt128.false
 
 pub returns-then-one-two-ge32768-clause-none : goal.returns-then-one-two-ge32768-clause-none
 returns-then-one-two-ge32768-clause-none c ds seen = (
   λ none. absurd (grind (arith, none)),
   λ is.
-      let h = behind ds c.args.self.now.sizes c.args.self.now.kept c.args.place seen is in
+      let h = behind ds c.self.inside.sizes c.self.inside.kept c.args.place (rw (← c.self.view_is) at seen) is in
       let never : ⊥ = omega (arith, h.0, c.if-one-two-ge32768.true) in absurd never,
 )
 
@@ -87,7 +92,7 @@ pub returns-then-two-ge128-clause-none : goal.returns-then-two-ge128-clause-none
 returns-then-two-ge128-clause-none c ds seen = (
   λ none. absurd (grind (arith, none)),
   λ is.
-      let h = behind ds c.args.self.now.sizes c.args.self.now.kept c.args.place seen is in
+      let h = behind ds c.self.inside.sizes c.self.inside.kept c.args.place (rw (← c.self.view_is) at seen) is in
       let never : ⊥ = omega (arith, h.1, c.if-two-ge128.true) in absurd never,
 )
 
@@ -95,7 +100,7 @@ pub returns-then-four-ge128-clause-none : goal.returns-then-four-ge128-clause-no
 returns-then-four-ge128-clause-none c ds seen = (
   λ none. absurd (grind (arith, none)),
   λ is.
-      let h = behind ds c.args.self.now.sizes c.args.self.now.kept c.args.place seen is in
+      let h = behind ds c.self.inside.sizes c.self.inside.kept c.args.place (rw (← c.self.view_is) at seen) is in
       let never : ⊥ = omega (arith, h.2, c.if-four-ge128.true) in absurd never,
 )
 
@@ -103,7 +108,7 @@ pub returns-then-one-lt128-clause-none : goal.returns-then-one-lt128-clause-none
 returns-then-one-lt128-clause-none c ds seen = (
   λ none. absurd (grind (arith, none)),
   λ is.
-      let h = behind ds c.args.self.now.sizes c.args.self.now.kept c.args.place seen is in
+      let h = behind ds c.self.inside.sizes c.self.inside.kept c.args.place (rw (← c.self.view_is) at seen) is in
       let never : ⊥ = omega (arith, h.3, c.if-one-lt128.true) in absurd never,
 )
 
@@ -111,13 +116,13 @@ pub returns-else-self-place-lt128-clause-none : goal.returns-else-self-place-lt1
 returns-else-self-place-lt128-clause-none c ds seen = (
   λ none. absurd (grind (arith, none)),
   λ is.
-      let h = behind ds c.args.self.now.sizes c.args.self.now.kept c.args.place seen is in
+      let h = behind ds c.self.inside.sizes c.self.inside.kept c.args.place (rw (← c.self.view_is) at seen) is in
       let never : ⊥ = omega (arith, h.4, c.if-self-place-lt128.false) in absurd never,
 )
 
 pub returns-then-self-place-lt128-clause-none : goal.returns-then-self-place-lt128-clause-none
 returns-then-self-place-lt128-clause-none c ds seen = (
-  λ none. untold ds c.args.self.now.sizes c.args.self.now.kept c.args.place seen c.if-one-two-ge32768.false
-      c.if-one-lt128.false c.if-four-ge128.false c.if-self-place-lt128.true,
+  λ none. untold ds c.self.inside.sizes c.self.inside.kept c.args.place (rw (← c.self.view_is) at seen)
+      c.if-one-two-ge32768.false c.if-one-lt128.false c.if-four-ge128.false c.if-self-place-lt128.true,
   λ is. refl,
 )

@@ -6,8 +6,9 @@ use Rattle.msr_words.proofs.window.Window.place_of.Goals as goal
 
 pub returns-then-at-self-clause-shown : goal.returns-then-at-self-clause-shown
 returns-then-at-self-clause-shown c before =
-    window_seen c.args.samples.now c.args.at c.args.self.now before c.requires.window
-    (omega (arith, c.requires.window.until, c.if-at-self.true))
+    let window = rw (← c.self.view_is) at c.requires.window in
+    rw (← c.self.view_is) (window_seen c.args.samples.now c.args.at _ before window
+    (omega (arith, window.until, c.if-at-self.true)))
 
 pub returns-clause-shown : goal.returns-clause-shown
 returns-clause-shown c before =
@@ -17,4 +18,5 @@ returns-clause-shown c before =
     let on : IsWindow c.args.samples.now c.args.at c.take.new.self =
     window_on c.args.samples.now c.min.result c.args.at c.take.new.self (omega arith) c.take.ensures.window in
     let end : c.args.at + 7 ≤ c.take.new.self.end = omega (arith, c.take.ensures.end) in
-    window_seen c.args.samples.now c.args.at c.take.new.self before on end
+    let seen = window_seen c.args.samples.now c.args.at c.take.new.self before on end in
+    rw (← c.self-2.view_is) (rw (← c.self-2.view_is) at seen)

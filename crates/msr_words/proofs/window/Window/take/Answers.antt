@@ -18,7 +18,8 @@ loop-place-preserved c =
     let is : difference_at c.args.samples.now (c.args.first + c.loop-place.place) ≡ sample -ℤ before =
     difference_at_later c.args.samples.now (c.args.first + c.loop-place.place) (omega (arith, c.requires.some)) in
     let size : IsSize (sample -ℤ before) c.size_after.result = simp to_z-of_z at c.size_after.ensures in
-    taken_more c.args.samples.now c.args.first c.loop-place.place c.loop-place.self.sizes c.loop-place.self.kept
+    taken_more c.args.samples.now c.args.first c.loop-place.place c.loop-place.self-inside.sizes
+    c.loop-place.self-inside.kept
     c.size_after.result
     (to_z w32 ((of_z w32 sample + (4294967296 - of_z w32 before)) % 4294967296))
     (search rules) (search rules)
