@@ -2,7 +2,8 @@
 #![tactic(auto)]
 
 ghost use Rattle.std.specs.Prelude.{◌≡◌, ◌<◌, ◌≤◌, ◌↔◌, ◌++◌, ◌-◌, ◌*◌, All, replicate, IfOk, IsErrOf, OnErr, OnOk, drop, length};
-ghost use Rattle.msr_plain.specs.Plain.{CarriesPlain, FitsWidth, bytes_of, bytes_of_all, number_in, size_of};
+ghost use Rattle.msr_kinds.specs.Storage.{size_of};
+ghost use Rattle.msr_plain.specs.Plain.{CarriesPlain, FitsWidth, bytes_of, bytes_of_all, number_in};
 
 mod borrowed;
 mod laws;
@@ -12,31 +13,9 @@ use byteorder::{BigEndian, ByteOrder, LittleEndian};
 pub use laws::{filled_area_carries, one_outcome};
 use msr_base::Order;
 pub use msr_base::SampleVec;
+pub use msr_kinds::Width;
 use std::alloc::{AllocError, Global};
 use thiserror::Error;
-
-/// How many bytes a number takes: SEED's encodings 1, 2 and 3.
-#[derive(Clone, Copy, Debug, PartialEq, Eq)]
-pub enum Width {
-    /// 16-bit integers.
-    Two,
-    /// 24-bit integers.
-    Three,
-    /// 32-bit integers.
-    Four,
-}
-
-impl Width {
-    fn bytes(self) -> usize
-        ensures { result ≡ size_of self }
-    {
-        match self {
-            Width::Two => 2,
-            Width::Three => 3,
-            Width::Four => 4,
-        }
-    }
-}
 
 /// Why the samples of an area were not given.
 #[derive(Clone, Copy, Debug, PartialEq, Eq, Error)]

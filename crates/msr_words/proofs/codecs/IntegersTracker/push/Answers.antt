@@ -1,6 +1,6 @@
 use Rattle.std.proofs.lemmas.Int.{to_z-of_z}
 use Rattle.msr_kinds.specs.Lengths.{bytes_of}
-use Rattle.msr_words.specs.Trackers.{integers_of}
+use Rattle.msr_words.specs.Trackers.{integers, width_of}
 use Rattle.msr_words.proofs.Pushes.{push_no, push_yes, takes_integers}
 use Rattle.msr_words.proofs.codecs.IntegersTracker.push.Goals as goal
 
@@ -8,14 +8,14 @@ pub returns-then-not-is_taken : goal.returns-then-not-is_taken
 returns-then-not-is_taken g c form run h =
     let fits = c.ranges.sample in
     let taken = simp to_z-of_z at c.is_taken.ensures in
-    push_no (integers_of g.row.BITS) (bytes_of form.length)
-    (takes_integers g.row.BITS (bytes_of form.length)) run c.args.sample c.args._diff c.args.self.now.left c.args.self.now.fits h
+    push_no (integers (width_of g.row.BITS)) (width_of g.row.BITS) (bytes_of form.length)
+    (takes_integers (width_of g.row.BITS) (bytes_of form.length)) run c.args.sample c.args._diff c.args.self.now.left c.args.self.now.fits h
     (λ t. let e = taken.1 t in cc)
 
 pub returns : goal.returns
 returns g c form run h =
     let fits = c.ranges.sample in
     let taken = simp to_z-of_z at c.is_taken.ensures in
-    push_yes (integers_of g.row.BITS) (bytes_of form.length)
-    (takes_integers g.row.BITS (bytes_of form.length)) run c.args.sample c.args._diff c.args.self.now.left c.args.self.now.fits h
+    push_yes (integers (width_of g.row.BITS)) (width_of g.row.BITS) (bytes_of form.length)
+    (takes_integers (width_of g.row.BITS) (bytes_of form.length)) run c.args.sample c.args._diff c.args.self.now.left c.args.self.now.fits h
     (taken.0 c.if-not-is_taken.false)
