@@ -1,6 +1,6 @@
 //! How the samples of a record stand in its data area.
 
-ghost use Rattle.std.specs.Prelude.{◌≡◌, ◌<◌};
+ghost use Rattle.std.specs.Prelude.{◌≡◌};
 ghost use Rattle.msr_kinds.specs.Storage.{size_of};
 
 /// How many bytes a number takes: SEED's encodings 1, 2 and 3.
@@ -17,8 +17,7 @@ pub enum Width {
 impl Width {
     /// That number.
     pub fn bytes(self) -> usize
-        ensures same { result ≡ size_of self }
-        ensures some { 0 < result }
+        ensures { result ≡ size_of self }
     {
         match self {
             Width::Two => 2,

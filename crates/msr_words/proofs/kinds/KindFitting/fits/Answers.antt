@@ -1,7 +1,8 @@
 use Rattle.std.proofs.Common.{arith, subst, length, min, ◌≡◌, sym, ◌∙◌}
 use Rattle.msr_kinds.specs.Lengths.{bytes_of}
 use Rattle.msr_kinds.specs.Storage.{storage_of}
-use Rattle.msr_kinds.specs.declared.storage.Storage.TheVariants.{Integers}
+use Rattle.msr_kinds.specs.declared.storage.Storage.TheVariants.{Frames, Integers}
+use Rattle.msr_kinds.specs.declared.storage.Version.TheVariants.{One, Two}
 use Rattle.msr_words.specs.Fit.{most_counted}
 use Rattle.msr_words.specs.Laws.{room_of}
 use Rattle.msr_words.specs.Segment.{points}
@@ -26,8 +27,27 @@ returns-in-Integers c =
       λ f. says.1 (all.1 f.1.0),
     )
 
-pub returns-in-Frames : goal.returns-in-Frames
-returns-in-Frames c = ?
+pub returns-in-Frames-One : goal.returns-in-Frames-One
+returns-in-Frames-One c =
+    let most = c.most.ensures in
+    let long = length-points_before c.args.before c.args.run.now in
+    let exact = rw c.data_words.ensures.same at c.fits_steim1.ensures in
+    let is = c.in-Frames-One.is in
+    let version = c.in-Frames-One.field-0-is in
+    let of = c.storage.ensures in
+    let stored : storage_of c.args.self ≡ Frames One = cc in
+    rw stored (λ t. (omega arith, exact.0 t), λ f. exact.1 f.1)
+
+pub returns-in-Frames-Two : goal.returns-in-Frames-Two
+returns-in-Frames-Two c =
+    let most = c.most.ensures in
+    let long = length-points_before c.args.before c.args.run.now in
+    let exact = rw c.data_words-in-Frames-Two.ensures.same at c.fits_steim2.ensures in
+    let is = c.in-Frames-Two.is in
+    let version = c.in-Frames-Two.field-0-is in
+    let of = c.storage.ensures in
+    let stored : storage_of c.args.self ≡ Frames Two = cc in
+    rw stored (λ t. (omega arith, exact.0 t), λ f. exact.1 f.1)
 
 pub returns-then-run-most : goal.returns-then-run-most
 returns-then-run-most c = (
