@@ -54,7 +54,7 @@ returns c =
     joined
     refl
     (c.write_header.ensures.bytes ∙ ap header_bytes c.header_for-header.ensures.header)
-    front c.in_ok-frames.ensures.written area_long
+    front (rw c.storage.ensures at c.in_ok-frames.ensures.written) area_long
     (read_by c.header_for-header.result header c.write_header.result exponent c.header_for-header.ensures.header
     same c.write_header.ensures.read_back)
     (rw c.storage.ensures at c.in_ok-frames.ensures.carried) (rw c.storage.ensures at c.in_ok-frames.ensures.reverse)
