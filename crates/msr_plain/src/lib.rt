@@ -128,8 +128,10 @@ fn write_number(width: Width, sample: i32, bytes: &mut [u8])
     }
 }
 
-/// Fills the area with the samples, big-endian, and then with zeros.
-pub fn fill_plain(width: Width, samples: &[i32], area: &mut [u8])
+/// Fills the area with the samples, big-endian, and then with zeros. Inlined with a literal for the width, each number
+/// is written without a test of it.
+#[inline(always)]
+fn fill_numbers(width: Width, samples: &[i32], area: &mut [u8])
     requires fit { All (FitsWidth width) samples.now }
     requires room { size_of width * length samples.now ≤ length area.old }
     ensures bytes { area.new ≡ bytes_of_all width samples.now
@@ -141,4 +143,19 @@ pub fn fill_plain(width: Width, samples: &[i32], area: &mut [u8])
         write_number(width, *sample, &mut area[size * place..]);
     }
     area[size * samples.len()..].fill(0);
+}
+
+/// Fills the area with the samples, big-endian, and then with zeros.
+pub fn fill_plain(width: Width, samples: &[i32], area: &mut [u8])
+    requires fit { All (FitsWidth width) samples.now }
+    requires room { size_of width * length samples.now ≤ length area.old }
+    ensures bytes { area.new ≡ bytes_of_all width samples.now
+        ++ replicate (length area.old - size_of width * length samples.now) 0 }
+    ensures carried { CarriesPlain width Order.Big area.new samples.now }
+{
+    match width {
+        Width::Two => fill_numbers(Width::Two, samples, area),
+        Width::Three => fill_numbers(Width::Three, samples, area),
+        Width::Four => fill_numbers(Width::Four, samples, area),
+    }
 }

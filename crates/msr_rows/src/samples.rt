@@ -120,7 +120,8 @@ fn view_integers<'a>(
     }
 }
 
-/// The samples of an area of Steim frames.
+/// The samples of an area of Steim frames. Where it is inlined, LLVM no longer has a loop over integers for each width.
+#[inline(never)]
 fn view_frames<'a>(
     version: Version,
     order: Order,
