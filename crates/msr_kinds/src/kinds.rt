@@ -2,6 +2,9 @@
 ghost use Rattle.std.specs.Prelude.{◌≡◌, ◌↔◌, Some};
 ghost use Rattle.msr_kinds.specs.Kinds.{contains};
 ghost use Rattle.msr_kinds.specs.Codes.{code_of};
+ghost use Rattle.msr_kinds.specs.Storage.{storage_of};
+
+use crate::storage::{Storage, Version, Width};
 
 /// How a record stores its samples (SEED 2.4, blockette 1000: encoding format).
 #[derive(Clone, Copy, Debug, PartialEq, Eq)]
@@ -26,6 +29,19 @@ impl Kind {
             Kind::Int32 => 3,
             Kind::Steim1 => 10,
             Kind::Steim2 => 11,
+        }
+    }
+
+    /// How it stores them.
+    pub fn storage(self) -> Storage
+        ensures { result ≡ storage_of self }
+    {
+        match self {
+            Kind::Int16 => Storage::Integers(Width::Two),
+            Kind::Int24 => Storage::Integers(Width::Three),
+            Kind::Int32 => Storage::Integers(Width::Four),
+            Kind::Steim1 => Storage::Frames(Version::One),
+            Kind::Steim2 => Storage::Frames(Version::Two),
         }
     }
 

@@ -4,7 +4,9 @@
 mod forms;
 mod kinds;
 mod lengths;
+mod storage;
 
 pub use forms::Form;
 pub use kinds::{Kind, Kinds};
 pub use lengths::Length;
+pub use storage::{Storage, Version, Width};

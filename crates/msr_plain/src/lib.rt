@@ -2,7 +2,8 @@
 #![tactic(auto)]
 
 ghost use Rattle.std.specs.Prelude.{◌≡◌, ◌<◌, ◌≤◌, ◌↔◌, ◌++◌, ◌-◌, ◌*◌, All, replicate, IfOk, IsErrOf, OnErr, OnOk, drop, length};
-ghost use Rattle.msr_plain.specs.Plain.{CarriesPlain, FitsWidth, bytes_of, bytes_of_all, number_in, size_of};
+ghost use Rattle.msr_kinds.specs.Storage.{size_of};
+ghost use Rattle.msr_plain.specs.Plain.{CarriesPlain, FitsWidth, bytes_of, bytes_of_all, number_in};
 
 mod borrowed;
 mod laws;
@@ -12,31 +13,9 @@ use byteorder::{BigEndian, ByteOrder, LittleEndian};
 pub use laws::{filled_area_carries, one_outcome};
 use msr_base::Order;
 pub use msr_base::SampleVec;
+pub use msr_kinds::Width;
 use std::alloc::{AllocError, Global};
 use thiserror::Error;
-
-/// How many bytes a number takes: SEED's encodings 1, 2 and 3.
-#[derive(Clone, Copy, Debug, PartialEq, Eq)]
-pub enum Width {
-    /// 16-bit integers.
-    Two,
-    /// 24-bit integers.
-    Three,
-    /// 32-bit integers.
-    Four,
-}
-
-impl Width {
-    fn bytes(self) -> usize
-        ensures { result ≡ size_of self }
-    {
-        match self {
-            Width::Two => 2,
-            Width::Three => 3,
-            Width::Four => 4,
-        }
-    }
-}
 
 /// Why the samples of an area were not given.
 #[derive(Clone, Copy, Debug, PartialEq, Eq, Error)]
@@ -149,8 +128,10 @@ fn write_number(width: Width, sample: i32, bytes: &mut [u8])
     }
 }
 
-/// Fills the area with the samples, big-endian, and then with zeros.
-pub fn fill_plain(width: Width, samples: &[i32], area: &mut [u8])
+/// Fills the area with the samples, big-endian, and then with zeros. Inlined with a literal for the width, each number
+/// is written without a test of it.
+#[inline(always)]
+fn fill_numbers(width: Width, samples: &[i32], area: &mut [u8])
     requires fit { All (FitsWidth width) samples.now }
     requires room { size_of width * length samples.now ≤ length area.old }
     ensures bytes { area.new ≡ bytes_of_all width samples.now
@@ -162,4 +143,19 @@ pub fn fill_plain(width: Width, samples: &[i32], area: &mut [u8])
         write_number(width, *sample, &mut area[size * place..]);
     }
     area[size * samples.len()..].fill(0);
+}
+
+/// Fills the area with the samples, big-endian, and then with zeros.
+pub fn fill_plain(width: Width, samples: &[i32], area: &mut [u8])
+    requires fit { All (FitsWidth width) samples.now }
+    requires room { size_of width * length samples.now ≤ length area.old }
+    ensures bytes { area.new ≡ bytes_of_all width samples.now
+        ++ replicate (length area.old - size_of width * length samples.now) 0 }
+    ensures carried { CarriesPlain width Order.Big area.new samples.now }
+{
+    match width {
+        Width::Two => fill_numbers(Width::Two, samples, area),
+        Width::Three => fill_numbers(Width::Three, samples, area),
+        Width::Four => fill_numbers(Width::Four, samples, area),
+    }
 }

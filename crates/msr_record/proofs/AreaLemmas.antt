@@ -1,9 +1,8 @@
 -- Which samples the written data areas carry.
 use Rattle.std.proofs.Common.{◌≡◌, ℕ, zero, suc, ◌+◌, ◌-◌, ◌*◌, ◌/◌, ◌%◌, ◌^◌, ◌<◌, ◌≤◌, ℤ, pos, negsuc, ◌-ℤ◌, List, [], ◌∷◌, length, map, refl, sym, ap, ◌∙◌, arith, Option, Some, None, FitsSigned}
-use Rattle.std.specs.Prelude.{All, slice_get, slice_index_or}
-use Rattle.std.specs.Int.{w16, w32}
+use Rattle.std.specs.Prelude.{All, get_or, slice_get, slice_index_or}
+use Rattle.std.specs.Int.{w32}
 use Rattle.std.proofs.lemmas.Int.{ints}
-use Rattle.std.proofs.lemmas.List.Elements.{All-map, All-weaker, All-same}
 use Rattle.std.proofs.Math.Pow.{pow_mono}
 use Rattle.std.proofs.Common.{inl, inr}
 use Rattle.std.proofs.lemmas.Bool.{cases_lt}
@@ -11,47 +10,38 @@ use Rattle.msr_base.specs.declared.order.Order.TheVariants.{Big}
 use Rattle.msr_steim.specs.Area.{differences as joined, CarriesSteim, ReverseAgrees as FramesAgree}
 use Rattle.msr_steim.specs.Frames.{differences_after, frame_bytes}
 use Rattle.msr_steim.proofs.Filled.{filled_carries, filled_reverse}
-use Rattle.msr_plain.specs.Plain.{FitsThreeBytes}
-use Rattle.msr_steim.specs.Word.{AreGroups, FitsBits}
-use Rattle.msr_steim.specs.declared.word.Version.{Version}
-use Rattle.msr_words.specs.Fit.{Fits}
+use Rattle.msr_plain.specs.Plain.{FitsWidth}
+use Rattle.msr_steim.specs.Word.{AreGroups}
+use Rattle.msr_kinds.specs.Storage.{size_of}
+use Rattle.msr_kinds.specs.declared.storage.Width.{Width}
+use Rattle.msr_kinds.specs.declared.storage.Width.TheVariants.{Two as TwoBytes, Three as ThreeBytes, Four as FourBytes}
+use Rattle.msr_kinds.specs.declared.storage.Version.{Version}
+use Rattle.msr_words.specs.Fit.{Fits, IsInteger}
 use Rattle.msr_kinds.specs.RecordLength.{least_exponent, most_exponent, words_of}
 use Rattle.msr_words.specs.Segment.{differences, points, points_after}
 use Rattle.msr_kinds.specs.declared.kinds.Kind.{Kind}
-use Rattle.msr_words.proofs.Runs.{length-points_before}
+use Rattle.msr_words.proofs.Runs.{integers_points, length-points_before}
 
--- the points of some samples have the samples
-after_samples : (before : ℤ) (xs : List ℤ) → map (λ (p : ℤ × ℤ). p.0) (points_after before xs) ≡ xs
-after_samples before [] = refl
-after_samples before (x ∷ xs) = ap (λ (ys : List ℤ). x ∷ ys) (after_samples x xs)
+fits_width : (width : Width) (z : ℤ) → FitsSigned w32 z → IsInteger width z → FitsWidth width z
+fits_width TwoBytes (pos n) range h = omega (arith, ints, h)
+fits_width TwoBytes (negsuc n) range h = omega (arith, ints, h)
+fits_width ThreeBytes (pos n) range h = h
+fits_width ThreeBytes (negsuc n) range h = h
+fits_width FourBytes z range h = range
 
-pub points_samples : (before : Option ℤ) (xs : List ℤ) → map (λ (p : ℤ × ℤ). p.0) (points before xs) ≡ xs
-points_samples None [] = refl
-points_samples None (x ∷ xs) = ap (λ (ys : List ℤ). x ∷ ys) (after_samples x xs)
-points_samples (Some before) xs = after_samples before xs
+-- the samples of a run of integers that fit
+pub samples_fit : (width : Width) (before : Option ℤ) (xs : List ℤ) → All (FitsSigned w32) xs
+    → All (λ (p : ℤ × ℤ). IsInteger width p.0) (points before xs) → All (FitsWidth width) xs
+samples_fit width before xs range h =
+    let all = (integers_points width before xs).1 h in
+    λ k d in'. fits_width width (get_or xs k d) (range k d in') (all k d in')
 
-fits_16 : (z : ℤ) → FitsBits 16 z → FitsSigned w16 z
-fits_16 (pos n) h = omega (arith, ints, h)
-fits_16 (negsuc n) h = omega (arith, ints, h)
-
-fits_24 : (z : ℤ) → FitsBits 24 z → FitsThreeBytes z
-fits_24 (pos n) h = h
-fits_24 (negsuc n) h = h
-
--- the samples of points of that many bits
-all_of_bits : (bits : ℕ) (before : Option ℤ) (xs : List ℤ)
-    → All (λ (p : ℤ × ℤ). FitsBits bits p.0) (points before xs) → All (FitsBits bits) xs
-all_of_bits bits before xs h =
-    All-same (FitsBits bits) xs (map (λ (p : ℤ × ℤ). p.0) (points before xs)) (sym (points_samples before xs))
-    (All-map (FitsBits bits) (λ (p : ℤ × ℤ). p.0) (points before xs) h)
-
-pub all_16 : (before : Option ℤ) (xs : List ℤ) → All (λ (p : ℤ × ℤ). FitsBits 16 p.0) (points before xs)
-    → All (FitsSigned w16) xs
-all_16 before xs h = All-weaker (FitsBits 16) (FitsSigned w16) fits_16 xs (all_of_bits 16 before xs h)
-
-pub all_24 : (before : Option ℤ) (xs : List ℤ) → All (λ (p : ℤ × ℤ). FitsBits 24 p.0) (points before xs)
-    → All FitsThreeBytes xs
-all_24 before xs h = All-weaker (FitsBits 24) FitsThreeBytes fits_24 xs (all_of_bits 24 before xs h)
+-- and the room for them
+pub room_left : (width : Width) (size : ℕ) (before : Option ℤ) (xs : List ℤ)
+    → size_of width * length (points before xs) + 64 ≤ size → size_of width * length xs ≤ size - 64
+room_left width size before xs room =
+    let same = ap (λ n. size_of width * n) (length-points_before before xs) in
+    omega (arith, room, same)
 
 -- the differences of a run are those from the sample before it, or from its first sample
 after_differences : (before : ℤ) (xs : List ℤ)

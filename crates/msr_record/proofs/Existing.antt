@@ -13,29 +13,28 @@ use Rattle.msr_header.specs.Writing.{header_bytes}
 use Rattle.msr_header.specs.declared.header.Header.{Header}
 use Rattle.msr_base.specs.declared.order.Order.TheVariants.{Big}
 use Rattle.msr_header.proofs.WrittenLemmas.{HasLengths, HasRanges, header_length, reads_back}
-use Rattle.msr_plain.specs.declared.Width.{Width}
-use Rattle.msr_plain.specs.declared.Width.TheVariants.{Two as TwoBytes, Three as ThreeBytes, Four as FourBytes}
-use Rattle.msr_plain.specs.Plain.{CarriesPlain, FitsWidth, bytes_of_all, size_of}
+use Rattle.msr_kinds.specs.declared.storage.Width.{Width}
+use Rattle.msr_kinds.specs.Storage.{size_of, storage_of}
+use Rattle.msr_plain.specs.Plain.{CarriesPlain, FitsWidth, bytes_of_all}
 use Rattle.msr_plain.proofs.CarriedLemmas.{carried, length-bytes_of_all}
-use Rattle.msr_steim.specs.declared.word.Version.{Version}
-use Rattle.msr_steim.specs.declared.word.Version.TheVariants.{One, Two}
+use Rattle.msr_kinds.specs.declared.storage.Version.{Version}
 use Rattle.msr_steim.specs.Area.{CarriesSteim, ReverseAgrees as FramesAgree}
 use Rattle.msr_steim.specs.Frames.{frame_bytes}
 use Rattle.msr_steim.proofs.Filled.{length-frame_bytes}
 use Rattle.msr_words.specs.Canonical.{IsCanonicalDivision}
 use Rattle.msr_words.specs.Division.{CanDivide}
-use Rattle.msr_words.specs.Fit.{Fits}
+use Rattle.msr_words.specs.Fit.{Fits, HasRoom}
 use Rattle.msr_kinds.specs.RecordLength.{IsRecordLength, words_of}
 use Rattle.msr_words.specs.Segment.{differences, points}
 use Rattle.msr_kinds.specs.declared.kinds.Kind.{Kind}
-use Rattle.msr_kinds.specs.declared.kinds.Kind.TheVariants.{Int16, Int24, Int32, Steim1, Steim2}
+use Rattle.msr_kinds.specs.declared.storage.Storage.{Storage}
+use Rattle.msr_kinds.specs.declared.storage.Storage.TheVariants.{Integers, Frames}
 use Rattle.msr_words.proofs.DivisionsExist.{has_division}
-use Rattle.msr_words.proofs.Runs.{length-points_before}
 use Rattle.msr_rows.specs.Area.{Carries, ReverseAgrees}
 use Rattle.msr_rows.specs.Correction.{is_pending}
 use Rattle.msr_record.specs.Written.{AppendsRecord, AreFrames, AreNumbers, IsKey, IsWrittenArea, frame_count, header_for}
 use Rattle.msr_rows.specs.declared.row.Key.{Key}
-use Rattle.msr_record.proofs.AreaLemmas.{all_16, all_24, few_samples, frames_carry, frames_end, room_for, whole_frames}
+use Rattle.msr_record.proofs.AreaLemmas.{few_samples, frames_carry, frames_end, room_for, room_left, samples_fit, whole_frames}
 use Rattle.msr_record.proofs.WritingLemmas.{appends_record}
 
 -- ---- the data area
@@ -107,33 +106,23 @@ frames_of version before samples size power some fit can =
           (omega (arith, room)) first_fits last_fits refl;
     }
 
-record HasArea (kind : Kind) (before : Option ℤ) (samples : List ℤ) (size : ℕ) : Type 0 where
+record HasArea (storage : Storage) (before : Option ℤ) (samples : List ℤ) (size : ℕ) : Type 0 where
   frames : ℕ
   area : List ℕ
-  is_area : IsWrittenArea kind before samples size frames area
+  is_area : IsWrittenArea storage before samples size frames area
   long : length area ≡ size
-  carries : Carries kind Big area samples
-  agrees : ReverseAgrees kind Big area samples
+  carries : Carries storage Big area samples
+  agrees : ReverseAgrees storage Big area samples
 
-area_of : (kind : Kind) (before : Option ℤ) (samples : List ℤ) (size : ℕ) → IsRecordLength size
-    → 1 ≤ length samples → All (FitsSigned w32) samples → Fits kind size (points before samples)
-    → HasArea kind before samples (size - 64)
-area_of Int16 before samples size power some fit fits =
-    let n = numbers_of TwoBytes samples (size - 64) (all_16 before samples fits.1.0)
-    (omega (arith, fits.1.1, length-points_before before samples)) in
+area_of : (storage : Storage) (before : Option ℤ) (samples : List ℤ) (size : ℕ) → IsRecordLength size
+    → 1 ≤ length samples → All (FitsSigned w32) samples → HasRoom storage size (points before samples)
+    → HasArea storage before samples (size - 64)
+area_of (Integers width) before samples size power some fit room =
+    let n = numbers_of width samples (size - 64) (samples_fit width before samples fit room.0)
+    (room_left width size before samples room.1) in
     record { frames = 0; area = n.area; is_area = n.are; long = n.long; carries = n.carries; agrees = tt }
-area_of Int24 before samples size power some fit fits =
-    let n = numbers_of ThreeBytes samples (size - 64) (all_24 before samples fits.1.0)
-    (omega (arith, fits.1.1, length-points_before before samples)) in
-    record { frames = 0; area = n.area; is_area = n.are; long = n.long; carries = n.carries; agrees = tt }
-area_of Int32 before samples size power some fit fits =
-    let n = numbers_of FourBytes samples (size - 64) fit (omega (arith, fits.1, length-points_before before samples)) in
-    record { frames = 0; area = n.area; is_area = n.are; long = n.long; carries = n.carries; agrees = tt }
-area_of Steim1 before samples size power some fit fits =
-    let f = frames_of One before samples size power some fit fits.1 in
-    record { frames = f.frames; area = f.area; is_area = f.are; long = f.long; carries = f.carries; agrees = f.agrees }
-area_of Steim2 before samples size power some fit fits =
-    let f = frames_of Two before samples size power some fit fits.1 in
+area_of (Frames version) before samples size power some fit room =
+    let f = frames_of version before samples size power some fit room in
     record { frames = f.frames; area = f.area; is_area = f.are; long = f.long; carries = f.carries; agrees = f.agrees }
 
 -- ---- the header
@@ -172,7 +161,7 @@ pub has_record : (old : List ℕ) (key : Key) (start : ℤ) (sequence : ℕ) (be
     → Fits kind size (points before samples) → HasRecord old key start sequence before samples kind size
 has_record old key start sequence before samples kind size power is_key quality normal instant some fit fits =
     let s = has_split start instant in
-    let a = area_of kind before samples size power some fit fits in
+    let a = area_of (storage_of kind) before samples size power some fit fits.1 in
     let few = few_samples kind size before samples fits in
     let h : Header = header_for key s.time s.micros sequence (length samples) kind power.exponent a.frames in
     record {

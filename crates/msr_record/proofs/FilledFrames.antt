@@ -5,7 +5,7 @@ use Rattle.std.proofs.lemmas.List.Elements.{All-get_or}
 use Rattle.msr_base.specs.declared.order.Order.TheVariants.{Big}
 use Rattle.msr_steim.specs.Area.{CarriesSteim, ReverseAgrees as FramesAgree}
 use Rattle.msr_steim.specs.Frames.{frame_bytes}
-use Rattle.msr_steim.specs.declared.word.Version.{Version}
+use Rattle.msr_kinds.specs.declared.storage.Version.{Version}
 use Rattle.msr_kinds.specs.declared.lengths.Length.{Length}
 use Rattle.msr_words.specs.Division.{CanDivide}
 use Rattle.msr_filling.specs.Filled.{IsFilledArea}

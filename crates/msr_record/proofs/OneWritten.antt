@@ -5,13 +5,14 @@ use Rattle.std.proofs.Math.Pow.{pow-lt}
 use Rattle.msr_time.specs.declared.btime.BTime.{BTime}
 use Rattle.msr_time.proofs.TimeLemmas.{split_one}
 use Rattle.msr_header.specs.Writing.{header_bytes}
-use Rattle.msr_plain.specs.declared.Width.{Width}
-use Rattle.msr_steim.specs.declared.word.Version.{Version}
-use Rattle.msr_steim.specs.declared.word.Version.TheVariants.{One, Two}
+use Rattle.msr_kinds.specs.declared.storage.Width.{Width}
+use Rattle.msr_kinds.specs.declared.storage.Version.{Version}
 use Rattle.msr_words.proofs.WrittenDivision.{one_chosen}
 use Rattle.msr_words.specs.Segment.{differences}
 use Rattle.msr_kinds.specs.declared.kinds.Kind.{Kind}
-use Rattle.msr_kinds.specs.declared.kinds.Kind.TheVariants.{Int16, Int24, Int32, Steim1, Steim2}
+use Rattle.msr_kinds.specs.declared.storage.Storage.{Storage}
+use Rattle.msr_kinds.specs.declared.storage.Storage.TheVariants.{Integers, Frames}
+use Rattle.msr_kinds.specs.Storage.{storage_of}
 use Rattle.msr_record.specs.Written.{AreFrames, AreNumbers, IsWrittenRecord, IsWrittenArea, frame_count, header_for}
 use Rattle.msr_rows.specs.declared.row.Key.{Key}
 
@@ -40,13 +41,11 @@ frames_one version before samples size f g a b p q =
       p.bytes_are ∙ rw same (sym q.bytes_are),
     )
 
-area_one : (kind : Kind) (before : Option ℤ) (samples : List ℤ) (size f g : ℕ) (a b : List ℕ)
-    → IsWrittenArea kind before samples size f a → IsWrittenArea kind before samples size g b → (f ≡ g) × (a ≡ b)
-area_one Int16 before samples size f g a b p q = numbers_one _ samples size f g a b p q
-area_one Int24 before samples size f g a b p q = numbers_one _ samples size f g a b p q
-area_one Int32 before samples size f g a b p q = numbers_one _ samples size f g a b p q
-area_one Steim1 before samples size f g a b p q = frames_one One before samples size f g a b p q
-area_one Steim2 before samples size f g a b p q = frames_one Two before samples size f g a b p q
+area_one : (storage : Storage) (before : Option ℤ) (samples : List ℤ) (size f g : ℕ) (a b : List ℕ)
+    → IsWrittenArea storage before samples size f a → IsWrittenArea storage before samples size g b
+    → (f ≡ g) × (a ≡ b)
+area_one (Integers width) before samples size f g a b p q = numbers_one width samples size f g a b p q
+area_one (Frames version) before samples size f g a b p q = frames_one version before samples size f g a b p q
 
 bytes_one : (key : Key) (t u : BTime) (m k sequence count d e f g : ℕ) (kind : Kind) (a b : List ℕ) → t ≡ u → m ≡ k
     → d ≡ e → f ≡ g → a ≡ b → header_bytes (header_for key t m sequence count kind d f)
@@ -59,7 +58,7 @@ pub written_once : (bytes others : List ℕ) (key : Key) (start : ℤ) (sequence
 written_once bytes others key start sequence before samples kind size p q =
     let time = split_one start p.time q.time p.micros q.micros p.split q.split in
     let exponent = exponent_one p.power.exponent q.power.exponent (sym p.power.power ∙ q.power.power) in
-    let area = area_one kind before samples (size - 64) p.frames q.frames p.area q.area p.is_area q.is_area in
+    let area = area_one (storage_of kind) before samples (size - 64) p.frames q.frames p.area q.area p.is_area q.is_area in
     p.bytes_are ∙ bytes_one key p.time q.time p.micros q.micros sequence
     (length samples) p.power.exponent q.power.exponent p.frames q.frames kind p.area q.area time.0 time.1
     exponent area.0 area.1 ∙ sym q.bytes_are

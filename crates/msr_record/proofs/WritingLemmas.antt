@@ -16,6 +16,7 @@ use Rattle.msr_base.specs.declared.order.Order.TheVariants.{Big}
 use Rattle.msr_header.specs.declared.header.Header.{Header}
 use Rattle.msr_kinds.specs.RecordLength.{least_exponent, most_exponent}
 use Rattle.msr_kinds.specs.Codes.{code_of}
+use Rattle.msr_kinds.specs.Storage.{storage_of}
 use Rattle.msr_kinds.specs.declared.kinds.Kind.{Kind}
 use Rattle.msr_kinds.specs.declared.kinds.Kind.TheVariants.{Int16, Int24, Int32, Steim1, Steim2}
 use Rattle.msr_rows.specs.Kinds.{kind_of_code}
@@ -94,7 +95,7 @@ area_back front area rest size f a =
 row_is : (bytes area rest : List ℕ) (row : Row) (h : Header) → header_of (bytes ++ rest) ≡ Ok h → 1 ≤ h.samples
     → first_fault (field_faults h) ≡ None → kind_of_code h.encoding ≡ Some row.kind → row.key ≡ key_of h
     → row.start ≡ start_of h → length row.samples ≡ h.samples → data_area h (bytes ++ rest) ≡ area
-    → Carries row.kind h.data_order area row.samples → IsRowOf (bytes ++ rest) row
+    → Carries (storage_of row.kind) h.data_order area row.samples → IsRowOf (bytes ++ rest) row
 row_is bytes area rest row h read some fields kind key start count at carried = record {
   header = h;
   has_area = record { has_samples = record { read = read; some = some }; fields = fields; kind_is = kind };
@@ -111,13 +112,13 @@ pub appends_record : (old new front area : List ℕ) (key : Key) (start : ℤ) (
     → count ≡ length samples
     → front ≡ header_bytes (header_for key time micros sequence count kind exponent frames)
     → length front ≡ 64
-    → IsWrittenArea kind before samples (size - 64) frames area
+    → IsWrittenArea (storage_of kind) before samples (size - 64) frames area
     → length area ≡ size - 64
     → ((rest : List ℕ) → IsWritable (header_for key time micros sequence count kind exponent frames)
     → 2 ^ exponent ≤ 64 + length rest → header_of (front ++ rest)
     ≡ Ok (as_read (header_for key time micros sequence count kind exponent frames)))
-    → Carries kind Big area samples
-    → ReverseAgrees kind Big area samples
+    → Carries (storage_of kind) Big area samples
+    → ReverseAgrees (storage_of kind) Big area samples
     → IsSplit start time micros → size ≡ 2 ^ exponent → least_exponent ≤ exponent → exponent ≤ most_exponent
     → IsTrue (is_quality key.quality) → is_pending key.activity key.correction ≡ false → 1 ≤ length samples
     → (key.rate.factor ≢ pos 0) × (key.rate.multiplier ≢ pos 0)

@@ -6,19 +6,19 @@ use Rattle.msr_time.specs.Instant.{IsInstant, IsSplit}
 use Rattle.msr_base.specs.declared.order.Order.TheVariants.{Big}
 use Rattle.msr_header.specs.declared.header.Header.{Header}
 use Rattle.msr_header.specs.Writing.{header_bytes}
-use Rattle.msr_plain.specs.Plain.{bytes_of_all, size_of}
-use Rattle.msr_plain.specs.declared.Width.{Width}
-use Rattle.msr_plain.specs.declared.Width.TheVariants.{Two as TwoBytes, Three as ThreeBytes, Four as FourBytes}
+use Rattle.msr_kinds.specs.Storage.{size_of, storage_of}
+use Rattle.msr_plain.specs.Plain.{bytes_of_all}
+use Rattle.msr_kinds.specs.declared.storage.Width.{Width}
 use Rattle.msr_steim.specs.Frames.{frame_bytes}
-use Rattle.msr_steim.specs.declared.word.Version.{Version}
-use Rattle.msr_steim.specs.declared.word.Version.TheVariants.{One, Two}
+use Rattle.msr_kinds.specs.declared.storage.Version.{Version}
+use Rattle.msr_kinds.specs.declared.storage.Storage.{Storage}
+use Rattle.msr_kinds.specs.declared.storage.Storage.TheVariants.{Integers, Frames}
 use Rattle.msr_words.specs.Canonical.{IsCanonicalDivision}
 use Rattle.msr_words.specs.Fit.{Fits}
 use Rattle.msr_kinds.specs.Codes.{code_of}
 use Rattle.msr_kinds.specs.RecordLength.{IsRecordLength}
 use Rattle.msr_words.specs.Segment.{differences, points}
 use Rattle.msr_kinds.specs.declared.kinds.Kind.{Kind}
-use Rattle.msr_kinds.specs.declared.kinds.Kind.TheVariants.{Int16, Int24, Int32, Steim1, Steim2}
 use Rattle.msr_header.specs.Reading.{is_quality}
 use Rattle.msr_rows.specs.Correction.{is_pending}
 use Rattle.msr_rows.specs.Records.{IsRowOf, IsRecordOf, IsInTime}
@@ -75,12 +75,9 @@ pub record AreFrames (version : Version) (before : Option ℤ) (samples : List �
   pub frames_are : frames ≡ frame_count (length groups)
 
 -- the data area of `size` bytes that is written for these samples, with the frame count for it
-abbrev pub IsWrittenArea : Kind → Option ℤ → List ℤ → ℕ → ℕ → List ℕ → Type 0
-IsWrittenArea Int16 before samples size frames area = AreNumbers TwoBytes samples size frames area
-IsWrittenArea Int24 before samples size frames area = AreNumbers ThreeBytes samples size frames area
-IsWrittenArea Int32 before samples size frames area = AreNumbers FourBytes samples size frames area
-IsWrittenArea Steim1 before samples size frames area = AreFrames One before samples size frames area
-IsWrittenArea Steim2 before samples size frames area = AreFrames Two before samples size frames area
+abbrev pub IsWrittenArea : Storage → Option ℤ → List ℤ → ℕ → ℕ → List ℕ → Type 0
+IsWrittenArea (Integers width) before samples size frames area = AreNumbers width samples size frames area
+IsWrittenArea (Frames version) before samples size frames area = AreFrames version before samples size frames area
 
 -- The bytes are those of the written record of these samples, the first difference being taken from the
 -- sample before them, if there is one.
@@ -92,7 +89,7 @@ pub record IsWrittenRecord (bytes : List ℕ) (key : Key) (start : ℤ) (sequenc
   pub area : List ℕ
   pub power : IsRecordLength size
   pub split : IsSplit start time micros
-  pub is_area : IsWrittenArea kind before samples (size - 64) frames area
+  pub is_area : IsWrittenArea (storage_of kind) before samples (size - 64) frames area
   pub bytes_are : bytes ≡ header_bytes (header_for key time micros sequence
       (length samples) kind power.exponent frames) ++ area
 

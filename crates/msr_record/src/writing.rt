@@ -128,7 +128,7 @@ fn fill_record(
         alloc,
         run.before,
         run.samples,
-        run.kind,
+        run.kind.storage(),
         record_length,
         area,
     )?;

@@ -5,12 +5,11 @@ use Rattle.msr_header.specs.Reading.{header_of}
 use Rattle.msr_header.specs.declared.header.Header.{Header}
 use Rattle.msr_base.specs.declared.order.Order.{Order}
 use Rattle.msr_header.specs.declared.fault.HeaderFault.{HeaderFault}
-use Rattle.msr_plain.specs.Plain.{CarriesPlain, size_of}
-use Rattle.msr_plain.specs.declared.Width.{Width}
-use Rattle.msr_plain.specs.declared.Width.TheVariants.{Two as TwoBytes, Three as ThreeBytes, Four as FourBytes}
+use Rattle.msr_kinds.specs.Storage.{size_of, storage_of}
+use Rattle.msr_plain.specs.Plain.{CarriesPlain}
+use Rattle.msr_kinds.specs.declared.storage.Width.{Width}
 use Rattle.msr_steim.specs.Area.{CarriesSteim, EndsBefore, IsUndefinedBefore}
-use Rattle.msr_steim.specs.declared.word.Version.{Version}
-use Rattle.msr_steim.specs.declared.word.Version.TheVariants.{One, Two}
+use Rattle.msr_kinds.specs.declared.storage.Version.{Version}
 use Rattle.msr_plain.proofs.CarriedLemmas.{carries_one as integers_one}
 use Rattle.msr_steim.proofs.OneOutcome.{carries_one, not_short, not_undefined, one_undefined, short_or_undefined}
 use Rattle.msr_rows.specs.Kinds.{kind_of_code}
@@ -19,7 +18,8 @@ use Rattle.msr_rows.specs.Area.{Carries, AreaHasFault, IntegersHaveFault, Frames
 use Rattle.msr_rows.specs.Records.{data_area, HasSamples, HasArea, IsRowOf, RowIsInTime, FieldsAreRefused, AreaIsRefused, IsOutOfTime, IsRefused, IsRecordOf, AgreesAtEnd}
 use Rattle.msr_rows.specs.Reverse.{HasReverse, IsRefusedBeforeTime}
 use Rattle.msr_kinds.specs.declared.kinds.Kind.{Kind}
-use Rattle.msr_kinds.specs.declared.kinds.Kind.TheVariants.{Int16, Int24, Int32, Steim1, Steim2}
+use Rattle.msr_kinds.specs.declared.storage.Storage.{Storage}
+use Rattle.msr_kinds.specs.declared.storage.Storage.TheVariants.{Integers, Frames}
 use Rattle.msr_rows.specs.declared.row.Key.{Key}
 use Rattle.msr_rows.specs.declared.row.Row.{Row}
 use Rattle.msr_rows.specs.declared.row.Record.{Record}
@@ -27,13 +27,10 @@ use Rattle.msr_rows.specs.declared.fault.FaultKind.{FaultKind}
 use Rattle.msr_rows.specs.declared.fault.FaultKind.TheVariants.{Header as HeaderRefused, NoRate, OtherEncoding, BadDataOffset, DataShort, BadCode, TimeRange, ReverseMismatch, Memory}
 use Rattle.msr_rows.proofs.HeaderFacts.{one_header, not_both}
 
-samples_one : (kind : Kind) (order : Order) (area : List ℕ) (xs ys : List ℤ) → Carries kind order area xs
-    → Carries kind order area ys → length xs ≡ length ys → xs ≡ ys
-samples_one Int16 order area xs ys p q e = integers_one TwoBytes order area xs ys p q e
-samples_one Int24 order area xs ys p q e = integers_one ThreeBytes order area xs ys p q e
-samples_one Int32 order area xs ys p q e = integers_one FourBytes order area xs ys p q e
-samples_one Steim1 order area xs ys p q e = carries_one One order area xs ys p q e
-samples_one Steim2 order area xs ys p q e = carries_one Two order area xs ys p q e
+samples_one : (storage : Storage) (order : Order) (area : List ℕ) (xs ys : List ℤ) → Carries storage order area xs
+    → Carries storage order area ys → length xs ≡ length ys → xs ≡ ys
+samples_one (Integers width) = integers_one width
+samples_one (Frames version) = carries_one version
 
 -- the faults of an area, in two cases
 data FrameFault (version : Version) (order : Order) (area : List ℕ) (count : ℕ) (fault : FaultKind) : Type 0 where
@@ -64,15 +61,11 @@ frames_not version order area xs fault p (short e h) = not_short version order a
 frames_not version order area xs fault p (undefined word e h) = not_undefined version order area xs word p h
 
 -- an area that carries the samples has no fault
-area_not : (kind : Kind) (order : Order) (area : List ℕ) (xs : List ℤ) (fault : FaultKind)
-    → Carries kind order area xs → AreaHasFault kind order area (length xs) fault → ⊥
-area_not Int16 order area xs fault p f = integers_not TwoBytes order area xs fault p f
-area_not Int24 order area xs fault p f = integers_not ThreeBytes order area xs fault p f
-area_not Int32 order area xs fault p f = integers_not FourBytes order area xs fault p f
-area_not Steim1 order area xs fault p f = frames_not One order area xs fault p
-    (frame_fault One order area (length xs) fault f)
-area_not Steim2 order area xs fault p f = frames_not Two order area xs fault p
-    (frame_fault Two order area (length xs) fault f)
+area_not : (storage : Storage) (order : Order) (area : List ℕ) (xs : List ℤ) (fault : FaultKind)
+    → Carries storage order area xs → AreaHasFault storage order area (length xs) fault → ⊥
+area_not (Integers width) order area xs fault p f = integers_not width order area xs fault p f
+area_not (Frames version) order area xs fault p f = frames_not version order area xs fault p
+    (frame_fault version order area (length xs) fault f)
 
 frames_one : (version : Version) (order : Order) (area : List ℕ) (count : ℕ) (f g : FaultKind)
     → FrameFault version order area count f → FrameFault version order area count g → f ≡ g
@@ -85,18 +78,12 @@ frames_one version order area count f g (undefined word e h) (undefined word' d 
     ∙ ap (λ (w : ℕ). BadCode w) (one_undefined version order area count word word' h k) ∙ sym d
 
 -- an area has one fault
-area_one : (kind : Kind) (order : Order) (area : List ℕ) (count : ℕ) (f g : FaultKind)
-    → AreaHasFault kind order area count f → AreaHasFault kind order area count g → f ≡ g
-area_one Int16 order area count f g p q = (integer_fault TwoBytes area count f p).0
-    ∙ sym (integer_fault TwoBytes area count g q).0
-area_one Int24 order area count f g p q = (integer_fault ThreeBytes area count f p).0
-    ∙ sym (integer_fault ThreeBytes area count g q).0
-area_one Int32 order area count f g p q = (integer_fault FourBytes area count f p).0
-    ∙ sym (integer_fault FourBytes area count g q).0
-area_one Steim1 order area count f g p q = frames_one One order area count f g
-    (frame_fault One order area count f p) (frame_fault One order area count g q)
-area_one Steim2 order area count f g p q = frames_one Two order area count f g
-    (frame_fault Two order area count f p) (frame_fault Two order area count g q)
+area_one : (storage : Storage) (order : Order) (area : List ℕ) (count : ℕ) (f g : FaultKind)
+    → AreaHasFault storage order area count f → AreaHasFault storage order area count g → f ≡ g
+area_one (Integers width) order area count f g p q = (integer_fault width area count f p).0
+    ∙ sym (integer_fault width area count g q).0
+area_one (Frames version) order area count f g p q = frames_one version order area count f g
+    (frame_fault version order area count f p) (frame_fault version order area count g q)
 
 pub some_same : {X : Type 0} (o : Option X) (x y : X) → o ≡ Some x → o ≡ Some y → x ≡ y
 some_same o x y p q = cc
@@ -111,12 +98,13 @@ kind_one bytes g h kind kind' p q =
 
 -- a list that the area of the other header and kind carries
 carried_by : (bytes : List ℕ) (g h : Header) (kind kind' : Kind) (xs : List ℤ) → g ≡ h → kind ≡ kind'
-    → Carries kind g.data_order (data_area g bytes) xs → Carries kind' h.data_order (data_area h bytes) xs
+    → Carries (storage_of kind) g.data_order (data_area g bytes) xs
+    → Carries (storage_of kind') h.data_order (data_area h bytes) xs
 carried_by bytes g h kind kind' xs e d p = rw (← e, ← d) p
 
 faulty_by : (bytes : List ℕ) (g h : Header) (kind kind' : Kind) (n : ℕ) (fault : FaultKind) → g ≡ h → kind ≡ kind'
-    → g.samples ≡ n → AreaHasFault kind g.data_order (data_area g bytes) g.samples fault
-    → AreaHasFault kind' h.data_order (data_area h bytes) n fault
+    → g.samples ≡ n → AreaHasFault (storage_of kind) g.data_order (data_area g bytes) g.samples fault
+    → AreaHasFault (storage_of kind') h.data_order (data_area h bytes) n fault
 faulty_by bytes g h kind kind' n fault e d c p =
     let q = rw c at p in
     rw (← e, ← d) q
@@ -141,7 +129,7 @@ one_row bytes row other p q =
     (p.key_is ∙ ap (λ (h : Header). key_of h) same.0 ∙ sym q.key_is)
     (p.start_is ∙ ap (λ (h : Header). start_of h) same.0 ∙ sym q.start_is)
     same.1
-    (samples_one other.kind q.header.data_order (data_area q.header bytes) row.samples other.samples
+    (samples_one (storage_of other.kind) q.header.data_order (data_area q.header bytes) row.samples other.samples
     (carried_by bytes p.header q.header row.kind other.kind row.samples same.0 same.1 p.carried) q.carried count)
 
 -- by which stage a record is refused
@@ -176,14 +164,14 @@ fields_not bytes h kind fault p q =
 row_not : (bytes : List ℕ) (row : Row) (fault : FaultKind) → IsRowOf bytes row → AreaIsRefused bytes fault → ⊥
 row_not bytes row fault p q =
     let same = kind_one bytes q.header p.header q.kind row.kind q.has_area p.has_area in
-    area_not row.kind p.header.data_order (data_area p.header bytes) row.samples fault p.carried
+    area_not (storage_of row.kind) p.header.data_order (data_area p.header bytes) row.samples fault p.carried
     (faulty_by bytes q.header p.header q.kind row.kind (length row.samples) fault same.0 same.1
     (ap (λ (h : Header). h.samples) same.0 ∙ sym p.count) q.first)
 
 area_fault_one : (bytes : List ℕ) (f g : FaultKind) → AreaIsRefused bytes f → AreaIsRefused bytes g → f ≡ g
 area_fault_one bytes f g p q =
     let same = kind_one bytes p.header q.header p.kind q.kind p.has_area q.has_area in
-    area_one q.kind q.header.data_order (data_area q.header bytes) q.header.samples f g
+    area_one (storage_of q.kind) q.header.data_order (data_area q.header bytes) q.header.samples f g
     (faulty_by bytes p.header q.header p.kind q.kind q.header.samples f same.0 same.1
     (ap (λ (h : Header). h.samples) same.0) p.first) q.first
 

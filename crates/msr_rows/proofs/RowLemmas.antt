@@ -8,6 +8,7 @@ use Rattle.msr_header.specs.Reading.{header_of}
 use Rattle.msr_header.specs.declared.header.Header.{Header}
 use Rattle.msr_rows.specs.Kinds.{kind_of_code}
 use Rattle.msr_rows.specs.Correction.{key_of, start_of}
+use Rattle.msr_kinds.specs.Storage.{storage_of}
 use Rattle.msr_rows.specs.Area.{Carries, ReverseAgrees}
 use Rattle.msr_rows.specs.Records.{has_rate, has_area, field_faults, data_area, HasSamples, HasArea, IsOutOfTime, AgreesAtEnd, IsInTime, IsRefused}
 use Rattle.msr_base.specs.Faults.{first_fault, unless}
@@ -25,7 +26,7 @@ has_area_from bytes h kind read some fields code =
 
 -- the test of the reverse constant, for the record that the bytes begin with
 pub agrees_from : (bytes : List ℕ) (h : Header) (row : Row) (b : Bool) → header_of bytes ≡ Ok h
-    → (IsTrue b ↔ ReverseAgrees row.kind h.data_order (data_area h bytes) row.samples)
+    → (IsTrue b ↔ ReverseAgrees (storage_of row.kind) h.data_order (data_area h bytes) row.samples)
     → (IsTrue b ↔ AgreesAtEnd bytes row)
 agrees_from bytes h row b read test = (
   λ t. record { header = h; read = read; reverse = test.0 t },
@@ -98,7 +99,7 @@ begins_within h e = leb-true h.data_at (2 ^ h.exponent)
 
 -- a record whose area carries its samples, and whose time is not in range
 pub out_of_range : (bytes : List ℕ) (h : Header) (kind : Kind) (samples : List ℤ) → HasArea bytes h kind
-    → length samples ≡ h.samples → Carries kind h.data_order (data_area h bytes) samples
+    → length samples ≡ h.samples → Carries (storage_of kind) h.data_order (data_area h bytes) samples
     → (IsInTime (key_of h).rate (start_of h) h.samples → ⊥) → IsOutOfTime bytes
 out_of_range bytes h kind samples area count carried out = record {
   the_row = record { key = key_of h; start = start_of h; kind = kind; samples = samples };

@@ -1,24 +1,20 @@
--- What the data area of a record carries, by the kind of its samples.
+-- What the data area of a record carries, by how it stores its samples.
 use Rattle.std.specs.Prelude.{◌<◌, ℕ, ◌*◌, ℤ, List, length}
 use Rattle.msr_base.specs.declared.order.Order.{Order}
-use Rattle.msr_plain.specs.Plain.{size_of, CarriesPlain}
-use Rattle.msr_plain.specs.declared.Width.{Width}
-use Rattle.msr_plain.specs.declared.Width.TheVariants.{Two as TwoBytes, Three as ThreeBytes, Four as FourBytes}
+use Rattle.msr_kinds.specs.Storage.{size_of}
+use Rattle.msr_plain.specs.Plain.{CarriesPlain}
+use Rattle.msr_kinds.specs.declared.storage.Width.{Width}
 use Rattle.msr_steim.specs.Area.{CarriesSteim, ReverseAgrees as FramesAgree, EndsBefore, IsUndefinedBefore}
-use Rattle.msr_steim.specs.declared.word.Version.{Version}
-use Rattle.msr_steim.specs.declared.word.Version.TheVariants.{One, Two}
-use Rattle.msr_kinds.specs.declared.kinds.Kind.{Kind}
-use Rattle.msr_kinds.specs.declared.kinds.Kind.TheVariants.{Int16, Int24, Int32, Steim1, Steim2}
+use Rattle.msr_kinds.specs.declared.storage.Version.{Version}
+use Rattle.msr_kinds.specs.declared.storage.Storage.{Storage}
+use Rattle.msr_kinds.specs.declared.storage.Storage.TheVariants.{Integers, Frames}
 use Rattle.msr_rows.specs.declared.fault.FaultKind.{FaultKind}
 use Rattle.msr_rows.specs.declared.fault.FaultKind.TheVariants.{DataShort, BadCode}
 
 -- the area carries these samples
-abbrev pub Carries : Kind → Order → List ℕ → List ℤ → Type 0
-Carries Int16 order area samples = CarriesPlain TwoBytes order area samples
-Carries Int24 order area samples = CarriesPlain ThreeBytes order area samples
-Carries Int32 order area samples = CarriesPlain FourBytes order area samples
-Carries Steim1 order area samples = CarriesSteim One order area samples
-Carries Steim2 order area samples = CarriesSteim Two order area samples
+abbrev pub Carries : Storage → Order → List ℕ → List ℤ → Type 0
+Carries (Integers width) order area samples = CarriesPlain width order area samples
+Carries (Frames version) order area samples = CarriesSteim version order area samples
 
 -- why an area of integers does not carry `count` samples: it ends before the last one
 abbrev pub IntegersHaveFault : Width → List ℕ → ℕ → FaultKind → Type 0
@@ -32,17 +28,11 @@ FramesHaveFault version order area count (BadCode word) = IsUndefinedBefore vers
 FramesHaveFault version order area count _ = ⊥
 
 -- why the area does not carry `count` samples
-abbrev pub AreaHasFault : Kind → Order → List ℕ → ℕ → FaultKind → Type 0
-AreaHasFault Int16 order area count fault = IntegersHaveFault TwoBytes area count fault
-AreaHasFault Int24 order area count fault = IntegersHaveFault ThreeBytes area count fault
-AreaHasFault Int32 order area count fault = IntegersHaveFault FourBytes area count fault
-AreaHasFault Steim1 order area count fault = FramesHaveFault One order area count fault
-AreaHasFault Steim2 order area count fault = FramesHaveFault Two order area count fault
+abbrev pub AreaHasFault : Storage → Order → List ℕ → ℕ → FaultKind → Type 0
+AreaHasFault (Integers width) order area count fault = IntegersHaveFault width area count fault
+AreaHasFault (Frames version) order area count fault = FramesHaveFault version order area count fault
 
--- the last sample is the reverse constant, if the kind has one
-abbrev pub ReverseAgrees : Kind → Order → List ℕ → List ℤ → Type 0
-ReverseAgrees Int16 order area samples = Unit {0}
-ReverseAgrees Int24 order area samples = Unit {0}
-ReverseAgrees Int32 order area samples = Unit {0}
-ReverseAgrees Steim1 order area samples = FramesAgree order area samples
-ReverseAgrees Steim2 order area samples = FramesAgree order area samples
+-- the last sample is the reverse constant; integers have none
+abbrev pub ReverseAgrees : Storage → Order → List ℕ → List ℤ → Type 0
+ReverseAgrees (Integers width) order area samples = Unit {0}
+ReverseAgrees (Frames version) order area samples = FramesAgree order area samples

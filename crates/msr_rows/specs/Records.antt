@@ -10,6 +10,7 @@ use Rattle.msr_rows.specs.Kinds.{kind_of_code}
 use Rattle.msr_rows.specs.Correction.{key_of, start_of}
 use Rattle.msr_rows.specs.Area.{Carries, AreaHasFault, ReverseAgrees}
 use Rattle.msr_kinds.specs.declared.kinds.Kind.{Kind}
+use Rattle.msr_kinds.specs.Storage.{storage_of}
 use Rattle.msr_rows.specs.declared.row.Row.{Row}
 use Rattle.msr_rows.specs.declared.row.Record.{Record}
 use Rattle.msr_rows.specs.declared.fault.FaultKind.{FaultKind}
@@ -63,7 +64,7 @@ pub record IsRowOf (bytes : List ℕ) (row : Row) : Type 0 where
   pub key_is : row.key ≡ key_of header
   pub start_is : row.start ≡ start_of header
   pub count : length row.samples ≡ header.samples
-  pub carried : Carries row.kind header.data_order (data_area header bytes) row.samples
+  pub carried : Carries (storage_of row.kind) header.data_order (data_area header bytes) row.samples
 
 -- the instant of the row's first sample, and the rounded one of its last, counted from the first, are of
 -- the supported years
@@ -87,7 +88,7 @@ pub record AreaIsRefused (bytes : List ℕ) (fault : FaultKind) : Type 0 where
   pub header : Header
   pub kind : Kind
   pub has_area : HasArea bytes header kind
-  pub first : AreaHasFault kind header.data_order (data_area header bytes) header.samples fault
+  pub first : AreaHasFault (storage_of kind) header.data_order (data_area header bytes) header.samples fault
 
 -- the record has a row, and its first or last sample is not of the supported years
 pub record IsOutOfTime (bytes : List ℕ) : Type 0 where
@@ -114,7 +115,7 @@ IsRefused bytes Memory = ⊥
 pub record AgreesAtEnd (bytes : List ℕ) (row : Row) : Type 0 where
   pub header : Header
   pub read : header_of bytes ≡ Ok header
-  pub reverse : ReverseAgrees row.kind header.data_order (data_area header bytes) row.samples
+  pub reverse : ReverseAgrees (storage_of row.kind) header.data_order (data_area header bytes) row.samples
 
 -- the bytes begin with a record without a fault: its length, its row, and whether the reverse constant agrees
 pub record IsRecordOf (bytes : List ℕ) (found : Record) : Type 0 where

@@ -6,9 +6,9 @@ ghost use Rattle.msr_rows.specs.Area.{Carries, AreaHasFault, IntegersHaveFault, 
 
 use crate::fault::FaultKind;
 use msr_header::Order;
-use msr_kinds::Kind;
-use msr_plain::{PlainFault, Width, decode_plain};
-use msr_steim::{Decoded, SteimFault, Version, decode_steim};
+use msr_kinds::{Storage, Version, Width};
+use msr_plain::{PlainFault, decode_plain};
+use msr_steim::{Decoded, SteimFault, decode_steim};
 use std::alloc::Global;
 
 /// The samples of an area of integers.
@@ -57,26 +57,23 @@ fn decode_frames(
     }
 }
 
-/// The samples of an area of that kind.
+/// The samples of an area that stores them so.
 pub(crate) fn decode_area(
     alloc: Global,
-    kind: Kind,
+    storage: Storage,
     order: Order,
     area: &[u8],
     count: u16,
 ) -> Result<Decoded, FaultKind>
     requires some { 1 ≤ count }
     requires small { length area.now ≤ 1048576 }
-    ensures samples { IfOk result (λ d. Carries kind order area.now d.samples) }
+    ensures samples { IfOk result (λ d. Carries storage order area.now d.samples) }
     ensures count { IfOk result (λ d. length d.samples ≡ count) }
-    ensures reverse { IfOk result (λ d. IsTrue d.reverse_agrees ↔ ReverseAgrees kind order area.now d.samples) }
-    ensures fault { IfErr result (λ f. f ≢ FaultKind.Memory → AreaHasFault kind order area.now count f) }
+    ensures reverse { IfOk result (λ d. IsTrue d.reverse_agrees ↔ ReverseAgrees storage order area.now d.samples) }
+    ensures fault { IfErr result (λ f. f ≢ FaultKind.Memory → AreaHasFault storage order area.now count f) }
 {
-    match kind {
-        Kind::Int16 => decode_integers(alloc, Width::Two, order, area, count),
-        Kind::Int24 => decode_integers(alloc, Width::Three, order, area, count),
-        Kind::Int32 => decode_integers(alloc, Width::Four, order, area, count),
-        Kind::Steim1 => decode_frames(alloc, Version::One, order, area, count),
-        Kind::Steim2 => decode_frames(alloc, Version::Two, order, area, count),
+    match storage {
+        Storage::Integers(width) => decode_integers(alloc, width, order, area, count),
+        Storage::Frames(version) => decode_frames(alloc, version, order, area, count),
     }
 }

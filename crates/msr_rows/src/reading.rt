@@ -224,7 +224,13 @@ fn decode(alloc: Global, rest: &[u8]) -> Result<Record, FaultKind>
         });
     };
     let area = area_of(&opened, rest);
-    let decoded = decode_area(alloc, kind, header.data_order, area, header.samples)?;
+    let decoded = decode_area(
+        alloc,
+        kind.storage(),
+        header.data_order,
+        area,
+        header.samples,
+    )?;
     let (key, start) = place_in_time(&header, rate)?;
     let row = Row {
         key,

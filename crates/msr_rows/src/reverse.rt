@@ -18,7 +18,12 @@ pub fn reverse_in(rest: &[u8]) -> Option<bool>
         return Some(true);
     };
     let area = area_of(&opened, rest);
-    match view_area(kind, opened.header.data_order, area, opened.header.samples) {
+    match view_area(
+        kind.storage(),
+        opened.header.data_order,
+        area,
+        opened.header.samples,
+    ) {
         Ok(samples) => Some(samples.reverse_agrees()),
         Err(_) => None,
     }

@@ -8,9 +8,9 @@ ghost use Rattle.msr_rows.specs.Area.{Carries, AreaHasFault, IntegersHaveFault, 
 
 use crate::fault::FaultKind;
 use msr_header::Order;
-use msr_kinds::Kind;
-use msr_plain::{PlainSamples, Width, plain_samples};
-use msr_steim::{SteimFault, SteimSamples, Version, steim_samples};
+use msr_kinds::{Storage, Version, Width};
+use msr_plain::{PlainSamples, plain_samples};
+use msr_steim::{SteimFault, SteimSamples, steim_samples};
 use std::alloc::AllocError;
 use std::marker::Model;
 
@@ -120,7 +120,8 @@ fn view_integers<'a>(
     }
 }
 
-/// The samples of an area of Steim frames.
+/// The samples of an area of Steim frames. Where it is inlined, LLVM no longer has a loop over integers for each width.
+#[inline(never)]
 fn view_frames<'a>(
     version: Version,
     order: Order,
@@ -144,25 +145,22 @@ fn view_frames<'a>(
     }
 }
 
-/// The samples of an area of that kind.
+/// The samples of an area that stores them so.
 pub(crate) fn view_area<'a>(
-    kind: Kind,
+    storage: Storage,
     order: Order,
     area: &'a [u8],
     count: u16,
 ) -> Result<Samples<'a>, FaultKind>
     requires some { 1 ≤ count }
     requires small { length area.now ≤ 1048576 }
-    ensures samples { IfOk result (λ s. Carries kind order area.now s.samples) }
+    ensures samples { IfOk result (λ s. Carries storage order area.now s.samples) }
     ensures count { IfOk result (λ s. length s.samples ≡ count) }
-    ensures reverse { IfOk result (λ s. IsTrue s.agrees ↔ ReverseAgrees kind order area.now s.samples) }
-    ensures fault { IfErr result (AreaHasFault kind order area.now count) }
+    ensures reverse { IfOk result (λ s. IsTrue s.agrees ↔ ReverseAgrees storage order area.now s.samples) }
+    ensures fault { IfErr result (AreaHasFault storage order area.now count) }
 {
-    match kind {
-        Kind::Int16 => view_integers(Width::Two, order, area, count),
-        Kind::Int24 => view_integers(Width::Three, order, area, count),
-        Kind::Int32 => view_integers(Width::Four, order, area, count),
-        Kind::Steim1 => view_frames(Version::One, order, area, count),
-        Kind::Steim2 => view_frames(Version::Two, order, area, count),
+    match storage {
+        Storage::Integers(width) => view_integers(width, order, area, count),
+        Storage::Frames(version) => view_frames(version, order, area, count),
     }
 }

@@ -118,7 +118,7 @@ fn view<'a>(rest: &'a [u8]) -> Result<RecordView<'a>, FaultKind>
         });
     };
     let area = area_of(&opened, rest);
-    let samples = view_area(kind, header.data_order, area, header.samples)?;
+    let samples = view_area(kind.storage(), header.data_order, area, header.samples)?;
     let (key, start) = place_in_time(&header, rate)?;
     let row = RowView {
         key,

@@ -9,8 +9,8 @@ use Rattle.msr_base.specs.declared.order.Order.{Order}
 use Rattle.msr_steim.specs.declared.area.SteimFault.{SteimFault}
 use Rattle.msr_steim.specs.declared.area.SteimFault.TheVariants.{DataShort, BadCode, Memory}
 use Rattle.msr_steim.specs.declared.sums.Place.{Place}
-use Rattle.msr_steim.specs.declared.word.Version.{Version}
-use Rattle.msr_steim.specs.declared.word.Version.TheVariants.{One, Two}
+use Rattle.msr_kinds.specs.declared.storage.Version.{Version}
+use Rattle.msr_kinds.specs.declared.storage.Version.TheVariants.{One, Two}
 use Rattle.msr_steim.specs.Area.{CarriesSteim, IsUndefined, IsUndefinedBefore, WordHolds, arranged_word, code_of, constant, differences, samples_of, sums_after, whole_word, word_count}
 use Rattle.msr_steim.specs.Sums.{IsWritten}
 use Rattle.msr_steim.specs.Word.{Holds, IsUndefinedWord, layout_of}

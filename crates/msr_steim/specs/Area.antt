@@ -4,8 +4,8 @@ use Rattle.std.specs.Int.{int_wrap, cast_signed, w32}
 use Rattle.byteorder.specs.Endian.{big_number, little_number}
 use Rattle.msr_base.specs.declared.order.Order.{Order}
 use Rattle.msr_base.specs.declared.order.Order.TheVariants.{Big, Little}
-use Rattle.msr_steim.specs.declared.word.Version.{Version}
-use Rattle.msr_steim.specs.declared.word.Version.TheVariants.{One, Two}
+use Rattle.msr_kinds.specs.declared.storage.Version.{Version}
+use Rattle.msr_kinds.specs.declared.storage.Version.TheVariants.{One, Two}
 use Rattle.msr_steim.specs.Word.{Holds, IsUndefinedWord}
 
 -- how many words stand in the whole frames of 64 bytes; a rest is ignored

@@ -3,7 +3,7 @@ use Rattle.std.specs.Prelude.{◌≡◌, ◌↔◌, ℕ, zero, suc, ◌-◌, ◌
 use Rattle.msr_base.specs.declared.order.Order.{Order}
 use Rattle.msr_steim.specs.declared.borrowed.Fields.{Fields}
 use Rattle.msr_steim.specs.declared.word.WordLayout.{WordLayout}
-use Rattle.msr_steim.specs.declared.word.Version.{Version}
+use Rattle.msr_kinds.specs.declared.storage.Version.{Version}
 use Rattle.msr_steim.specs.Area.{CarriesSteim, ReverseAgrees, arranged_word, code_of, constant, samples_of, sums_after, word_count}
 use Rattle.msr_steim.specs.Word.{layout_of, numbers_in}
 

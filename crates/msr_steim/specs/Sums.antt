@@ -1,7 +1,7 @@
 -- The samples that one word gives.
 use Rattle.std.specs.Prelude.{◌≡◌, ◌<◌, ◌≤◌, ◌⊎◌, ℕ, ◌+◌, ◌-◌, ℤ, pos, List, ◌++◌, length, take, slice_index_or}
 use Rattle.msr_steim.specs.declared.sums.Place.{Place}
-use Rattle.msr_steim.specs.declared.word.Version.{Version}
+use Rattle.msr_kinds.specs.declared.storage.Version.{Version}
 use Rattle.msr_steim.specs.Area.{sums_after}
 use Rattle.msr_steim.specs.Word.{Holds, numbers_in}
 

@@ -2,14 +2,14 @@
 
 ghost use Rattle.std.specs.Prelude.{◌≡◌, ◌<◌, ◌≤◌, ◌↔◌, ℕ, ℤ, List, ◌+◌, ◌-◌, ◌*◌, IfOk, IsErrOf, IsTrue, OnOk, Some, length, slice_get};
 ghost use Rattle.msr_base.specs.declared.order.Order.{Order};
-ghost use Rattle.msr_steim.specs.declared.word.Version.{Version};
+ghost use Rattle.msr_kinds.specs.declared.storage.Version.{Version};
 ghost use Rattle.msr_steim.specs.Area.{CarriesSteim, EndsBefore, IsUndefinedBefore, ReverseAgrees, arranged_word, constant, whole_word};
 
 use crate::borrowed::before_first;
 use crate::sums::{Place, write_inner_word, write_last_word};
-use crate::word::Version;
 use byteorder::{BigEndian, ByteOrder, LittleEndian};
 use msr_base::{Order, SampleVec};
+use msr_kinds::Version;
 use std::alloc::{AllocError, Global};
 use thiserror::Error;
 

@@ -7,8 +7,8 @@ ghost use Rattle.msr_steim.specs.InOrder.{HasSamples};
 use crate::area::{SteimFault, arranged_word_at, constant_at, first_slot, is_last, whole_word_at};
 use crate::borrowed::before_first;
 use crate::sums::{Place, write_inner_word};
-use crate::word::Version;
 use msr_base::Order;
+use msr_kinds::Version;
 
 /// Reads word after word until it has seen `count` samples; it keeps the samples of one word at a time. Inlined with
 /// literals for version and order, each word is read without a test of them.

@@ -5,7 +5,8 @@ ghost use Rattle.msr_steim.specs.Area.{sums_after};
 ghost use Rattle.msr_steim.specs.Sums.{IsGroupWritten, IsInnerWritten, IsWritten, ReachesEnd};
 ghost use Rattle.msr_steim.specs.Word.{IsUndefinedWord, numbers_in};
 
-use crate::word::{Version, difference_at, layout_for};
+use crate::word::{difference_at, layout_for};
+use msr_kinds::Version;
 
 /// How far the samples are written.
 #[derive(Clone, Copy, Debug, PartialEq, Eq)]

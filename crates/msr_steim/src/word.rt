@@ -2,20 +2,12 @@
 
 ghost use Rattle.std.specs.Prelude.{◌≡◌, ◌<◌, ◌≤◌, ℕ, ◌+◌, ◌*◌, ◌/◌, ◌%◌, ◌^◌, ◌↔◌, ℤ, List, IfOk, IsErr, IsSome, IfSome, MatchOption, Some, None, length};
 ghost use Rattle.msr_steim.specs.Word.{AreFields, FitsBits, HasNoOtherBits, Holds, IsGroup, IsLayoutFor, IsUndefinedWord, as_read, layout_of, group_code, group_top, group_width, group_word, joined_fields, signed_of, twos_complement};
-ghost use Rattle.msr_steim.specs.declared.word.Version.{Version};
+ghost use Rattle.msr_kinds.specs.declared.storage.Version.{Version};
 ghost use Rattle.std.specs.List.{AllByRecursion};
 
 use arrayvec::ArrayVec;
+use msr_kinds::Version;
 use thiserror::Error;
-
-/// The version of the compression: SEED's encodings 10 (Steim-1) and 11 (Steim-2).
-#[derive(Clone, Copy, Debug, PartialEq, Eq)]
-pub enum Version {
-    /// Steim-1.
-    One,
-    /// Steim-2.
-    Two,
-}
 
 /// The differences of one word.
 pub type Group = ArrayVec<i32, 7>;

@@ -4,8 +4,13 @@ use Rattle.std.specs.Prelude.{All, IsSomeAnd, IsTrue}
 use Rattle.std.specs.List.{AllByRecursion}
 use Rattle.std.proofs.lemmas.Bool.{cases_lt}
 use Rattle.std.proofs.lemmas.List.{length-take-le, take-append-drop}
-use Rattle.msr_steim.specs.declared.word.Version.{Version}
-use Rattle.msr_steim.specs.declared.word.Version.TheVariants.{One, Two}
+use Rattle.msr_kinds.specs.declared.storage.Version.{Version}
+use Rattle.msr_kinds.specs.declared.storage.Version.TheVariants.{One, Two}
+use Rattle.msr_kinds.specs.declared.storage.Storage.{Storage}
+use Rattle.msr_kinds.specs.declared.storage.Storage.TheVariants.{Integers, Frames}
+use Rattle.msr_kinds.specs.declared.storage.Width.{Width}
+use Rattle.msr_kinds.specs.declared.storage.Width.TheVariants.{Two as TwoBytes, Three as ThreeBytes, Four as FourBytes}
+use Rattle.msr_kinds.specs.Storage.{size_of, storage_of}
 use Rattle.msr_steim.specs.Area.{differences}
 use Rattle.msr_steim.specs.Word.{AreGroups, FitsBits, IsGroup, IsGroupAt, group_width}
 use Rattle.msr_kinds.specs.declared.kinds.Kind.{Kind}
@@ -17,6 +22,7 @@ use Rattle.msr_words.specs.Division.{CanDivide}
 use Rattle.msr_words.specs.Canonical.{DividesFrom, IsCanonicalDivision}
 use Rattle.msr_words.specs.Existence.{Decided}
 use Rattle.msr_kinds.specs.RecordLength.{words_of}
+use Rattle.msr_words.specs.Fit.{Fits, FitsAny, FitsIn, HasRoom, IsFirstKind, IsInteger, most_counted, rank}
 use Rattle.msr_words.specs.Lemmas.LeastCounts.{a_group_has_few}
 use Rattle.msr_words.specs.Lemmas.SteimLaws.{head_group, none_divides}
 use Rattle.msr_words.proofs.WrittenDivision.{divides_can, starts_with, with_first}
@@ -203,21 +209,21 @@ module _ (version : Version) where
 
 -- ---- the kinds
 
-integers_decided : (bits size bytes : ℕ) (run : List (ℤ × ℤ)) → Decided (FitsIntegers bits size bytes run)
-integers_decided bits size bytes run = both_decided (All (λ p. FitsBits bits p.0) run)
-    (size * length run + 64 ≤ bytes) (all_decided (λ p. FitsBits bits p.0) (λ p. bits_decided bits p.0) run)
-    (most_decided (size * length run + 64) bytes)
+integer_decided : (width : Width) (x : ℤ) → Decided (IsInteger width x)
+integer_decided TwoBytes x = bits_decided 16 x
+integer_decided ThreeBytes x = bits_decided 24 x
+integer_decided FourBytes x = inl tt
 
-room_decided : (kind : Kind) (bytes : ℕ) (run : List (ℤ × ℤ)) → Decided (HasRoom kind bytes run)
-room_decided Int16 bytes run = integers_decided 16 2 bytes run
-room_decided Int24 bytes run = integers_decided 24 3 bytes run
-room_decided Int32 bytes run = most_decided (4 * length run + 64) bytes
-room_decided Steim1 bytes run = divide_decided One (words_of bytes) (map (λ p. p.1) run)
-room_decided Steim2 bytes run = divide_decided Two (words_of bytes) (map (λ p. p.1) run)
+room_decided : (storage : Storage) (bytes : ℕ) (run : List (ℤ × ℤ)) → Decided (HasRoom storage bytes run)
+room_decided (Integers width) bytes run = both_decided (All (λ p. IsInteger width p.0) run)
+    (size_of width * length run + 64 ≤ bytes)
+    (all_decided (λ p. IsInteger width p.0) (λ p. integer_decided width p.0) run)
+    (most_decided (size_of width * length run + 64) bytes)
+room_decided (Frames version) bytes run = divide_decided version (words_of bytes) (map (λ p. p.1) run)
 
 pub fits_decided : (kind : Kind) (bytes : ℕ) (run : List (ℤ × ℤ)) → Decided (Fits kind bytes run)
-fits_decided kind bytes run = both_decided (length run ≤ most_counted) (HasRoom kind bytes run)
-    (most_decided (length run) most_counted) (room_decided kind bytes run)
+fits_decided kind bytes run = both_decided (length run ≤ most_counted) (HasRoom (storage_of kind) bytes run)
+    (most_decided (length run) most_counted) (room_decided (storage_of kind) bytes run)
 
 chosen_decided : (kinds : Kinds) (kind : Kind) → Decided (IsChosen kinds kind)
 chosen_decided kinds kind = elim (contains kinds kind) as (λ chosen. Decided (IsTrue chosen)) [

@@ -2,7 +2,7 @@
 use Rattle.std.proofs.Common.{◌≡◌, ◌<◌, ◌≤◌, ◌↔◌, ℕ, suc, ◌+◌, ℤ, pos, get_or, take, drop, List, [], ◌∷◌, length, Option, Some, None, zero, refl, ◌∙◌, arith, bit_or, true}
 use Rattle.std.proofs.lemmas.Nat.{le_or_l, le_or_r, or_lt}
 use Rattle.std.proofs.lemmas.List.{get_or-drop}
-use Rattle.msr_steim.specs.declared.word.Version.TheVariants.{Two}
+use Rattle.msr_kinds.specs.declared.storage.Version.TheVariants.{Two}
 use Rattle.msr_steim.specs.Word.{IsGroup}
 use Rattle.msr_words.specs.Groups.{IsLongestGroup}
 use Rattle.msr_words.specs.Segment.{differences, difference_at, difference_from}

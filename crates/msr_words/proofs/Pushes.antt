@@ -1,63 +1,49 @@
 -- What one more sample does to whether a run fits.
-use Rattle.std.proofs.Common.{◌≡◌, ℕ, ◌+◌, ◌-◌, ◌≤◌, ◌<◌, zero, suc, ap, pos, ◌-ℤ◌, ◌||◌, ◌&&◌, slice_index_or, Bool, true, false, refl, IsTrue, ◌↔◌, ℤ, List, [], ◌∷◌, ◌++◌, length, arith, length-append}
+use Rattle.std.proofs.Common.{◌≡◌, ℕ, ◌+◌, ◌-◌, ◌≤◌, ◌<◌, zero, suc, ap, pos, ◌-ℤ◌, ◌||◌, ◌&&◌, slice_index_or, min, Bool, true, false, refl, IsTrue, ◌↔◌, ℤ, List, [], ◌∷◌, ◌++◌, length, arith, length-append}
 use Rattle.std.proofs.lemmas.List.Elements.{All-push, Contains-push, All-contains}
 use Rattle.msr_kinds.specs.declared.kinds.Kind.TheVariants.{Int16, Int24, Int32, Steim1, Steim2}
 use Rattle.msr_words.specs.Segment.{difference_at}
-use Rattle.msr_steim.specs.Word.{FitsBits}
 use Rattle.msr_kinds.specs.declared.kinds.Kind.{Kind}
-use Rattle.msr_words.specs.Bounds.{AreIntegers}
-use Rattle.msr_words.specs.Fit.{Records, Fits, FitsAny, FitsIn}
+use Rattle.msr_kinds.specs.declared.storage.Storage.TheVariants.{Integers}
+use Rattle.msr_kinds.specs.declared.storage.Width.{Width}
+use Rattle.msr_kinds.specs.declared.storage.Width.TheVariants.{Two as TwoBytes, Three as ThreeBytes, Four as FourBytes}
 use Rattle.msr_kinds.specs.declared.kinds.Kinds.{Kinds}
 use Rattle.msr_kinds.specs.Kinds.{contains}
-use Rattle.msr_words.specs.Laws.{most_of}
-use Rattle.msr_words.specs.Trackers.{FollowsIntegers, IsInteger, integers_of}
-use Rattle.msr_words.specs.Lemmas.KindLaws.{int16_by_bits, int24_by_bits, of_integers, prefix_kind, size_kind}
+use Rattle.msr_words.specs.Fit.{Records, Fits, FitsAny, FitsIn, FitsIntegers, IsInteger, most_counted}
+use Rattle.msr_words.specs.Laws.{most_of, room_of}
+use Rattle.msr_words.specs.Trackers.{FollowsIntegers, integers}
+use Rattle.msr_words.specs.Lemmas.KindLaws.{fit_by_width, prefix_kind, size_kind}
 
 -- one integer more fits after a run that fits, if the record has room; and what fits is such an integer
-pub record TakesIntegers (kind : Kind) (bytes : ℕ) : Type 0 where
+pub record TakesIntegers (kind : Kind) (width : Width) (bytes : ℕ) : Type 0 where
   pub takes : (run : List (ℤ × ℤ)) (x d : ℤ) → Fits kind bytes run → length run + 1 ≤ most_of kind bytes
-      → IsInteger kind x → Fits kind bytes (run ++ (x, d) ∷ [])
-  pub needs : (run : List (ℤ × ℤ)) (x d : ℤ) → Fits kind bytes (run ++ (x, d) ∷ []) → IsInteger kind x
+      → IsInteger width x → Fits kind bytes (run ++ (x, d) ∷ [])
+  pub needs : (run : List (ℤ × ℤ)) (x d : ℤ) → Fits kind bytes (run ++ (x, d) ∷ []) → IsInteger width x
 
-module _ (kind : Kind) (bits bytes : ℕ) (are : AreIntegers kind bits bytes) (run : List (ℤ × ℤ)) (x d : ℤ) where
-  one_more : Fits kind bytes run → length run + 1 ≤ most_of kind bytes → FitsBits bits x
-      → Fits kind bytes (run ++ (x, d) ∷ [])
+module _ (width : Width) (bytes : ℕ) (run : List (ℤ × ℤ)) (x d : ℤ) where
+  one_more : (length run ≤ most_counted) × FitsIntegers width bytes run
+      → length run + 1 ≤ min (room_of (Integers width) bytes) most_counted → IsInteger width x
+      → (length (run ++ (x, d) ∷ []) ≤ most_counted) × FitsIntegers width bytes (run ++ (x, d) ∷ [])
   one_more h room one =
       let p : ℤ × ℤ = (x, d) in
-      are.takes (run ++ p ∷ []) (All-push (λ p. FitsBits bits p.0) run p (are.needs run h) one)
-      (omega (arith, length-append run (p ∷ []), room))
+      fit_by_width width bytes (omega (arith, h.1.1)) (run ++ p ∷ [])
+      (All-push (λ p. IsInteger width p.0) run p h.1.0 one) (omega (arith, length-append run (p ∷ []), room))
 
-  last_one : Fits kind bytes (run ++ (x, d) ∷ []) → FitsBits bits x
-  last_one h = let p : ℤ × ℤ = (x, d) in All-contains (λ p. FitsBits bits p.0) (run ++ p ∷ []) p
-      (are.needs (run ++ p ∷ []) h) (Contains-push run p)
+  last_one : (length (run ++ (x, d) ∷ []) ≤ most_counted) × FitsIntegers width bytes (run ++ (x, d) ∷ [])
+      → IsInteger width x
+  last_one h = let p : ℤ × ℤ = (x, d) in All-contains (λ p. IsInteger width p.0) (run ++ p ∷ []) p h.1.0
+      (Contains-push run p)
 
-takes_int16 : (bytes : ℕ) → TakesIntegers Int16 bytes
-takes_int16 bytes = record {
-  takes = λ run x d h room one. one_more Int16 16 bytes (int16_by_bits bytes (omega (arith, h.1.1))) run x d h room one;
-  needs = λ run x d h. last_one Int16 16 bytes (int16_by_bits bytes (omega (arith, h.1.1))) run x d h;
-}
-
-takes_int24 : (bytes : ℕ) → TakesIntegers Int24 bytes
-takes_int24 bytes = record {
-  takes = λ run x d h room one. one_more Int24 24 bytes (int24_by_bits bytes (omega (arith, h.1.1))) run x d h room one;
-  needs = λ run x d h. last_one Int24 24 bytes (int24_by_bits bytes (omega (arith, h.1.1))) run x d h;
-}
-
-takes_int32 : (bytes : ℕ) → TakesIntegers Int32 bytes
-takes_int32 bytes = record {
-  takes = λ run x d h room one. let more = length-append run ((x, d) ∷ []) in
-      (omega (arith, more, room), omega (arith, more, room, h.1));
-  needs = λ run x d h. tt;
-}
-
-pub takes_integers : (bits bytes : ℕ) → TakesIntegers (integers_of bits) bytes
-takes_integers bits bytes = of_integers (λ kind. TakesIntegers kind bytes) (takes_int16 bytes) (takes_int24 bytes)
-    (takes_int32 bytes) bits
+pub takes_integers : (width : Width) (bytes : ℕ) → TakesIntegers (integers width) width bytes
+takes_integers TwoBytes bytes = record { takes = one_more TwoBytes bytes; needs = last_one TwoBytes bytes }
+takes_integers ThreeBytes bytes = record { takes = one_more ThreeBytes bytes; needs = last_one ThreeBytes bytes }
+takes_integers FourBytes bytes = record { takes = one_more FourBytes bytes; needs = last_one FourBytes bytes }
 
 -- What one more sample does to whether a run of integers fits.
-module _ (kind : Kind) (bytes : ℕ) (are : TakesIntegers kind bytes) (run : List (ℤ × ℤ)) (x d : ℤ) where
+module _ (kind : Kind) (width : Width) (bytes : ℕ) (are : TakesIntegers kind width bytes) (run : List (ℤ × ℤ))
+    (x d : ℤ) where
   not_taken : (left : ℕ) (fits : Bool) → FollowsIntegers kind bytes run (record { left = left; fits = fits })
-      → (IsTrue fits × 0 < left × IsInteger kind x → ⊥) → Fits kind bytes (run ++ (x, d) ∷ []) → ⊥
+      → (IsTrue fits × 0 < left × IsInteger width x → ⊥) → Fits kind bytes (run ++ (x, d) ∷ []) → ⊥
   not_taken left false state refused h = state.past refl (prefix_kind kind bytes run ((x, d) ∷ []) h)
   not_taken left true state refused h =
       let r = state.room refl in
@@ -65,7 +51,7 @@ module _ (kind : Kind) (bytes : ℕ) (are : TakesIntegers kind bytes) (run : Lis
       refused (refl, omega (arith, length-append run ((x, d) ∷ []), r, few), are.needs run x d h)
 
   pub push_no : (left : ℕ) (fits : Bool) → FollowsIntegers kind bytes run (record { left = left; fits = fits })
-      → (IsTrue fits × 0 < left × IsInteger kind x → ⊥) →
+      → (IsTrue fits × 0 < left × IsInteger width x → ⊥) →
       FollowsIntegers kind bytes (run ++ (x, d) ∷ []) (record { left = left; fits = false })
       × (IsTrue false ↔ Fits kind bytes (run ++ (x, d) ∷ []))
   push_no left fits state refused =
@@ -73,7 +59,7 @@ module _ (kind : Kind) (bytes : ℕ) (are : TakesIntegers kind bytes) (run : Lis
       (record { so_far = λ t. cc; room = λ t. cc; past = λ _. not }, (λ t. cc, λ h. absurd (not h)))
 
   pub push_yes : (left : ℕ) (fits : Bool) → FollowsIntegers kind bytes run (record { left = left; fits = fits })
-      → IsTrue fits × 0 < left × IsInteger kind x →
+      → IsTrue fits × 0 < left × IsInteger width x →
       FollowsIntegers kind bytes (run ++ (x, d) ∷ []) (record { left = left - 1; fits = fits })
       × (IsTrue true ↔ Fits kind bytes (run ++ (x, d) ∷ []))
   push_yes left fits state accepted =

@@ -3,8 +3,8 @@ use Rattle.std.specs.Prelude.{◌≡◌, ℕ, zero, suc, ◌+◌, ◌-◌, ◌<�
 use Rattle.std.proofs.Common.{refl, arith, sym, ◌∙◌, ap, subst}
 use Rattle.std.proofs.lemmas.List.{take-append-drop, take-take, drop-take, drop-drop, take_more, get_or-drop, length-take, length-drop, drop_at, length-map}
 use Rattle.msr_words.specs.Segment.{points, points_after, run_points, difference_at, difference_from}
-use Rattle.msr_steim.specs.Word.{FitsBits}
-use Rattle.msr_words.specs.Fit.{IsRun, FitsIntegers, FitsInt32}
+use Rattle.msr_kinds.specs.declared.storage.Width.{Width}
+use Rattle.msr_words.specs.Fit.{IsInteger, IsRun}
 use Rattle.std.proofs.lemmas.List.Elements.{All-map}
 use Rattle.msr_words.specs.Laws.{PrefixLaw, BackStepLaw}
 use Rattle.msr_kinds.specs.declared.kinds.Kind.{Kind}
@@ -150,33 +150,20 @@ get_or_first [] k d = refl
 get_or_first (p ∷ run) zero d = refl
 get_or_first (p ∷ run) (suc k) d = get_or_first run k d
 
-all_unmap : (bits : ℕ) (run : List (ℤ × ℤ)) → All (FitsBits bits) (map (λ p. p.0) run)
-    → All (λ p. FitsBits bits p.0) run
-all_unmap bits run h k d in' =
+all_unmap : (width : Width) (run : List (ℤ × ℤ)) → All (IsInteger width) (map (λ p. p.0) run)
+    → All (λ p. IsInteger width p.0) run
+all_unmap width run h k d in' =
     let e : get_or (map (λ (p : ℤ × ℤ). p.0) run) k d.0 ≡ (get_or run k d).0 = get_or_first run k d in
-    subst (FitsBits bits) e (h k d.0 (rw length-map in'))
+    subst (IsInteger width) e (h k d.0 (rw length-map in'))
 
--- so it depends on the samples alone whether integers fit
-pub fits_integers_points : (bits size bytes : ℕ) (before : Option ℤ) (run : List ℤ)
-    → (All (FitsBits bits) run × (size * length run + 64 ≤ bytes)) ↔ FitsIntegers bits size bytes (points before run)
-fits_integers_points bits size bytes before run =
-    let long : size * length (points before run) ≡ size * length run =
-    ap (λ n. size * n) (length-points_before before run) in (
-      λ h. (
-        all_unmap bits (points before run) (subst (All (FitsBits bits))
-            (sym (samples_of_points before run)) h.0),
-        omega (arith, h.1),
-      ),
-      λ h. (
-        subst (All (FitsBits bits)) (samples_of_points before run)
-            (All-map (FitsBits bits) (λ (p : ℤ × ℤ). p.0) (points before run) h.0),
-        omega (arith, h.1),
-      ),
-    )
-
-pub fits_int32_points : (bytes : ℕ) (before : Option ℤ) (run : List ℤ) → (4 * length run + 64 ≤ bytes)
-    ↔ FitsInt32 bytes (points before run)
-fits_int32_points bytes before run = let long = length-points_before before run in (λ h. omega arith, λ h. omega arith)
+-- so it depends on the samples alone whether they are such integers
+pub integers_points : (width : Width) (before : Option ℤ) (run : List ℤ)
+    → All (IsInteger width) run ↔ All (λ p. IsInteger width p.0) (points before run)
+integers_points width before run = (
+  λ h. all_unmap width (points before run) (subst (All (IsInteger width)) (sym (samples_of_points before run)) h),
+  λ h. subst (All (IsInteger width)) (samples_of_points before run)
+      (All-map (IsInteger width) (λ (p : ℤ × ℤ). p.0) (points before run) h),
+)
 
 pub points_from_at : (before : Option ℤ) (samples : List ℤ) (i : ℕ) (d : ℤ × ℤ) → i < length samples →
     get_or (points before samples) i d ≡ (get_or samples i (pos 0), difference_from before samples i)

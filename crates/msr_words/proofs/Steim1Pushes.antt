@@ -2,7 +2,7 @@
 use Rattle.std.proofs.Common.{◌≡◌, ◌↔◌, ◌<◌, ◌≤◌, ◌*◌, ℕ, ℤ, Bool, true, false, IsTrue, IsFalse, List, [], ◌∷◌, ◌++◌, length, map, refl, sym, subst, arith}
 use Rattle.std.specs.Prelude.{reverse}
 use Rattle.std.proofs.lemmas.List.{map-append}
-use Rattle.msr_steim.specs.declared.word.Version.TheVariants.{One}
+use Rattle.msr_kinds.specs.declared.storage.Version.TheVariants.{One}
 use Rattle.msr_words.specs.declared.counts.LeastCounts.{LeastCounts}
 use Rattle.msr_words.specs.Division.{CanDivide}
 use Rattle.msr_words.specs.Counts.{EndsIn}

@@ -1,7 +1,7 @@
 -- A walk of Steim-1 words over a segment.
 use Rattle.std.proofs.Common.{◌≡◌, ℕ, ◌+◌, ◌-◌, ◌*◌, ◌≤◌, ℤ, false, List, length, map, take, drop, None, arith, sym, ap, ◌∙◌, subst}
 use Rattle.std.proofs.lemmas.List.{drop-drop, length-drop}
-use Rattle.msr_steim.specs.declared.word.Version.TheVariants.{One}
+use Rattle.msr_kinds.specs.declared.storage.Version.TheVariants.{One}
 use Rattle.msr_kinds.specs.declared.kinds.Kind.TheVariants.{Steim1}
 use Rattle.msr_words.specs.Bounds.{IsEnd}
 use Rattle.msr_words.specs.Division.{CanDivide}

@@ -5,7 +5,7 @@ use Rattle.std.proofs.lemmas.List.{append-nil, nil_from_length, map-append}
 use Rattle.std.proofs.lemmas.Bool.{cases_lt}
 use Rattle.std.proofs.lemmas.List.Elements.{All-weaker, All-push, All-nil, All-cons, All-take, All-contains, Contains-push}
 use Rattle.std.proofs.lemmas.List.{take_at}
-use Rattle.msr_steim.specs.declared.word.Version.TheVariants.{Two}
+use Rattle.msr_kinds.specs.declared.storage.Version.TheVariants.{Two}
 use Rattle.msr_steim.specs.Word.{FitsBits}
 use Rattle.msr_kinds.specs.declared.kinds.Kind.TheVariants.{Steim2}
 use Rattle.msr_words.specs.Division.{CanDivide}

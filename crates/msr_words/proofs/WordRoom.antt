@@ -5,8 +5,8 @@ use Rattle.std.proofs.Common.{arith, refl, sym, ap, ◌∙◌, subst, lit≤}
 use Rattle.std.proofs.lemmas.Bool.Decides.{nat_tests}
 use Rattle.std.proofs.lemmas.List.{get_or-drop, get_or-take, length-map}
 use Rattle.std.proofs.lemmas.List.Sums.{sum_by-append}
-use Rattle.msr_steim.specs.declared.word.Version.{Version}
-use Rattle.msr_steim.specs.declared.word.Version.TheVariants.{One, Two}
+use Rattle.msr_kinds.specs.declared.storage.Version.{Version}
+use Rattle.msr_kinds.specs.declared.storage.Version.TheVariants.{One, Two}
 use Rattle.msr_steim.specs.Word.{AreGroups, FitsBits, IsGroup}
 use Rattle.msr_words.specs.Bounds.{BeginsWithFour, EndLaw, LookBackLaw, WideLaw, is_wide}
 use Rattle.msr_words.specs.Division.{CanDivide}

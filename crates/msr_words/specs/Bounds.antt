@@ -1,8 +1,8 @@
 -- What the differences of a run tell of the records that hold it.
 use Rattle.std.specs.Prelude.{◌≡◌, ℕ, zero, suc, ◌+◌, ◌-◌, ◌*◌, ◌^◌, ◌≤◌, ◌↔◌, min, ℤ, pos, negsuc, Bool, not, nat_lt, List, ◌∷◌, length, map, take, drop, count_by, get_or, All}
 use Rattle.std.specs.List.{AllByRecursion}
-use Rattle.msr_steim.specs.declared.word.Version.{Version}
-use Rattle.msr_steim.specs.declared.word.Version.TheVariants.{One}
+use Rattle.msr_kinds.specs.declared.storage.Version.{Version}
+use Rattle.msr_kinds.specs.declared.storage.Version.TheVariants.{One}
 use Rattle.msr_steim.specs.Word.{FitsBits}
 use Rattle.msr_kinds.specs.declared.kinds.Kind.{Kind}
 use Rattle.msr_kinds.specs.declared.kinds.Kind.TheVariants.{Steim2}

@@ -1,6 +1,6 @@
 -- The one division of a record's differences that is written (a choice of this profile).
 use Rattle.std.specs.Prelude.{◌≡◌, ◌<◌, ◌≤◌, ◌==◌, ℕ, ◌-◌, ℤ, List, [], ◌∷◌, length, take, drop, ⊤}
-use Rattle.msr_steim.specs.declared.word.Version.{Version}
+use Rattle.msr_kinds.specs.declared.storage.Version.{Version}
 use Rattle.msr_steim.specs.Area.{differences}
 use Rattle.msr_steim.specs.Word.{AreGroups, IsGroupAt}
 use Rattle.msr_words.specs.Division.{CanDivide}

@@ -1,7 +1,11 @@
 -- Which runs fit a record of a kind (SEED 2.4, blockette 1000: encodings 1, 2, 3, 10 and 11; appendix B).
-use Rattle.std.specs.Prelude.{ℕ, ◌+◌, ◌*◌, ◌<◌, ◌≤◌, ℤ, List, length, map, All}
-use Rattle.msr_steim.specs.declared.word.Version.{Version}
-use Rattle.msr_steim.specs.declared.word.Version.TheVariants.{One, Two}
+use Rattle.std.specs.Prelude.{ℕ, ◌+◌, ◌*◌, ◌<◌, ◌≤◌, ⊤, ℤ, List, length, map, All}
+use Rattle.msr_kinds.specs.declared.storage.Version.{Version}
+use Rattle.msr_kinds.specs.declared.storage.Storage.{Storage}
+use Rattle.msr_kinds.specs.declared.storage.Storage.TheVariants.{Integers, Frames}
+use Rattle.msr_kinds.specs.declared.storage.Width.{Width}
+use Rattle.msr_kinds.specs.declared.storage.Width.TheVariants.{Two, Three, Four}
+use Rattle.msr_kinds.specs.Storage.{size_of, storage_of}
 use Rattle.msr_steim.specs.Word.{FitsBits}
 use Rattle.msr_kinds.specs.declared.kinds.Kind.{Kind}
 use Rattle.msr_kinds.specs.declared.kinds.Kind.TheVariants.{Int16, Int24, Int32, Steim1, Steim2}
@@ -17,39 +21,30 @@ use Rattle.msr_words.specs.Segment.{run_points}
 abbrev pub most_counted : ℕ
 most_counted = 65535
 
--- ---- the room that a record of each kind has
+-- ---- the room that a record has
 
--- integers of that many bits, in that many bytes each, after the 64 bytes of the header
-abbrev pub FitsIntegers : ℕ → ℕ → ℕ → List (ℤ × ℤ) → Type 0
-FitsIntegers bits size bytes run = All (λ p. FitsBits bits p.0) run × (size * length run + 64 ≤ bytes)
+-- a number that an integer of that width can be; a sample has 32 bits itself
+abbrev pub IsInteger : Width → ℤ → Type 0
+IsInteger Two x = FitsBits 16 x
+IsInteger Three x = FitsBits 24 x
+IsInteger Four x = ⊤
 
--- 16-bit integers (encoding 1): two bytes a sample
-abbrev pub FitsInt16 : ℕ → List (ℤ × ℤ) → Type 0
-FitsInt16 bytes run = FitsIntegers 16 2 bytes run
-
--- 24-bit integers (encoding 2): three bytes a sample
-abbrev pub FitsInt24 : ℕ → List (ℤ × ℤ) → Type 0
-FitsInt24 bytes run = FitsIntegers 24 3 bytes run
-
--- 32-bit integers (encoding 3): four bytes a sample
-abbrev pub FitsInt32 : ℕ → List (ℤ × ℤ) → Type 0
-FitsInt32 bytes run = 4 * length run + 64 ≤ bytes
+-- encodings 1, 2 and 3: each sample as an integer, after the 64 bytes of the header
+abbrev pub FitsIntegers : Width → ℕ → List (ℤ × ℤ) → Type 0
+FitsIntegers width bytes run = All (λ p. IsInteger width p.0) run × (size_of width * length run + 64 ≤ bytes)
 
 -- Steim-1 and Steim-2 (encodings 10 and 11): a group of differences in each data word
 abbrev pub FitsSteim : Version → ℕ → List (ℤ × ℤ) → Type 0
 FitsSteim version bytes run = CanDivide version (words_of bytes) (map (λ p. p.1) run)
 
--- a record of that many bytes and that kind has room for the run
-abbrev pub HasRoom : Kind → ℕ → List (ℤ × ℤ) → Type 0
-HasRoom Int16 bytes run = FitsInt16 bytes run
-HasRoom Int24 bytes run = FitsInt24 bytes run
-HasRoom Int32 bytes run = FitsInt32 bytes run
-HasRoom Steim1 bytes run = FitsSteim One bytes run
-HasRoom Steim2 bytes run = FitsSteim Two bytes run
+-- a record of that many bytes that stores its samples so has room for the run
+abbrev pub HasRoom : Storage → ℕ → List (ℤ × ℤ) → Type 0
+HasRoom (Integers width) bytes run = FitsIntegers width bytes run
+HasRoom (Frames version) bytes run = FitsSteim version bytes run
 
 -- the run fits a record of that many bytes and that kind: it has room there, and its samples can be counted
 abbrev pub Fits : Kind → ℕ → List (ℤ × ℤ) → Type 0
-Fits kind bytes run = (length run ≤ most_counted) × HasRoom kind bytes run
+Fits kind bytes run = (length run ≤ most_counted) × HasRoom (storage_of kind) bytes run
 
 -- Records of any number of bytes, of some of the kinds. Those that are written are of a form, which has one of nine
 -- lengths.

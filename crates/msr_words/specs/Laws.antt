@@ -4,6 +4,11 @@ use Rattle.msr_steim.specs.Word.{FitsBits}
 use Rattle.msr_kinds.specs.declared.kinds.Kind.{Kind}
 use Rattle.msr_kinds.specs.declared.kinds.Kind.TheVariants.{Int16, Int24, Int32, Steim1, Steim2}
 use Rattle.msr_words.specs.Fit.{Records, most_counted}
+use Rattle.msr_kinds.specs.declared.storage.Storage.{Storage}
+use Rattle.msr_kinds.specs.declared.storage.Storage.TheVariants.{Integers, Frames}
+use Rattle.msr_kinds.specs.declared.storage.Version.{Version}
+use Rattle.msr_kinds.specs.declared.storage.Version.TheVariants.{One, Two}
+use Rattle.msr_kinds.specs.Storage.{size_of, storage_of}
 use Rattle.msr_kinds.specs.Kinds.{contains}
 use Rattle.msr_kinds.specs.RecordLength.{words_of}
 
@@ -46,27 +51,34 @@ pub record TrackerLaws (look_back : ℕ) (most : Records → ℕ) (fits : Record
 abbrev pub FitsShort : (List (ℤ × ℤ) → Type 0) → Type 0
 FitsShort fits = (run : List (ℤ × ℤ)) → length run ≤ 4 → fits run
 
--- how many of the samples before a cut a run of each kind may need: a Steim-1 group of four that is cut
--- after its first leaves three, which no group may follow
-abbrev pub look_back_of : Kind → ℕ
-look_back_of Int16 = 0
-look_back_of Int24 = 0
-look_back_of Int32 = 0
-look_back_of Steim1 = 1
-look_back_of Steim2 = 0
+-- How many of the differences before a cut may be needed: a Steim-1 group of four that is cut after
+-- its first leaves three, which no group may follow.
+abbrev pub places_of : Version → ℕ
+places_of One = 1
+places_of Two = 0
 
--- for how many samples a record of each kind has room at most: two bytes each, three, four, a quarter of a word, a
--- seventh
-abbrev pub room_of : Kind → ℕ → ℕ
-room_of Int16 bytes = (bytes - 64) / 2
-room_of Int24 bytes = (bytes - 64) / 3
-room_of Int32 bytes = (bytes - 64) / 4
-room_of Steim1 bytes = 4 * words_of bytes
-room_of Steim2 bytes = 7 * words_of bytes
+-- the differences of the largest group
+abbrev pub largest_of : Version → ℕ
+largest_of One = 4
+largest_of Two = 7
+
+-- how many of the samples before a cut a run may need, if a record stores its samples so
+abbrev pub places_in : Storage → ℕ
+places_in (Integers width) = 0
+places_in (Frames version) = places_of version
+
+-- how many a run of each kind may need
+abbrev pub look_back_of : Kind → ℕ
+look_back_of kind = places_in (storage_of kind)
+
+-- for how many samples a record that stores them so has room at most
+abbrev pub room_of : Storage → ℕ → ℕ
+room_of (Integers width) bytes = (bytes - 64) / size_of width
+room_of (Frames version) bytes = largest_of version * words_of bytes
 
 -- how many samples a record of each kind has at most
 abbrev pub most_of : Kind → ℕ → ℕ
-most_of kind bytes = min (room_of kind bytes) most_counted
+most_of kind bytes = min (room_of (storage_of kind) bytes) most_counted
 
 -- how many samples a record of that kind has at most; none if there are no such records among these
 abbrev pub most_in : Kind → Records → ℕ

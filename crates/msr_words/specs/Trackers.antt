@@ -1,7 +1,9 @@
 -- What contracts see of a tracker, and what that says of the samples pushed so far.
-use Rattle.std.specs.Prelude.{◌≡◌, ◌==◌, ℕ, ◌+◌, ◌*◌, ◌≤◌, ℤ, List, ◌++◌, suc, ◌↔◌, ⊤, cond, length, map, All, IsTrue, IsFalse, Bool, Some, reverse}
+use Rattle.std.specs.Prelude.{◌≡◌, ◌==◌, ℕ, ◌+◌, ◌*◌, ◌≤◌, ℤ, List, ◌++◌, suc, ◌↔◌, cond, length, map, All, IsTrue, IsFalse, Bool, Some, reverse}
 use Rattle.msr_steim.specs.Word.{FitsBits, group_width}
-use Rattle.msr_steim.specs.declared.word.Version.TheVariants.{One, Two}
+use Rattle.msr_kinds.specs.declared.storage.Version.TheVariants.{One, Two}
+use Rattle.msr_kinds.specs.declared.storage.Width.{Width}
+use Rattle.msr_kinds.specs.declared.storage.Width.TheVariants.{Two as TwoBytes, Three as ThreeBytes, Four as FourBytes}
 use Rattle.msr_words.specs.declared.counts.LeastCounts.{LeastCounts}
 use Rattle.msr_words.specs.Division.{CanDivide}
 use Rattle.msr_words.specs.AreCounts.{AreCounts}
@@ -11,15 +13,15 @@ use Rattle.msr_words.specs.Fit.{Fits, most_counted}
 use Rattle.msr_words.specs.Laws.{most_of}
 use Rattle.msr_kinds.specs.RecordLength.{words_of}
 
--- the kind of integers of 16 bits, of 24, or else of 32
-abbrev pub integers_of : ℕ → Kind
-integers_of bits = cond (bits == 16) Int16 (cond (bits == 24) Int24 Int32)
+-- the width of integers of 16 bits, of 24, or else of 32
+abbrev pub width_of : ℕ → Width
+width_of bits = cond (bits == 16) TwoBytes (cond (bits == 24) ThreeBytes FourBytes)
 
--- a number that a record of such integers can hold; a sample has 32 bits itself
-abbrev pub IsInteger : Kind → ℤ → Type 0
-IsInteger Int16 x = FitsBits 16 x
-IsInteger Int24 x = FitsBits 24 x
-IsInteger _ x = ⊤
+-- the kind of integers of a width
+abbrev pub integers : Width → Kind
+integers TwoBytes = Int16
+integers ThreeBytes = Int24
+integers FourBytes = Int32
 
 -- Of a tracker of integers: how many more samples a record has room for, and whether all fit so far.
 pub record IntegersSoFar : Type 0 where

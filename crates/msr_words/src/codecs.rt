@@ -5,9 +5,9 @@ ghost use Rattle.msr_kinds.specs.declared.kinds.Kind.{Kind};
 ghost use Rattle.msr_kinds.specs.declared.kinds.Kind.TheVariants.{Steim1, Steim2};
 ghost use Rattle.msr_kinds.specs.Forms.{all_kinds};
 ghost use Rattle.msr_kinds.specs.RecordLength.{words_of};
-ghost use Rattle.msr_words.specs.Fit.{Fits, Records, records_of};
+ghost use Rattle.msr_words.specs.Fit.{Fits, IsInteger, Records, records_of};
 ghost use Rattle.msr_kinds.specs.Codes.{code_of};
-ghost use Rattle.msr_words.specs.Trackers.{FollowsIntegers, FollowsSteim1, FollowsSteim2, IsInteger, integers_of};
+ghost use Rattle.msr_words.specs.Trackers.{FollowsIntegers, FollowsSteim1, FollowsSteim2, integers, width_of};
 ghost use Rattle.msr_words.specs.Laws.{TrackerLaws, most_of};
 ghost use Rattle.msr_words.specs.Lemmas.KindLaws.{integers_laws, kind_laws};
 
@@ -94,7 +94,7 @@ pub type Int32 = Integers<32>;
 
 /// The kind of integers of 16 bits, of 24, or else of 32.
 fn integers_of(bits: u32) -> Kind
-    ensures { result ≡ integers_of bits }
+    ensures { result ≡ integers (width_of bits) }
 {
     match bits {
         16 => Kind::Int16,
@@ -105,7 +105,7 @@ fn integers_of(bits: u32) -> Kind
 
 /// Whether a sample is an integer of 16 bits, or of 24; of any other width each sample is one.
 fn is_integer(sample: i32, bits: u32) -> bool
-    ensures { IsTrue result ↔ IsInteger (integers_of bits) sample }
+    ensures { IsTrue result ↔ IsInteger (width_of bits) sample }
 {
     match bits {
         16 => fits_bits(i64::from(sample), 16),
@@ -116,23 +116,23 @@ fn is_integer(sample: i32, bits: u32) -> bool
 
 /// Whether a sample is taken after others that fit, if there is room for `left` more.
 fn is_taken(sample: i32, bits: u32, left: usize, fits: bool) -> bool
-    ensures { IsTrue result ↔ IsTrue fits × (0 < left) × IsInteger (integers_of bits) sample }
+    ensures { IsTrue result ↔ IsTrue fits × (0 < left) × IsInteger (width_of bits) sample }
 {
     fits && left > 0 && is_integer(sample, bits)
 }
 
 impl<const BITS: u32> Tracker for Integers<BITS> {
-    ghost fits = { λ records. Fits (integers_of BITS) records.bytes };
+    ghost fits = { λ records. Fits (integers (width_of BITS)) records.bytes };
 
-    ghost follows = { λ records. FollowsIntegers (integers_of BITS) records.bytes };
+    ghost follows = { λ records. FollowsIntegers (integers (width_of BITS)) records.bytes };
 
     ghost LOOK_BACK = { 0 };
 
-    ghost most = { λ records. most_of (integers_of BITS) records.bytes };
+    ghost most = { λ records. most_of (integers (width_of BITS)) records.bytes };
 
     const LOOK_BACK: usize = 0;
 
-    ghost laws = { integers_laws BITS };
+    ghost laws = { integers_laws (width_of BITS) };
 
     fn most(record_length: Length) -> usize {
         integers_of(BITS).most(record_length)
@@ -156,7 +156,7 @@ impl<const BITS: u32> Tracker for Integers<BITS> {
 }
 
 impl<const BITS: u32> Codec for Integers<BITS> {
-    ghost kind = { integers_of BITS };
+    ghost kind = { integers (width_of BITS) };
 
     ghost same = { λ records run. (λ h. h, λ h. h) };
 

@@ -1,8 +1,8 @@
 //! The division of differences that is written.
 
 ghost use Rattle.std.specs.Prelude.{◌≡◌, ◌<◌, ◌≤◌, ℤ, List, IfOk, IfSome, IsNone, length, map};
-ghost use Rattle.msr_steim.specs.declared.word.Version.{Version};
-ghost use Rattle.msr_steim.specs.declared.word.Version.TheVariants.{One, Two};
+ghost use Rattle.msr_kinds.specs.declared.storage.Version.{Version};
+ghost use Rattle.msr_kinds.specs.declared.storage.Version.TheVariants.{One, Two};
 ghost use Rattle.std.specs.List.{AllByRecursion};
 ghost use Rattle.msr_steim.specs.Word.{FitsBits};
 ghost use Rattle.msr_kinds.specs.Lengths.{bytes_of};

@@ -3,17 +3,17 @@
 ghost use Rattle.std.specs.Prelude.{◌≡◌, All, ℕ, ℤ, List, ◌^◌, ◌<◌, ◌≤◌, ◌↔◌, IsTrue, drop, length};
 ghost use Rattle.msr_steim.specs.Word.{FitsBits};
 ghost use Rattle.msr_kinds.specs.Lengths.{bytes_of};
-ghost use Rattle.msr_steim.specs.declared.word.Version.TheVariants.{One, Two};
+ghost use Rattle.msr_kinds.specs.declared.storage.Version.TheVariants.{One, Two};
 ghost use Rattle.msr_kinds.specs.declared.kinds.Kind.TheVariants.{Steim1 as FirstSteim, Steim2 as SecondSteim};
 ghost use Rattle.msr_words.specs.Segment.{points, run_points, differences, difference_at, difference_from};
 ghost use Rattle.msr_words.specs.Division.{CanDivide};
 ghost use Rattle.msr_words.specs.Groups.{IsCapacity, IsLongestGroup};
-ghost use Rattle.msr_words.specs.Laws.{DominanceLaw, look_back_of, most_any, most_in, most_of};
-ghost use Rattle.msr_words.specs.Fit.{Fits, FitsAny, FitsIn, IsRun, IsFirstKind, records_of};
+ghost use Rattle.msr_words.specs.Laws.{DominanceLaw, look_back_of, most_any, most_in, most_of, room_of};
+ghost use Rattle.msr_words.specs.Fit.{Fits, FitsAny, FitsIn, IsFirstKind, IsInteger, IsRun, records_of};
 
 use crate::counts::{LeastCounts, magnitude};
 use crate::window::Window;
-use msr_kinds::{Form, Kind, Length};
+use msr_kinds::{Form, Kind, Length, Storage, Version, Width};
 use msr_steim::fits_bits;
 
 /// The greatest number of samples that the header of a record can count, in 16 bits.
@@ -51,34 +51,47 @@ impl Fitting for Kind {
     ghost fits = { Fits };
 
     fn look_back(self) -> usize {
-        match self {
-            Kind::Steim1 => 1,
-            Kind::Int16 | Kind::Int24 | Kind::Int32 | Kind::Steim2 => 0,
+        match self.storage() {
+            Storage::Frames(Version::One) => 1,
+            Storage::Frames(Version::Two) | Storage::Integers(_) => 0,
         }
     }
 
     fn most(self, record_length: Length) -> usize {
-        let room = match self {
-            Kind::Int16 => ((record_length.bytes() - 64) / 2) as usize,
-            Kind::Int24 => ((record_length.bytes() - 64) / 3) as usize,
-            Kind::Int32 => ((record_length.bytes() - 64) / 4) as usize,
-            Kind::Steim1 => 4 * record_length.data_words() as usize,
-            Kind::Steim2 => 7 * record_length.data_words() as usize,
-        };
-        room.min(MOST_COUNTED)
+        room_of(self.storage(), record_length).min(MOST_COUNTED)
     }
 
     fn fits(self, before: Option<i32>, run: &[i32], record_length: Length) -> bool {
         if run.len() > self.most(record_length) {
             return false;
         }
-        match self {
-            Kind::Int16 => all_of_bits(run, 16),
-            Kind::Int24 => all_of_bits(run, 24),
-            Kind::Int32 => true,
-            Kind::Steim1 => fits_steim1(before, run, record_length.data_words()),
-            Kind::Steim2 => fits_steim2(before, run, record_length.data_words()),
+        match self.storage() {
+            Storage::Integers(width) => are_integers(run, width),
+            Storage::Frames(Version::One) => fits_steim1(before, run, record_length.data_words()),
+            Storage::Frames(Version::Two) => fits_steim2(before, run, record_length.data_words()),
         }
+    }
+}
+
+/// For how many samples a record of that length has room at most that stores them so.
+fn room_of(storage: Storage, record_length: Length) -> usize
+    ensures { result ≡ room_of storage (bytes_of record_length) }
+{
+    match storage {
+        Storage::Integers(width) => (record_length.bytes() as usize - 64) / width.bytes(),
+        Storage::Frames(Version::One) => 4 * record_length.data_words() as usize,
+        Storage::Frames(Version::Two) => 7 * record_length.data_words() as usize,
+    }
+}
+
+/// Whether each sample is an integer of that width.
+fn are_integers(run: &[i32], width: Width) -> bool
+    ensures { IsTrue result ↔ All (IsInteger width) run.now }
+{
+    match width {
+        Width::Two => all_of_bits(run, 16),
+        Width::Three => all_of_bits(run, 24),
+        Width::Four => true,
     }
 }
 

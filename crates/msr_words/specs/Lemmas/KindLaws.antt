@@ -1,5 +1,5 @@
 -- The laws of each kind: what a run begins with fits, and a part after a cut fits with a few of the samples before it.
-use Rattle.std.specs.Prelude.{◌≡◌, ◌==◌, ℕ, ◌+◌, ◌-◌, ◌*◌, ◌/◌, ◌<◌, ◌≤◌, ◌⊎◌, ℤ, List, [], ◌∷◌, ◌++◌, true, false, cond, length, drop, map, All}
+use Rattle.std.specs.Prelude.{◌≡◌, ℕ, ◌+◌, ◌-◌, ◌*◌, ◌/◌, ◌<◌, ◌≤◌, ◌⊎◌, ℤ, List, [], ◌∷◌, ◌++◌, min, length, drop, map, All}
 use Rattle.std.proofs.Common.{arith, length-append, subst, refl, sym, ap, ◌∙◌, inl, inr}
 use Rattle.std.proofs.lemmas.List.{take_at, drop_at, drop_all, map-append, length-drop, length-map, drop-map}
 use Rattle.std.proofs.lemmas.List.Elements.{All-nil, All-take, All-drop}
@@ -7,15 +7,19 @@ use Rattle.std.proofs.lemmas.Nat.{le-div}
 use Rattle.std.proofs.Math.Nat.{mul-div-le, mul-le-mul_left, mul_comm}
 use Rattle.msr_kinds.specs.declared.kinds.Kind.{Kind}
 use Rattle.msr_kinds.specs.declared.kinds.Kind.TheVariants.{Int16, Int24, Int32, Steim1, Steim2}
-use Rattle.msr_steim.specs.declared.word.Version.{Version}
-use Rattle.msr_steim.specs.declared.word.Version.TheVariants.{One, Two}
-use Rattle.msr_steim.specs.Word.{FitsBits}
+use Rattle.msr_kinds.specs.declared.storage.Version.{Version}
+use Rattle.msr_kinds.specs.declared.storage.Storage.{Storage}
+use Rattle.msr_kinds.specs.declared.storage.Storage.TheVariants.{Integers, Frames}
+use Rattle.msr_kinds.specs.declared.storage.Version.TheVariants.{One, Two}
+use Rattle.msr_kinds.specs.declared.storage.Width.{Width}
+use Rattle.msr_kinds.specs.declared.storage.Width.TheVariants.{Two as TwoBytes, Three as ThreeBytes, Four as FourBytes}
+use Rattle.msr_kinds.specs.Storage.{size_of, storage_of}
 use Rattle.msr_words.specs.Division.{CanDivide}
-use Rattle.msr_words.specs.Laws.{PrefixLaw, BackStepLaw, SuffixLaw, SizeLaw, FitsShort, TrackerLaws, look_back_of, room_of, most_of, most_in, most_any}
-use Rattle.msr_words.specs.Trackers.{integers_of}
-use Rattle.msr_words.specs.Lemmas.SteimLaws.{places_of, largest_of, prefix_law, back_step_law, size_law, none_divides}
+use Rattle.msr_words.specs.Laws.{PrefixLaw, BackStepLaw, SuffixLaw, SizeLaw, FitsShort, TrackerLaws, largest_of, look_back_of, most_any, most_in, most_of, places_in, places_of, room_of}
+use Rattle.msr_words.specs.Trackers.{integers}
+use Rattle.msr_words.specs.Lemmas.SteimLaws.{prefix_law, back_step_law, size_law, none_divides}
 use Rattle.msr_words.specs.Bounds.{AreIntegers}
-use Rattle.msr_words.specs.Fit.{FitsIntegers, FitsInt32, FitsSteim, HasRoom, Fits, FitsIn, FitsAny, Records}
+use Rattle.msr_words.specs.Fit.{FitsIntegers, FitsSteim, HasRoom, Fits, FitsIn, FitsAny, IsInteger, Records, most_counted}
 use Rattle.msr_kinds.specs.RecordLength.{words_of}
 use Rattle.msr_kinds.proofs.KindLemmas.{int32_is_chosen}
 
@@ -39,28 +43,24 @@ back_step_more fits places more le law front back h =
     let high = r.2 in
     (r.0, r.1, omega arith, r.3)
 
-pub prefix_int32 : (bytes : ℕ) → PrefixLaw (FitsInt32 bytes)
-prefix_int32 bytes front back h = omega (arith, length-append front back)
-
-pub back_step_int32 : (bytes : ℕ) → BackStepLaw 0 (FitsInt32 bytes)
-back_step_int32 bytes = back_step_by_suffix (FitsInt32 bytes) (λ front back h. omega (arith, length-append front back))
-
 -- if `many` samples of `size` bytes have room, fewer do
 fewer_have_room : (size bytes few many : ℕ) → few ≤ many → size * many + 64 ≤ bytes → size * few + 64 ≤ bytes
 fewer_have_room size bytes few many less room = let bytes_less = mul-le-mul_left size less in omega arith
 
-prefix_integers : (bits size bytes : ℕ) → PrefixLaw (FitsIntegers bits size bytes)
-prefix_integers bits size bytes front back h = (
-  subst (All (λ p. FitsBits bits p.0)) (take_at front back (length front) refl)
-      (All-take (λ p. FitsBits bits p.0) (length front) (front ++ back) h.0),
-  fewer_have_room size bytes (length front) (length (front ++ back)) (omega (arith, length-append front back)) h.1,
+prefix_integers : (width : Width) (bytes : ℕ) → PrefixLaw (FitsIntegers width bytes)
+prefix_integers width bytes front back h = (
+  subst (All (λ p. IsInteger width p.0)) (take_at front back (length front) refl)
+      (All-take (λ p. IsInteger width p.0) (length front) (front ++ back) h.0),
+  fewer_have_room (size_of width) bytes (length front) (length (front ++ back))
+      (omega (arith, length-append front back)) h.1,
 )
 
-back_step_integers : (bits size bytes : ℕ) → BackStepLaw 0 (FitsIntegers bits size bytes)
-back_step_integers bits size bytes = back_step_by_suffix (FitsIntegers bits size bytes) (λ front back h. (
-  subst (All (λ p. FitsBits bits p.0)) (drop_at front back (length front) refl)
-      (All-drop (λ p. FitsBits bits p.0) (length front) (front ++ back) h.0),
-  fewer_have_room size bytes (length back) (length (front ++ back)) (omega (arith, length-append front back)) h.1,
+back_step_integers : (width : Width) (bytes : ℕ) → BackStepLaw 0 (FitsIntegers width bytes)
+back_step_integers width bytes = back_step_by_suffix (FitsIntegers width bytes) (λ front back h. (
+  subst (All (λ p. IsInteger width p.0)) (drop_at front back (length front) refl)
+      (All-drop (λ p. IsInteger width p.0) (length front) (front ++ back) h.0),
+  fewer_have_room (size_of width) bytes (length back) (length (front ++ back))
+      (omega (arith, length-append front back)) h.1,
 ))
 
 -- a list is empty or has a last member
@@ -125,10 +125,14 @@ back_step_steim version bytes front back h =
     let high = r.2 in
     (r.0, omega arith, omega arith, subst (CanDivide version (words_of bytes)) same r.3)
 
--- if `count` samples of `size` bytes have room, `count` is at most (bytes - 64) / size
-size_integers : (size bytes count : ℕ) → 0 < size → size * count + 64 ≤ bytes → count ≤ (bytes - 64) / size
-size_integers size bytes count some room = le-div count (bytes - 64) size some
-    (omega (arith, mul_comm count size, room))
+pub some_bytes : (width : Width) → 0 < size_of width
+some_bytes TwoBytes = omega arith
+some_bytes ThreeBytes = omega arith
+some_bytes FourBytes = omega arith
+
+size_integers : (width : Width) (bytes : ℕ) → SizeLaw ((bytes - 64) / size_of width) (FitsIntegers width bytes)
+size_integers width bytes run h = le-div (length run) (bytes - 64) (size_of width) (some_bytes width)
+    (omega (arith, mul_comm (length run) (size_of width), h.1))
 
 pub size_steim : (version : Version) (bytes : ℕ)
     → SizeLaw (largest_of version * words_of bytes) (FitsSteim version bytes)
@@ -141,92 +145,69 @@ size_steim version bytes run h =
 abbrev pub EmptyLaw : (ℕ → List (ℤ × ℤ) → Type 0) → Type 0
 EmptyLaw fits = (bytes : ℕ) → 64 ≤ bytes → fits bytes []
 
-empty_integers : (bits size : ℕ) → EmptyLaw (FitsIntegers bits size)
-empty_integers bits size bytes h = (All-nil (λ p. FitsBits bits p.0), omega arith)
-
-pub empty_int32 : EmptyLaw FitsInt32
-empty_int32 bytes h = omega arith
+empty_integers : (width : Width) → EmptyLaw (FitsIntegers width)
+empty_integers width bytes h = (All-nil (λ p. IsInteger width p.0), omega (arith, h))
 
 pub empty_steim : (version : Version) → EmptyLaw (FitsSteim version)
 empty_steim version bytes h = none_divides version (words_of bytes)
 
--- the laws of the room, for each kind
-prefix_room : (kind : Kind) (bytes : ℕ) → PrefixLaw (HasRoom kind bytes)
-prefix_room Int16 bytes = prefix_integers 16 2 bytes
-prefix_room Int24 bytes = prefix_integers 24 3 bytes
-prefix_room Int32 bytes = prefix_int32 bytes
-prefix_room Steim1 bytes = prefix_steim One bytes
-prefix_room Steim2 bytes = prefix_steim Two bytes
+-- the laws of the room, by how samples are stored
+prefix_room : (storage : Storage) (bytes : ℕ) → PrefixLaw (HasRoom storage bytes)
+prefix_room (Integers width) = prefix_integers width
+prefix_room (Frames version) = prefix_steim version
 
-back_step_room : (kind : Kind) (bytes : ℕ) → BackStepLaw (look_back_of kind) (HasRoom kind bytes)
-back_step_room Int16 bytes = back_step_integers 16 2 bytes
-back_step_room Int24 bytes = back_step_integers 24 3 bytes
-back_step_room Int32 bytes = back_step_int32 bytes
-back_step_room Steim1 bytes = back_step_steim One bytes
-back_step_room Steim2 bytes = back_step_steim Two bytes
+back_step_room : (storage : Storage) (bytes : ℕ) → BackStepLaw (places_in storage) (HasRoom storage bytes)
+back_step_room (Integers width) = back_step_integers width
+back_step_room (Frames version) = back_step_steim version
 
-size_room : (kind : Kind) (bytes : ℕ) → SizeLaw (room_of kind bytes) (HasRoom kind bytes)
-size_room Int16 bytes run h = size_integers 2 bytes (length run) (omega arith) h.1
-size_room Int24 bytes run h = size_integers 3 bytes (length run) (omega arith) h.1
-size_room Int32 bytes run h = size_integers 4 bytes (length run) (omega arith) h
-size_room Steim1 bytes run h = size_steim One bytes run h
-size_room Steim2 bytes run h = size_steim Two bytes run h
+size_room : (storage : Storage) (bytes : ℕ) → SizeLaw (room_of storage bytes) (HasRoom storage bytes)
+size_room (Integers width) = size_integers width
+size_room (Frames version) = size_steim version
 
-empty_room : (kind : Kind) → EmptyLaw (HasRoom kind)
-empty_room Int16 = empty_integers 16 2
-empty_room Int24 = empty_integers 24 3
-empty_room Int32 = empty_int32
-empty_room Steim1 = empty_steim One
-empty_room Steim2 = empty_steim Two
+empty_room : (storage : Storage) → EmptyLaw (HasRoom storage)
+empty_room (Integers width) = empty_integers width
+empty_room (Frames version) = empty_steim version
 
 -- the laws, for each kind: if a run is cut, each part has no more samples to count
 pub prefix_kind : (kind : Kind) (bytes : ℕ) → PrefixLaw (Fits kind bytes)
 prefix_kind kind bytes front back h = (
   omega
       (arith, length-append front back, h.0),
-  prefix_room kind bytes front back h.1,
+  prefix_room (storage_of kind) bytes front back h.1,
 )
 
 pub back_step_kind : (kind : Kind) (bytes : ℕ) → BackStepLaw (look_back_of kind) (Fits kind bytes)
 back_step_kind kind bytes front back h =
-    let r = back_step_room kind bytes front back h.1 in
+    let r = back_step_room (storage_of kind) bytes front back h.1 in
     let fewer = length-drop r.0 front in
     (r.0, r.1, r.2, (omega (arith, length-append front back, length-append (drop r.0 front) back, fewer, h.0), r.3))
 
 pub size_kind : (kind : Kind) (bytes : ℕ) → SizeLaw (most_of kind bytes) (Fits kind bytes)
-size_kind kind bytes run h = let room = size_room kind bytes run h.1 in omega (arith, h.0, room)
+size_kind kind bytes run h = let room = size_room (storage_of kind) bytes run h.1 in omega (arith, h.0, room)
 
 pub empty_kind : (kind : Kind) → EmptyLaw (Fits kind)
-empty_kind kind bytes header = (omega arith, empty_room kind bytes header)
+empty_kind kind bytes header = (omega arith, empty_room (storage_of kind) bytes header)
 
--- integers of fewer bits than a sample has room by their bits and their number
-by_bits : (bits size bytes : ℕ) → 64 ≤ bytes → (run : List (ℤ × ℤ)) → All (λ p. FitsBits bits p.0) run
-    → length run ≤ (bytes - 64) / size → FitsIntegers bits size bytes run
-by_bits bits size bytes header run all few =
-    let room = mul-le-mul_left size few in
-    let most = mul-div-le (bytes - 64) size in
-    (all, omega arith)
+-- integers fit by their width and their number
+pub fit_by_width : (width : Width) (bytes : ℕ) → 64 ≤ bytes → (run : List (ℤ × ℤ))
+    → All (λ p. IsInteger width p.0) run → length run ≤ min (room_of (Integers width) bytes) most_counted
+    → (length run ≤ most_counted) × FitsIntegers width bytes run
+fit_by_width width bytes header run all few =
+    let less : length run ≤ (bytes - 64) / size_of width = omega (arith, few) in
+    let room = mul-le-mul_left (size_of width) less in
+    let most = mul-div-le (bytes - 64) (size_of width) in
+    (omega (arith, few), (all, omega (arith, room, most, header)))
 
 pub int16_by_bits : (bytes : ℕ) → 64 ≤ bytes → AreIntegers Int16 16 bytes
-int16_by_bits bytes header = record {
-  takes =
-      λ run all few. (omega (arith, few), by_bits 16 2 bytes header run all (omega (arith, few)));
-  needs = λ run h. h.1.0;
-}
+int16_by_bits bytes header = record { takes = fit_by_width TwoBytes bytes header; needs = λ run h. h.1.0 }
 
 pub int24_by_bits : (bytes : ℕ) → 64 ≤ bytes → AreIntegers Int24 24 bytes
-int24_by_bits bytes header = record {
-  takes =
-      λ run all few. (omega (arith, few), by_bits 24 3 bytes header run all (omega (arith, few)));
-  needs = λ run h. h.1.0;
-}
+int24_by_bits bytes header = record { takes = fit_by_width ThreeBytes bytes header; needs = λ run h. h.1.0 }
 
-few_places : (kind : Kind) → look_back_of kind ≤ 1
-few_places Int16 = omega arith
-few_places Int24 = omega arith
-few_places Int32 = omega arith
-few_places Steim1 = omega arith
-few_places Steim2 = omega arith
+few_places : (storage : Storage) → places_in storage ≤ 1
+few_places (Integers width) = omega arith
+few_places (Frames One) = omega arith
+few_places (Frames Two) = omega arith
 
 -- the laws for records of one kind
 pub prefix_in : (kind : Kind) (records : Records) → PrefixLaw (FitsIn kind records)
@@ -243,7 +224,7 @@ prefix_any records front back h = (h.0, prefix_in h.0 records front back h.1)
 
 pub back_step_any : (records : Records) → BackStepLaw 1 (FitsAny records)
 back_step_any records front back h =
-    let r = back_step_more (FitsIn h.0 records) (look_back_of h.0) 1 (few_places h.0)
+    let r = back_step_more (FitsIn h.0 records) (look_back_of h.0) 1 (few_places (storage_of h.0))
     (back_step_in h.0 records) front back h.1 in
     (r.0, r.1, r.2, (h.0, r.3))
 
@@ -266,7 +247,8 @@ size_any records run h =
 
 -- a few samples fit a record of any of the lengths, as 32-bit integers
 pub short_any : (records : Records) → 256 ≤ records.bytes → FitsShort (FitsAny records)
-short_any records least run short = (Int32, (int32_is_chosen records.kinds, (omega arith, omega arith)))
+short_any records least run short =
+    (Int32, (int32_is_chosen records.kinds, (omega arith, ((λ k d in'. tt), omega arith))))
 
 -- the laws of the trackers
 pub kind_laws : (kind : Kind) → TrackerLaws
@@ -274,22 +256,16 @@ pub kind_laws : (kind : Kind) → TrackerLaws
 kind_laws kind = record {
   prefix = λ records. prefix_kind kind records.bytes;
   back_step = λ records. back_step_kind kind records.bytes;
-  near = let few = few_places kind in omega arith;
+  near = let few = few_places (storage_of kind) in omega arith;
   empty = λ records. empty_kind kind records.bytes;
   size = λ records. size_kind kind records.bytes;
 }
 
--- what holds of each kind of integers
-pub of_integers : (P : Kind → Type 0) → P Int16 → P Int24 → P Int32 → (bits : ℕ) → P (integers_of bits)
-of_integers P a b c bits = elim (bits == 16) as (λ one. P (cond one Int16 (cond (bits == 24) Int24 Int32))) [
-  | true ↦ a
-  | false ↦ elim (bits == 24) as (λ two. P (cond two Int24 Int32)) [ true ↦ b | false ↦ c ]
-]
-
-pub integers_laws : (bits : ℕ) → TrackerLaws 0 (λ records. most_of (integers_of bits) records.bytes)
-    (λ records. Fits (integers_of bits) records.bytes)
-integers_laws = of_integers (λ kind. TrackerLaws 0 (λ records. most_of kind records.bytes)
-    (λ records. Fits kind records.bytes)) (kind_laws Int16) (kind_laws Int24) (kind_laws Int32)
+pub integers_laws : (width : Width) → TrackerLaws 0 (λ records. most_of (integers width) records.bytes)
+    (λ records. Fits (integers width) records.bytes)
+integers_laws TwoBytes = kind_laws Int16
+integers_laws ThreeBytes = kind_laws Int24
+integers_laws FourBytes = kind_laws Int32
 
 pub any_laws : TrackerLaws 1 most_any FitsAny
 any_laws = record {

@@ -7,12 +7,13 @@ use Rattle.std.proofs.lemmas.Bool.Decides.{nat_tests}
 use Rattle.std.proofs.lemmas.List.{append-nil, reverse-append, take-append-drop, take-append-le, drop-append-le}
 use Rattle.std.proofs.Math.Nat.{pow-le-pow_right, mul-le-mul_left}
 use Rattle.std.proofs.Math.Seq.{take-append_seam, drop-append_seam}
-use Rattle.msr_steim.specs.declared.word.Version.{Version}
-use Rattle.msr_steim.specs.declared.word.Version.TheVariants.{One, Two}
+use Rattle.msr_kinds.specs.declared.storage.Version.{Version}
+use Rattle.msr_kinds.specs.declared.storage.Version.TheVariants.{One, Two}
 use Rattle.msr_steim.proofs.Filling.{inner_is_group}
 use Rattle.msr_steim.specs.Word.{AreGroups, FitsBits, IsGroup, IsInnerGroup, group_width}
 use Rattle.msr_words.specs.Division.{CanDivide}
 use Rattle.msr_words.specs.Counts.{EndsIn, Parts}
+use Rattle.msr_words.specs.Laws.{largest_of, places_of}
 use Rattle.msr_words.specs.Lemmas.LeastCounts.{a_group_has_few}
 use Rattle.msr_words.specs.Lemmas.Ends.{ends_is_division}
 
@@ -123,12 +124,6 @@ pub none_divides : (version : Version) (n : ℕ) → CanDivide version n []
 none_divides version n = record { groups = []; are_groups = tt; join = refl; few = omega arith }
 
 -- ---- the back-step law
-
--- How many of the differences before a cut may be needed: a Steim-1 group of four that is cut after
--- its first leaves three, which no group may follow.
-abbrev pub places_of : Version → ℕ
-places_of One = 1
-places_of Two = 0
 
 -- a start close before this one, from which the run can be divided
 pub record StepsBack (version : Version) (n : ℕ) (front back : List ℤ) : Type 0 where
@@ -253,11 +248,6 @@ back_step_law version n front back can some =
     back_step version n can.groups front back can.are_groups can.join can.few some
 
 -- ---- the size law
-
--- the differences of the largest group
-abbrev pub largest_of : Version → ℕ
-largest_of One = 4
-largest_of Two = 7
 
 group_size : (version : Version) (group : List ℤ) → IsGroup version group → length group ≤ largest_of version
 group_size One group is = one_has_few group is

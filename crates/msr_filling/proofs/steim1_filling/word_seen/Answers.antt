@@ -1,6 +1,6 @@
 -- By the size.
 use Rattle.std.proofs.Common.{arith, ◌≡◌, take, subst, sym}
-use Rattle.msr_steim.specs.declared.word.Version.TheVariants.{One}
+use Rattle.msr_kinds.specs.declared.storage.Version.TheVariants.{One}
 use Rattle.msr_steim.specs.Word.{IsGroup, group_word}
 use Rattle.msr_filling.proofs.steim1_filling.word_seen.Goals as goal
 

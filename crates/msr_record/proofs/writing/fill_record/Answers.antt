@@ -25,6 +25,9 @@ read_by g h front size e s back = λ rest w l.
     let long : 2 ^ g.exponent ≤ 64 + length rest = rw (← s) l in
     back rest writable long ∙ ap (λ (h : Header). Ok (as_read h)) e
 
+pub fill_area-requires-clause-fits : goal.fill_area-requires-clause-fits
+fill_area-requires-clause-fits c = rw c.storage.ensures c.requires.fits.1
+
 pub returns : goal.returns
 returns c =
     let exponent = c.exponent-exponent.result in
@@ -51,9 +54,9 @@ returns c =
     joined
     refl
     (c.write_header.ensures.bytes ∙ ap header_bytes c.header_for-header.ensures.header)
-    front c.in_ok-frames.ensures.written area_long
+    front (rw c.storage.ensures at c.in_ok-frames.ensures.written) area_long
     (read_by c.header_for-header.result header c.write_header.result exponent c.header_for-header.ensures.header
     same c.write_header.ensures.read_back)
-    c.in_ok-frames.ensures.carried c.in_ok-frames.ensures.reverse
+    (rw c.storage.ensures at c.in_ok-frames.ensures.carried) (rw c.storage.ensures at c.in_ok-frames.ensures.reverse)
     split c.exponent-exponent.ensures bounds.0 bounds.1
     c.requires.quality c.requires.normal c.requires.some c.header_for-header.ensures.rate

@@ -9,8 +9,9 @@ pub returns-in-Ok-view_area-clause-some : goal.returns-in-Ok-view_area-clause-so
 returns-in-Ok-view_area-clause-some c =
     let header = c.in-Ok.opened.header in
     let fields = rw c.in-Some.is at c.in-Ok.ensures.opened.fields_are in
-    let carried = rw c.area_of-area.ensures.area at c.in-Ok-view_area.ensures.samples in
-    let agree = rw (c.area_of-area.ensures.area, ← c.reverse_agrees.ensures) at c.in-Ok-view_area.ensures.reverse in
+    let carried = rw (c.area_of-area.ensures.area, c.storage.ensures) at c.in-Ok-view_area.ensures.samples in
+    let agree = rw (c.area_of-area.ensures.area, c.storage.ensures, ← c.reverse_agrees.ensures) at
+    c.in-Ok-view_area.ensures.reverse in
     let samples = c.in-Ok-view_area.samples.samples in
     let row : Row = record { key = key_of header; start = start_of header; kind = c.in-Some.kind; samples = samples } in
     record {

@@ -1,6 +1,6 @@
 -- By the arms: the code and the top two bits say how the word is laid out.
 use Rattle.std.proofs.Common.{◌≡◌, ◌+◌, ◌*◌, ◌/◌, refl, arith, lit<}
-use Rattle.msr_steim.specs.declared.word.Version.TheVariants.{One}
+use Rattle.msr_kinds.specs.declared.storage.Version.TheVariants.{One}
 use Rattle.msr_steim.proofs.Summing.{divided, divided_by, inner_group_written, inner_none_written}
 use Rattle.msr_steim.proofs.sums.write_inner_word.Goals as goal
 
