@@ -2,28 +2,97 @@
 #![tactic(auto)]
 
 ghost use Rattle.std.specs.Prelude.{◌≡◌, ◌<◌, ◌↔◌, length, IsTrue, IsFalse};
+ghost use Rattle.msr_kinds.specs.declared.kinds.Kind.TheVariants.{Steim1, Steim2};
 ghost use Rattle.msr_kinds.specs.Forms.{all_kinds};
+ghost use Rattle.msr_kinds.specs.Kinds.{IsChosen};
 ghost use Rattle.msr_words.specs.Fit.{FitsIn, IsRun};
-ghost use Rattle.msr_check.specs.HoldsBoth.{HoldsBoth};
+ghost use Rattle.msr_words.specs.Laws.{look_back_of};
+ghost use Rattle.msr_words.specs.Segment.{run_points};
+ghost use Rattle.msr_check.specs.HoldsBoth.{HaveNoRoom, HoldsBoth, SteimHolds};
 ghost use Rattle.msr_words.specs.Packing.{NoneHolds, IsPacking, IsSeparating, IsLeast};
 
 use msr_kinds::{Form, Kind, Length};
-use msr_words::{Fitting, Run, run_fits};
+use msr_words::{
+    Fitting, Run, are_narrow, begins_with_four, count_wide, fits_up_to_its_end, run_fits,
+    steim1_look_back, steim1_reach, steim2_dominates, two_wide_in_a_word,
+};
 
-/// Whether some run of that kind, which the form has, holds both samples. It is enough to try the starts that the kind
-/// needs, at and before the first sample, and the end after the second.
+/// Whether some run of that kind, which the form has, holds both samples. A part after a cut fits such a kind by itself,
+/// so it is enough to try the run from the first to the second.
 fn holds_both(kind: Kind, samples: &[i32], form: Form, first: usize, second: usize) -> bool
+    requires alone { look_back_of kind ≡ 0 }
     requires order { first < second }
     requires within { second < length samples.now }
     ensures { IsTrue result ↔ HoldsBoth kind form samples.now first second }
 {
-    let most = first.min(kind.look_back());
-    for back in 0..most + 1 {
-        if run_fits(kind, samples, first - back, second + 1, form) {
-            return true;
-        }
+    run_fits(kind, samples, first, second + 1, form)
+}
+
+/// Whether some run of Steim-1 holds both samples. One that starts before the first of them has to be tried only if its
+/// first difference shares a word with three others.
+fn steim1_holds_both(samples: &[i32], form: Form, first: usize, second: usize) -> bool
+    requires chosen { IsChosen form.kinds Steim1 }
+    requires order { first < second }
+    requires within { second < length samples.now }
+    ensures { IsTrue result ↔ HoldsBoth Steim1 form samples.now first second }
+{
+    steim1_look_back();
+    if second < steim1_reach(samples, form.length, first) {
+        return true;
     }
-    false
+    if first == 0 || !begins_with_four(samples, first - 1) {
+        return false;
+    }
+    second < steim1_reach(samples, form.length, first - 1)
+}
+
+/// Whether no record of Steim-1 holds both samples, given that none of Steim-2 does: there are too many, or each of
+/// their differences has as much room in Steim-2. The contract promises nothing if the answer is `false`.
+fn steim1_is_short(samples: &[i32], form: Form, first: usize, second: usize) -> bool
+    requires none { HoldsBoth Steim2 form samples.now first second → ⊥ }
+    requires order { first < second }
+    requires within { second < length samples.now }
+    ensures short { IsTrue result → HoldsBoth Steim1 form samples.now first second → ⊥ }
+    ensures chosen { IsFalse result → IsChosen form.kinds Steim1 }
+{
+    steim2_dominates();
+    if !form.kinds.contains(Kind::Steim1) || second - first >= Kind::Steim1.most(form.length) {
+        return true;
+    }
+    form.kinds.contains(Kind::Steim2) && are_narrow(samples, first, second + 1)
+}
+
+/// Whether no Steim record, of either version, has room for both samples and those between them: there are too many, or
+/// too many of their differences are of more than 10 bits. The contract promises nothing if the answer is `false`.
+fn steim_has_no_room(samples: &[i32], record_length: Length, first: usize, second: usize) -> bool
+    requires order { first < second }
+    requires within { second < length samples.now }
+    ensures { IsTrue result → HaveNoRoom record_length samples.now first second }
+{
+    two_wide_in_a_word();
+    if second - first >= Kind::Steim2.most(record_length) {
+        return true;
+    }
+    let most = 2 * record_length.data_words();
+    second - first > most as usize && count_wide(samples, first, second + 1) > most
+}
+
+/// Whether some run of Steim-2 or Steim-1 holds both samples.
+fn steim_holds_both(samples: &[i32], form: Form, first: usize, second: usize) -> bool
+    requires order { first < second }
+    requires within { second < length samples.now }
+    ensures { IsTrue result ↔ SteimHolds form samples.now first second }
+{
+    if steim_has_no_room(samples, form.length, first, second) {
+        return false;
+    }
+    if holds_both(Kind::Steim2, samples, form, first, second) {
+        return true;
+    }
+    if steim1_is_short(samples, form, first, second) {
+        return false;
+    }
+    steim1_holds_both(samples, form, first, second)
 }
 
 /// Whether some run of some kind that fits holds both samples.
@@ -32,11 +101,10 @@ fn some_holds_both(samples: &[i32], form: Form, first: usize, second: usize) -> 
     requires within { second < length samples.now }
     ensures { IsFalse result ↔ NoneHolds form samples.now first second }
 {
-    holds_both(Kind::Steim2, samples, form, first, second)
-        | holds_both(Kind::Steim1, samples, form, first, second)
-        | holds_both(Kind::Int16, samples, form, first, second)
+    holds_both(Kind::Int16, samples, form, first, second)
         | holds_both(Kind::Int24, samples, form, first, second)
         | holds_both(Kind::Int32, samples, form, first, second)
+        | steim_holds_both(samples, form, first, second)
 }
 
 /// Whether the first sample stands before the second, and no run that fits holds both.
@@ -85,6 +153,19 @@ fn is_packing(samples: &[i32], form: Form, runs: &[Run]) -> bool
     at == samples.len() as u64
 }
 
+/// Whether the samples `start` to `end - 1` fit one record of that kind, which the form has; Steim-1 word by word.
+fn fits(kind: Kind, samples: &[i32], start: usize, end: usize, form: Form) -> bool
+    requires order { start ≤ end }
+    requires within { end ≤ length samples.now }
+    ensures { IsTrue result ↔ FitsIn kind form (run_points samples.now start end) }
+{
+    if kind != Kind::Steim1 {
+        return run_fits(kind, samples, start, end, form);
+    }
+    fits_up_to_its_end();
+    form.kinds.contains(kind) && end <= steim1_reach(samples, form.length, start)
+}
+
 /// Whether the run is not empty, lies in the segment, and fits a record of its kind, which the form has.
 fn is_run(samples: &[i32], form: Form, run: &Run) -> bool
     ensures { IsTrue result ↔ (run.now.start < run.now.end)
@@ -92,7 +173,7 @@ fn is_run(samples: &[i32], form: Form, run: &Run) -> bool
 {
     run.start < run.end
         && run.end <= samples.len() as u64
-        && run_fits(
+        && fits(
             run.kind,
             samples,
             run.start as usize,

@@ -5,5 +5,4 @@ pub returns : goal.returns
 returns c =
     none_says c.args.form c.args.samples.now c.args.first c.args.second c.requires.order
     c.requires.within
-    _ _ _ _ _ c.holds_both.ensures c.holds_both-2.ensures c.holds_both-3.ensures c.holds_both-4.ensures
-    c.holds_both-5.ensures
+    _ _ _ _ c.holds_both.ensures c.holds_both-2.ensures c.holds_both-3.ensures c.steim_holds_both.ensures
