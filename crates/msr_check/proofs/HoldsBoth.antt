@@ -2,7 +2,6 @@
 use Rattle.std.proofs.Common.{◌≡◌, ◌↔◌, ℕ, ◌+◌, ◌-◌, ◌*◌, ◌<◌, ◌≤◌, ◌⊎◌, Bool, true, false, ◌||◌, IsTrue, IsFalse, ℤ, pos, List, [], ◌∷◌, ◌++◌, length, map, arith, refl, sym, ap, ◌∙◌, subst, inl, inr}
 use Rattle.std.specs.Prelude.{All, count_by, slice_index_or}
 use Rattle.std.proofs.lemmas.Bool.{cases_lt}
-use Rattle.msr_steim.specs.declared.word.Version.TheVariants.{One, Two}
 use Rattle.msr_kinds.specs.declared.forms.Form.{Form}
 use Rattle.msr_kinds.specs.declared.lengths.Length.{Length}
 use Rattle.msr_kinds.specs.declared.kinds.Kind.{Kind}
@@ -10,16 +9,47 @@ use Rattle.msr_kinds.specs.declared.kinds.Kind.TheVariants.{Int16, Int24, Int32,
 use Rattle.msr_kinds.specs.Kinds.{IsChosen}
 use Rattle.msr_kinds.specs.Lengths.{bytes_of}
 use Rattle.msr_kinds.specs.RecordLength.{words_of}
-use Rattle.msr_words.specs.Bounds.{BeginsWithFour, IsEnd, WideLaw, is_wide}
+use Rattle.msr_words.specs.Bounds.{BeginsWithFour, IsEnd, is_wide}
 use Rattle.msr_words.specs.Segment.{difference_at, run_points}
 use Rattle.msr_words.specs.Fit.{Fits, FitsIn, IsRun}
-use Rattle.msr_words.specs.Laws.{BackStepLaw, DominanceLaw, IsNarrow, look_back_of, most_of}
-use Rattle.msr_words.specs.Lemmas.KindLaws.{back_step_in, prefix_in, prefix_kind, size_kind}
+use Rattle.msr_words.specs.Laws.{IsNarrow, look_back_of, most_of}
+use Rattle.msr_words.specs.Lemmas.KindLaws.{back_step_in, prefix_in, size_kind}
 use Rattle.msr_words.proofs.Runs.{back_step_run, length-run_points, prefix_run, run_points_cut, run_points_more, run_points_none}
 use Rattle.msr_words.proofs.Stretches.{none_with_wide}
-use Rattle.msr_words.proofs.WordRoom.{rest_of_run}
+use Rattle.msr_words.proofs.Dominance.{steim2_dominates}
+use Rattle.msr_words.proofs.WordRoom.{end_law, rest_of_run, wide_of_steim1, wide_of_steim2}
 use Rattle.msr_words.specs.Packing.{NoneHolds}
 use Rattle.msr_check.specs.HoldsBoth.{HaveNoRoom, HoldsBoth, SteimHolds}
+
+module _ (samples : List ℤ) (first second : ℕ) (order : first < second) (within : second < length samples) where
+  -- a run that is longer than any of its kind
+  pub none_longer : (kind : Kind) (bytes : ℕ) → most_of kind bytes ≤ second - first → (s b : ℕ) → s ≤ first
+      → second < b → IsRun (Fits kind bytes) samples s b → ⊥
+  none_longer kind bytes long s b from past run =
+      let size = size_kind kind bytes (run_points samples s b) run.2 in
+      let l = length-run_points samples s b run.0 run.1 in
+      omega arith
+
+  pub too_long : (record_length : Length) → most_of Steim2 (bytes_of record_length) ≤ second - first
+      → HaveNoRoom record_length samples first second
+  too_long record_length long = record {
+    steim2 = none_longer Steim2 (bytes_of record_length) long;
+    steim1 = none_longer Steim1 (bytes_of record_length) (omega arith);
+  }
+
+  pub too_wide : (record_length : Length) → 2 * words_of (bytes_of record_length)
+      < count_by is_wide (map (λ p. p.1) (run_points samples (first + 1) (second + 1)))
+      → HaveNoRoom record_length samples first second
+  too_wide record_length more = record {
+    steim2 = λ s b from past run.
+        let less = none_with_wide (bytes_of record_length) samples Steim2
+        (wide_of_steim2 (bytes_of record_length)) (first + 1) (second + 1) (omega arith) more s b (omega arith) run in
+        omega arith;
+    steim1 = λ s b from past run.
+        let less = none_with_wide (bytes_of record_length) samples Steim1
+        (wide_of_steim1 (bytes_of record_length)) (first + 1) (second + 1) (omega arith) more s b (omega arith) run in
+        omega arith;
+  }
 
 module _ (form : Form) (samples : List ℤ) (first second : ℕ) (order : first < second)
     (within : second < length samples) where
@@ -138,49 +168,17 @@ module _ (form : Form) (samples : List ℤ) (first second : ℕ) (order : first 
 
   -- ---- bounds
 
-  -- a run that is longer than any of its kind
-  pub none_longer : (kind : Kind) (bytes : ℕ) → most_of kind bytes ≤ second - first → (s b : ℕ) → s ≤ first
-      → second < b → IsRun (Fits kind bytes) samples s b → ⊥
-  none_longer kind bytes long s b from past run =
-      let size = size_kind kind bytes (run_points samples s b) run.2 in
-      let l = length-run_points samples s b run.0 run.1 in
-      omega arith
-
-  pub too_long : (record_length : Length) → most_of Steim2 (bytes_of record_length) ≤ second - first
-      → HaveNoRoom record_length samples first second
-  too_long record_length long = record {
-    steim2 = none_longer Steim2 (bytes_of record_length) long;
-    steim1 = none_longer Steim1 (bytes_of record_length) (omega arith);
-  }
-
-  pub too_wide : WideLaw → (record_length : Length) → 2 * words_of (bytes_of record_length)
-      < count_by is_wide (map (λ p. p.1) (run_points samples (first + 1) (second + 1)))
-      → HaveNoRoom record_length samples first second
-  too_wide law record_length more = record {
-    steim2 = λ s b from past run.
-        let less = none_with_wide (bytes_of record_length) samples Steim2
-        (λ r f. law Two (words_of (bytes_of record_length)) (map (λ p. p.1) r) f.1) (first + 1) (second + 1)
-        (omega arith) more s b (omega arith) run in
-        omega arith;
-    steim1 = λ s b from past run.
-        let less = none_with_wide (bytes_of record_length) samples Steim1
-        (λ r f. law One (words_of (bytes_of record_length)) (map (λ p. p.1) r) f.1) (first + 1) (second + 1)
-        (omega arith) more s b (omega arith) run in
-        omega arith;
-  }
-
   pub too_many : most_of Steim1 (bytes_of form.length) ≤ second - first → HoldsBoth Steim1 form samples first second
       → ⊥
   too_many long holds =
       let past = holds.past in
-      none_longer Steim1 (bytes_of form.length) long holds.start holds.end holds.from (omega arith)
+      none_longer samples first second order within Steim1 (bytes_of form.length) long holds.start holds.end holds.from (omega arith)
       (holds.run.0, holds.run.1, holds.run.2.1)
 
   -- if the differences are narrow, what Steim-1 holds Steim-2 holds from the first on
-  pub dominated : DominanceLaw (Fits Steim1 (bytes_of form.length)) (Fits Steim2 (bytes_of form.length))
-      → IsChosen form.kinds Steim2 → All (λ p. IsNarrow p.1) (run_points samples first (second + 1))
+  pub dominated : IsChosen form.kinds Steim2 → All (λ p. IsNarrow p.1) (run_points samples first (second + 1))
       → HoldsBoth Steim1 form samples first second → HoldsBoth Steim2 form samples first second
-  dominated law chosen narrow holds =
+  dominated chosen narrow holds =
       let from = holds.from in
       let past = holds.past in
       let less = prefix_run (FitsIn Steim1 form) (prefix_in Steim1 form) samples holds.start
@@ -188,7 +186,7 @@ module _ (form : Form) (samples : List ℤ) (first second : ℕ) (order : first 
       let cut = subst (Fits Steim1 (bytes_of form.length))
       (sym (run_points_cut samples holds.start first (second + 1) from (omega arith))) less.2.1 in
       held Steim2 first (omega arith) (chosen,
-        law (run_points samples holds.start first) (run_points samples first (second + 1)) narrow cut)
+        steim2_dominates (bytes_of form.length) (run_points samples holds.start first) (run_points samples first (second + 1)) narrow cut)
 
   -- ---- all kinds
 

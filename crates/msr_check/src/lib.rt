@@ -1,7 +1,7 @@
 //! Whether a packing and its separators show that the packing is least.
 #![tactic(auto)]
 
-ghost use Rattle.std.specs.Prelude.{◌≡◌, ◌<◌, ◌↔◌, length, IsTrue, IsFalse};
+ghost use Rattle.std.specs.Prelude.{◌≡◌, ◌<◌, ◌≤◌, ◌↔◌, length, IsTrue, IsFalse};
 ghost use Rattle.msr_kinds.specs.declared.kinds.Kind.TheVariants.{Steim1, Steim2};
 ghost use Rattle.msr_kinds.specs.Forms.{all_kinds};
 ghost use Rattle.msr_kinds.specs.Kinds.{IsChosen};
@@ -13,8 +13,7 @@ ghost use Rattle.msr_words.specs.Packing.{NoneHolds, IsPacking, IsSeparating, Is
 
 use msr_kinds::{Form, Kind, Length};
 use msr_words::{
-    Fitting, Run, are_narrow, begins_with_four, count_wide, fits_up_to_its_end, run_fits,
-    steim1_look_back, steim1_reach, steim2_dominates, two_wide_in_a_word,
+    Fitting, Run, are_narrow, begins_with_four, count_wide, run_fits, steim1_reach,
 };
 
 /// Whether some run of that kind, which the form has, holds both samples. A part after a cut fits such a kind by itself,
@@ -36,7 +35,6 @@ fn steim1_holds_both(samples: &[i32], form: Form, first: usize, second: usize) -
     requires within { second < length samples.now }
     ensures { IsTrue result ↔ HoldsBoth Steim1 form samples.now first second }
 {
-    steim1_look_back();
     if second < steim1_reach(samples, form.length, first) {
         return true;
     }
@@ -55,7 +53,6 @@ fn steim1_is_short(samples: &[i32], form: Form, first: usize, second: usize) -> 
     ensures short { IsTrue result → HoldsBoth Steim1 form samples.now first second → ⊥ }
     ensures chosen { IsFalse result → IsChosen form.kinds Steim1 }
 {
-    steim2_dominates();
     if !form.kinds.contains(Kind::Steim1) || second - first >= Kind::Steim1.most(form.length) {
         return true;
     }
@@ -69,7 +66,6 @@ fn steim_has_no_room(samples: &[i32], record_length: Length, first: usize, secon
     requires within { second < length samples.now }
     ensures { IsTrue result → HaveNoRoom record_length samples.now first second }
 {
-    two_wide_in_a_word();
     if second - first >= Kind::Steim2.most(record_length) {
         return true;
     }
@@ -159,11 +155,14 @@ fn fits(kind: Kind, samples: &[i32], start: usize, end: usize, form: Form) -> bo
     requires within { end ≤ length samples.now }
     ensures { IsTrue result ↔ FitsIn kind form (run_points samples.now start end) }
 {
-    if kind != Kind::Steim1 {
-        return run_fits(kind, samples, start, end, form);
+    match kind {
+        Kind::Steim1 => {
+            form.kinds.contains(kind) && end <= steim1_reach(samples, form.length, start)
+        }
+        Kind::Int16 | Kind::Int24 | Kind::Int32 | Kind::Steim2 => {
+            run_fits(kind, samples, start, end, form)
+        }
     }
-    fits_up_to_its_end();
-    form.kinds.contains(kind) && end <= steim1_reach(samples, form.length, start)
 }
 
 /// Whether the run is not empty, lies in the segment, and fits a record of its kind, which the form has.
