@@ -17,7 +17,7 @@ use Rattle.msr_words.specs.Lemmas.KindLaws.{back_step_in, prefix_in, size_kind}
 use Rattle.msr_words.proofs.Runs.{back_step_run, length-run_points, prefix_run, run_points_cut, run_points_more, run_points_none}
 use Rattle.msr_words.proofs.Stretches.{none_with_wide}
 use Rattle.msr_words.proofs.Dominance.{steim2_dominates}
-use Rattle.msr_words.proofs.WordRoom.{end_law, rest_of_run, wide_of_steim1, wide_of_steim2}
+use Rattle.msr_words.proofs.WordRoom.{rest_of_run, wide_of_steim1, wide_of_steim2}
 use Rattle.msr_words.specs.Packing.{NoneHolds}
 use Rattle.msr_check.specs.HoldsBoth.{HaveNoRoom, HoldsBoth, SteimHolds}
 

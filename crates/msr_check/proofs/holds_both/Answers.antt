@@ -9,7 +9,7 @@ returns c =
     let first = c.args.first in
     let second = c.args.second in (
       λ t. held form samples first second c.requires.order c.requires.within c.args.kind first (omega arith)
-          (c.run_fits.ensures.0 t),
-      λ holds. c.run_fits.ensures.1 (held_here form samples first second c.requires.order c.requires.within
+          (c.fits.ensures.0 t),
+      λ holds. c.fits.ensures.1 (held_here form samples first second c.requires.order c.requires.within
           c.args.kind c.requires.alone holds),
     )
