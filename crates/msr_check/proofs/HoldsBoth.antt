@@ -1,52 +1,205 @@
 -- Two samples that one run holds, by the starts at and before the first of them.
-use Rattle.std.proofs.Common.{◌≡◌, ◌↔◌, ℕ, ◌+◌, ◌-◌, ◌<◌, ◌≤◌, min, Bool, true, false, ◌||◌, IsTrue, IsFalse, ℤ, List, length, arith, refl, inl, inr}
+use Rattle.std.proofs.Common.{◌≡◌, ◌↔◌, ℕ, ◌+◌, ◌-◌, ◌*◌, ◌<◌, ◌≤◌, ◌⊎◌, Bool, true, false, ◌||◌, IsTrue, IsFalse, ℤ, pos, List, [], ◌∷◌, ◌++◌, length, map, arith, refl, sym, ap, ◌∙◌, subst, inl, inr}
+use Rattle.std.specs.Prelude.{All, count_by, slice_index_or}
 use Rattle.std.proofs.lemmas.Bool.{cases_lt}
-use Rattle.msr_words.specs.Fit.{Records, FitsIn}
 use Rattle.msr_kinds.specs.declared.kinds.Kind.{Kind}
 use Rattle.msr_kinds.specs.declared.kinds.Kind.TheVariants.{Int16, Int24, Int32, Steim1, Steim2}
-use Rattle.msr_words.specs.Segment.{run_points}
-use Rattle.msr_words.specs.Laws.{look_back_of}
-use Rattle.msr_words.specs.Lemmas.KindLaws.{prefix_in, back_step_in}
-use Rattle.msr_words.proofs.Runs.{prefix_run, back_step_run}
+use Rattle.msr_kinds.specs.Kinds.{IsChosen}
+use Rattle.msr_kinds.specs.RecordLength.{words_of}
+use Rattle.msr_words.specs.Bounds.{BeginsWithFour, IsEnd, is_wide}
+use Rattle.msr_words.specs.Segment.{difference_at, run_points}
+use Rattle.msr_words.specs.Fit.{Records, Fits, FitsIn, IsRun}
+use Rattle.msr_words.specs.Laws.{IsNarrow, look_back_of, most_of}
+use Rattle.msr_words.specs.Lemmas.KindLaws.{back_step_in, prefix_in, size_kind}
+use Rattle.msr_words.proofs.Runs.{back_step_run, length-run_points, prefix_run, run_points_cut, run_points_more, run_points_none}
+use Rattle.msr_words.proofs.Stretches.{none_with_wide}
+use Rattle.msr_words.proofs.Dominance.{steim2_dominates}
+use Rattle.msr_words.proofs.WordRoom.{rest_of_run, wide_of_steim1, wide_of_steim2}
 use Rattle.msr_words.specs.Packing.{NoneHolds}
-use Rattle.msr_check.specs.HoldsBoth.{HoldsBoth}
+use Rattle.msr_check.specs.HoldsBoth.{HaveNoRoom, HoldsBoth, SteimHolds}
 
--- from none of the last `back` places up to the first sample a run of that kind that fits holds the second
-abbrev pub NoneFrom : Kind → Records → List ℤ → ℕ → ℕ → ℕ → Type 0
-NoneFrom kind records samples first second back = (start : ℕ) → start ≤ first → first < start + back
-    → FitsIn kind records (run_points samples start (second + 1)) → ⊥
+module _ (samples : List ℤ) (first second : ℕ) (order : first < second) (within : second < length samples) where
+  -- a run that is longer than any of its kind
+  pub none_longer : (kind : Kind) (bytes : ℕ) → most_of kind bytes ≤ second - first → (s b : ℕ) → s ≤ first
+      → second < b → IsRun (Fits kind bytes) samples s b → ⊥
+  none_longer kind bytes long s b from past run =
+      let size = size_kind kind bytes (run_points samples s b) run.2 in
+      let l = length-run_points samples s b run.0 run.1 in
+      omega arith
+
+  pub too_long : (bytes : ℕ) → most_of Steim2 bytes ≤ second - first
+      → HaveNoRoom bytes samples first second
+  too_long bytes long = record {
+    steim2 = none_longer Steim2 bytes long;
+    steim1 = none_longer Steim1 bytes (omega arith);
+  }
+
+  pub too_wide : (bytes : ℕ) → 2 * words_of bytes
+      < count_by is_wide (map (λ p. p.1) (run_points samples (first + 1) (second + 1)))
+      → HaveNoRoom bytes samples first second
+  too_wide bytes more = record {
+    steim2 = λ s b from past run.
+        let less = none_with_wide bytes samples Steim2
+        (wide_of_steim2 bytes) (first + 1) (second + 1) (omega arith) more s b (omega arith) run in
+        omega arith;
+    steim1 = λ s b from past run.
+        let less = none_with_wide bytes samples Steim1
+        (wide_of_steim1 bytes) (first + 1) (second + 1) (omega arith) more s b (omega arith) run in
+        omega arith;
+  }
 
 module _ (records : Records) (samples : List ℤ) (first second : ℕ) (order : first < second)
     (within : second < length samples) where
-  module _ (kind : Kind) where
-    pub none_held : (back : ℕ) → min first (look_back_of kind) < back
-        → NoneFrom kind records samples first second back → HoldsBoth kind records samples first second → ⊥
-    none_held back all none holds =
-        let from = holds.from in
-        let past = holds.past in
-        let shorter = prefix_run (FitsIn kind records) (prefix_in kind records) samples holds.start
-        (second + 1) holds.end (omega arith) (omega arith) holds.run in
-        let cut = back_step_run (FitsIn kind records) (look_back_of kind)
-        (back_step_in kind records) samples holds.start first (second + 1) from (omega arith) shorter in
-        none cut.0 cut.2 (omega arith) cut.4.2
+  -- the part of the run from the first on, with as many samples before it as the kind may need, up to the second
+  shorter : (kind : Kind) → HoldsBoth kind records samples first second → (s : ℕ) × (s ≤ first)
+      × (first ≤ s + look_back_of kind) × IsRun (FitsIn kind records) samples s (second + 1)
+  shorter kind holds =
+      let from = holds.from in
+      let past = holds.past in
+      let less = prefix_run (FitsIn kind records) (prefix_in kind records) samples holds.start
+      (second + 1) holds.end (omega arith) (omega arith) holds.run in
+      let cut = back_step_run (FitsIn kind records) (look_back_of kind)
+      (back_step_in kind records) samples holds.start first (second + 1) from (omega arith) less in
+      (cut.0, cut.2, cut.3, cut.4)
 
-    pub held : (start : ℕ) → start ≤ first → FitsIn kind records (run_points samples start (second + 1))
-        → HoldsBoth kind records samples first second
-    held start before fits = record {
-      start = start;
-      end = second + 1;
-      run = (omega arith, omega arith, fits);
-      from = before;
-      past = omega arith;
-    }
+  pub held : (kind : Kind) (start : ℕ) → start ≤ first → FitsIn kind records (run_points samples start (second + 1))
+      → HoldsBoth kind records samples first second
+  held kind start before fits = record {
+    start = start;
+    end = second + 1;
+    run = (omega arith, omega arith, fits);
+    from = before;
+    past = omega arith;
+  }
 
-    pub none_from_more : (back : ℕ) → back ≤ first → NoneFrom kind records samples first second back
-        → (FitsIn kind records (run_points samples (first - back) (second + 1)) → ⊥) →
-        NoneFrom kind records samples first second (back + 1)
-    none_from_more back le none not start before near fits = elim (cases_lt first (start + back)) [
-      | inl tried ↦ none start before tried fits
-      | inr here ↦ let e : start ≡ first - back = omega arith in not (rw e at fits)
+  pub held_here : (kind : Kind) → look_back_of kind ≡ 0 → HoldsBoth kind records samples first second
+      → FitsIn kind records (run_points samples first (second + 1))
+  held_here kind alone holds =
+      let cut = shorter kind holds in
+      let low = cut.1 in
+      let high = cut.2 in
+      let same : cut.0 ≡ first = omega arith in
+      subst (λ s. FitsIn kind records (run_points samples s (second + 1))) same cut.3.2
+
+  -- ---- Steim-1
+
+  pub reaches_both : IsChosen records.kinds Steim1 → (start end : ℕ) → start ≤ first
+      → IsEnd Steim1 records.bytes samples start end → second < end
+      → HoldsBoth Steim1 records samples first second
+  reaches_both chosen start end before is past = record {
+    start = start;
+    end = end;
+    run = (is.fits.0, is.fits.1, (chosen, is.fits.2));
+    from = before;
+    past = past;
+  }
+
+  -- the run can leave its first sample out, if that shares a word with three others no more
+  without_first : 0 < first → ((b : ℕ) → first - 1 ≤ b → b ≤ length samples
+      → BeginsWithFour (map (λ p. p.1) (run_points samples (first - 1) b)) → ⊥) → (b : ℕ) → first < b
+      → IsRun (Fits Steim1 records.bytes) samples (first - 1) b
+      → IsRun (Fits Steim1 records.bytes) samples first b
+  without_first some apart b past run =
+      let in' = run.1 in
+      let p : ℤ × ℤ = (slice_index_or samples (first - 1) (pos 0), difference_at samples (first - 1)) in
+      let up : first - 1 + 1 ≡ first = omega arith in
+      let one : run_points samples (first - 1) first ≡ p ∷ [] =
+      subst (λ x. run_points samples (first - 1) x ≡ p ∷ []) up
+      (run_points_more samples (first - 1) (first - 1) (omega arith) (omega arith)
+      ∙ ap (λ l. l ++ p ∷ []) (run_points_none samples (first - 1))) in
+      let whole : run_points samples (first - 1) b ≡ p ∷ run_points samples first b =
+      sym (run_points_cut samples (first - 1) first b (omega arith) (omega arith))
+      ∙ ap (λ l. l ++ run_points samples first b) one in
+      let can : Fits Steim1 records.bytes (p ∷ run_points samples first b) =
+      subst (Fits Steim1 records.bytes) whole run.2 in (
+        omega arith,
+        in',
+        rest_of_run records.bytes p (run_points samples first b)
+            (λ four. apart b (omega arith) in' (subst (λ l. BeginsWithFour (map (λ p. p.1) l))
+            (sym whole) four)) can,
+      )
+
+  -- a run from the first on, or from the sample before it
+  two_starts : HoldsBoth Steim1 records samples first second
+      → IsRun (Fits Steim1 records.bytes) samples first (second + 1)
+      ⊎ ((0 < first) × IsRun (Fits Steim1 records.bytes) samples (first - 1) (second + 1))
+  two_starts holds =
+      let cut = shorter Steim1 holds in
+      let low = cut.1 in
+      let high = cut.2 in
+      let run : IsRun (Fits Steim1 records.bytes) samples cut.0 (second + 1) =
+      (cut.3.0, cut.3.1, cut.3.2.1) in
+      elim (cases_lt cut.0 first) [
+        | inl before ↦
+            let e : cut.0 ≡ first - 1 = omega arith in
+            inr (omega arith, subst (λ s. IsRun (Fits Steim1 records.bytes) samples s (second + 1)) e run)
+        | inr not ↦
+            let e : cut.0 ≡ first = omega arith in
+            inl (subst (λ s. IsRun (Fits Steim1 records.bytes) samples s (second + 1)) e run)
+      ]
+
+  module _ (here : ℕ) (here_is : IsEnd Steim1 records.bytes samples first here) (short : here ≤ second) where
+    pub none_here : 0 ≡ first → HoldsBoth Steim1 records samples first second → ⊥
+    none_here start holds = elim (two_starts holds) [
+      | inl run ↦ let most = here_is.furthest (second + 1) run in omega arith
+      | inr before ↦ let some = before.0 in omega arith
     ]
+
+    pub none_apart : ((b : ℕ) → first - 1 ≤ b → b ≤ length samples
+        → BeginsWithFour (map (λ p. p.1) (run_points samples (first - 1) b)) → ⊥)
+        → HoldsBoth Steim1 records samples first second → ⊥
+    none_apart apart holds = elim (two_starts holds) [
+      | inl run ↦ let most = here_is.furthest (second + 1) run in omega arith
+      | inr before ↦
+          let most = here_is.furthest (second + 1)
+          (without_first before.0 apart (second + 1) (omega arith) before.1) in
+          omega arith
+    ]
+
+    pub none_before : (end : ℕ) → IsEnd Steim1 records.bytes samples (first - 1) end → end ≤ second
+        → HoldsBoth Steim1 records samples first second → ⊥
+    none_before end is less holds = elim (two_starts holds) [
+      | inl run ↦ let most = here_is.furthest (second + 1) run in omega arith
+      | inr before ↦ let most = is.furthest (second + 1) before.1 in omega arith
+    ]
+
+  -- ---- bounds
+
+  pub too_many : most_of Steim1 records.bytes ≤ second - first → HoldsBoth Steim1 records samples first second
+      → ⊥
+  too_many long holds =
+      let past = holds.past in
+      none_longer samples first second order within Steim1 records.bytes long holds.start holds.end holds.from (omega arith)
+      (holds.run.0, holds.run.1, holds.run.2.1)
+
+  -- if the differences are narrow, what Steim-1 holds Steim-2 holds from the first on
+  pub dominated : IsChosen records.kinds Steim2 → All (λ p. IsNarrow p.1) (run_points samples first (second + 1))
+      → HoldsBoth Steim1 records samples first second → HoldsBoth Steim2 records samples first second
+  dominated chosen narrow holds =
+      let from = holds.from in
+      let past = holds.past in
+      let less = prefix_run (FitsIn Steim1 records) (prefix_in Steim1 records) samples holds.start
+      (second + 1) holds.end (omega arith) (omega arith) holds.run in
+      let cut = subst (Fits Steim1 records.bytes)
+      (sym (run_points_cut samples holds.start first (second + 1) from (omega arith))) less.2.1 in
+      held Steim2 first (omega arith) (chosen,
+        steim2_dominates records.bytes (run_points samples holds.start first) (run_points samples first (second + 1)) narrow cut)
+
+  -- ---- all kinds
+
+  pub steim_without_room : HaveNoRoom records.bytes samples first second → SteimHolds records samples first second → ⊥
+  steim_without_room none some = elim some.holds [
+    | inl two ↦
+        let past = two.past in
+        none.steim2 two.start two.end two.from (omega arith) (two.run.0, two.run.1, two.run.2.1)
+    | inr one ↦
+        let past = one.past in
+        none.steim1 one.start one.end one.from (omega arith) (one.run.0, one.run.1, one.run.2.1)
+  ]
+
+  pub steim_alone : (HoldsBoth Steim2 records samples first second → ⊥) → SteimHolds records samples first second
+      → HoldsBoth Steim1 records samples first second
+  steim_alone none some = elim some.holds [ | inl two ↦ absurd (none two) | inr one ↦ one ]
 
   -- no run of any kind
   pub none_of_any : ((kind : Kind) → HoldsBoth kind records samples first second → ⊥)
@@ -56,54 +209,55 @@ module _ (records : Records) (samples : List ℤ) (first second : ℕ) (order : 
         (record { start = a; end = b; run = (run.0, run.1, run.2.1); from = p; past = s });
   }
 
-  pub some_of_any : (kind : Kind) → HoldsBoth kind records samples first second
-      → NoneHolds records samples first second → ⊥
+  pub some_of_any : (kind : Kind) → HoldsBoth kind records samples first second → NoneHolds records samples first second → ⊥
   some_of_any kind holds none =
       let from = holds.from in
       let past = holds.past in
       none.none holds.start holds.end (holds.run.0, holds.run.1, (kind, holds.run.2)) from (omega arith)
       (omega arith) past
 
-  Says : Bool → Kind → Type 0
-  Says answer kind = IsTrue answer ↔ HoldsBoth kind records samples first second
+  some_of_steim : SteimHolds records samples first second → NoneHolds records samples first second → ⊥
+  some_of_steim some none = elim some.holds [
+    | inl two ↦ some_of_any Steim2 two none
+    | inr one ↦ some_of_any Steim1 one none
+  ]
+
+  Says : Bool → Type 0 → Type 0
+  Says answer P = IsTrue answer ↔ P
 
   -- none of the answers for each kind is yes exactly when no run holds both
-  pub none_says : (two one short middle long : Bool) → (IsTrue two ↔ HoldsBoth Steim2 records samples first second)
-      → (IsTrue one ↔ HoldsBoth Steim1 records samples first second) →
-      (IsTrue short ↔ HoldsBoth Int16 records samples first second)
+  pub none_says : (short middle long steim : Bool) → (IsTrue short ↔ HoldsBoth Int16 records samples first second)
       → (IsTrue middle ↔ HoldsBoth Int24 records samples first second)
-      → (IsTrue long ↔ HoldsBoth Int32 records samples first second) →
-      (IsFalse ((((two || one) || short) || middle) || long) ↔ NoneHolds records samples first second)
+      → (IsTrue long ↔ HoldsBoth Int32 records samples first second) → (IsTrue steim ↔ SteimHolds records samples first second)
+      → (IsFalse (((short || middle) || long) || steim) ↔ NoneHolds records samples first second)
   unfolding Says
-  none_says two one short middle long p q r m s =
-      (say two one short middle long p q r m s, hear two one short middle long p q r m s)
+  none_says short middle long steim r m s p = (say short middle long steim r m s p, hear short middle long steim r m s p)
     where
-      not : (answer : Bool) (kind : Kind) → Says answer kind → answer ≡ false
-          → HoldsBoth kind records samples first second → ⊥
-      not answer kind says e holds = let t = says.1 holds in cc
+      not : (answer : Bool) (P : Type 0) → Says answer P → answer ≡ false → P → ⊥
+      not answer P says e holds = let t = says.1 holds in cc
 
-      say : (two one short middle long : Bool) → Says two Steim2 → Says one Steim1 → Says short Int16
-          → Says middle Int24 → Says long Int32 → IsFalse ((((two || one) || short) || middle) || long)
-          → NoneHolds records samples first second
-      say true one short middle long p q r m s h = absurd cc
-      say false true short middle long p q r m s h = absurd cc
-      say false false true middle long p q r m s h = absurd cc
-      say false false false true long p q r m s h = absurd cc
-      say false false false false long p q r m s h = none_of_any none
+      say : (short middle long steim : Bool) → Says short (HoldsBoth Int16 records samples first second)
+          → Says middle (HoldsBoth Int24 records samples first second)
+          → Says long (HoldsBoth Int32 records samples first second) → Says steim (SteimHolds records samples first second)
+          → IsFalse (((short || middle) || long) || steim) → NoneHolds records samples first second
+      say true middle long steim r m s p h = absurd cc
+      say false true long steim r m s p h = absurd cc
+      say false false true steim r m s p h = absurd cc
+      say false false false steim r m s p h = none_of_any none
         where
           none : (kind : Kind) → HoldsBoth kind records samples first second → ⊥
-          none Steim2 = not false Steim2 p refl
-          none Steim1 = not false Steim1 q refl
-          none Int16 = not false Int16 r refl
-          none Int24 = not false Int24 m refl
-          none Int32 = not long Int32 s h
+          none Steim2 = λ two. not steim (SteimHolds records samples first second) p h (record { holds = inl two })
+          none Steim1 = λ one. not steim (SteimHolds records samples first second) p h (record { holds = inr one })
+          none Int16 = not false (HoldsBoth Int16 records samples first second) r refl
+          none Int24 = not false (HoldsBoth Int24 records samples first second) m refl
+          none Int32 = not false (HoldsBoth Int32 records samples first second) s refl
 
-      hear : (two one short middle long : Bool) → Says two Steim2 → Says one Steim1 → Says short Int16
-          → Says middle Int24 → Says long Int32 → NoneHolds records samples first second
-          → IsFalse ((((two || one) || short) || middle) || long)
-      hear true one short middle long p q r m s none = absurd (some_of_any Steim2 (p.0 refl) none)
-      hear false true short middle long p q r m s none = absurd (some_of_any Steim1 (q.0 refl) none)
-      hear false false true middle long p q r m s none = absurd (some_of_any Int16 (r.0 refl) none)
-      hear false false false true long p q r m s none = absurd (some_of_any Int24 (m.0 refl) none)
-      hear false false false false true p q r m s none = absurd (some_of_any Int32 (s.0 refl) none)
-      hear false false false false false p q r m s none = refl
+      hear : (short middle long steim : Bool) → Says short (HoldsBoth Int16 records samples first second)
+          → Says middle (HoldsBoth Int24 records samples first second)
+          → Says long (HoldsBoth Int32 records samples first second) → Says steim (SteimHolds records samples first second)
+          → NoneHolds records samples first second → IsFalse (((short || middle) || long) || steim)
+      hear true middle long steim r m s p none = absurd (some_of_any Int16 (r.0 refl) none)
+      hear false true long steim r m s p none = absurd (some_of_any Int24 (m.0 refl) none)
+      hear false false true steim r m s p none = absurd (some_of_any Int32 (s.0 refl) none)
+      hear false false false true r m s p none = absurd (some_of_steim (p.0 refl) none)
+      hear false false false false r m s p none = refl

@@ -1,1 +1,3 @@
 pub mod HoldsBoth
+pub mod Known
+pub mod Next

@@ -1,50 +1,163 @@
 //! Whether a packing and its separators show that the packing is least.
 #![tactic(auto)]
 
-ghost use Rattle.std.specs.Prelude.{◌≡◌, ◌<◌, ◌↔◌, length, IsTrue, IsFalse};
+ghost use Rattle.std.specs.Prelude.{◌≡◌, ◌<◌, ◌≤◌, ◌↔◌, length, IsTrue, IsFalse};
+ghost use Rattle.msr_kinds.specs.declared.kinds.Kind.TheVariants.{Steim1, Steim2};
 ghost use Rattle.msr_kinds.specs.Forms.{all_kinds};
+ghost use Rattle.msr_kinds.specs.Kinds.{IsChosen};
 ghost use Rattle.msr_words.specs.Fit.{FitsIn, IsRun, records_of};
-ghost use Rattle.msr_check.specs.HoldsBoth.{HoldsBoth};
+ghost use Rattle.msr_words.specs.Laws.{look_back_of};
+ghost use Rattle.msr_words.specs.Segment.{run_points};
+ghost use Rattle.msr_kinds.specs.Lengths.{bytes_of};
+ghost use Rattle.msr_check.specs.HoldsBoth.{HaveNoRoom, HoldsBoth, SteimHolds};
+ghost use Rattle.msr_check.specs.Known.{IsKnown};
+ghost use Rattle.msr_check.specs.Next.{IsNext};
 ghost use Rattle.msr_words.specs.Packing.{NoneHolds, IsPacking, IsSeparating, IsLeast};
 
-use msr_kinds::{Form, Kind, Length};
-use msr_words::{Fitting, Run, run_fits};
+mod reach;
 
-/// Whether some run of that kind, which the form has, holds both samples. It is enough to try the starts that the kind
-/// needs, at and before the first sample, and the end after the second.
-fn holds_both(kind: Kind, samples: &[i32], form: Form, first: usize, second: usize) -> bool
+use crate::reach::{Reach, reach_of};
+use msr_kinds::{Form, Kind, Length};
+use msr_words::{
+    Fitting, Run, are_narrow, begins_with_four, count_wide, run_fits, steim1_reach,
+};
+
+/// Whether some run of that kind, which the form has, holds both samples. A part after a cut fits such a kind by itself,
+/// so it is enough to try the run from the first to the second.
+fn holds_both(
+    kind: Kind,
+    samples: &[i32],
+    form: Form,
+    first: usize,
+    second: usize,
+    known: Option<Reach>,
+) -> bool
+    requires alone { look_back_of kind ≡ 0 }
+    requires known { IsKnown (bytes_of form.length) samples.now known }
     requires order { first < second }
     requires within { second < length samples.now }
     ensures { IsTrue result ↔ HoldsBoth kind (records_of form) samples.now first second }
 {
-    let most = first.min(kind.look_back());
-    for back in 0..most + 1 {
-        if run_fits(kind, samples, first - back, second + 1, form) {
-            return true;
-        }
+    fits(kind, samples, first, second + 1, form, known)
+}
+
+/// Whether some run of Steim-1 holds both samples. One that starts before the first of them has to be tried only if its
+/// first difference shares a word with three others.
+fn steim1_holds_both(samples: &[i32], form: Form, first: usize, second: usize) -> bool
+    requires chosen { IsChosen form.kinds Steim1 }
+    requires order { first < second }
+    requires within { second < length samples.now }
+    ensures { IsTrue result ↔ HoldsBoth Steim1 (records_of form) samples.now first second }
+{
+    if second < steim1_reach(samples, form.length, first) {
+        return true;
     }
-    false
+    if first == 0 || !begins_with_four(samples, first - 1) {
+        return false;
+    }
+    second < steim1_reach(samples, form.length, first - 1)
+}
+
+/// Whether no record of Steim-1 holds both samples, given that none of Steim-2 does: there are too many, or each of
+/// their differences has as much room in Steim-2. The contract promises nothing if the answer is `false`.
+fn steim1_is_short(samples: &[i32], form: Form, first: usize, second: usize) -> bool
+    requires none { HoldsBoth Steim2 (records_of form) samples.now first second → ⊥ }
+    requires order { first < second }
+    requires within { second < length samples.now }
+    ensures short { IsTrue result → HoldsBoth Steim1 (records_of form) samples.now first second → ⊥ }
+    ensures chosen { IsFalse result → IsChosen form.kinds Steim1 }
+{
+    if !form.kinds.contains(Kind::Steim1) || second - first >= Kind::Steim1.most(form.length) {
+        return true;
+    }
+    form.kinds.contains(Kind::Steim2) && are_narrow(samples, first, second + 1)
+}
+
+/// Whether no Steim record, of either version, has room for both samples and those between them: there are too many, or
+/// too many of their differences are of more than 10 bits. The contract promises nothing if the answer is `false`.
+fn steim_has_no_room(samples: &[i32], record_length: Length, first: usize, second: usize) -> bool
+    requires order { first < second }
+    requires within { second < length samples.now }
+    ensures { IsTrue result → HaveNoRoom (bytes_of record_length) samples.now first second }
+{
+    if second - first >= Kind::Steim2.most(record_length) {
+        return true;
+    }
+    let most = 2 * record_length.data_words();
+    second - first > most as usize && count_wide(samples, first, second + 1) > most
+}
+
+/// Whether some run of Steim-2 or Steim-1 holds both samples. If it is known how far Steim-2 reaches, nothing is counted.
+fn steim_holds_both(
+    samples: &[i32],
+    form: Form,
+    first: usize,
+    second: usize,
+    known: Option<Reach>,
+) -> bool
+    requires known { IsKnown (bytes_of form.length) samples.now known }
+    requires order { first < second }
+    requires within { second < length samples.now }
+    ensures { IsTrue result ↔ SteimHolds (records_of form) samples.now first second }
+{
+    if known.is_none() && steim_has_no_room(samples, form.length, first, second) {
+        return false;
+    }
+    if holds_both(Kind::Steim2, samples, form, first, second, known) {
+        return true;
+    }
+    if steim1_is_short(samples, form, first, second) {
+        return false;
+    }
+    steim1_holds_both(samples, form, first, second)
 }
 
 /// Whether some run of some kind that fits holds both samples.
-fn some_holds_both(samples: &[i32], form: Form, first: usize, second: usize) -> bool
+fn some_holds_both(
+    samples: &[i32],
+    form: Form,
+    first: usize,
+    second: usize,
+    known: Option<Reach>,
+) -> bool
+    requires known { IsKnown (bytes_of form.length) samples.now known }
     requires order { first < second }
     requires within { second < length samples.now }
     ensures { IsFalse result ↔ NoneHolds (records_of form) samples.now first second }
 {
-    holds_both(Kind::Steim2, samples, form, first, second)
-        | holds_both(Kind::Steim1, samples, form, first, second)
-        | holds_both(Kind::Int16, samples, form, first, second)
-        | holds_both(Kind::Int24, samples, form, first, second)
-        | holds_both(Kind::Int32, samples, form, first, second)
+    holds_both(Kind::Int16, samples, form, first, second, known)
+        | holds_both(Kind::Int24, samples, form, first, second, known)
+        | holds_both(Kind::Int32, samples, form, first, second, known)
+        | steim_holds_both(samples, form, first, second, known)
 }
 
 /// Whether the first sample stands before the second, and no run that fits holds both.
-fn none_between(samples: &[i32], form: Form, first: u64, second: u64) -> bool
-    requires { second < length samples.now }
+fn none_between(
+    samples: &[i32],
+    form: Form,
+    first: u64,
+    second: u64,
+    known: Option<Reach>,
+) -> bool
+    requires known { IsKnown (bytes_of form.length) samples.now known }
+    requires within { second < length samples.now }
     ensures { IsTrue result ↔ (first < second) × NoneHolds (records_of form) samples.now first second }
 {
-    first < second && !some_holds_both(samples, form, first as usize, second as usize)
+    first < second && !some_holds_both(samples, form, first as usize, second as usize, known)
+}
+
+/// Whether the separator at that place is a sample of the segment, after the one before it, and no run that fits holds
+/// both.
+fn is_next(samples: &[i32], form: Form, separators: &[u64], i: usize, known: Option<Reach>) -> bool
+    requires within { i < length separators.now }
+    requires known { IsKnown (bytes_of form.length) samples.now known }
+    ensures { IsTrue result ↔ IsNext (records_of form) samples.now separators.now i }
+{
+    let separator = separators[i];
+    if separator >= samples.len() as u64 {
+        return false;
+    }
+    i == 0 || none_between(samples, form, separators[i - 1], separator, known)
 }
 
 /// Whether the list is of sample numbers of the segment, strictly rising, and no run that fits a record of that length,
@@ -59,46 +172,98 @@ pub fn separates(samples: &[i32], record_length: Length, separators: &[u64]) -> 
 pub fn separates_in(samples: &[i32], form: Form, separators: &[u64]) -> bool
     ensures { IsTrue result ↔ IsSeparating (records_of form) samples.now separators.now }
 {
-    for (i, separator) in separators.iter().enumerate() {
-        if *separator >= samples.len() as u64 {
-            return false;
-        }
-        if i > 0 && !none_between(samples, form, separators[i - 1], *separator) {
+    for i in 0..separators.len() {
+        if !is_next(samples, form, separators, i, None) {
             return false;
         }
     }
     true
 }
 
-/// Whether the runs join to the whole segment, none is empty, and each fits a record of the kind that it names, which
-/// the form has.
-fn is_packing(samples: &[i32], form: Form, runs: &[Run]) -> bool
-    ensures { IsTrue result ↔ IsPacking (records_of form) samples.now runs.now }
+/// Whether the samples `start` to `end - 1` fit one record of Steim-2, which the form has: by how far it reaches, if that
+/// is known.
+fn steim2_fits(
+    samples: &[i32],
+    start: usize,
+    end: usize,
+    form: Form,
+    known: Option<Reach>,
+) -> bool
+    requires order { start ≤ end }
+    requires within { end ≤ length samples.now }
+    requires known { IsKnown (bytes_of form.length) samples.now known }
+    ensures { IsTrue result ↔ FitsIn Steim2 (records_of form) (run_points samples.now start end) }
 {
-    let mut at: u64 = 0;
-    for run in runs {
-        if run.start != at || !is_run(samples, form, run) {
-            return false;
-        }
-        at = run.end;
+    let Some(reach) = known else {
+        return run_fits(Kind::Steim2, samples, start, end, form);
+    };
+    if reach.start != start {
+        return run_fits(Kind::Steim2, samples, start, end, form);
     }
-    at == samples.len() as u64
+    form.kinds.contains(Kind::Steim2) && end <= reach.end
+}
+
+/// Whether the samples `start` to `end - 1` fit one record of that kind, which the form has; Steim-1 word by word.
+fn fits(
+    kind: Kind,
+    samples: &[i32],
+    start: usize,
+    end: usize,
+    form: Form,
+    known: Option<Reach>,
+) -> bool
+    requires order { start ≤ end }
+    requires within { end ≤ length samples.now }
+    requires known { IsKnown (bytes_of form.length) samples.now known }
+    ensures { IsTrue result ↔ FitsIn kind (records_of form) (run_points samples.now start end) }
+{
+    match kind {
+        Kind::Steim1 => {
+            form.kinds.contains(kind) && end <= steim1_reach(samples, form.length, start)
+        }
+        Kind::Steim2 => steim2_fits(samples, start, end, form, known),
+        Kind::Int16 | Kind::Int24 | Kind::Int32 => run_fits(kind, samples, start, end, form),
+    }
 }
 
 /// Whether the run is not empty, lies in the segment, and fits a record of its kind, which the form has.
-fn is_run(samples: &[i32], form: Form, run: &Run) -> bool
+fn is_run(samples: &[i32], form: Form, run: &Run, known: Option<Reach>) -> bool
+    requires known { IsKnown (bytes_of form.length) samples.now known }
     ensures { IsTrue result ↔ (run.now.start < run.now.end)
         × IsRun (FitsIn run.now.kind (records_of form)) samples.now run.now.start run.now.end }
 {
     run.start < run.end
         && run.end <= samples.len() as u64
-        && run_fits(
+        && fits(
             run.kind,
             samples,
             run.start as usize,
             run.end as usize,
             form,
+            known,
         )
+}
+
+/// Whether the runs are a packing and the list is separating, one run and one separator after another: where a run of
+/// Steim-2 starts at a separator, one walk tells of both how far it reaches.
+fn is_shown(samples: &[i32], form: Form, runs: &[Run], separators: &[u64]) -> bool
+    requires { length runs.now ≡ length separators.now }
+    ensures { IsTrue result ↔ IsPacking (records_of form) samples.now runs.now × IsSeparating (records_of form) samples.now separators.now }
+{
+    let mut at: u64 = 0;
+    let mut known = None;
+    for i in 0..runs.len() {
+        if !is_next(samples, form, separators, i, known) {
+            return false;
+        }
+        let run = &runs[i];
+        known = reach_of(samples, form.length, run);
+        if run.start != at || !is_run(samples, form, run, known) {
+            return false;
+        }
+        at = run.end;
+    }
+    at == samples.len() as u64
 }
 
 /// Whether the runs are a packing into records of that length, of any kinds, the list is separating, and both have the
@@ -121,5 +286,5 @@ pub fn shows_least_in(samples: &[i32], form: Form, runs: &[Run], separators: &[u
     if runs.len() != separators.len() {
         return false;
     }
-    is_packing(samples, form, runs) && separates_in(samples, form, separators)
+    is_shown(samples, form, runs, separators)
 }

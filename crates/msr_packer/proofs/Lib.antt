@@ -9,6 +9,5 @@ pub mod Narrow
 pub mod OfBits
 pub mod Reach
 pub mod Search
-pub mod Steim1Sizes
 pub mod Streaming
 pub mod Windows

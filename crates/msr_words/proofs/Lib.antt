@@ -8,6 +8,7 @@ pub mod FirstGroups
 pub mod Greedy
 pub mod GreedyReach
 pub mod GroupSizes
+pub mod IntegerBits
 pub mod Parts
 pub mod Plain
 pub mod Pushes
@@ -16,8 +17,11 @@ pub mod Steim1Ahead
 pub mod Steim1Counts
 pub mod Steim1Pushes
 pub mod Steim1Runs
+pub mod Steim1Sizes
 pub mod Steim1Words
 pub mod Steim2Groups
 pub mod Steim2Pushes
+pub mod Steim2Runs
+pub mod Stretches
 pub mod WordRoom
 pub mod Windows

@@ -1,7 +1,6 @@
 //! Which runs fit a record of a kind.
 
 ghost use Rattle.std.specs.Prelude.{◌≡◌, All, ℕ, ℤ, List, ◌^◌, ◌<◌, ◌≤◌, ◌↔◌, IsTrue, drop, length};
-ghost use Rattle.msr_steim.specs.Word.{FitsBits};
 ghost use Rattle.msr_kinds.specs.Lengths.{bytes_of};
 ghost use Rattle.msr_kinds.specs.declared.storage.Version.TheVariants.{One, Two};
 ghost use Rattle.msr_kinds.specs.declared.kinds.Kind.TheVariants.{Steim1 as FirstSteim, Steim2 as SecondSteim};
@@ -12,9 +11,9 @@ ghost use Rattle.msr_words.specs.Laws.{DominanceLaw, look_back_of, most_any, mos
 ghost use Rattle.msr_words.specs.Fit.{Fits, FitsAny, FitsIn, IsFirstKind, IsInteger, IsRun, records_of};
 
 use crate::counts::{LeastCounts, magnitude};
+use crate::integers::all_of_bits;
 use crate::window::Window;
 use msr_kinds::{Form, Kind, Length, Storage, Version, Width};
-use msr_steim::fits_bits;
 
 /// The greatest number of samples that the header of a record can count, in 16 bits.
 pub(crate) const MOST_COUNTED: usize = 65_535;
@@ -173,15 +172,6 @@ pub fn difference_after(before: Option<i32>, run: &[i32], at: usize) -> i64
         Some(before) => run[0] as i64 - before as i64,
         None => 0,
     }
-}
-
-/// Whether each sample is of that many bits.
-fn all_of_bits(run: &[i32], bits: u32) -> bool
-    requires positive { 0 < bits }
-    requires small { bits ≤ 32 }
-    ensures { IsTrue result ↔ All (FitsBits bits) run.now }
-{
-    run.iter().all(|sample| fits_bits(i64::from(*sample), bits))
 }
 
 /// How many samples a record of that kind has at most; none if the form has no such records.

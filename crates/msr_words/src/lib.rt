@@ -8,7 +8,11 @@ mod counts;
 mod division;
 mod existence;
 mod first_group;
+mod integers;
 mod kinds;
+mod steim1;
+mod steim2;
+mod widths;
 mod window;
 
 pub use any_kind::AnyKind;
@@ -27,4 +31,7 @@ pub use kinds::{
 };
 pub use msr_kinds::{Form, Kind, Kinds, Length};
 pub use msr_steim::fits_bits;
+pub use steim1::{begins_with_four, steim1_reach};
+pub use steim2::steim2_reach;
+pub use widths::{are_narrow, count_wide};
 pub use window::{FourSizes, Window};

@@ -3,7 +3,7 @@ use Rattle.std.proofs.Common.{◌≤◌, ◌-◌, length}
 use Rattle.msr_words.specs.Steim1Reach.{IsSteim1Reach}
 use Rattle.msr_words.specs.Window.{IsWindow}
 use Rattle.msr_words.proofs.Steim1Runs.{behind}
-use Rattle.msr_packer.proofs.steim1.steim1_reach.Given as goal
+use Rattle.msr_words.proofs.steim1.steim1_reach.Given as goal
 
 abbrev pub invariant-loop-word : goal.invariant-loop-word
 invariant-loop-word l = record {

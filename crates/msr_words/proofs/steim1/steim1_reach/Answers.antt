@@ -4,7 +4,7 @@ use Rattle.msr_kinds.specs.RecordLength.{words_of}
 use Rattle.msr_words.specs.Steim1Reach.{IsSteim1End, IsSteim1Reach, IsSteim1Word}
 use Rattle.msr_words.proofs.Windows.{window_on}
 use Rattle.msr_words.proofs.Steim1Runs.{behind, left_behind, length-behind, none_reached, walk_ends}
-use Rattle.msr_packer.proofs.steim1.steim1_reach.Goals as goal
+use Rattle.msr_words.proofs.steim1.steim1_reach.Goals as goal
 
 pub loop-word-init : goal.loop-word-init
 loop-word-init c = record {

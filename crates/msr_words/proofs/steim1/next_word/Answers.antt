@@ -1,7 +1,7 @@
 use Rattle.std.proofs.Common.{arith}
-use Rattle.msr_packer.proofs.Steim1Sizes.{four_next, none_next, single_next, three_next, two_next}
-use Rattle.msr_packer.proofs.steim1.next_word.Goals as goal
-use Rattle.msr_packer.proofs.steim1.next_word.Goals.{then-pair-sizes-lt128+else-sizes-lt128+else-spare, else-pair-sizes-lt128, then-sizes-lt2147483648, else-sizes-lt2147483648}
+use Rattle.msr_words.proofs.Steim1Sizes.{four_next, none_next, single_next, three_next, two_next}
+use Rattle.msr_words.proofs.steim1.next_word.Goals as goal
+use Rattle.msr_words.proofs.steim1.next_word.Goals.{then-pair-sizes-lt128+else-sizes-lt128+else-spare, else-pair-sizes-lt128, then-sizes-lt2147483648, else-sizes-lt2147483648}
 
 pub returns-then-pair-ge32768-clause-next : goal.returns-then-pair-ge32768-clause-next
 returns-then-pair-ge32768-clause-next c ds s0 s1 s2 s3 =

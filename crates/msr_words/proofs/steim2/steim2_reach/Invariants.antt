@@ -1,0 +1,11 @@
+-- The words that are filled.
+use Rattle.std.proofs.Common.{◌-◌, take}
+use Rattle.msr_words.specs.Window.{IsWindow}
+use Rattle.msr_words.proofs.Steim2Runs.{IsWalked}
+use Rattle.msr_words.proofs.steim2.steim2_reach.Given as goal
+
+abbrev pub invariant-loop-word : goal.invariant-loop-word
+invariant-loop-word l = record {
+  walked : IsWalked l.words (l.words - l._word) (take l.latest l.samples) l.start l.at;
+  window : IsWindow (take l.latest l.samples) l.at l.window;
+}

@@ -1,0 +1,90 @@
+//! How far a Steim-1 record reaches, word by word.
+
+ghost use Rattle.std.specs.Prelude.{◌<◌, ◌≤◌, ℕ, ℤ, IsFalse, List, length, map};
+ghost use Rattle.msr_kinds.specs.declared.kinds.Kind.TheVariants.{Steim1 as FirstSteim};
+ghost use Rattle.msr_words.specs.Bounds.{BeginsWithFour, IsEnd};
+ghost use Rattle.msr_words.specs.FirstGroup.{IsSizeAt};
+ghost use Rattle.msr_kinds.specs.Lengths.{bytes_of};
+ghost use Rattle.msr_words.specs.Segment.{run_points};
+ghost use Rattle.msr_words.specs.Steim1Reach.{IsSteim1Word};
+
+use crate::bounds::steim1_word_by_word;
+use crate::kinds::difference;
+use crate::window::{FourSizes, Window};
+use msr_kinds::Length;
+use msr_steim::fits_bits;
+
+/// How many differences the next word adds. `spare` says that the last of them is of 8 bits and that the words can end
+/// before it, so that it may stand in the word after them.
+#[derive(Clone, Copy, Debug)]
+struct NextWord {
+    size: usize,
+    spare: bool,
+}
+
+/// The next word, by the sizes of the differences that are left. With a spare one before them, three of 8 bits fill a
+/// word.
+#[inline(always)]
+fn next_word(sizes: FourSizes, spare: bool) -> NextWord
+    ensures next { (ds : List ℤ) → IsSizeAt ds 0 sizes.first → IsSizeAt ds 1 sizes.second
+        → IsSizeAt ds 2 sizes.third → IsSizeAt ds 3 sizes.fourth → IsSteim1Word ds spare result.size result.spare }
+    ensures most { result.size ≤ 4 }
+{
+    let pair = sizes.first | sizes.second;
+    if pair >= 32_768 {
+        let size = if sizes.first < 2_147_483_648 { 1 } else { 0 };
+        return NextWord {
+            size,
+            spare: sizes.first < 128,
+        };
+    }
+    if pair | sizes.third < 128 {
+        if sizes.fourth < 128 {
+            return NextWord { size: 4, spare };
+        }
+        if spare {
+            return NextWord { size: 3, spare };
+        }
+    }
+    NextWord {
+        size: 2,
+        spare: sizes.second < 128,
+    }
+}
+
+/// The greatest end of a run of Steim-1 from `start` on.
+pub fn steim1_reach(samples: &[i32], record_length: Length, start: usize) -> usize
+    requires { start ≤ length samples.now }
+    ensures { IsEnd FirstSteim (bytes_of record_length) samples.now start result }
+{
+    steim1_word_by_word();
+    let mut window = Window::new();
+    let mut at = start;
+    let mut spare = false;
+    for _word in 1..record_length.data_words() {
+        let next = next_word(window.four_sizes(samples, at), spare);
+        if next.size == 0 {
+            return at;
+        }
+        at += next.size;
+        spare = next.spare;
+    }
+    at + next_word(window.four_sizes(samples, at), true).size
+}
+
+/// Whether the difference of a sample and those of the next three are of 8 bits.
+pub fn begins_with_four(samples: &[i32], start: usize) -> bool
+    requires { start < length samples.now }
+    ensures { IsFalse result → (b : ℕ) → start ≤ b → b ≤ length samples.now
+        → BeginsWithFour (map (λ p. p.1) (run_points samples.now start b)) → ⊥ }
+{
+    if samples.len() - start < 4 {
+        return false;
+    }
+    for at in start..start + 4 {
+        if !fits_bits(difference(samples, at), 8) {
+            return false;
+        }
+    }
+    true
+}
