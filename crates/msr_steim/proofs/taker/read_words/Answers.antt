@@ -63,11 +63,14 @@ returns-in-Undefined g c =
     let slot = c.loop-slot.slot in
     let codes = c.loop-slot.codes in
     let held = c.loop-slot.invariant in
+    let wanted = g.T.TakesSamples.wanted c.loop-slot.taker c.loop-slot.places in
+    let old = g.T.TakesSamples.has c.loop-slot.taker c.loop-slot.places in
+    let last = to_z w32 c.loop-slot.last-bits in
     let here = word_at version order area frame slot codes c.arranged_word_at-word.result held.some
     c.loop-slot-test.true held.late c.loop-frame-test.true held.codes c.arranged_word_at-word.ensures in
     subst (λ wanted. IsUndefinedBefore version order area wanted (16 * frame + slot)) held.same
-    (undefined_here version order area _ (16 * frame + slot) _ held.samples held.to
-    (codes / 1073741824) c.arranged_word_at-word.result here _ held.has c.in-Undefined.ensures.told)
+    (undefined_here version order area wanted (16 * frame + slot) last held.samples held.to
+    (codes / 1073741824) c.arranged_word_at-word.result here old held.has c.in-Undefined.ensures.told)
 
 pub returns-in-All : goal.returns-in-All
 returns-in-All g c =
@@ -78,11 +81,15 @@ returns-in-All g c =
     let slot = c.loop-slot.slot in
     let codes = c.loop-slot.codes in
     let held = c.loop-slot.invariant in
+    let wanted = g.T.TakesSamples.wanted c.loop-slot.taker c.loop-slot.places in
+    let old = g.T.TakesSamples.has c.loop-slot.taker c.loop-slot.places in
+    let last = to_z w32 c.loop-slot.last-bits in
     let here = word_at version order area frame slot codes c.arranged_word_at-word.result held.some
     c.loop-slot-test.true held.late c.loop-frame-test.true held.codes c.arranged_word_at-word.ensures in
-    subst (λ wanted. IsCarried version order area wanted _) held.same
-    (all_carried version order area _ (16 * frame + slot) _ held.samples held.to
-    (codes / 1073741824) c.arranged_word_at-word.result here _ held.has _ c.in-All.ensures.told)
+    let all = g.T.TakesSamples.has_all c.take.new.self c.take.new.places in
+    subst (λ wanted. IsCarried version order area wanted all) held.same
+    (all_carried version order area wanted (16 * frame + slot) last held.samples held.to
+    (codes / 1073741824) c.arranged_word_at-word.result here old held.has all c.in-All.ensures.told)
 
 pub loop-slot-preserved : goal.loop-slot-preserved
 loop-slot-preserved g c =
@@ -93,24 +100,29 @@ loop-slot-preserved g c =
     let slot = c.loop-slot.slot in
     let codes = c.loop-slot.codes in
     let held = c.loop-slot.invariant in
+    let wanted = g.T.TakesSamples.wanted c.loop-slot.taker c.loop-slot.places in
+    let old = g.T.TakesSamples.has c.loop-slot.taker c.loop-slot.places in
+    let last = to_z w32 c.loop-slot.last-bits in
     let here = word_at version order area frame slot codes c.arranged_word_at-word.result held.some
     c.loop-slot-test.true held.late c.loop-frame-test.true held.codes c.arranged_word_at-word.ensures in
     let next = c.in-More.next in
     let told = c.in-More.ensures.told in
     let has = told.taken held.samples held.has held.to.last_is in
-    let more = (g.met.T.TakesSamples.wants c.take.new.self c.take.new.places _ has).1 in
+    let new = g.T.TakesSamples.has c.take.new.self c.take.new.places in
+    let samples = held.samples ++ sums_after last told.group in
+    let more = (g.met.T.TakesSamples.wants c.take.new.self c.take.new.places samples has).1 in
     let same = c.take.ensures.wanted in
     let fits : SFits w32 next = search rules in
-    let on = taken_on version order area _ (16 * frame + slot) _ held.samples held.to (codes / 1073741824)
-    c.arranged_word_at-word.result here _ held.has next _ told (omega (arith, more, same)) in
+    let on = taken_on version order area wanted (16 * frame + slot) last held.samples held.to (codes / 1073741824)
+    c.arranged_word_at-word.result here old held.has next new told (omega (arith, more, same)) in
     let number : 16 * frame + slot + 1 ≡ 16 * frame + (slot + 1) = omega arith in
     record {
-      samples = held.samples ++ sums_after (to_z w32 c.loop-slot.last-bits) told.group;
+      samples = samples;
       has = has;
       to = subst (λ last. IsReadTo version order area (g.T.TakesSamples.wanted c.take.new.self c.take.new.places)
-          (16 * frame + (slot + 1)) last _) (sym (to_z-of_z w32 next fits))
-          (subst (λ wanted. IsReadTo version order area wanted (16 * frame + (slot + 1)) next _) (sym same)
-          (subst (λ n. IsReadTo version order area _ n next _) number on));
+          (16 * frame + (slot + 1)) last samples) (sym (to_z-of_z w32 next fits))
+          (subst (λ wanted. IsReadTo version order area wanted (16 * frame + (slot + 1)) next samples) (sym same)
+          (subst (λ n. IsReadTo version order area wanted n next samples) number on));
       same = same ∙ held.same;
       codes = codes_on codes _ slot held.codes;
       some = omega arith;
