@@ -8,6 +8,7 @@ mod check;
 mod frames;
 mod group;
 mod sums;
+mod taker;
 mod word;
 
 pub use area::{Decoded, SteimFault, decode_steim, decode_steim_into, one_outcome};
