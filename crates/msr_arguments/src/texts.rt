@@ -194,8 +194,8 @@ Status 0 if all was walked and nothing refused, else 1; 2 if the command line is
 
 /// Examples of `archive`.
 pub(crate) const ARCHIVE_AFTER: &str = "Examples:
-  msrepack archive --length 4096 sds packed reports > log.txt
-  msrepack archive --resume --check --below 2020/XX sds packed reports > log.txt";
+  msrepack archive --no-int24 --length 4096 sds packed reports > log.txt
+  msrepack archive --no-int24 --resume --check --below 2020/XX sds packed reports > log.txt";
 
 /// What `feed` does, in a line.
 pub(crate) const FEED_ABOUT: &str = "Repacks standard input to standard output while it comes";
