@@ -119,7 +119,7 @@ counts_line counts =
     codes "read " ++ (decimal counts.read ++ (codes " empty "
     ++ (decimal counts.empty ++ (codes " mismatched " ++ (decimal counts.mismatched ++ 10 ∷ [])))))
 
--- the name of each kind, and all of them from the one that is preferred
+-- the name of each kind, and all of them in the order in which they are told
 abbrev pub kind_name : Kind → List ℕ
 kind_name Int16 = codes "int16"
 kind_name Int24 = codes "int24"
@@ -127,13 +127,13 @@ kind_name Int32 = codes "int32"
 kind_name Steim1 = codes "steim1"
 kind_name Steim2 = codes "steim2"
 
-abbrev pub by_preference : List Kind
-by_preference = Steim2 ∷ (Steim1 ∷ (Int16 ∷ (Int24 ∷ (Int32 ∷ []))))
+abbrev pub told_kinds : List Kind
+told_kinds = Steim2 ∷ (Steim1 ∷ (Int16 ∷ (Int24 ∷ (Int32 ∷ []))))
 
 -- the words of the line of the kinds: the names of those that records may be of
 abbrev pub kinds_words : Kinds → List ℕ
 kinds_words kinds =
-    codes "kinds" ++ flat_map (λ kind. cond (contains kinds kind) (32 ∷ kind_name kind) []) by_preference
+    codes "kinds" ++ flat_map (λ kind. cond (contains kinds kind) (32 ∷ kind_name kind) []) told_kinds
 
 -- the line of the kinds; a report of all five has none
 abbrev pub kinds_line : Kinds → List ℕ

@@ -126,8 +126,7 @@ pub(crate) fn push_segment(
     push_separators(alloc, out, &line.separators)
 }
 
-/// The line of the kinds of which records may be, by name and in the order in which they are preferred. A report of all
-/// five has none.
+/// The line of the kinds of which records may be, each by its name. A report of all five has none.
 pub fn kinds_line(kinds: Kinds) -> &'static str
     ensures { result.now ≡ kinds_line kinds }
 {
