@@ -301,9 +301,9 @@ content_is : (a b : Content) → a.bytes ≡ b.bytes → a.kinds ≡ b.kinds →
     → a.segments ≡ b.segments → a ≡ b
 content_is a b bytes kinds tolerance counts segments =
     let same : record
-        { bytes = a.bytes; kinds = a.kinds; tolerance = a.tolerance; counts = a.counts; segments = a.segments }
+    { bytes = a.bytes; kinds = a.kinds; tolerance = a.tolerance; counts = a.counts; segments = a.segments }
     ≡ record
-        { bytes = b.bytes; kinds = b.kinds; tolerance = b.tolerance; counts = b.counts; segments = b.segments } = cc in
+    { bytes = b.bytes; kinds = b.kinds; tolerance = b.tolerance; counts = b.counts; segments = b.segments } = cc in
     same
 
 pub one_content : (content other : Content) (text : List ℕ) → IsContent content → IsContent other → IsContentText content text
