@@ -1,5 +1,5 @@
-//! How an input is repacked: the length and the kinds of the records, the tolerance by which rows are joined, and whether
-//! reading is strict.
+//! How an input is repacked: the length and the kinds of the records, the tolerance by which rows are joined, and
+//! whether reading is strict.
 #![tactic(auto)]
 
 ghost use Rattle.std.specs.Prelude.{◌≡◌, ◌↔◌, ◌≤◌, false, IsSome, IfSome};
@@ -39,7 +39,8 @@ impl Model for Options {
 impl Options {
     ghost use Rattle.msr_options.specs.Choice.{as_strict, form_chosen, of_kinds, size_of};
 
-    /// Options of all five kinds that are not strict; `None` if the tolerance in microseconds is not from 1 to 1,000,000.
+    /// Options for all five kinds that are not strict; `None` if the tolerance in microseconds is not from 1 to
+    /// 1,000,000.
     pub fn new(length: Length, tolerance: u32) -> Option<Options>
         ensures some { IsSome result ↔ (1 ≤ tolerance) × (tolerance ≤ 1_000_000) }
         ensures same { IfSome result (λ options. options

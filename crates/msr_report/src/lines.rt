@@ -148,8 +148,9 @@ pub(crate) fn push_first_lines(
     let tolerance = report.tolerance;
     let kinds = kinds_line(report.kinds);
     let counts = counts_string(alloc, &report.counts)?;
-    let text =
-        format!(in alloc; "msrepack 1\nlength {length}\ntolerance {tolerance}\n{kinds}{counts}")?;
+    let text = format!(in alloc;
+        "msrepack 1\nlength {length}\ntolerance {tolerance}\n{kinds}{counts}"
+    )?;
     out.extend_from_slice(text.as_bytes())
 }
 

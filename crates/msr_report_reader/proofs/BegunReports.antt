@@ -40,7 +40,8 @@ one_line : (body : List ℕ) → IsOneLine body → AreLines 1 (body ++ (10 ∷ 
 one_line body one = (body, ([], (one, refl, refl)))
 
 -- lines after the first three
-three_lines : (n bytes tolerance : ℕ) (counts : Counts) (rest : List ℕ) → IsFirst bytes tolerance counts → AreLines n rest
+three_lines : (n bytes tolerance : ℕ) (counts : Counts) (rest : List ℕ) → IsFirst bytes tolerance counts
+    → AreLines n rest
     → AreLines (suc (suc (suc n))) (three_then bytes tolerance rest)
 three_lines n bytes tolerance counts rest is_first are =
     let content : Content = content_with bytes tolerance AllKinds counts in
@@ -135,13 +136,15 @@ texts_lines (line ∷ lines) text each are =
     (line_lines line are.0 (each 0 line (omega arith)) are.1.1.0)
     (texts_lines lines are.1.0 (λ k d within. each (suc k) d (omega arith)) are.1.1.1)))
 
-going_lines : (text : List ℕ) (bytes tolerance : ℕ) (kinds : Kinds) (counts : Counts) (segments : List SegmentLine) (rest : List ℕ)
+going_lines : (text : List ℕ) (bytes tolerance : ℕ) (kinds : Kinds) (counts : Counts) (segments : List SegmentLine)
+    (rest : List ℕ)
     (going : Going text bytes tolerance kinds counts segments rest)
     → AreLines (lines_before kinds + 2 * length segments) (first_then bytes tolerance kinds counts going.lines)
 going_lines text bytes tolerance kinds counts segments rest going =
     let lines : AreLines (lines_before kinds + 2 * length (map content_line segments))
     (first_then bytes tolerance kinds counts [] ++ going.lines) =
-    lines_append (lines_before kinds) (2 * length (map content_line segments)) (first_then bytes tolerance kinds counts []) going.lines
+    lines_append (lines_before kinds) (2 * length (map content_line segments))
+    (first_then bytes tolerance kinds counts []) going.lines
     (first_lines_are bytes tolerance kinds counts going.is_first)
     (texts_lines (map content_line segments) going.lines going.each going.are) in
     same_count (lines_before kinds + 2 * length (map content_line segments)) (lines_before kinds + 2 * length segments)
@@ -153,7 +156,8 @@ abbrev content_from : ℕ → ℕ → Kinds → Counts → List ContentLine → 
 content_from bytes tolerance kinds counts lines = record
     { bytes = bytes; kinds = kinds; tolerance = tolerance; counts = counts; segments = lines }
 
-pub before_segment : (text : List ℕ) (bytes tolerance : ℕ) (kinds : Kinds) (counts : Counts) (segments : List SegmentLine)
+pub before_segment : (text : List ℕ) (bytes tolerance : ℕ) (kinds : Kinds) (counts : Counts)
+    (segments : List SegmentLine)
     (rest : List ℕ) → Going text bytes tolerance kinds counts segments rest
     → BeginsReport text (lines_before kinds + 2 * length segments)
 before_segment text bytes tolerance kinds counts segments rest going =
@@ -187,18 +191,21 @@ more_lines text bytes tolerance kinds counts segments rest body going one =
     (first_then bytes tolerance kinds counts (going.lines ++ (body ++ (10 ∷ [])))) (omega arith)
     (subst (λ (l : List ℕ). AreLines ((lines_before kinds + 2 * length segments) + 1) l)
     (first_append bytes tolerance kinds counts going.lines (body ++ (10 ∷ [])))
-    (lines_append (lines_before kinds + 2 * length segments) 1 (first_then bytes tolerance kinds counts going.lines) (body ++ (10 ∷ []))
+    (lines_append (lines_before kinds + 2 * length segments) 1 (first_then bytes tolerance kinds counts going.lines)
+    (body ++ (10 ∷ []))
     (going_lines text bytes tolerance kinds counts segments rest going) (one_line body one)))
 
 more_shown : (text : List ℕ) (bytes tolerance : ℕ) (kinds : Kinds) (counts : Counts) (lines rest body more : List ℕ)
     → text ≡ first_then bytes tolerance kinds counts (lines ++ rest) → rest ≡ body ++ (10 ∷ more)
     → text ≡ first_then bytes tolerance kinds counts (lines ++ (body ++ (10 ∷ []))) ++ more
 more_shown text bytes tolerance kinds counts lines rest body more shown is =
-    shown ∙ ap (first_then bytes tolerance kinds counts) (ap (λ (l : List ℕ). lines ++ l) is ∙ sym (one_more lines body more))
+    shown ∙ ap (first_then bytes tolerance kinds counts) (ap (λ (l : List ℕ). lines ++ l) is
+    ∙ sym (one_more lines body more))
     ∙ sym (first_append bytes tolerance kinds counts (lines ++ (body ++ (10 ∷ []))) more)
 
 -- when the first line of a segment was read
-pub before_second : (text : List ℕ) (bytes tolerance : ℕ) (kinds : Kinds) (counts : Counts) (segments : List SegmentLine)
+pub before_second : (text : List ℕ) (bytes tolerance : ℕ) (kinds : Kinds) (counts : Counts)
+    (segments : List SegmentLine)
     (rest more : List ℕ) (line : ContentLine) → Going text bytes tolerance kinds counts segments rest
     → IsContentLine line → IsOpening line.key line.start line.samples line.records more rest
     → BeginsReport text (suc (lines_before kinds + 2 * length segments))
@@ -220,7 +227,11 @@ before_second text bytes tolerance kinds counts segments rest more line going is
       first = first_then bytes tolerance kinds counts (going.lines ++ (body ++ (10 ∷ [])));
       behind = more;
       rest = behind;
-      is_content = record { first = going.is_first; segments = all_more (map content_line segments) line going.each is_line };
+      is_content = record {
+        first = going.is_first;
+        segments = all_more (map content_line segments) line going.each
+            is_line;
+      };
       lines = more_lines text bytes tolerance kinds counts segments rest body going
           (opening_is_one line.key line.start opening.word line.samples line.records is_line.key opening.time);
       shown = more_shown text bytes tolerance kinds counts going.lines rest body more going.shown
@@ -236,7 +247,8 @@ before_second text bytes tolerance kinds counts segments rest more line going is
     }
 
 -- when the last line was read
-pub before_behind : (text : List ℕ) (bytes tolerance : ℕ) (kinds : Kinds) (counts : Counts) (segments : List SegmentLine)
+pub before_behind : (text : List ℕ) (bytes tolerance : ℕ) (kinds : Kinds) (counts : Counts)
+    (segments : List SegmentLine)
     (rest more : List ℕ) → Going text bytes tolerance kinds counts segments rest
     → records_of segments < 2 ^ 64 → rest ≡ end_line (length segments) (records_of segments) ++ more
     → BeginsReport text (suc (lines_before kinds + 2 * length segments))

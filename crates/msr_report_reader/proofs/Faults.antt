@@ -69,10 +69,12 @@ not_last_more segments begins text more may enough none x fits is =
 pub segment_fault : (first : FirstLines) (segments : List SegmentLine) (begins : Bool) (past text more : List ℕ)
     → ReadSegments first segments past → ((x : List ℕ) → text ++ more ≡ codes "segment " ++ x → begins ≡ true)
     → ((x : List ℕ) → text ++ more ≡ codes "end " ++ x → begins ≡ true) → IsEnough begins text more → ReadsNone text
-    → ((rest : List ℕ) → IsLast segments text rest → ⊥) → IsFaultLine (past ++ (text ++ more)) (1 + lines_before first.kinds + 2 * length segments)
+    → ((rest : List ℕ) → IsLast segments text rest → ⊥) → IsFaultLine (past ++ (text ++ more))
+    (1 + lines_before first.kinds + 2 * length segments)
 segment_fault first segments begins past text more read may may_end enough none not_last =
     let going = going_of first segments past (text ++ more) read in
-    at_number (past ++ (text ++ more)) (suc (lines_before first.kinds + 2 * length segments)) (1 + lines_before first.kinds + 2 * length segments) (omega arith)
+    at_number (past ++ (text ++ more)) (suc (lines_before first.kinds + 2 * length segments))
+    (1 + lines_before first.kinds + 2 * length segments) (omega arith)
     (fault_segment (past ++ (text ++ more)) (text ++ more) (length segments) (records_of segments)
     (lines_before first.kinds + 2 * length segments) going.at (none_more begins text more may enough none)
     (not_last_more segments begins text more may_end enough not_last)
@@ -110,11 +112,13 @@ second_at first segments line past rest read =
     } in
     record {
       at = at_second text (read.opening ++ rest) rest (length segments) (records_of segments)
-          (lines_before first.kinds + 2 * length segments) line.records going.at (only_opening (opened line) rest (read.opening ++ rest)
+          (lines_before first.kinds + 2 * length segments) line.records going.at
+          (only_opening (opened line) rest (read.opening ++ rest)
           is_line opens)
           (λ x is. opening_not_end (opened line) rest (read.opening ++ rest) x (length segments)
           (records_of segments) opens is);
-      before = before_second text (bytes_of first.length) first.tolerance first.kinds first.counts segments (read.opening ++ rest)
+      before = before_second text (bytes_of first.length) first.tolerance first.kinds first.counts segments
+          (read.opening ++ rest)
           rest (opened line) going is_line opens;
     }
 
@@ -129,7 +133,8 @@ second_fault : (first : FirstLines) (segments : List SegmentLine) (line : FirstL
     → IsFaultLine (past ++ rest) (2 + lines_before first.kinds + 2 * length segments)
 second_fault first segments line past rest read none =
     let second = second_at first segments line past rest read in
-    at_number (past ++ rest) (suc (suc (lines_before first.kinds + 2 * length segments))) (2 + lines_before first.kinds + 2 * length segments) (omega arith)
+    at_number (past ++ rest) (suc (suc (lines_before first.kinds + 2 * length segments)))
+    (2 + lines_before first.kinds + 2 * length segments) (omega arith)
     (subst (λ (t : List ℕ). IsFaultLine t (suc (suc (lines_before first.kinds + 2 * length segments))))
     (opening_shown first segments line past rest read)
     (fault_second (read.before ++ (read.opening ++ rest)) rest (length segments) (records_of segments)
@@ -231,7 +236,8 @@ number_fault first segments line numbers begins past text more read may enough n
     none next.number s.last within.left next.fits within.is))
 
 pub end_fault : (first : FirstLines) (segments : List SegmentLine) (past text more : List ℕ)
-    → ReadEnd first segments past → 0 < length text → IsFaultLine (past ++ (text ++ more)) (2 + lines_before first.kinds + 2 * length segments)
+    → ReadEnd first segments past → 0 < length text → IsFaultLine (past ++ (text ++ more))
+    (2 + lines_before first.kinds + 2 * length segments)
 end_fault first segments past text more read some =
     let rest : List ℕ = end_line (length segments) (records_of segments) ++ (text ++ more) in
     let whole : List ℕ = read.before ++ rest in
@@ -247,11 +253,14 @@ end_fault first segments past text more read some =
       records = n;
       separators = [];
     } x rest (text ++ more) (length segments) (records_of segments) opening refl in
-    let at = at_behind whole rest (text ++ more) (length segments) (records_of segments) (lines_before first.kinds + 2 * length segments)
+    let at = at_behind whole rest (text ++ more) (length segments) (records_of segments)
+    (lines_before first.kinds + 2 * length segments)
     going.at none refl in
     let before = before_behind whole (bytes_of first.length) first.tolerance first.kinds first.counts segments rest
     (text ++ more) going read.fits refl in
-    at_number (past ++ (text ++ more)) (suc (suc (lines_before first.kinds + 2 * length segments))) (2 + lines_before first.kinds + 2 * length segments) (omega arith)
+    at_number (past ++ (text ++ more)) (suc (suc (lines_before first.kinds + 2 * length segments)))
+    (2 + lines_before first.kinds + 2 * length segments) (omega arith)
     (subst (λ (t : List ℕ). IsFaultLine t (suc (suc (lines_before first.kinds + 2 * length segments)))) shown
-    (fault_behind whole (text ++ more) (length segments) (records_of segments) (suc (lines_before first.kinds + 2 * length segments)) at
+    (fault_behind whole (text ++ more) (length segments) (records_of segments)
+    (suc (lines_before first.kinds + 2 * length segments)) at
     (omega (arith, some, length-append text more)) before))

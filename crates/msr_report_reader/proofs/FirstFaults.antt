@@ -174,12 +174,12 @@ pub fault_counts : (text t1 t2 t3 t4 more : List ℕ) (bytes tolerance : ℕ) (k
     → IsEnough begins t4 more → ((x : List ℕ) → t4 ++ more ≡ codes "read " ++ x → begins ≡ true)
     → ((x : List ℕ) → kinds ≡ AllKinds → t4 ++ more ≡ codes "kinds " ++ x → begins ≡ true)
     → NoCounts t4 → IsFaultLine (text ++ more) (lines_before kinds)
-fault_counts text t1 t2 t3 t4 more bytes tolerance AllKinds begins is_length least most title length is_tolerance are only
-    enough may may_kinds none =
+fault_counts text t1 t2 t3 t4 more bytes tolerance AllKinds begins is_length least most title length is_tolerance are
+    only enough may may_kinds none =
     fault_4 text t1 t2 t4 more bytes tolerance begins is_length least most title length
     (subst (λ (t : List ℕ). HasTolerance t2 tolerance t) are is_tolerance) enough may (λ x is. may_kinds x refl is) none
     (λ other x fewer is. fewer (sym (only other x fewer (are ∙ is))))
-fault_counts text t1 t2 t3 t4 more bytes tolerance WithoutInt24 begins is_length least most title length is_tolerance are
-    only enough may may_kinds none =
+fault_counts text t1 t2 t3 t4 more bytes tolerance WithoutInt24 begins is_length least most title length is_tolerance
+    are only enough may may_kinds none =
     fault_5 text t1 t2 t3 t4 more bytes tolerance WithoutInt24 begins is_length least most title length is_tolerance
     (λ e. absurd cc) are enough may none

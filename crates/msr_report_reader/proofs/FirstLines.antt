@@ -11,7 +11,8 @@ use Rattle.msr_report_reader.proofs.LineFeeds.{same_line}
 use Rattle.msr_report_reader.proofs.RestOfText.{AfterFourth, FourthBody, LineStep, IsBody, at_first, fault_at, line_is_words, next_line, step_1, step_2, step_3, step_4, words_are_one, words_not_counts}
 
 -- such a line was read, and the text goes on after it
-pub after_body : (tail tail' : Content → List ℕ → List ℕ) (body_of : Content → List ℕ) (text rest rest' : List ℕ) (i : ℕ)
+pub after_body : (tail tail' : Content → List ℕ → List ℕ) (body_of : Content → List ℕ) (text rest rest' : List ℕ)
+    (i : ℕ)
     → AtLine (InFirst tail) text rest i
     → ((w : List ℕ) (P : Type 0) → InFirst tail w P → LineStep (IsBody body_of) (λ _. InFirst tail') w P)
     → ((content : Content) (x : List ℕ) → IsContent content → rest ≡ body_of content ++ (10 ∷ x) → rest' ≡ x)

@@ -301,12 +301,13 @@ content_is : (a b : Content) → a.bytes ≡ b.bytes → a.kinds ≡ b.kinds →
     → a.segments ≡ b.segments → a ≡ b
 content_is a b bytes kinds tolerance counts segments =
     let same : record
-        { bytes = a.bytes; kinds = a.kinds; tolerance = a.tolerance; counts = a.counts; segments = a.segments }
+    { bytes = a.bytes; kinds = a.kinds; tolerance = a.tolerance; counts = a.counts; segments = a.segments }
     ≡ record
-        { bytes = b.bytes; kinds = b.kinds; tolerance = b.tolerance; counts = b.counts; segments = b.segments } = cc in
+    { bytes = b.bytes; kinds = b.kinds; tolerance = b.tolerance; counts = b.counts; segments = b.segments } = cc in
     same
 
-pub one_content : (content other : Content) (text : List ℕ) → IsContent content → IsContent other → IsContentText content text
+pub one_content : (content other : Content) (text : List ℕ) → IsContent content → IsContent other
+    → IsContentText content text
     → IsContentText other text → content ≡ other
 one_content content other text is_content is_other is_text is_other_text =
     let first = same_first content other _ _ is_content.first is_other.first (sym is_text.is ∙ is_other_text.is) in

@@ -68,8 +68,8 @@ first_at bytes tolerance AllKinds counts text rest is_first is =
     let t1 : List ℕ = codes "length " ++ (decimal bytes ++ (10 ∷ t2)) in
     after_counts text t3 rest (fourth_line text t1 t2 t3 (title_only text t1 is)
     (length_only t1 t2 bytes is_first.is_length refl) (tolerance_only t2 t3 tolerance is_first.most refl))
-    (λ content x is_content shown. counts_only bytes tolerance content.bytes content.tolerance counts content.counts rest x
-    is_first is_content.first shown)
+    (λ content x is_content shown. counts_only bytes tolerance content.bytes content.tolerance counts content.counts
+    rest x is_first is_content.first shown)
     (λ kinds x shown. words_not_counts kinds (10 ∷ x) _ (sym shown))
 first_at bytes tolerance WithoutInt24 counts text rest is_first is =
     let t4 : List ℕ = counts_line counts ++ rest in
@@ -79,8 +79,8 @@ first_at bytes tolerance WithoutInt24 counts text rest is_first is =
     after_body tail_5 tail_6 body_5 text t4 rest 4
     (fifth_line text t3 t4 WithoutInt24 (λ e. absurd cc) refl (fourth_line text t1 t2 t3 (title_only text t1 is)
     (length_only t1 t2 bytes is_first.is_length refl) (tolerance_only t2 t3 tolerance is_first.most refl))) step_5
-    (λ content x is_content shown. counts_only bytes tolerance content.bytes content.tolerance counts content.counts rest x
-    is_first is_content.first shown)
+    (λ content x is_content shown. counts_only bytes tolerance content.bytes content.tolerance counts content.counts
+    rest x is_first is_content.first shown)
 
 -- the same first line of a segment, and the same text after it
 same_opening : (key other : Key) (start other_start : ℤ) (samples records other_samples other_records : ℕ)
@@ -144,7 +144,8 @@ pub going_of : (first : FirstLines) (segments : List SegmentLine) (past rest : L
     → ReadSegments first segments past
     → Going (past ++ rest) (bytes_of first.length) first.tolerance first.kinds first.counts segments rest
 going_of first segments past rest read =
-    let shown : past ++ rest ≡ first_then (bytes_of first.length) first.tolerance first.kinds first.counts (read.lines ++ rest) =
+    let shown : past ++ rest ≡ first_then (bytes_of first.length) first.tolerance first.kinds first.counts
+    (read.lines ++ rest) =
     ap (λ (t : List ℕ). t ++ rest) read.is
     ∙ first_append (bytes_of first.length) first.tolerance first.kinds first.counts read.lines rest in
     record {
@@ -155,11 +156,14 @@ going_of first segments past rest read =
       shown = shown;
       at = at_numbers (0 + length (map content_line segments)) (length segments)
           (0 + content_records (map content_line segments)) (records_of segments)
-          (lines_before first.kinds + 2 * length (map content_line segments)) (lines_before first.kinds + 2 * length segments) (past ++ rest) rest
+          (lines_before first.kinds + 2 * length (map content_line segments))
+          (lines_before first.kinds + 2 * length segments) (past ++ rest) rest
           (omega (arith, length-lines segments)) (omega (arith, records_same segments))
           (omega (arith, length-lines segments))
-          (lines_at (past ++ rest) 0 0 (lines_before first.kinds) (map content_line segments) read.lines rest read.each read.are
-          (at_map (InFirst tail_6) (Tail 0 0) (past ++ rest) (read.lines ++ rest) (lines_before first.kinds) tail_from_first
+          (lines_at (past ++ rest) 0 0 (lines_before first.kinds) (map content_line segments) read.lines rest
+          read.each read.are
+          (at_map (InFirst tail_6) (Tail 0 0) (past ++ rest) (read.lines ++ rest) (lines_before first.kinds)
+          tail_from_first
           (first_at (bytes_of first.length) first.tolerance first.kinds first.counts (past ++ rest) (read.lines ++ rest)
           read.is_first shown)));
     }

@@ -25,7 +25,8 @@ pub record Going (text : List ℕ) (bytes tolerance : ℕ) (kinds : Kinds) (coun
   pub at : AtLine (Tail (length segments) (records_of segments)) text rest (lines_before kinds + 2 * length segments)
 
 pub texts_more : (lines : List ContentLine) (text : List ℕ) (line : ContentLine) (more : List ℕ)
-    → AreContentLineTexts lines text → IsContentLineText line more → AreContentLineTexts (lines ++ line ∷ []) (text ++ more)
+    → AreContentLineTexts lines text → IsContentLineText line more
+    → AreContentLineTexts (lines ++ line ∷ []) (text ++ more)
 texts_more [] text line more are is = (more, ([], (is, refl, rw are (sym (append-nil more)))))
 texts_more (l ∷ lines) text line more are is =
     let first : List ℕ = are.0 in
@@ -109,8 +110,8 @@ found_report report text rest going fits is = record {
   is_text = record {
     segments = going.lines;
     are = texts_of report.segments.items going.lines going.are;
-    is = going.shown ∙ ap (λ (t : List ℕ). first_then (bytes_of report.length) report.tolerance report.kinds report.counts
-        (going.lines ++ t)) is
+    is = going.shown ∙ ap (λ (t : List ℕ). first_then (bytes_of report.length) report.tolerance report.kinds
+        report.counts (going.lines ++ t)) is
         ∙ sym (first_same report (going.lines ++ end_line (length report.segments.items)
         (records_of report.segments.items)));
   };

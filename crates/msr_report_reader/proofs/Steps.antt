@@ -93,7 +93,8 @@ same_lists old new place past segments numbers to =
 pub first_step : (old new : Draft) (first : FirstLines) (text rest : List ℕ) (n : ℕ) → old.place ≡ Start
     → new.place ≡ Segment first → new.segments.items ≡ old.segments.items
     → new.numbers.items ≡ old.numbers.items → IsFirst (bytes_of first.length) first.tolerance first.counts
-    → text ≡ first_then (bytes_of first.length) first.tolerance first.kinds first.counts rest → n ≡ length text - length rest
+    → text ≡ first_then (bytes_of first.length) first.tolerance first.kinds first.counts rest
+    → n ≡ length text - length rest
     → IsConsumed old new text n
 first_step old new first text rest n place new_place segments numbers is_first is count =
     let taken : List ℕ = first_then (bytes_of first.length) first.tolerance first.kinds first.counts [] in

@@ -32,6 +32,7 @@ pub record BeginsReport (text : List ℕ) (n : ℕ) : Type 0 where
 -- after the last one are each at fault at their own number.
 pub record IsFaultLine (text : List ℕ) (n : ℕ) : Type 0 where
   pub counted : 1 ≤ n
-  pub no_report : (content : Content) → IsContent content → content_records content.segments < 2 ^ 64 → IsContentText content text → ⊥
+  pub no_report : (content : Content) → IsContent content → content_records content.segments < 2 ^ 64
+      → IsContentText content text → ⊥
   pub before : BeginsReport text (n - 1)
   pub fault : BeginsReport text n → ⊥

@@ -62,5 +62,6 @@ tail_1 content more = body_1 content ++ (10 ∷ tail_2 content more)
 -- i lines were read, and the rest of the text goes on in the language
 pub record AtLine (L : List ℕ → Type 0 → Type 0) (text rest : List ℕ) (i : ℕ) : Type 0 where
   pub begins : (m n : ℕ) → m ≡ i + n → BeginsReport text m → Begins L rest n
-  pub whole : (content : Content) → IsContent content → content_records content.segments < 2 ^ 64 → IsContentText content text
+  pub whole : (content : Content) → IsContent content → content_records content.segments < 2 ^ 64
+      → IsContentText content text
       → L rest (Unit {0})

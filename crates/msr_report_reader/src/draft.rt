@@ -201,7 +201,11 @@ impl Draft {
     {
         let Some((last, rest)) = separators_word(text) else {
             let begins = may_begin(text, b"separators");
-            return refuse(text, begins, 1 + line_after(first, self.segments.as_slice()));
+            return refuse(
+                text,
+                begins,
+                1 + line_after(first, self.segments.as_slice()),
+            );
         };
         self.go_on(first, line, last)?;
         Ok(Progress::Consumed(text.len() - rest.len()))

@@ -39,8 +39,8 @@ pub(crate) fn lines_before(kinds: Kinds) -> u64
     }
 }
 
-/// Whether a text that begins with this one may begin with the line of the counts or, if none was read, with that of the
-/// kinds.
+/// Whether a text that begins with this one may begin with the line of the counts or, if no line of kinds was read,
+/// with one.
 fn may_go_on(text: &[u8], kinds: Kinds) -> bool
     ensures counts { (more rest : List ℕ) → text.now ++ more ≡ codes "read " ++ rest → result ≡ true }
     ensures kinds { (more rest : List ℕ) → kinds ≡ Kinds.All → text.now ++ more ≡ codes "kinds " ++ rest

@@ -129,7 +129,9 @@ fn faults_of_the_kinds(rt: HostRuntime) -> Result<(), Fail> {
 
 /// Whether that line is told of a report of four kinds with a part of it replaced.
 fn stops_in_four(alloc: Global, line: u64, part: &str, by: &str) -> Result<bool, AllocError> {
-    let text = REPORT.replace(alloc, "tolerance 1000\n", FOUR)?.replace(alloc, part, by)?;
+    let text = REPORT
+        .replace(alloc, "tolerance 1000\n", FOUR)?
+        .replace(alloc, part, by)?;
     Ok(report_of(alloc, text.as_bytes()).err() == Some(ReportFault::Line(line)))
 }
 
@@ -139,7 +141,11 @@ fn faults_after_the_kinds(rt: HostRuntime) -> Result<(), Fail> {
     let alloc = rt.alloc();
     for (line, part, by) in [
         (5, "read 1", "read 01"),
-        (6, "segment XX", "kinds steim2 steim1 int16 int32\nsegment XX"),
+        (
+            6,
+            "segment XX",
+            "kinds steim2 steim1 int16 int32\nsegment XX",
+        ),
         (6, "D rate", "X rate"),
         (7, "separators 0", "separators 00"),
         (8, "end 1", "end 2"),

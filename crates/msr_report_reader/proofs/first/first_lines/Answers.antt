@@ -24,10 +24,12 @@ pub returns-in_default-counts-clause-fault : goal.returns-in_default-counts-clau
 returns-in_default-counts-clause-fault c = λ more enough.
     rw c.lines_before.ensures
     (fault_counts c.args.text.now c.in-Some.second.now c.in-Some-record_length.third.now c.in-Some-tolerance.fourth.now
-    c.kinds-kinds.result.1.now more (bytes_of c.in-Some-record_length.length) c.in-Some-tolerance.tolerance c.kinds-kinds.result.0
+    c.kinds-kinds.result.1.now more (bytes_of c.in-Some-record_length.length) c.in-Some-tolerance.tolerance
+    c.kinds-kinds.result.0
     c.may_go_on.result c.in-Some-record_length.ensures.is_length c.in-Some-tolerance.ensures.range.0
     c.in-Some-tolerance.ensures.range.1 c.in-Some.ensures.found c.in-Some-record_length.ensures.found
-    c.in-Some-tolerance.ensures.found c.kinds-kinds.ensures.found c.kinds-kinds.ensures.only enough (c.may_go_on.ensures.counts more)
+    c.in-Some-tolerance.ensures.found c.kinds-kinds.ensures.found c.kinds-kinds.ensures.only enough
+    (c.may_go_on.ensures.counts more)
     (c.may_go_on.ensures.kinds more) c.in_default-counts.ensures.only)
 
 pub returns-clause-found : goal.returns-clause-found
