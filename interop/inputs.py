@@ -283,7 +283,6 @@ INPUTS = [
     *(Input(it.title, block(it)) for it in against_libmseed.INPUTS if it.make),
     *(Input(f"{it.title}, 24 times", block(it), RAGGED) for it in against_libmseed.INPUTS if not it.make),
     Input("a tenth of a day, 16-bit integers", by_bench(day.made_up, 864_000, plain(512, 1))),
-    Input("a tenth of a day, 32-bit integers", by_bench(day.made_up, 864_000, plain(4096, 3))),
     Input("noise within 24 bits, 32-bit integers", by_bench(kinds.within_24_bits, COUNT, plain(4096, 3))),
     Input("all of 32 bits, 32-bit integers", by_bench(of_32_bits, COUNT, plain(512, 3))),
     Input("stretches of each kind, 32-bit integers", by_bench(of_all_kinds, 2 * COUNT, plain(4096, 3))),
