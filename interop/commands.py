@@ -14,18 +14,19 @@ import model
 import walks
 from reports import NotAReport, parsed, verdict
 
+OF_DAYS = ("--resume", "--check", "--only-smaller", "--bytes")
 COMMANDS = {
-    "repack": (("--length", "--tolerance", "--strict"), (1, 2)),
-    "feed": (("--length", "--tolerance", "--strict"), (1, 1)),
+    "repack": (("--length", "--no-int24", "--tolerance", "--strict"), (1, 2)),
+    "feed": (("--length", "--no-int24", "--tolerance", "--strict"), (1, 1)),
     "list": (("--tolerance", "--strict"), (1, 1)),
     "check": ((), (2, 2)),
     "compare": (("--tolerance",), (2, 2)),
-    "archive": (("--length", "--tolerance", "--strict", "--below", "--resume", "--check", "--only-smaller", "--bytes"), (3, 3)),
+    "archive": (("--length", "--no-int24", "--tolerance", "--strict", "--below", *OF_DAYS), (3, 3)),
 }
 VALUED = ("--length", "--tolerance", "--below")
 LENGTHS = [2**exponent for exponent in range(8, 17)]
 
-Task = namedtuple("Task", "command names length tolerance strict below resume check only_smaller bytes")
+Task = namedtuple("Task", "command names length kinds tolerance strict below resume check only_smaller bytes")
 Device = namedtuple("Device", "most fails")
 # What a run is given beside its words.
 Given = namedtuple("Given", "content reading writing redirected redirecting odd unsaid")
@@ -130,8 +131,9 @@ def read_words(words):
         raise Ends(2, told("the folders overlap"))
     if not all(map(is_place, below)):
         raise Ends(2, told("not a folder of an archive"))
-    flags = [option in chosen for option in ("--resume", "--check", "--only-smaller", "--bytes")]
-    return Task(command, names, length, chosen.get("--tolerance", 1000), "--strict" in chosen, below, *flags)
+    kinds = model.WITHOUT_INT24 if "--no-int24" in chosen else model.KINDS
+    flags = [option in chosen for option in OF_DAYS]
+    return Task(command, names, length, kinds, chosen.get("--tolerance", 1000), "--strict" in chosen, below, *flags)
 
 
 # Files and streams.
@@ -211,7 +213,7 @@ def repack(task, given):
     for name in outputs:
         made(name, given.redirected if source == "-" else source, given)
     for content, fails in read:
-        records, report, fault = model.repacked(content, task.length, task.tolerance, task.strict)
+        records, report, fault = model.repacked(content, task.length, task.tolerance, task.strict, task.kinds)
         left = {name: Loose(records) for name in outputs}
         if fails or fault:
             yield Outcome(1, b"", told("read fault" if fails else fault), files=left)
@@ -223,8 +225,9 @@ def decided(content, task):
     """How many bytes of records no later sample can change. The sample that is easiest to add is the last one once
     more; a frontier that holds even so is settled, and a record when two frontiers after its own are."""
     segments = model.read_all(content, task.tolerance, task.strict).segments
-    whole = sum(len(model.packing(segment.samples, task.length)[0]) for segment in segments[:-1])
-    last = [model.packing(one.samples + one.samples[-1:], task.length)[1] for one in segments[-1:]]
+    form = task.length, task.kinds
+    whole = sum(len(model.packing(segment.samples, *form)[0]) for segment in segments[:-1])
+    last = [model.packing(one.samples + one.samples[-1:], *form)[1] for one in segments[-1:]]
     return task.length * (whole + sum(max(0, len(frontiers) - 2) for frontiers in last))
 
 
@@ -237,7 +240,7 @@ def feed(task, given):
         yield Outcome(1, b"", told("write fault"), files=empty)
         return
     for content, fails in read:
-        records, report, fault = model.repacked(content, task.length, task.tolerance, task.strict)
+        records, report, fault = model.repacked(content, task.length, task.tolerance, task.strict, task.kinds)
         if fails:
             yield Outcome(1, records, told("read fault"), True, empty, empty, least=decided(content, task))
         elif fault:

@@ -11,6 +11,7 @@ import sys
 import tempfile
 
 import model
+import reports
 from model import INT16, INT24, INT32, STEIM1, STEIM2, Key
 
 ROOT = os.path.dirname(os.path.dirname(os.path.realpath(__file__)))
@@ -21,7 +22,7 @@ HEIGHTS = [0, 1, 3, 7, 15, 31, 127, 511, 16383, 32767, 2**23 - 1, 2**29 - 1, 2**
 # How far a record's time may be from the nominal one, in microseconds.
 SHIFTS = [0] * 6 + [1, -1, 999, 1000, 1001, -1000, -1001, 500_000]
 
-Made = collections.namedtuple("Made", "number content size tolerance strict")
+Made = collections.namedtuple("Made", "number content size tolerance strict kinds")
 
 
 def stretch(dice, value):
@@ -227,7 +228,8 @@ def make(number):
     records = [one for _ in range(dice.choice([1, 1, 2, 3])) for one in channel(dice, kinds)]
     content = damaged(dice, records)
     size = 65536 if dice.random() < 0.02 else dice.choice(LENGTHS)
-    return Made(number, content, size, dice.choice(TOLERANCES), dice.random() < 0.3)
+    tolerance, strict = dice.choice(TOLERANCES), dice.random() < 0.3
+    return Made(number, content, size, tolerance, strict, model.WITHOUT_INT24 if dice.random() < 0.4 else model.KINDS)
 
 
 class Program:
@@ -282,49 +284,67 @@ def list_differs(program, words, made):
     return (status, said) != (1, told(fault)) or not text.encode().startswith(printed)
 
 
-def turned(dice, report, segments, size):
+def turned(dice, report, segments, size, kinds):
     """The report with a separator of one segment changed, and whether it still shows that."""
     lines = report.splitlines()
     which = dice.randrange(len(segments))
-    separators = [int(word) for word in lines[5 + 2 * which].split()[1:]]
+    at = 5 + len(model.NAMED[kinds]) + 2 * which
+    separators = [int(word) for word in lines[at].split()[1:]]
     place = dice.randrange(len(separators))
     changed = list(separators)
     changed[place] = max(0, changed[place] + dice.choice([-1, 1, -3, 3]))
     if dice.random() < 0.2:
         del changed[place]
-    lines[5 + 2 * which] = " ".join(map(str, ["separators", *changed]))
-    shown = len(changed) == len(separators) and model.is_separating(segments[which].samples, size, changed)
+    lines[at] = " ".join(map(str, ["separators", *changed]))
+    shown = len(changed) == len(separators) and model.is_separating(segments[which].samples, size, changed, kinds)
     return model.text(lines), shown
+
+
+def of_other_kinds(report):
+    """The report with the other choice of kinds."""
+    [named] = model.NAMED[model.WITHOUT_INT24]
+    lines = report.splitlines()
+    if named in lines:
+        lines.remove(named)
+    else:
+        lines.insert(3, named)
+    return model.text(lines)
 
 
 def verdict_of(program, report):
     return program.run("check", program.file("out"), program.file("text", report.encode()))
 
 
+VERDICTS = {True: (0, b"least\n", b""), False: (3, b"not shown\n", b"")}
+
+
 def check_differs(program, made, answer):
-    """Its own report shows it; a changed one does if it still separates."""
+    """Its own report shows it; a changed one does if it still separates, one of other kinds if the model says so."""
     records, report, _ = answer
     read = model.read_all(records, made.tolerance)
     if read.fault is not None or len(read.segments) != report.count("\nsegment "):
         return False
-    if verdict_of(program, report) != (0, b"least\n", b""):
+    if verdict_of(program, report) != VERDICTS[True]:
+        return True
+    other = of_other_kinds(report)
+    if verdict_of(program, other) != VERDICTS[reports.verdict(records, reports.parsed(other.encode()))]:
         return True
     if not read.segments:
         return False
-    changed, shown = turned(random.Random(made.number), report, read.segments, made.size)
-    return verdict_of(program, changed) != ((0, b"least\n", b"") if shown else (3, b"not shown\n", b""))
+    changed, shown = turned(random.Random(made.number), report, read.segments, made.size, made.kinds)
+    return verdict_of(program, changed) != VERDICTS[shown]
 
 
 def compare(job):
     """The commands whose answers differ, for the file of that number, and its fault."""
     path, number = job
     made = make(number)
-    answer = model.repacked(made.content, made.size, made.tolerance, made.strict)
+    answer = model.repacked(made.content, made.size, made.tolerance, made.strict, made.kinds)
     with tempfile.TemporaryDirectory() as folder:
         program = Program(path, folder)
         program.file("in", made.content)
         rest = ["--tolerance", str(made.tolerance)] + ["--strict"] * made.strict
-        words = ["--length", str(made.size), *rest]
+        words = ["--length", str(made.size), *rest] + ["--no-int24"] * (made.kinds == model.WITHOUT_INT24)
         differ = []
         if repack_differs(program, words, answer):
             differ.append("repack")
@@ -348,7 +368,7 @@ def main():
         made = make(asked.first)
         with open(asked.keep, "wb") as file:
             file.write(made.content)
-        print(f"length {made.size} tolerance {made.tolerance} strict {made.strict}")
+        print(f"length {made.size} tolerance {made.tolerance} strict {made.strict} kinds {made.kinds}")
         return 0
     jobs = [(asked.program, number) for number in range(asked.first, asked.first + asked.count)]
     wrong, faults = 0, collections.Counter()

@@ -11,8 +11,10 @@ import shutil
 import struct
 import subprocess
 import sys
+import tempfile
 
 sys.path.insert(0, os.path.join(os.path.dirname(os.path.dirname(os.path.realpath(__file__))), "bench"))
+import against_libmseed
 import day
 import kinds
 
@@ -141,6 +143,19 @@ def by_bench(samples_of, count, write):
     return make
 
 
+def block(each):
+    """The block of an input of bench/against_libmseed.py."""
+
+    def make(name, _):
+        with tempfile.TemporaryDirectory() as folder:
+            made = against_libmseed.block_of(each, folder)
+        with open(name, "wb") as out:
+            out.writelines(made.records)
+        return {"XX_BENCH_00_HHZ_D": array.array("i", made.samples)} if each.make else {}
+
+    return make
+
+
 def by_libmseed(samples_of, encoding, order, length):
     """Written by libmseed itself, 100 samples a second."""
 
@@ -265,11 +280,10 @@ Input = collections.namedtuple("Input", "title make apart again", defaults=(ROUN
 
 INPUTS = [
     Input("IU.COLA.00.LHZ, as recorded", recorded, RAGGED),
+    *(Input(it.title, block(it)) for it in against_libmseed.INPUTS if it.make),
+    *(Input(f"{it.title}, 24 times", block(it), RAGGED) for it in against_libmseed.INPUTS if not it.make),
     Input("a tenth of a day, 16-bit integers", by_bench(day.made_up, 864_000, plain(512, 1))),
-    Input("microseism, Steim-2", by_bench(kinds.microseism, COUNT, kinds.write_steim2)),
-    Input("strong motion, 32-bit integers", by_bench(kinds.strong_motion, COUNT, plain(4096, 3))),
-    Input("noise within 16 bits, 16-bit integers", by_bench(kinds.within_16_bits, COUNT, plain(512, 1))),
-    Input("noise of 20,000 counts, Steim-2", by_bench(kinds.white_noise(20_000), COUNT, kinds.write_steim2)),
+    Input("noise within 24 bits, 32-bit integers", by_bench(kinds.within_24_bits, COUNT, plain(4096, 3))),
     Input("all of 32 bits, 32-bit integers", by_bench(of_32_bits, COUNT, plain(512, 3))),
     Input("stretches of each kind, 32-bit integers", by_bench(of_all_kinds, 2 * COUNT, plain(4096, 3))),
     Input("Steim-1 by libmseed, big-endian", by_libmseed(kinds.strong_motion, 10, 1, 512)),

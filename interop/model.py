@@ -19,6 +19,9 @@ INT16, INT24, INT32, STEIM1, STEIM2 = 1, 2, 3, 10, 11
 WIDTHS = {INT16: 2, INT24: 3, INT32: 4}
 # The kinds in the order in which they are tried.
 KINDS = (STEIM2, STEIM1, INT16, INT24, INT32)
+# Those of --no-int24, and how a report names them.
+WITHOUT_INT24 = (STEIM2, STEIM1, INT16, INT32)
+NAMED = {KINDS: [], WITHOUT_INT24: ["kinds steim2 steim1 int16 int32"]}
 MOST_SAMPLES = 65_535
 
 # How many differences of how many bits a word holds: (count, bits, code, the top two bits or None).
@@ -311,14 +314,14 @@ def end_of(kind, samples, differences, start, size):
     return start + next(place for place, sample in enumerate(run) if not is_in(sample, 8 * width))
 
 
-def packing(samples, size):
-    """Runs (start, end, kind), and the separators."""
+def packing(samples, size, kinds=KINDS):
+    """Runs (start, end, kind) of these kinds, and the separators."""
     differences = [0] + [after - before for before, after in zip(samples, samples[1:])]
     farthest = {}
 
     def end_from(start):
         if start not in farthest:
-            farthest[start] = max(end_of(kind, samples, differences, start, size) for kind in KINDS)
+            farthest[start] = max(end_of(kind, samples, differences, start, size) for kind in kinds)
         return farthest[start]
 
     starts, separators, frontier = [], [], 0
@@ -330,15 +333,15 @@ def packing(samples, size):
         frontier = end
     runs = []
     for start, end in zip(starts, starts[1:] + [len(samples)]):
-        kind = next(kind for kind in KINDS if end_of(kind, samples, differences, start, size) >= end)
+        kind = next(kind for kind in kinds if end_of(kind, samples, differences, start, size) >= end)
         runs.append((start, end, kind))
     return runs, separators, differences
 
 
-def is_separating(samples, size, separators):
-    """Whether no run that fits any kind holds two of them; they rise, and are numbers of samples. A run that holds two
-    may begin before the first of them: a Steim-1 record can reach further from a sample earlier, by other groups. What
-    of it begins at most eight samples before that one fits, too."""
+def is_separating(samples, size, separators, kinds=KINDS):
+    """Whether no run that fits one of the kinds holds two of them; they rise, and are numbers of samples. A run that
+    holds two may begin before the first of them: a Steim-1 record can reach further from a sample earlier, by other
+    groups. What of it begins at most eight samples before that one fits, too."""
     differences = [0] + [after - before for before, after in zip(samples, samples[1:])]
     pairs = list(zip(separators, separators[1:]))
     if any(after <= before for before, after in pairs) or any(place >= len(samples) for place in separators):
@@ -346,7 +349,7 @@ def is_separating(samples, size, separators):
     return not any(
         end_of(kind, samples, differences, start, size) > after
         for before, after in pairs
-        for kind in KINDS
+        for kind in kinds
         for start in range(max(0, before - 8), before + 1)
     )
 
@@ -450,11 +453,11 @@ def listed(content, tolerance, strict=False):
     return text([*map(segment_line, read.segments), counts_line(read.counts)]), read.fault
 
 
-def packed(segments, size):
+def packed(segments, size, kinds=KINDS):
     """The records of segments, and their lines in a report."""
     records, lines = [], []
     for segment in segments:
-        runs, separators, differences = packing(segment.samples, size)
+        runs, separators, differences = packing(segment.samples, size, kinds)
         for start, end, kind in runs:
             time = rounded(nominal(segment.key, segment.start, start))
             number = len(records) % 999_999 + 1
@@ -464,11 +467,11 @@ def packed(segments, size):
     return records, lines
 
 
-def repacked(content, size, tolerance, strict=False):
+def repacked(content, size, tolerance, strict=False, kinds=KINDS):
     """The records of all rows before the fault, the text of the report if there is none, and the fault."""
     read = read_all(content, tolerance, strict)
-    records, lines = packed(read.segments, size)
-    head = ["msrepack 1", f"length {size}", f"tolerance {tolerance}", counts_line(read.counts)]
+    records, lines = packed(read.segments, size, kinds)
+    head = ["msrepack 1", f"length {size}", f"tolerance {tolerance}", *NAMED[kinds], counts_line(read.counts)]
     end = f"end {len(read.segments)} segments {len(records)} records"
     return Repacked(b"".join(records), None if read.fault else text([*head, *lines, end]), read.fault)
 

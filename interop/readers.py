@@ -4,8 +4,9 @@
     interop/readers.py [--install] [--program FILE] [--only TEXT]
 
 The readers are those that Debian has: libmseed, through libmseed_reads.c, and mseed2sac. Each input is repacked to each
-length; then it is shown what the readers make of files that msrepack refuses. --install fetches what is missing
-with apt-get. The tables are markdown; README.md sums them up. The status is 1 if a reader found a difference.
+length, with --no-int24 and without; then it is shown what the readers make of files that msrepack refuses. --install
+fetches what is missing with apt-get. The tables are markdown; README.md sums them up. The status is 1 if a reader found a
+difference, or if with --no-int24 a record was written that it does not read.
 """
 import argparse
 import array
@@ -38,8 +39,12 @@ Record = collections.namedtuple(
 Trace = collections.namedtuple("Trace", "name start rate count type samples")
 # What libmseed finds in a file: its records, its traces.
 Found = collections.namedtuple("Found", "records traces")
-# What was found for an input; the last three list the lengths at which a reader found something else.
-Row = collections.namedtuple("Row", "input segments samples traces files apart kinds unread records_wrong traces_wrong files_wrong")
+# What was found for an input; `kinds` and `written` tell of each length the records, the last four list the lengths that
+# were not compared, and those at which a reader found something else.
+FIELDS = "input segments samples traces files apart kinds written unread records_wrong traces_wrong files_wrong"
+Row = collections.namedtuple("Row", FIELDS)
+# How msrepack is called for each choice of kinds, by the title of its tables.
+CHOICES = {"Of all five kinds": [], "Without 24-bit integers": ["--no-int24"]}
 
 
 def packages_there():
@@ -162,13 +167,13 @@ def as_made(found, made):
     return all(samples.get(name) == array.array("i", it).tobytes() for name, it in made.items())
 
 
-def repacked(bench, name, length):
+def repacked(bench, name, length, options):
     """The file repacked to this length: its records' encodings, what libmseed and mseed2sac find in it, and its segments.
 
     They find nothing if a record has 24-bit integers, which they do not read.
     """
     out, report = f"{bench.folder}/out", f"{bench.folder}/report"
-    text = bench.said(bench.program, "repack", "--length", str(length), name, out)
+    text = bench.said(bench.program, "repack", *options, "--length", str(length), name, out)
     with open(report, "w", encoding="ascii") as it:
         it.write(text)
     if bench.said(bench.program, "check", out, report) != "least\n":
@@ -184,17 +189,24 @@ def repacked(bench, name, length):
     return encodings, found, bench.sac(out), segments
 
 
-def row_of(bench, each):
+def rows_of(bench, each):
+    """A row for each choice of kinds."""
     name = f"{bench.folder}/in"
     made = each.make(name, bench.libmseed)
     before, sac = bench.found(name), bench.sac(name)
     if not as_made(before, made):
         sys.exit(f"{each.title}: libmseed reads other samples from the input than were made")
-    row = Row(each, 0, sum(it.count for it in before.records), len(before.traces), len(sac[0]), 0, [], [], [], [], [])
+    return [row_of(bench, each, before, sac, options) for options in CHOICES.values()]
+
+
+def row_of(bench, each, before, sac, options):
+    name, samples = f"{bench.folder}/in", sum(it.count for it in before.records)
+    row = Row(each, 0, samples, len(before.traces), len(sac[0]), 0, [], [], [], [], [], [])
     for length in LENGTHS:
-        encodings, after, sac_after, segments = repacked(bench, name, length)
+        encodings, after, sac_after, segments = repacked(bench, name, length, options)
         row = row._replace(segments=segments)
         row.kinds.append(kinds_of(encodings))
+        row.written.append(len(encodings))
         if after is None:
             row.unread.append(length)
             continue
@@ -216,17 +228,43 @@ def is_wrong(row):
     return bool(row.records_wrong or not row.input.again and (row.traces_wrong or row.files_wrong))
 
 
-def print_rows(rows):
+def print_rows(title, rows):
+    print(f"\n## {title}\n")
     print("| input | segments | samples | libmseed: same | µs apart | traces | same | mseed2sac: files | same |")
     print("|---|---|---|---|---|---|---|---|---|")
     for it in rows:
         cells = [it.input.title, it.segments, f"{it.samples:,}", yes(it.records_wrong, it.unread), f"{float(it.apart):.3g}"]
         cells += [it.traces, yes(it.traces_wrong, it.unread), it.files, yes(it.files_wrong, it.unread)]
         print(f"| {' | '.join(map(str, cells))} |")
+    print_sums(rows)
     print("\n### The kinds of records written\n")
+    print_by_length((it.input.title, it.kinds) for it in rows)
+
+
+def print_sums(rows):
+    outputs, unread = len(rows) * len(LENGTHS), sum(len(it.unread) for it in rows)
+    compared = [count for it in rows for length, count in zip(LENGTHS, it.written) if length not in it.unread]
+    samples = sum(it.samples * (len(LENGTHS) - len(it.unread)) for it in rows)
+    print(f"\n{len(rows)} inputs, {outputs} outputs, {unread} of them not compared; the others have {sum(compared):,} records", end="")
+    print(f" and {samples:,} samples; {sum(map(is_wrong, rows))} inputs wrong")
+
+
+def print_by_length(cells):
     print(f"| input | {' | '.join(map(str, LENGTHS))} |\n|---{'|---' * len(LENGTHS)}|")
-    for it in rows:
-        print(f"| {it.input.title} | {' | '.join(it.kinds)} |")
+    for title, each in cells:
+        print(f"| {title} | {' | '.join(each)} |")
+
+
+def more(few, many):
+    return f"{many:,}" if few == many else f"{few:,} to {many:,}, {100 * (many - few) / few:.1f} %"
+
+
+def print_cost(pairs):
+    """How many records each choice of kinds takes, if the numbers differ at a length."""
+    print("\n## Records of all five kinds, and without 24-bit integers\n")
+    dearer = [(few, many) for few, many in pairs if few.written != many.written]
+    print_by_length((few.input.title, map(more, few.written, many.written)) for few, many in dearer)
+    print(f"\n{len(pairs) - len(dearer)} of {len(pairs)} inputs take as many at each length.")
 
 
 def bare(complaint):
@@ -346,7 +384,7 @@ def written_row(bench, length):
     inputs.by_libmseed(inputs.zeros, 11, 1, length)(name, bench.libmseed)
     theirs = bench.found(name)
     inputs.by_libmseed(inputs.zeros, 11, 1, 4096)(name, bench.libmseed)
-    _, ours, _, _ = repacked(bench, name, length)
+    _, ours, _, _ = repacked(bench, name, length, [])
     return f"| {inputs.COUNT:,} | {length} | {kept(theirs)} | {kept(ours)} |"
 
 
@@ -382,14 +420,16 @@ def main():
     with tempfile.TemporaryDirectory(prefix="msrepack-interop-") as folder:
         bench = Bench(os.path.realpath(asked.program), folder)
         print(versions(bench))
-        rows = [row_of(bench, it) for it in inputs.INPUTS if asked.only in it.title]
-        print_rows(rows)
+        pairs = [rows_of(bench, it) for it in inputs.INPUTS if asked.only in it.title]
+        for title, rows in zip(CHOICES, zip(*pairs)):
+            print_rows(title, rows)
+        print_cost(pairs)
         if not asked.only:
             print("\n## What libmseed writes in the longest records\n")
             print_longest(bench)
             print("\n## What msrepack refuses\n")
             print_refused(bench)
-    sys.exit(any(map(is_wrong, rows)))
+    sys.exit(any(is_wrong(it) for pair in pairs for it in pair) or any(without.unread for _, without in pairs))
 
 
 if __name__ == "__main__":

@@ -6,7 +6,7 @@ from collections import namedtuple
 
 import model
 
-Report = namedtuple("Report", "length tolerance counts lines")
+Report = namedtuple("Report", "length tolerance kinds counts lines")
 # A segment's line, and its separators.
 Line = namedtuple("Line", "text samples records separators")
 
@@ -91,6 +91,15 @@ def separators_of(lines):
     return [int(one) for one in numbers]
 
 
+def kinds_of(lines):
+    """The kinds of the records, which a line names if they are not all; and the line after it."""
+    line = lines.next()
+    for kinds, named in model.NAMED.items():
+        if [line] == named:
+            return kinds, lines.next()
+    return model.KINDS, line
+
+
 def parsed(text):
     lines, segments = Lines(text), []
     lines.numbers("msrepack 1")
@@ -100,7 +109,8 @@ def parsed(text):
     [tolerance] = lines.numbers(f"tolerance {NUMBER}")
     if not 1 <= tolerance <= 1_000_000:
         lines.fail()
-    counts = lines.numbers(f"read {NUMBER} empty {NUMBER} mismatched {NUMBER}")
+    kinds, line = kinds_of(lines)
+    counts = lines.checked(re.fullmatch(f"read {NUMBER} empty {NUMBER} mismatched {NUMBER}", line, re.ASCII))
     line = lines.next()
     while line.startswith("segment "):
         found = segment_of(line) or lines.fail()
@@ -112,19 +122,22 @@ def parsed(text):
     if lines.lines or lines.rest:
         lines.number += 1
         lines.fail()
-    return Report(length, tolerance, counts, segments)
+    return Report(length, tolerance, kinds, counts, segments)
 
 
-def stands_in(segment, rows, line, size):
-    """Whether these rows are runs of the segment that fit a record of theirs, and the line's separators as many."""
+def stands_in(segment, rows, line, report):
+    """Whether these rows are runs of the segment that fit a record of theirs, one of the report's kinds, and the line's
+    separators as many."""
+    size, kinds = report.length, report.kinds
     samples, end = segment.samples, 0
     differences = [0] + [after - before for before, after in zip(samples, samples[1:])]
     for row in rows:
         start, end = end, end + len(row.samples)
-        if model.end_of(row.kind, samples, differences, start, size) < end:
+        if row.kind not in kinds or model.end_of(row.kind, samples, differences, start, size) < end:
             return False
     is_told = line.text == f"{model.segment_line(segment)} records {len(rows)}"
-    return is_told and len(line.separators) == len(rows) and model.is_separating(samples, size, line.separators)
+    is_as_many = len(line.separators) == len(rows)
+    return is_told and is_as_many and model.is_separating(samples, size, line.separators, kinds)
 
 
 def verdict(packed, report):
@@ -141,5 +154,5 @@ def verdict(packed, report):
             own.append(next(rows)[1])
             count += len(own[-1].samples)
         segments.append((segment, own))
-    is_shown = (stands_in(*one, line, report.length) for one, line in zip(segments, report.lines))
+    is_shown = (stands_in(*one, line, report) for one, line in zip(segments, report.lines))
     return len(segments) == len(report.lines) and all(is_shown)

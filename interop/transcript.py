@@ -399,6 +399,7 @@ def shown(answer):
 # What a text of help has to say, by docs/MANUAL.md: on all commands, and on each.
 STATUSES = ["0", "1", "2"]
 LENGTH = ["--length", "256, 512, 1024", "65536", "[default: 512]"]
+KINDS = ["--no-int24", "kinds steim2 steim1 int16 int32", "libmseed 2 and the tools built on it can read"]
 TOLERANCE = ["--tolerance", "1 to 1000000", "[default: 1000]"]
 REFUSES = ["--strict", "18 ReverseMismatch"]
 LINES = ["done PATH", "same PATH", "skipped PATH: not an SDS path", "not waveform data", "bad day", "notshown PATH", "larger PATH"]
@@ -408,12 +409,12 @@ SAID = ["same segments N samples N", "moved N N", "differ segment K key", "diffe
 SAID += ["differ segment K sample N values V V", "differ segment K sample N only in ONE", "differ segment K only in ONE"]
 HELP = {
     None: [*commands.COMMANDS, *STATUSES, "3", "--help", "--version", "does what `msrepack repack -` does"],
-    "repack": [*STATUSES, *LENGTH, *TOLERANCE, *REFUSES, "IN", "OUT"],
-    "feed": [*STATUSES, *LENGTH, *TOLERANCE, *REFUSES, "REPORT"],
+    "repack": [*STATUSES, *LENGTH, *KINDS, *TOLERANCE, *REFUSES, "IN", "OUT"],
+    "feed": [*STATUSES, *LENGTH, *KINDS, *TOLERANCE, *REFUSES, "REPORT"],
     "list": [*STATUSES, *TOLERANCE, *REFUSES, "IN"],
     "check": [*STATUSES, "3", "PACKED", "REPORT", "least", "not shown"],
     "compare": [*STATUSES, "3", *TOLERANCE, *SAID, "ONE", "OTHER"],
-    "archive": [*STATUSES, *LENGTH, *TOLERANCE, *REFUSES, *LINES, "--below", "--resume", "--check", "--only-smaller", "--bytes", "same"],
+    "archive": [*STATUSES, *LENGTH, *KINDS, *TOLERANCE, *REFUSES, *LINES, "--below", *commands.OF_DAYS, "same"],
 }
 HELP["archive"] += ["ROOT", "OUT", "REPORTS"]
 

@@ -320,7 +320,7 @@ class Walk:
         except (OSError, NotAReport):
             return None
         written = sum(line.records for line in report.lines)
-        is_asked = (report.length, report.tolerance) == (length, self.task.tolerance)
+        is_asked = (report.length, report.kinds, report.tolerance) == (length, self.task.kinds, self.task.tolerance)
         is_small = not self.task.only_smaller or written * length < size
         is_whole = os.path.isfile(places.records) and os.path.getsize(places.records) == written * report.length
         is_strict = not self.task.strict or report.counts[2] == 0
@@ -347,7 +347,8 @@ class Walk:
         stamp, parts = stamp_of(source), self.parts(places, claim.number)
         content = read_to_end(file)
         length = self.length_for(content or b"")
-        records, report, fault = model.repacked(content or b"", length, self.task.tolerance, self.task.strict)
+        asked = self.task.tolerance, self.task.strict, self.task.kinds
+        records, report, fault = model.repacked(content or b"", length, *asked)
         fault = "read fault" if content is None else fault
         for path, text in zip(parts, (records, report.encode() if report else b"")):
             self.write(path, text)

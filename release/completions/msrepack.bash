@@ -3,11 +3,11 @@ _msrepack() {
     local word=$2 before=$3 words='' commands='repack feed list check compare archive help'
     COMPREPLY=()
     case ${COMP_WORDS[1]} in
-        repack | feed) words='--length --tolerance --strict --help' ;;
+        repack | feed) words='--length --no-int24 --tolerance --strict --help' ;;
         list) words='--tolerance --strict --help' ;;
         check) words='--help' ;;
         compare) words='--tolerance --help' ;;
-        archive) words='--length --tolerance --strict --below --resume --check --only-smaller --bytes --help' ;;
+        archive) words='--length --no-int24 --tolerance --strict --below --resume --check --only-smaller --bytes --help' ;;
     esac
     if [ "$COMP_CWORD" -eq 1 ]; then
         words="$commands --help --version"

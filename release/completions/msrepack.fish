@@ -18,6 +18,8 @@ complete -c msrepack -n '__fish_seen_subcommand_from archive' -a '(__fish_comple
 complete -c msrepack -n '__fish_seen_subcommand_from repack feed archive' -x -l length \
     -a '256 512 1024 2048 4096 8192 16384 32768 65536' -d 'Bytes of each record'
 complete -c msrepack -n '__fish_seen_subcommand_from archive' -x -l length -a same -d 'That of each first record'
+complete -c msrepack -n '__fish_seen_subcommand_from repack feed archive' -l no-int24 \
+    -d 'Pack without 24-bit integers, which libmseed 2 cannot read'
 complete -c msrepack -n '__fish_seen_subcommand_from repack feed list compare archive' -x -l tolerance \
     -d 'Microseconds by which a record may be early or late'
 complete -c msrepack -n '__fish_seen_subcommand_from repack feed list archive' -l strict \

@@ -8,6 +8,8 @@ use Rattle.clap.specs.declared.parser.matches.Found.{Found}
 use Rattle.msr_options.specs.Choice.{Choice, size_of}
 use Rattle.msr_days.specs.declared.DayOptions.{DayOptions}
 use Rattle.msr_kinds.specs.RecordLength.{IsRecordLength}
+use Rattle.msr_kinds.specs.declared.kinds.Kinds.{Kinds}
+use Rattle.msr_kinds.specs.declared.kinds.Kinds.TheVariants.{All, WithoutInt24}
 use Rattle.msr_arguments.specs.Tasks.{IsTolerance}
 use Rattle.msr_arguments.specs.declared.task.Archiving.{Archiving}
 use Rattle.msr_arguments.specs.declared.task.Checking.{Checking}
@@ -27,6 +29,11 @@ IsNumberOf (Some text) number = ParsesUnsigned 32 10 text (ok_or number text)
 abbrev pub IsFlagOf : (text : Option (List ℕ)) → (flag : Bool) → Type 0
 IsFlagOf None flag = flag ≡ false
 IsFlagOf (Some text) flag = (text ≡ codes "true" → flag ≡ true) × (text ≡ codes "false" → flag ≡ false)
+
+-- the kinds of records that are written, by the text of the flag that leaves 24-bit integers out; clap gives it no other
+abbrev pub IsKindsOf : (text : Option (List ℕ)) → (kinds : Kinds) → Type 0
+IsKindsOf None kinds = kinds ≡ All
+IsKindsOf (Some text) kinds = (text ≡ codes "true" → kinds ≡ WithoutInt24) × (text ≡ codes "false" → kinds ≡ All)
 
 -- the values of an argument that may be given several times
 abbrev pub texts_under : Found → (name : List ℕ) → List (List ℕ)
@@ -52,6 +59,7 @@ pub record AsksOptions (found : Found) (text : Option (List ℕ)) (options : Cho
   pub tolerance : IsToleranceIn found options.tolerance
   pub length_is : IsLengthOf text (size_of options)
   pub strict : IsFlagOf (one_text found (codes "strict")) options.strict
+  pub kinds : IsKindsOf (one_text found (codes "no-int24")) options.kinds
 
 -- the numbers that were found, and that of the text, are those of options
 pub record HoldsOptions (found : Found) (text : Option (List ℕ)) : Type 0 where

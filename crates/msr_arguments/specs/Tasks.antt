@@ -1,5 +1,7 @@
 -- What the words of a command line ask for.
 use Rattle.std.specs.Prelude.{◌≡◌, ◌≢◌, ◌⊎◌, ◌≤◌, ℕ, ⊤, Bool, false, List, ◌++◌, AllPairs, None, IfSome, codes, string_bytes}
+use Rattle.msr_kinds.specs.declared.kinds.Kinds.{Kinds}
+use Rattle.msr_kinds.specs.declared.kinds.Kinds.TheVariants.{All}
 use Rattle.msr_options.specs.Choice.{Choice, size_of}
 use Rattle.msr_arguments.specs.declared.task.Folders.{Folders}
 use Rattle.msr_arguments.specs.declared.task.Task.{Task}
@@ -53,17 +55,18 @@ KeepsInput (Compare asked) = ¬ (AreBothStandard asked.one.now asked.other.now)
 KeepsInput (Archive asked) = StandApart asked.folders
 KeepsInput (Feed asked) = ⊤
 
--- the options that have these numbers
-pub record AreOptions (bytes tolerance : ℕ) (strict : Bool) (options : Choice) : Type 0 where
+-- the options that have these numbers and these kinds
+pub record AreOptions (bytes tolerance : ℕ) (strict : Bool) (kinds : Kinds) (options : Choice) : Type 0 where
   pub size : size_of options ≡ bytes
   pub tolerance_is : options.tolerance ≡ tolerance
   pub strict_is : options.strict ≡ strict
+  pub kinds_are : options.kinds ≡ kinds
 
--- standard input is to be repacked to nowhere, with records of 512 bytes and a tolerance of 1000 microseconds, and not
--- strictly
+-- standard input is to be repacked to nowhere, with records of 512 bytes of any kind and a tolerance of 1000
+-- microseconds, and not strictly
 abbrev pub IsDefault : Task → Type 0
 IsDefault (Repack asked) =
-    AreOptions 512 1000 false asked.options × (asked.input.now ≡ codes "-") × (asked.output ≡ None)
+    AreOptions 512 1000 false All asked.options × (asked.input.now ≡ codes "-") × (asked.output ≡ None)
 IsDefault (Listing asked) = ⊥
 IsDefault (Check asked) = ⊥
 IsDefault (Compare asked) = ⊥

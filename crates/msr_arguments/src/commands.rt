@@ -72,9 +72,22 @@ fn reading<'a>(alloc: Global, command: Command<'a>) -> Result<Command<'a>, Alloc
     )
 }
 
-/// Adds the options of packing: those of reading, and before them the length.
+/// Adds the form of records that are written: their length, and of which kinds they may be.
+fn form<'a>(
+    alloc: Global,
+    command: Command<'a>,
+    length: Arg<'a>,
+) -> Result<Command<'a>, AllocError> {
+    flags(
+        alloc,
+        command.arg(length)?,
+        &[("no-int24", texts::NO_INT24, texts::LONG_NO_INT24)],
+    )
+}
+
+/// Adds the options of packing: those of reading, and before them the form.
 fn packing<'a>(alloc: Global, command: Command<'a>) -> Result<Command<'a>, AllocError> {
-    reading(alloc, command.arg(length(alloc))?)
+    reading(alloc, form(alloc, command, length(alloc))?)
 }
 
 /// Adds those of packing days, which may have each a length of its own.
@@ -82,7 +95,7 @@ fn packing_days<'a>(alloc: Global, command: Command<'a>) -> Result<Command<'a>, 
     let length = length(alloc)
         .help(texts::DAY_LENGTH)
         .long_help(texts::LONG_DAY_LENGTH);
-    reading(alloc, command.arg(length)?)
+    reading(alloc, form(alloc, command, length)?)
 }
 
 /// A command without arguments, with its help.

@@ -48,10 +48,11 @@ Steim-2, or else as Steim-1, 16-bit, 24-bit or 32-bit integers, whichever first 
 The time of each record is that of its first sample, counted from the start of its
 segment and rounded to the microsecond.
 
-The report has the length and the tolerance, how many records were read, how many of
-them had no samples, and in how many the last sample was not the reverse constant;
-then, for each segment, a line with its name, rate, start, samples and records, and a
-line of separators: samples, numbered from 0, no two of which fit one record.
+The report has the length and the tolerance, with --no-int24 the kinds of the records,
+how many records were read, how many of them had no samples, and in how many the last
+sample was not the reverse constant; then, for each segment, a line with its name, rate,
+start, samples and records, and a line of separators: samples, numbered from 0, no two
+of which fit one record.
 
 If IN is refused, one line on standard error says at which byte and why, and OUT
 has only a prefix of the records: do not keep it.
@@ -91,13 +92,14 @@ pub(crate) const CHECK_LONG_ABOUT: &str =
 Reads the report and then the records, and prints one of two verdicts:
 
 least      Every segment of PACKED, as the report's tolerance joins them, stands in
-           the fewest records of the report's length that can hold its samples, of
-           those that msrepack could write, whoever made the records and the report.
-           Nothing has to be believed of the program that wrote them. Status 0.
-not shown  The report does not show that: a record has another length or no samples,
-           or more samples than msrepack could write in it, or a segment, its number
-           of samples or records, or its separators do not agree. It does not say that
-           fewer records are possible. Status 3.
+           the fewest records of the report's length and kinds that can hold its
+           samples, of those that msrepack could write, whoever made the records and
+           the report. Nothing has to be believed of the program that wrote them.
+           Status 0.
+not shown  The report does not show that: a record has another length or kind, or no
+           samples, or more samples than msrepack could write in it, or a segment, its
+           number of samples or records, or its separators do not agree. It does not
+           say that fewer records are possible. Status 3.
 
 Nothing is said of the file that PACKED was made from: `msrepack compare` says whether
 it has the same segments.
@@ -192,8 +194,8 @@ Status 0 if all was walked and nothing refused, else 1; 2 if the command line is
 
 /// Examples of `archive`.
 pub(crate) const ARCHIVE_AFTER: &str = "Examples:
-  msrepack archive --length 4096 sds packed reports > log.txt
-  msrepack archive --resume --check --below 2020/XX sds packed reports > log.txt";
+  msrepack archive --no-int24 --length 4096 sds packed reports > log.txt
+  msrepack archive --no-int24 --resume --check --below 2020/XX sds packed reports > log.txt";
 
 /// What `feed` does, in a line.
 pub(crate) const FEED_ABOUT: &str = "Repacks standard input to standard output while it comes";
@@ -235,9 +237,9 @@ pub(crate) const RESUME: &str = "Leave files alone that an earlier walk with thi
 /// `--resume`.
 pub(crate) const LONG_RESUME: &str =
     "Leave files alone that an earlier walk with this option did: their records and their
-report are whole, of this length and tolerance, and made from an input of the same size
-and time of change. For them one line is printed, which counts as one of those done:
-`same PATH read N written M`";
+report are whole, of this length, tolerance and choice of kinds, and made from an input
+of the same size and time of change. For them one line is printed, which counts as one
+of those done: `same PATH read N written M`";
 
 /// `--check`, in a line.
 pub(crate) const CHECKED: &str = "Hold records against their report before they get their name";
@@ -294,6 +296,16 @@ pub(crate) const LONG_DAY_LENGTH: &str =
     "Bytes of each record written: 256, 512, 1024, 2048, 4096, 8192, 16384, 32768 or 65536;
 or `same`, for each file the length of its first record, if it is one of these, and
 else 512";
+
+/// `--no-int24`, in a line.
+pub(crate) const NO_INT24: &str =
+    "Pack without 24-bit integers: records that libmseed 2 and the tools built on it can read";
+
+/// `--no-int24`.
+pub(crate) const LONG_NO_INT24: &str =
+    "Pack without 24-bit integers (encoding 2): records that libmseed 2 and the tools built
+on it can read. They are the fewest of the other four kinds, and the report says so, by
+a line `kinds steim2 steim1 int16 int32` after that of the tolerance";
 
 /// `--tolerance`, in a line.
 pub(crate) const TOLERANCE: &str =

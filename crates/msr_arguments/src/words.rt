@@ -2,7 +2,7 @@
 ghost use Rattle.std.specs.Prelude.{◌≡◌, ◌≢◌, ◌<◌, ◌↔◌, ℕ, length, codes, false, Some, IfOk, IfErr, IfSome, IsSome, IsOk, IsOkAnd, IsTrue, Any, map, option_map};
 ghost use Rattle.msr_kinds.specs.RecordLength.{IsRecordLength};
 ghost use Rattle.clap.specs.Words.{first_value, found_of, kind_of, one_text, subcommand_name_of};
-ghost use Rattle.msr_arguments.specs.Found.{AsksArchive, AsksBelow, AsksCheck, AsksDays, AsksFlags, AsksFolders, AsksOptions, AsksTask, EndsFor, HoldsOptions, IsFlagOf, IsLengthOf, IsNumberOf, command_of, without_slash};
+ghost use Rattle.msr_arguments.specs.Found.{AsksArchive, AsksBelow, AsksCheck, AsksDays, AsksFlags, AsksFolders, AsksOptions, AsksTask, EndsFor, HoldsOptions, IsFlagOf, IsKindsOf, IsLengthOf, IsNumberOf, command_of, without_slash};
 ghost use Rattle.msr_arguments.specs.Tasks.{AreApart, AreBothStandard, AreOptions, HasStatus, HasTolerance, IsBadLine, IsBelow, IsDefault, IsTolerance, IsWrong, KeepsInput, Overlap, StandApart};
 
 use crate::commands::command;
@@ -13,7 +13,7 @@ use crate::texts;
 use clap::ArgMatches;
 use clap::error::ErrorKind;
 use msr_days::DayOptions;
-use msr_kinds::Length;
+use msr_kinds::{Kinds, Length};
 use msr_options::Options;
 use msr_sds::levels_below;
 use std::alloc::{AllocError, Global};
@@ -26,7 +26,7 @@ const TOLERANCE: u32 = 1000;
 
 /// How an input is repacked if nothing else is asked for.
 fn default_options() -> Options
-    ensures { AreOptions 512 1000 false result }
+    ensures { AreOptions 512 1000 false Kinds.All result }
 {
     let length = Length::new(LENGTH).unwrap();
     Options::new(length, TOLERANCE).unwrap()
@@ -73,16 +73,22 @@ fn ending_of(alloc: Global, error: &clap::Error) -> NoTask
 }
 
 /// These options, exactly if the length is one of a record and the tolerance is in its range.
-fn options_of(alloc: Global, bytes: u32, tolerance: u32, strict: bool) -> Result<Options, NoTask>
+fn options_of(
+    alloc: Global,
+    bytes: u32,
+    tolerance: u32,
+    strict: bool,
+    kinds: Kinds,
+) -> Result<Options, NoTask>
     ensures ok { IsOk result ↔ (IsRecordLength bytes × IsTolerance tolerance) }
-    ensures asked { IfOk result (AreOptions bytes tolerance strict) }
+    ensures asked { IfOk result (AreOptions bytes tolerance strict kinds) }
     ensures status { IfErr result IsBadLine }
 {
     let Some(length) = Length::new(bytes) else {
         return Err(wrong(alloc, texts::NOT_A_LENGTH));
     };
     match Options::new(length, tolerance) {
-        Some(options) => Ok(options.strict(strict)),
+        Some(options) => Ok(options.strict(strict).kinds(kinds)),
         None => Err(wrong(alloc, texts::NO_COMMAND)),
     }
 }
@@ -120,6 +126,17 @@ fn flag_in(found: &ArgMatches<'_>, name: &str) -> bool
     found.get_flag(name)
 }
 
+/// The kinds of records that are written.
+fn kinds_in(found: &ArgMatches<'_>) -> Kinds
+    ensures { IsKindsOf (one_text (found_of found.now) (codes "no-int24")) result }
+{
+    if flag_in(found, "no-int24") {
+        Kinds::WithoutInt24
+    } else {
+        Kinds::All
+    }
+}
+
 /// The options that clap found, with that length. The commands `list` and `compare` take none, and do not use the one
 /// that is given here.
 fn options_in(
@@ -138,7 +155,8 @@ fn options_in(
     let Some(bytes) = bytes_of(length) else {
         return Err(wrong(alloc, texts::NOT_A_LENGTH));
     };
-    options_of(alloc, bytes, tolerance, flag_in(found, "strict"))
+    let strict = flag_in(found, "strict");
+    options_of(alloc, bytes, tolerance, strict, kinds_in(found))
 }
 
 /// A file to be repacked, exactly if the output is not the input.

@@ -5,8 +5,12 @@ use Rattle.msr_days.specs.declared.DayOptions.{DayOptions}
 
 -- the same choice for records of another length
 abbrev pub with_length : Length → Choice → Choice
-with_length record_length choice =
-    record { record_length = record_length; tolerance = choice.tolerance; strict = choice.strict }
+with_length record_length choice = record {
+  record_length = record_length;
+  kinds = choice.kinds;
+  tolerance = choice.tolerance;
+  strict = choice.strict;
+}
 
 -- what is asked of days for records of another length
 abbrev pub in_length : Length → DayOptions → DayOptions

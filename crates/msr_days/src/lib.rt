@@ -32,7 +32,9 @@ impl DayOptions {
     {
         let options = Options::new(length, self.options.tolerance()).unwrap();
         DayOptions {
-            options: options.strict(self.options.is_strict()),
+            options: options
+                .kinds(self.options.form().kinds)
+                .strict(self.options.is_strict()),
             same_length: self.same_length,
             resume: self.resume,
             check: self.check,

@@ -1,12 +1,15 @@
 -- How an input is repacked.
 use Rattle.std.specs.Prelude.{ℕ, Bool}
+use Rattle.msr_kinds.specs.declared.forms.Form.{Form}
+use Rattle.msr_kinds.specs.declared.kinds.Kinds.{Kinds}
 use Rattle.msr_kinds.specs.declared.lengths.Length.{Length}
 use Rattle.msr_kinds.specs.Lengths.{bytes_of}
 
--- the length of the records that are written, the tolerance in microseconds, and whether a record is refused whose
--- reverse constant does not agree
+-- the length and the kinds of the records that are written, the tolerance in microseconds, and whether a record is
+-- refused whose reverse constant does not agree
 pub record Choice : Type 0 where
   pub record_length : Length
+  pub kinds : Kinds
   pub tolerance : ℕ
   pub strict : Bool
 
@@ -14,6 +17,24 @@ pub record Choice : Type 0 where
 abbrev pub size_of : Choice → ℕ
 size_of choice = bytes_of choice.record_length
 
+-- the form of the records that are written
+abbrev pub form_chosen : Choice → Form
+form_chosen choice = record { length = choice.record_length; kinds = choice.kinds }
+
+-- the same choice for records of these kinds
+abbrev pub of_kinds : Kinds → Choice → Choice
+of_kinds kinds choice = record {
+  record_length = choice.record_length;
+  kinds = kinds;
+  tolerance = choice.tolerance;
+  strict = choice.strict;
+}
+
 -- the same choice, strict or not
 abbrev pub as_strict : Bool → Choice → Choice
-as_strict strict choice = record { record_length = choice.record_length; tolerance = choice.tolerance; strict = strict }
+as_strict strict choice = record {
+  record_length = choice.record_length;
+  kinds = choice.kinds;
+  tolerance = choice.tolerance;
+  strict = strict;
+}

@@ -1,20 +1,22 @@
-//! How an input is repacked: the length of the records, the tolerance by which rows are joined, and whether reading is
-//! strict.
+//! How an input is repacked: the length and the kinds of the records, the tolerance by which rows are joined, and
+//! whether reading is strict.
 #![tactic(auto)]
 
 ghost use Rattle.std.specs.Prelude.{◌≡◌, ◌↔◌, ◌≤◌, false, IsSome, IfSome};
 
-use msr_kinds::Length;
+use msr_kinds::{Form, Kinds, Length};
 use std::marker::Model;
 
 const LEAST_TOLERANCE: u32 = 1;
 
 const MOST_TOLERANCE: u32 = 1_000_000;
 
-/// The length of the written records, the tolerance by which rows are joined, and whether reading is strict.
+/// The length and the kinds of the written records, the tolerance by which rows are joined, and whether reading is
+/// strict.
 #[derive(Clone, Copy, Debug, PartialEq, Eq)]
 pub struct Options {
     length: Length,
+    kinds: Kinds,
     tolerance: u32,
     strict: bool,
 }
@@ -25,30 +27,46 @@ impl Model for Options {
 
     ghost Value = { Choice };
 
-    ghost view = { λ o. record { record_length = o.length; tolerance = o.tolerance; strict = o.strict } };
+    ghost view = { λ o. record
+        { record_length = o.length; kinds = o.kinds; tolerance = o.tolerance; strict = o.strict } };
 
-    ghost inverse = { λ c. record { length = c.record_length; tolerance = c.tolerance; strict = c.strict } };
+    ghost inverse = { λ c. record
+        { length = c.record_length; kinds = c.kinds; tolerance = c.tolerance; strict = c.strict } };
 
     ghost invariant = { λ o. (1 ≤ o.tolerance) × (o.tolerance ≤ 1_000_000) };
 }
 
 impl Options {
-    ghost use Rattle.msr_options.specs.Choice.{as_strict, size_of};
+    ghost use Rattle.msr_options.specs.Choice.{as_strict, form_chosen, of_kinds, size_of};
 
-    /// Options that are not strict; `None` if the tolerance in microseconds is not from 1 to 1,000,000.
+    /// Options for all five kinds that are not strict; `None` if the tolerance in microseconds is not from 1 to
+    /// 1,000,000.
     pub fn new(length: Length, tolerance: u32) -> Option<Options>
         ensures some { IsSome result ↔ (1 ≤ tolerance) × (tolerance ≤ 1_000_000) }
         ensures same { IfSome result (λ options. options
-            ≡ record { record_length = length; tolerance = tolerance; strict = false }) }
+            ≡ record { record_length = length; kinds = Kinds.All; tolerance = tolerance; strict = false }) }
     {
         if !(LEAST_TOLERANCE..=MOST_TOLERANCE).contains(&tolerance) {
             return None;
         }
         Some(Options {
             length,
+            kinds: Kinds::All,
             tolerance,
             strict: false,
         })
+    }
+
+    /// The same options for records of these kinds.
+    pub fn kinds(self, kinds: Kinds) -> Options
+        ensures { result ≡ of_kinds kinds self }
+    {
+        Options {
+            length: self.length,
+            kinds,
+            tolerance: self.tolerance,
+            strict: self.strict,
+        }
     }
 
     /// The same options, strict or not. A strict reading refuses a record whose last sample is not its reverse
@@ -58,8 +76,19 @@ impl Options {
     {
         Options {
             length: self.length,
+            kinds: self.kinds,
             tolerance: self.tolerance,
             strict,
+        }
+    }
+
+    /// The length and the kinds of the written records.
+    pub fn form(self) -> Form
+        ensures { result ≡ form_chosen self }
+    {
+        Form {
+            length: self.length,
+            kinds: self.kinds,
         }
     }
 

@@ -7,6 +7,11 @@ use Rattle.msr_time.specs.Instant.{IsSplit}
 use Rattle.msr_time.specs.SampleRate.{SampleRate}
 use Rattle.msr_time.specs.declared.btime.BTime.{BTime}
 use Rattle.msr_kinds.specs.Lengths.{bytes_of}
+use Rattle.msr_kinds.specs.Kinds.{contains}
+use Rattle.msr_kinds.specs.declared.kinds.Kind.{Kind}
+use Rattle.msr_kinds.specs.declared.kinds.Kind.TheVariants.{Int16, Int24, Int32, Steim1, Steim2}
+use Rattle.msr_kinds.specs.declared.kinds.Kinds.{Kinds}
+use Rattle.msr_kinds.specs.declared.kinds.Kinds.TheVariants.{All}
 use Rattle.msr_rows.specs.declared.row.Key.{Key}
 use Rattle.msr_report.specs.Proper.{records_of}
 use Rattle.msr_base.specs.declared.counts.Counts.{Counts}
@@ -114,11 +119,33 @@ counts_line counts =
     codes "read " ++ (decimal counts.read ++ (codes " empty "
     ++ (decimal counts.empty ++ (codes " mismatched " ++ (decimal counts.mismatched ++ 10 ∷ [])))))
 
+-- the name of each kind, and all of them in the order in which they are told
+abbrev pub kind_name : Kind → List ℕ
+kind_name Int16 = codes "int16"
+kind_name Int24 = codes "int24"
+kind_name Int32 = codes "int32"
+kind_name Steim1 = codes "steim1"
+kind_name Steim2 = codes "steim2"
+
+abbrev pub told_kinds : List Kind
+told_kinds = Steim2 ∷ (Steim1 ∷ (Int16 ∷ (Int24 ∷ (Int32 ∷ []))))
+
+-- the words of the line of the kinds: the names of those that records may be of
+abbrev pub kinds_words : Kinds → List ℕ
+kinds_words kinds =
+    codes "kinds" ++ flat_map (λ kind. cond (contains kinds kind) (32 ∷ kind_name kind) []) told_kinds
+
+-- the line of the kinds; a report of all five has none
+abbrev pub kinds_line : Kinds → List ℕ
+kinds_line All = []
+kinds_line kinds = kinds_words kinds ++ 10 ∷ []
+
 -- the lines before the segments
 abbrev pub first_lines : Report → List ℕ
 first_lines report =
     codes "msrepack 1" ++ (10 ∷ (codes "length " ++ (decimal (bytes_of report.length)
-    ++ (10 ∷ (codes "tolerance " ++ (decimal report.tolerance ++ (10 ∷ counts_line report.counts)))))))
+    ++ (10 ∷ (codes "tolerance " ++ (decimal report.tolerance ++ (10 ∷ (kinds_line report.kinds
+    ++ counts_line report.counts))))))))
 
 -- the last line, from the number of segments and that of their records
 abbrev pub end_line : ℕ → ℕ → List ℕ

@@ -8,6 +8,6 @@ mod report;
 mod text;
 
 pub use laws::{has_text, one_text};
-pub use lines::{push_counts, push_list_line};
+pub use lines::{kinds_line, push_counts, push_list_line};
 pub use msr_base::Counts;
 pub use report::{Report, SegmentLine};

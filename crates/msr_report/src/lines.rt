@@ -1,11 +1,12 @@
 //! The lines of a list and of a report.
 ghost use Rattle.std.specs.Prelude.{◌≡◌, ◌++◌, ◌∷◌, ◌<◌, ℕ, List, IfOk, OnOk, OnErr, string_bytes, decimal, length};
 ghost use Rattle.msr_time.specs.Instant.{IsInstant};
-ghost use Rattle.msr_report.specs.Text.{words_after_quality, segment_words, IsListLine, separators_line, IsSegmentText, counts_line, first_lines, end_line};
+ghost use Rattle.msr_report.specs.Text.{words_after_quality, segment_words, IsListLine, separators_line, IsSegmentText, kinds_line, counts_line, first_lines, end_line};
 
 use crate::fields::{name_string, settings_string, time_string};
 use crate::report::{Report, SegmentLine};
 use msr_base::Counts;
+use msr_kinds::Kinds;
 use msr_rows::Key;
 use std::alloc::{AllocError, Global};
 
@@ -125,6 +126,16 @@ pub(crate) fn push_segment(
     push_separators(alloc, out, &line.separators)
 }
 
+/// The line of the kinds of which records may be, each by its name. A report of all five has none.
+pub fn kinds_line(kinds: Kinds) -> &'static str
+    ensures { result.now ≡ kinds_line kinds }
+{
+    match kinds {
+        Kinds::All => "",
+        Kinds::WithoutInt24 => "kinds steim2 steim1 int16 int32\n",
+    }
+}
+
 /// Appends the lines before the segments.
 pub(crate) fn push_first_lines(
     alloc: Global,
@@ -135,8 +146,11 @@ pub(crate) fn push_first_lines(
 {
     let length = report.length.bytes();
     let tolerance = report.tolerance;
+    let kinds = kinds_line(report.kinds);
     let counts = counts_string(alloc, &report.counts)?;
-    let text = format!(in alloc; "msrepack 1\nlength {length}\ntolerance {tolerance}\n{counts}")?;
+    let text = format!(in alloc;
+        "msrepack 1\nlength {length}\ntolerance {tolerance}\n{kinds}{counts}"
+    )?;
     out.extend_from_slice(text.as_bytes())
 }
 

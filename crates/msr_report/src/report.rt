@@ -1,6 +1,6 @@
 //! What a report says.
 use msr_base::Counts;
-use msr_kinds::Length;
+use msr_kinds::{Kinds, Length};
 use msr_rows::Key;
 
 /// A segment, and in how many records it was written.
@@ -20,6 +20,8 @@ pub struct SegmentLine {
 pub struct Report {
     /// The length of the written records.
     pub length: Length,
+    /// The kinds of which they may be.
+    pub kinds: Kinds,
     /// The tolerance, in microseconds, by which rows were joined.
     pub tolerance: u32,
     pub counts: Counts,

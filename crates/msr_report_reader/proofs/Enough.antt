@@ -6,9 +6,9 @@ use Rattle.std.proofs.lemmas.List.{append-nil, length-replicate}
 use Rattle.msr_rows.specs.declared.row.Key.{Key}
 use Rattle.msr_report.specs.Text.{IsTimeText, byte_text, field_text, hex_text, split_text}
 use Rattle.msr_report_reader.specs.Fields.{AreBytes}
-use Rattle.msr_report_reader.specs.Form.{Form, IsKey, key_then}
+use Rattle.msr_report_reader.specs.Content.{Content, IsKey, key_then}
 use Rattle.msr_report_reader.specs.Fault.{IsOneLine}
-use Rattle.msr_report_reader.specs.Rest.{body_2, body_3, body_4}
+use Rattle.msr_report_reader.specs.Rest.{body_2, body_3, body_5}
 use Rattle.msr_report_reader.specs.Draft.{IsEnough, IsSettled, line_limit}
 use Rattle.msr_report_reader.proofs.LineFeeds.{same_cons}
 use Rattle.msr_report_reader.proofs.Segments.{opening_body, end_body}
@@ -133,15 +133,15 @@ end_short segments records =
     let second = decimal_short records in
     simp length-append (omega (arith, first, second))
 
-pub short_2 : (form : Form) → length (body_2 form) < line_limit
-short_2 form = let bytes = decimal_short form.bytes in simp length-append (omega (arith, bytes))
+pub short_2 : (content : Content) → length (body_2 content) < line_limit
+short_2 content = let bytes = decimal_short content.bytes in simp length-append (omega (arith, bytes))
 
-pub short_3 : (form : Form) → length (body_3 form) < line_limit
-short_3 form = let tolerance = decimal_short form.tolerance in simp length-append (omega (arith, tolerance))
+pub short_3 : (content : Content) → length (body_3 content) < line_limit
+short_3 content = let tolerance = decimal_short content.tolerance in simp length-append (omega (arith, tolerance))
 
-pub short_4 : (form : Form) → length (body_4 form) < line_limit
-short_4 form =
-    let read = decimal_short form.counts.read in
-    let empty = decimal_short form.counts.empty in
-    let mismatched = decimal_short form.counts.mismatched in
+pub short_5 : (content : Content) → length (body_5 content) < line_limit
+short_5 content =
+    let read = decimal_short content.counts.read in
+    let empty = decimal_short content.counts.empty in
+    let mismatched = decimal_short content.counts.mismatched in
     simp length-append (omega (arith, read, empty, mismatched))

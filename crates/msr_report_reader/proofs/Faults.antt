@@ -7,7 +7,7 @@ use Rattle.msr_report.specs.Proper.{records_of}
 use Rattle.msr_report.specs.Text.{separators_line, end_line}
 use Rattle.msr_report.specs.declared.report.SegmentLine.{SegmentLine}
 use Rattle.msr_report_reader.specs.Fields.{EndsNumber}
-use Rattle.msr_report_reader.specs.Form.{FormLine, IsFormLine, IsOpening}
+use Rattle.msr_report_reader.specs.Content.{ContentLine, IsContentLine, IsOpening, lines_before}
 use Rattle.msr_report_reader.specs.Fault.{BeginsReport, IsFaultLine}
 use Rattle.msr_report_reader.specs.LastLine.{IsLast}
 use Rattle.msr_report_reader.specs.Rest.{AtLine}
@@ -69,18 +69,20 @@ not_last_more segments begins text more may enough none x fits is =
 pub segment_fault : (first : FirstLines) (segments : List SegmentLine) (begins : Bool) (past text more : List ℕ)
     → ReadSegments first segments past → ((x : List ℕ) → text ++ more ≡ codes "segment " ++ x → begins ≡ true)
     → ((x : List ℕ) → text ++ more ≡ codes "end " ++ x → begins ≡ true) → IsEnough begins text more → ReadsNone text
-    → ((rest : List ℕ) → IsLast segments text rest → ⊥) → IsFaultLine (past ++ (text ++ more)) (5 + 2 * length segments)
+    → ((rest : List ℕ) → IsLast segments text rest → ⊥) → IsFaultLine (past ++ (text ++ more))
+    (1 + lines_before first.kinds + 2 * length segments)
 segment_fault first segments begins past text more read may may_end enough none not_last =
     let going = going_of first segments past (text ++ more) read in
-    at_number (past ++ (text ++ more)) (suc (4 + 2 * length segments)) (5 + 2 * length segments) (omega arith)
+    at_number (past ++ (text ++ more)) (suc (lines_before first.kinds + 2 * length segments))
+    (1 + lines_before first.kinds + 2 * length segments) (omega arith)
     (fault_segment (past ++ (text ++ more)) (text ++ more) (length segments) (records_of segments)
-    (4 + 2 * length segments) going.at (none_more begins text more may enough none)
+    (lines_before first.kinds + 2 * length segments) going.at (none_more begins text more may enough none)
     (not_last_more segments begins text more may_end enough not_last)
-    (before_segment (past ++ (text ++ more)) (bytes_of first.length) first.tolerance first.counts segments
+    (before_segment (past ++ (text ++ more)) (bytes_of first.length) first.tolerance first.kinds first.counts segments
     (text ++ more) going))
 
 -- the first line of a segment that was read
-abbrev opened : FirstLine → FormLine
+abbrev opened : FirstLine → ContentLine
 opened line = record {
   key = line.key;
   start = line.start;
@@ -96,12 +98,12 @@ record AtSecond (text rest : List ℕ) (k r i records : ℕ) : Type 0 where
 second_at : (first : FirstLines) (segments : List SegmentLine) (line : FirstLine) (past rest : List ℕ)
     → (read : ReadOpening first segments line past)
     → AtSecond (read.before ++ (read.opening ++ rest)) rest (length segments) (records_of segments)
-    (suc (4 + 2 * length segments)) line.records
+    (suc (lines_before first.kinds + 2 * length segments)) line.records
 second_at first segments line past rest read =
     let text : List ℕ = read.before ++ (read.opening ++ rest) in
     let going = going_of first segments read.before (read.opening ++ rest) read.read in
     let opens = opening_more line.key line.start line.samples line.records read.opening rest read.opens in
-    let is_line : IsFormLine (opened line) = record {
+    let is_line : IsContentLine (opened line) = record {
       key = read.is_key;
       start = read.start;
       samples = read.samples;
@@ -110,11 +112,13 @@ second_at first segments line past rest read =
     } in
     record {
       at = at_second text (read.opening ++ rest) rest (length segments) (records_of segments)
-          (4 + 2 * length segments) line.records going.at (only_opening (opened line) rest (read.opening ++ rest)
+          (lines_before first.kinds + 2 * length segments) line.records going.at
+          (only_opening (opened line) rest (read.opening ++ rest)
           is_line opens)
           (λ x is. opening_not_end (opened line) rest (read.opening ++ rest) x (length segments)
           (records_of segments) opens is);
-      before = before_second text (bytes_of first.length) first.tolerance first.counts segments (read.opening ++ rest)
+      before = before_second text (bytes_of first.length) first.tolerance first.kinds first.counts segments
+          (read.opening ++ rest)
           rest (opened line) going is_line opens;
     }
 
@@ -126,14 +130,15 @@ opening_shown first segments line past rest read =
 second_fault : (first : FirstLines) (segments : List SegmentLine) (line : FirstLine) (past rest : List ℕ)
     → ReadOpening first segments line past
     → ((ns x : List ℕ) → All (λ n. n < 2 ^ 64) ns → rest ≡ separators_line ns ++ x → ⊥)
-    → IsFaultLine (past ++ rest) (6 + 2 * length segments)
+    → IsFaultLine (past ++ rest) (2 + lines_before first.kinds + 2 * length segments)
 second_fault first segments line past rest read none =
     let second = second_at first segments line past rest read in
-    at_number (past ++ rest) (suc (suc (4 + 2 * length segments))) (6 + 2 * length segments) (omega arith)
-    (subst (λ (t : List ℕ). IsFaultLine t (suc (suc (4 + 2 * length segments))))
+    at_number (past ++ rest) (suc (suc (lines_before first.kinds + 2 * length segments)))
+    (2 + lines_before first.kinds + 2 * length segments) (omega arith)
+    (subst (λ (t : List ℕ). IsFaultLine t (suc (suc (lines_before first.kinds + 2 * length segments))))
     (opening_shown first segments line past rest read)
     (fault_second (read.before ++ (read.opening ++ rest)) rest (length segments) (records_of segments)
-    (suc (4 + 2 * length segments)) line.records second.at none second.before))
+    (suc (lines_before first.kinds + 2 * length segments)) line.records second.at none second.before))
 
 -- what stands after a word of the separators' line
 record Stops (ns x : List ℕ) : Type 0 where
@@ -153,7 +158,7 @@ pub word_fault : (first : FirstLines) (segments : List SegmentLine) (line : Firs
     (past text more : List ℕ) → ReadOpening first segments line past
     → ((x : List ℕ) → text ++ more ≡ codes "separators" ++ x → begins ≡ true) → IsEnough begins text more
     → ((last : Bool) (rest : List ℕ) → text ≡ codes "separators" ++ (stop_byte last ∷ rest) → ⊥)
-    → IsFaultLine (past ++ (text ++ more)) (6 + 2 * length segments)
+    → IsFaultLine (past ++ (text ++ more)) (2 + lines_before first.kinds + 2 * length segments)
 word_fault first segments line begins past text more read may enough none =
     second_fault first segments line past (text ++ more) read
     (λ ns x each is.
@@ -211,12 +216,12 @@ pub number_fault : (first : FirstLines) (segments : List SegmentLine) (line : Fi
     (numbers : List ℕ) (begins : Bool) (past text more : List ℕ) → ReadNumbers first segments line numbers past
     → ((n : ℕ) (x : List ℕ) → n < 2 ^ 64 → text ++ more ≡ decimal n ++ x → begins ≡ true) → IsEnough begins text more
     → ((n : ℕ) (last : Bool) (rest : List ℕ) → n < 2 ^ 64 → text ≡ decimal n ++ (stop_byte last ∷ rest) → ⊥)
-    → IsFaultLine (past ++ (text ++ more)) (6 + 2 * length segments)
+    → IsFaultLine (past ++ (text ++ more)) (2 + lines_before first.kinds + 2 * length segments)
 number_fault first segments line numbers begins past text more read may enough none =
     let rest : List ℕ = codes "separators" ++ (flat_map spaced numbers ++ (32 ∷ (text ++ more))) in
     let shown : read.before ++ rest ≡ past ++ (text ++ more) =
     sym (ap (λ (t : List ℕ). t ++ (text ++ more)) read.is ∙ numbers_more read.before numbers 32 (text ++ more)) in
-    subst (λ (t : List ℕ). IsFaultLine t (6 + 2 * length segments)) shown
+    subst (λ (t : List ℕ). IsFaultLine t (2 + lines_before first.kinds + 2 * length segments)) shown
     (second_fault first segments line read.before rest read.read
     (λ ns x each is.
     let next = next_number numbers ns (text ++ more) x read.each each
@@ -231,7 +236,8 @@ number_fault first segments line numbers begins past text more read may enough n
     none next.number s.last within.left next.fits within.is))
 
 pub end_fault : (first : FirstLines) (segments : List SegmentLine) (past text more : List ℕ)
-    → ReadEnd first segments past → 0 < length text → IsFaultLine (past ++ (text ++ more)) (6 + 2 * length segments)
+    → ReadEnd first segments past → 0 < length text → IsFaultLine (past ++ (text ++ more))
+    (2 + lines_before first.kinds + 2 * length segments)
 end_fault first segments past text more read some =
     let rest : List ℕ = end_line (length segments) (records_of segments) ++ (text ++ more) in
     let whole : List ℕ = read.before ++ rest in
@@ -247,11 +253,14 @@ end_fault first segments past text more read some =
       records = n;
       separators = [];
     } x rest (text ++ more) (length segments) (records_of segments) opening refl in
-    let at = at_behind whole rest (text ++ more) (length segments) (records_of segments) (4 + 2 * length segments)
+    let at = at_behind whole rest (text ++ more) (length segments) (records_of segments)
+    (lines_before first.kinds + 2 * length segments)
     going.at none refl in
-    let before = before_behind whole (bytes_of first.length) first.tolerance first.counts segments rest
+    let before = before_behind whole (bytes_of first.length) first.tolerance first.kinds first.counts segments rest
     (text ++ more) going read.fits refl in
-    at_number (past ++ (text ++ more)) (suc (suc (4 + 2 * length segments))) (6 + 2 * length segments) (omega arith)
-    (subst (λ (t : List ℕ). IsFaultLine t (suc (suc (4 + 2 * length segments)))) shown
-    (fault_behind whole (text ++ more) (length segments) (records_of segments) (suc (4 + 2 * length segments)) at
+    at_number (past ++ (text ++ more)) (suc (suc (lines_before first.kinds + 2 * length segments)))
+    (2 + lines_before first.kinds + 2 * length segments) (omega arith)
+    (subst (λ (t : List ℕ). IsFaultLine t (suc (suc (lines_before first.kinds + 2 * length segments)))) shown
+    (fault_behind whole (text ++ more) (length segments) (records_of segments)
+    (suc (lines_before first.kinds + 2 * length segments)) at
     (omega (arith, some, length-append text more)) before))

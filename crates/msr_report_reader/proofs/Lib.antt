@@ -13,8 +13,8 @@ pub mod NextLines
 pub mod BegunReports
 pub mod StoppedSources
 pub mod SameFields
-pub mod OneForm
-pub mod Forms
+pub mod OneContent
+pub mod Ranges
 pub mod Begun
 pub mod Enough
 pub mod ReadTexts

@@ -3,7 +3,7 @@ use Rattle.std.proofs.Common.{◌≡◌, ◌∙◌, ap, sym, refl, rules, arith,
 use Rattle.std.proofs.lemmas.List.{append-nil, append_cancel_left}
 use Rattle.msr_rows.specs.declared.row.Key.{Key}
 use Rattle.msr_report.specs.Text.{separators_line, end_line}
-use Rattle.msr_report_reader.specs.Form.{FormLine, IsKey, IsFormLine, IsFormLineText, AreFormLineTexts, IsOpening, form_records}
+use Rattle.msr_report_reader.specs.Content.{ContentLine, IsKey, IsContentLine, IsContentLineText, AreContentLineTexts, IsOpening, content_records}
 use Rattle.msr_report_reader.specs.Fault.{IsOneLine, BeginsReport, IsFaultLine}
 use Rattle.msr_report_reader.specs.Rest.{AtLine}
 use Rattle.msr_report_reader.proofs.LineFeeds.{one_append, separators_are_one}
@@ -11,7 +11,7 @@ use Rattle.msr_report_reader.proofs.RestOfText.{LineStep, not_empty, next_line, 
 use Rattle.msr_report_reader.proofs.Segments.{Tail, Next, LineBody, IsEndBody, IsOpeningBody, opening_body, end_body, opening_then, end_then, words_then}
 use Rattle.msr_report_reader.proofs.OneLines.{opening_is_one, end_is_one}
 
-pub opens_with : (line : FormLine) (word behind text : List ℕ) → IsFormLineText line word → text ≡ word ++ behind
+pub opens_with : (line : ContentLine) (word behind text : List ℕ) → IsContentLineText line word → text ≡ word ++ behind
     → IsOpening line.key line.start line.samples line.records (separators_line line.separators ++ behind) text
 opens_with line word behind text is_word is = record {
   word = is_word.word;
@@ -20,9 +20,9 @@ opens_with line word behind text is_word is = record {
       ∙ words_then line.key is_word.word line.samples line.records line.separators behind;
 }
 
-step_from : (k r : ℕ) (w : List ℕ) (P : Type 0) (lines : List FormLine) (text : List ℕ) (count total : ℕ)
-    → All IsFormLine lines → AreFormLineTexts lines text → count ≡ k + length lines
-    → total ≡ r + form_records lines → w ≡ text ++ end_line count total → (P → total < 2 ^ 64)
+step_from : (k r : ℕ) (w : List ℕ) (P : Type 0) (lines : List ContentLine) (text : List ℕ) (count total : ℕ)
+    → All IsContentLine lines → AreContentLineTexts lines text → count ≡ k + length lines
+    → total ≡ r + content_records lines → w ≡ text ++ end_line count total → (P → total < 2 ^ 64)
     → LineStep (LineBody k r) (Next k r) w P
 step_from k r w P [] text count total each are count_is total_is is sum =
     let count_same : count ≡ k = omega arith in
@@ -39,7 +39,7 @@ step_from k r w P [] text count total each are count_is total_is is sum =
       within = refl;
     }
 step_from k r w P (line ∷ lines) text count total each are count_is total_is is sum =
-    let is_line : IsFormLine line = each 0 line (omega arith) in
+    let is_line : IsContentLine line = each 0 line (omega arith) in
     let word : List ℕ = are.0 in
     let behind : List ℕ = are.1.0 in
     let split : w ≡ word ++ (behind ++ end_line count total) = is
@@ -211,7 +211,7 @@ pub fault_behind : (text more : List ℕ) (k r i : ℕ) → AtLine (Next k r 0) 
     → BeginsReport text i → IsFaultLine text (suc i)
 fault_behind text more k r i at some before = record {
   counted = omega arith;
-  no_report = λ form is_form sum is_text. some_is_not_none more some (at.whole form is_form sum is_text);
+  no_report = λ content is_content sum is_text. some_is_not_none more some (at.whole content is_content sum is_text);
   before = let same : suc i - 1 ≡ i = omega arith in rw same before;
   fault = λ b.
       let x = at.begins (suc i) 1 (omega arith) b in

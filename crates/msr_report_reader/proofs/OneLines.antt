@@ -11,7 +11,7 @@ use Rattle.msr_header.specs.Reading.{is_quality}
 use Rattle.msr_rows.specs.declared.row.Key.{Key}
 use Rattle.msr_report.specs.Text.{IsTimeText, split_text, date_text, clock_text, padded_decimal, hex_text, field_text}
 use Rattle.msr_report_reader.specs.Fields.{AreBytes, name_then, rate_then, flags_then}
-use Rattle.msr_report_reader.specs.Form.{IsKey, key_then}
+use Rattle.msr_report_reader.specs.Content.{IsKey, key_then}
 use Rattle.msr_report_reader.specs.Fault.{IsOneLine}
 use Rattle.msr_report_reader.proofs.LineFeeds.{one_append, padded_is_one, hex_is_one, field_is_one, glyph_is_no_feed}
 use Rattle.msr_report_reader.proofs.Segments.{opening_body, end_body}

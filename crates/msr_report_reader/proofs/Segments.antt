@@ -2,20 +2,20 @@
 use Rattle.std.proofs.Common.{◌≡◌, ◌∙◌, ap, sym, refl, arith, ℕ, zero, suc, ◌+◌, ◌<◌, ◌^◌, List, [], ◌∷◌, ◌++◌, append_assoc, length, decimal, codes, All, ℤ}
 use Rattle.msr_rows.specs.declared.row.Key.{Key}
 use Rattle.msr_report.specs.Text.{segment_words, separators_line, end_line, IsTimeText}
-use Rattle.msr_report_reader.specs.Form.{FormLine, IsKey, IsFormLine, IsFormLineText, AreFormLineTexts, IsOpening, key_then, form_records}
-use Rattle.msr_report_reader.specs.Rest.{InFirst, AtLine, tail_5}
+use Rattle.msr_report_reader.specs.Content.{ContentLine, IsKey, IsContentLine, IsContentLineText, AreContentLineTexts, IsOpening, key_then, content_records}
+use Rattle.msr_report_reader.specs.Rest.{InFirst, AtLine, tail_6}
 
 -- after `segments` segments with `records` records, `w` is the lines of further segments and the
 -- last line
 pub record Tail (segments records : ℕ) (w : List ℕ) (P : Type 0) : Type 0 where
-  pub lines : List FormLine
-  pub each : All IsFormLine lines
+  pub lines : List ContentLine
+  pub each : All IsContentLine lines
   pub text : List ℕ
-  pub are : AreFormLineTexts lines text
+  pub are : AreContentLineTexts lines text
   pub count : ℕ
   pub total : ℕ
   pub count_is : count ≡ segments + length lines
-  pub total_is : total ≡ records + form_records lines
+  pub total_is : total ≡ records + content_records lines
   pub is : w ≡ text ++ end_line count total
   pub sum : P → total < 2 ^ 64
 
@@ -72,17 +72,17 @@ at_map L L' text rest i f at = record {
         shown = x.shown;
         within = f (x.first ++ x.rest) (x.rest ≡ []) x.within;
       };
-  whole = λ form is_form sum is_text. f rest (Unit {0}) (at.whole form is_form sum is_text);
+  whole = λ content is_content sum is_text. f rest (Unit {0}) (at.whole content is_content sum is_text);
 }
 
-pub tail_from_first : (w : List ℕ) (P : Type 0) → InFirst tail_5 w P → Tail 0 0 w P
+pub tail_from_first : (w : List ℕ) (P : Type 0) → InFirst tail_6 w P → Tail 0 0 w P
 tail_from_first w P i = record {
-  lines = i.form.segments;
-  each = i.is_form.segments;
+  lines = i.content.segments;
+  each = i.is_content.segments;
   text = i.segments;
   are = i.are;
-  count = length i.form.segments;
-  total = form_records i.form.segments;
+  count = length i.content.segments;
+  total = content_records i.content.segments;
   count_is = omega arith;
   total_is = omega arith;
   is = i.is;
@@ -144,10 +144,10 @@ first_line_then key word samples records more =
     ∙ sym (words_key key word samples (codes " records " ++ (decimal records ++ (10 ∷ more))))
 
 -- the two lines of a segment at the start of a text
-pub line_text : (line : FormLine) (text more rest : List ℕ)
+pub line_text : (line : ContentLine) (text more rest : List ℕ)
     → (opening : IsOpening line.key line.start line.samples line.records more text)
     → more ≡ separators_line line.separators ++ rest
-    → (word : List ℕ) × (IsFormLineText line word × (text ≡ word ++ rest))
+    → (word : List ℕ) × (IsContentLineText line word × (text ≡ word ++ rest))
 line_text line text more rest opening is = (
   segment_words line.key opening.word line.samples
       (codes " records " ++ (decimal line.records ++ (10 ∷ separators_line line.separators))),

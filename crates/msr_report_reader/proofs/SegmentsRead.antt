@@ -2,29 +2,31 @@
 use Rattle.std.proofs.Common.{◌≡◌, ◌∙◌, ap, sym, refl, arith, ℕ, zero, suc, ◌+◌, ◌*◌, ◌<◌, ◌≤◌, ◌^◌, List, [], ◌∷◌, ◌++◌, append_assoc, length, All, map, length-append}
 use Rattle.std.proofs.lemmas.List.{append-nil}
 use Rattle.msr_kinds.specs.Lengths.{bytes_of}
+use Rattle.msr_kinds.specs.declared.kinds.Kinds.{Kinds}
 use Rattle.msr_report.specs.Proper.{records_of, IsProperLine}
 use Rattle.msr_report.specs.Text.{separators_line, end_line, first_lines, AreSegmentTexts}
 use Rattle.msr_base.specs.declared.counts.Counts.{Counts}
 use Rattle.msr_report.specs.declared.report.SegmentLine.{SegmentLine}
 use Rattle.msr_report.specs.declared.report.Report.{Report}
-use Rattle.msr_report_reader.specs.Form.{FormLine, IsFirst, IsFormLine, IsFormLineText, AreFormLineTexts, IsOpening, form_records, form_line, first_then}
+use Rattle.msr_report_reader.specs.Content.{ContentLine, IsFirst, IsContentLine, IsContentLineText, AreContentLineTexts, IsOpening, content_records, content_line, first_then, lines_before}
 use Rattle.msr_report_reader.specs.Reading.{IsReadFrom}
 use Rattle.msr_report_reader.specs.Rest.{AtLine}
 use Rattle.msr_report_reader.proofs.Segments.{first_line_then, Tail}
 use Rattle.msr_report_reader.proofs.LineFeeds.{same_cons}
 
--- the lines of these segments stand after the first four
-pub record Going (text : List ℕ) (bytes tolerance : ℕ) (counts : Counts) (segments : List SegmentLine)
+-- the lines of these segments stand after those before the segments
+pub record Going (text : List ℕ) (bytes tolerance : ℕ) (kinds : Kinds) (counts : Counts) (segments : List SegmentLine)
     (rest : List ℕ) : Type 0 where
   pub lines : List ℕ
-  pub are : AreFormLineTexts (map form_line segments) lines
-  pub each : All IsFormLine (map form_line segments)
+  pub are : AreContentLineTexts (map content_line segments) lines
+  pub each : All IsContentLine (map content_line segments)
   pub is_first : IsFirst bytes tolerance counts
-  pub shown : text ≡ first_then bytes tolerance counts (lines ++ rest)
-  pub at : AtLine (Tail (length segments) (records_of segments)) text rest (4 + 2 * length segments)
+  pub shown : text ≡ first_then bytes tolerance kinds counts (lines ++ rest)
+  pub at : AtLine (Tail (length segments) (records_of segments)) text rest (lines_before kinds + 2 * length segments)
 
-pub texts_more : (lines : List FormLine) (text : List ℕ) (line : FormLine) (more : List ℕ)
-    → AreFormLineTexts lines text → IsFormLineText line more → AreFormLineTexts (lines ++ line ∷ []) (text ++ more)
+pub texts_more : (lines : List ContentLine) (text : List ℕ) (line : ContentLine) (more : List ℕ)
+    → AreContentLineTexts lines text → IsContentLineText line more
+    → AreContentLineTexts (lines ++ line ∷ []) (text ++ more)
 texts_more [] text line more are is = (more, ([], (is, refl, rw are (sym (append-nil more)))))
 texts_more (l ∷ lines) text line more are is =
     let first : List ℕ = are.0 in
@@ -42,12 +44,12 @@ texts_more (l ∷ lines) text line more are is =
     )
 
 pub map_more : (segments : List SegmentLine) (segment : SegmentLine)
-    → map form_line (segments ++ segment ∷ []) ≡ map form_line segments ++ form_line segment ∷ []
+    → map content_line (segments ++ segment ∷ []) ≡ map content_line segments ++ content_line segment ∷ []
 map_more [] segment = refl
-map_more (s ∷ segments) segment = ap (λ (l : List FormLine). form_line s ∷ l) (map_more segments segment)
+map_more (s ∷ segments) segment = ap (λ (l : List ContentLine). content_line s ∷ l) (map_more segments segment)
 
-pub all_more : (lines : List FormLine) (line : FormLine) → All IsFormLine lines → IsFormLine line
-    → All IsFormLine (lines ++ line ∷ [])
+pub all_more : (lines : List ContentLine) (line : ContentLine) → All IsContentLine lines → IsContentLine line
+    → All IsContentLine (lines ++ line ∷ [])
 all_more [] line all is zero d within = is
 all_more [] line all is (suc k) d within = absurd (omega arith)
 all_more (l ∷ lines) line all is zero d within = all 0 l (omega arith)
@@ -55,7 +57,7 @@ all_more (l ∷ lines) line all is (suc k) d within =
     all_more lines line (λ j e w. all (suc j) e (omega arith)) is k d (omega arith)
 
 -- the same in a report's own words
-texts_of : (segments : List SegmentLine) (text : List ℕ) → AreFormLineTexts (map form_line segments) text
+texts_of : (segments : List SegmentLine) (text : List ℕ) → AreContentLineTexts (map content_line segments) text
     → AreSegmentTexts segments text
 texts_of [] text are = are
 texts_of (s ∷ segments) text are = (
@@ -76,24 +78,24 @@ texts_of (s ∷ segments) text are = (
   ),
 )
 
-pub records_same : (segments : List SegmentLine) → form_records (map form_line segments) ≡ records_of segments
+pub records_same : (segments : List SegmentLine) → content_records (map content_line segments) ≡ records_of segments
 records_same [] = refl
 records_same (s ∷ segments) = ap (λ n. s.records + n) (records_same segments)
 
-proper_lines : (segments : List SegmentLine) → All IsFormLine (map form_line segments) → All IsProperLine segments
+proper_lines : (segments : List SegmentLine) → All IsContentLine (map content_line segments) → All IsProperLine segments
 proper_lines [] all k d within = absurd (omega arith)
 proper_lines (s ∷ segments) all zero d within =
-    let is : IsFormLine (form_line s) = all 0 (form_line s) (omega arith) in
+    let is : IsContentLine (content_line s) = all 0 (content_line s) (omega arith) in
     record { quality = is.key.quality; start = is.start }
 proper_lines (s ∷ segments) all (suc k) d within =
     proper_lines segments (λ j e w. all (suc j) e (omega arith)) k d (omega arith)
 
 pub first_same : (report : Report) (more : List ℕ)
-    → first_lines report ++ more ≡ first_then (bytes_of report.length) report.tolerance report.counts more
+    → first_lines report ++ more ≡ first_then (bytes_of report.length) report.tolerance report.kinds report.counts more
 first_same report more = simp append_assoc
 
 pub found_report : (report : Report) (text rest : List ℕ)
-    → Going text (bytes_of report.length) report.tolerance report.counts report.segments.items rest
+    → Going text (bytes_of report.length) report.tolerance report.kinds report.counts report.segments.items rest
     → records_of report.segments.items < 2 ^ 64 → rest
     ≡ end_line (length report.segments.items) (records_of report.segments.items)
     → IsReadFrom report text
@@ -104,12 +106,12 @@ found_report report text rest going fits is = record {
     lines = proper_lines report.segments.items going.each;
     records = fits;
   };
-  is_form = record { first = going.is_first; segments = going.each };
+  is_content = record { first = going.is_first; segments = going.each };
   is_text = record {
     segments = going.lines;
     are = texts_of report.segments.items going.lines going.are;
-    is = going.shown ∙ ap (λ (t : List ℕ). first_then (bytes_of report.length) report.tolerance report.counts
-        (going.lines ++ t)) is
+    is = going.shown ∙ ap (λ (t : List ℕ). first_then (bytes_of report.length) report.tolerance report.kinds
+        report.counts (going.lines ++ t)) is
         ∙ sym (first_same report (going.lines ++ end_line (length report.segments.items)
         (records_of report.segments.items)));
   };
@@ -118,14 +120,14 @@ found_report report text rest going fits is = record {
 two_heads : (a b : ℕ) (xs ys : List ℕ) → a ≡ 115 → b ≡ 101 → a ∷ xs ≡ b ∷ ys → ⊥
 two_heads a b xs ys is_a is_b e = let same : a ≡ b = (same_cons a b xs ys e).0 in omega arith
 
-pub opening_not_end : (line : FormLine) (more rest x : List ℕ) (count total : ℕ)
+pub opening_not_end : (line : ContentLine) (more rest x : List ℕ) (count total : ℕ)
     → IsOpening line.key line.start line.samples line.records more rest → rest ≡ end_line count total ++ x → ⊥
 opening_not_end line more rest x count total opening is = two_heads 115 101 _ _ refl refl (sym opening.is ∙ is)
 
-pub first_long : (bytes tolerance : ℕ) (counts : Counts) (more : List ℕ)
-    → 18 + length more ≤ length (first_then bytes tolerance counts more)
-first_long bytes tolerance counts more = simp length-append (omega arith)
+pub first_long : (bytes tolerance : ℕ) (kinds : Kinds) (counts : Counts) (more : List ℕ)
+    → 18 + length more ≤ length (first_then bytes tolerance kinds counts more)
+first_long bytes tolerance kinds counts more = simp length-append (omega arith)
 
-pub length-lines : (segments : List SegmentLine) → length (map form_line segments) ≡ length segments
+pub length-lines : (segments : List SegmentLine) → length (map content_line segments) ≡ length segments
 length-lines [] = refl
 length-lines (s ∷ segments) = ap suc (length-lines segments)

@@ -10,7 +10,7 @@ use Rattle.msr_report.specs.Proper.{records_of}
 use Rattle.msr_report.specs.Text.{separators_line, end_line}
 use Rattle.msr_report.specs.declared.report.SegmentLine.{SegmentLine}
 use Rattle.msr_report.specs.declared.report.Report.{Report}
-use Rattle.msr_report_reader.specs.Form.{IsKey, IsFirst, IsFormLine, IsOpening, first_then, form_line}
+use Rattle.msr_report_reader.specs.Content.{IsKey, IsFirst, IsContentLine, IsOpening, first_then, content_line}
 use Rattle.msr_report_reader.specs.Fault.{IsOneLine, IsFaultLine}
 use Rattle.msr_report_reader.specs.LastLine.{IsLast}
 use Rattle.msr_report_reader.specs.Reading.{IsReadFrom}
@@ -93,13 +93,14 @@ same_lists old new place past segments numbers to =
 pub first_step : (old new : Draft) (first : FirstLines) (text rest : List ℕ) (n : ℕ) → old.place ≡ Start
     → new.place ≡ Segment first → new.segments.items ≡ old.segments.items
     → new.numbers.items ≡ old.numbers.items → IsFirst (bytes_of first.length) first.tolerance first.counts
-    → text ≡ first_then (bytes_of first.length) first.tolerance first.counts rest → n ≡ length text - length rest
+    → text ≡ first_then (bytes_of first.length) first.tolerance first.kinds first.counts rest
+    → n ≡ length text - length rest
     → IsConsumed old new text n
 first_step old new first text rest n place new_place segments numbers is_first is count =
-    let taken : List ℕ = first_then (bytes_of first.length) first.tolerance first.counts [] in
+    let taken : List ℕ = first_then (bytes_of first.length) first.tolerance first.kinds first.counts [] in
     let split : text ≡ taken ++ rest = is
-    ∙ sym (first_append (bytes_of first.length) first.tolerance first.counts [] rest) in
-    let long = first_long (bytes_of first.length) first.tolerance first.counts [] in
+    ∙ sym (first_append (bytes_of first.length) first.tolerance first.kinds first.counts [] rest) in
+    let long = first_long (bytes_of first.length) first.tolerance first.kinds first.counts [] in
     let size : n ≡ length taken = omega (arith, count, ap (λ (l : List ℕ). length l) split, length-append taken rest) in
     record {
       taken = taken;
@@ -257,7 +258,7 @@ pub closes : (first : FirstLines) (segments more : List SegmentLine) (segment : 
     → segment.records ≡ line.records → All (λ n. n < 2 ^ 64) segment.separators.items
     → ReadSegments first more (past ++ numbers_then segment.separators.items true)
 closes first segments more segment line past read pushed key start samples records fits =
-    let is_line : IsFormLine (form_line segment) = record {
+    let is_line : IsContentLine (content_line segment) = record {
       key = rw key read.is_key;
       start = rw start read.start;
       samples = rw samples read.samples;
@@ -267,21 +268,21 @@ closes first segments more segment line past read pushed key start samples recor
     let opens : IsOpening segment.key segment.start segment.samples segment.records [] read.opening =
     rw (key, start, samples, records) read.opens in
     let behind : List ℕ = separators_line segment.separators.items in
-    let word = line_text (form_line segment) (read.opening ++ behind) behind []
+    let word = line_text (content_line segment) (read.opening ++ behind) behind []
     (opening_more segment.key segment.start segment.samples segment.records read.opening behind opens)
     (sym (append-nil behind)) in
     let bytes : ℕ = bytes_of first.length in
     record {
       is_first = read.read.is_first;
       each = rw (pushed, map_more segments segment)
-          (all_more (map form_line segments) (form_line segment) read.read.each is_line);
+          (all_more (map content_line segments) (content_line segment) read.read.each is_line);
       lines = read.read.lines ++ word.0;
       are = rw (pushed, map_more segments segment)
-          (texts_more (map form_line segments) read.read.lines (form_line segment) word.0 read.read.are word.1.0);
+          (texts_more (map content_line segments) read.read.lines (content_line segment) word.0 read.read.are word.1.0);
       is = ap (λ (p : List ℕ). p ++ behind) read.is ∙ append_assoc read.before read.opening behind
           ∙ ap (λ (p : List ℕ). p ++ (read.opening ++ behind)) read.read.is
-          ∙ first_append bytes first.tolerance first.counts read.read.lines (read.opening ++ behind)
-          ∙ ap (λ (l : List ℕ). first_then bytes first.tolerance first.counts (read.read.lines ++ l))
+          ∙ first_append bytes first.tolerance first.kinds first.counts read.read.lines (read.opening ++ behind)
+          ∙ ap (λ (l : List ℕ). first_then bytes first.tolerance first.kinds first.counts (read.read.lines ++ l))
           (word.1.1 ∙ append-nil word.0);
     }
 
@@ -311,12 +312,12 @@ left_whole draft whole rest left none =
 
 -- a whole report was read
 pub whole_report : (report : Report) (first : FirstLines) (past : List ℕ) → report.length ≡ first.length
-    → report.tolerance ≡ first.tolerance → report.counts ≡ first.counts
+    → report.kinds ≡ first.kinds → report.tolerance ≡ first.tolerance → report.counts ≡ first.counts
     → ReadEnd first report.segments.items past → IsReadFrom report past
-whole_report report first past same_length same_tolerance same_counts read =
+whole_report report first past same_length same_kinds same_tolerance same_counts read =
     let last : List ℕ = end_line (length report.segments.items) (records_of report.segments.items) in
-    let going : Going (read.before ++ last) (bytes_of report.length) report.tolerance report.counts
-    report.segments.items last = rw (same_length, same_tolerance, same_counts)
+    let going : Going (read.before ++ last) (bytes_of report.length) report.tolerance report.kinds report.counts
+    report.segments.items last = rw (same_length, same_kinds, same_tolerance, same_counts)
     (going_of first report.segments.items read.before last read.read) in
     subst (λ (p : List ℕ). IsReadFrom report p) (sym read.is)
     (found_report report (read.before ++ last) last going read.fits refl)

@@ -6,7 +6,7 @@ use Rattle.msr_kinds.specs.Lengths.{bytes_of}
 use Rattle.msr_report.specs.Proper.{records_of}
 use Rattle.msr_report.specs.Text.{end_line}
 use Rattle.msr_report.specs.declared.report.SegmentLine.{SegmentLine}
-use Rattle.msr_report_reader.specs.Form.{IsFirst, IsKey, IsFormLine, IsOpening, AreFormLineTexts, first_then, form_line}
+use Rattle.msr_report_reader.specs.Content.{IsFirst, IsKey, IsContentLine, IsOpening, AreContentLineTexts, first_then, content_line}
 use Rattle.msr_report_reader.specs.Fault.{IsOneLine, IsFaultLine}
 use Rattle.msr_report_reader.specs.TextFault.{IsTextFault}
 use Rattle.msr_report_reader.specs.declared.fault.ReportFault.{ReportFault}
@@ -40,15 +40,15 @@ stop_byte last = cond last 10 32
 abbrev pub numbers_then : List ℕ → Bool → List ℕ
 numbers_then numbers last = codes "separators" ++ (flat_map (λ n. 32 ∷ decimal n) numbers ++ (stop_byte last ∷ []))
 
--- the first four lines and the lines of these segments
+-- the lines before the segments and the lines of these segments
 pub record ReadSegments (first : FirstLines) (segments : List SegmentLine) (past : List ℕ) : Type 0 where
   pub is_first : IsFirst (bytes_of first.length) first.tolerance first.counts
-  pub each : All IsFormLine (map form_line segments)
+  pub each : All IsContentLine (map content_line segments)
   pub lines : List ℕ
-  pub are : AreFormLineTexts (map form_line segments) lines
-  pub is : past ≡ first_then (bytes_of first.length) first.tolerance first.counts lines
+  pub are : AreContentLineTexts (map content_line segments) lines
+  pub is : past ≡ first_then (bytes_of first.length) first.tolerance first.kinds first.counts lines
 
--- the first four lines, the lines of these segments, and the first line of another segment
+-- the lines before the segments, the lines of these segments, and the first line of another segment
 pub record ReadOpening (first : FirstLines) (segments : List SegmentLine) (line : FirstLine)
     (past : List ℕ) : Type 0 where
   pub before : List ℕ
@@ -69,7 +69,7 @@ pub record ReadNumbers (first : FirstLines) (segments : List SegmentLine) (line 
   pub each : All (λ n. n < 2 ^ 64) numbers
   pub is : past ≡ before ++ numbers_then numbers false
 
--- the first four lines, the lines of these segments, and the last line
+-- the lines before the segments, the lines of these segments, and the last line
 pub record ReadEnd (first : FirstLines) (segments : List SegmentLine) (past : List ℕ) : Type 0 where
   pub before : List ℕ
   pub read : ReadSegments first segments before

@@ -1,6 +1,6 @@
 -- Which line of a text that is no report is at fault.
 use Rattle.std.specs.Prelude.{◌≡◌, ℕ, zero, suc, ◌-◌, ◌<◌, ◌≤◌, ◌^◌, ◌==◌, false, List, [], ◌∷◌, ◌++◌}
-use Rattle.msr_report_reader.specs.Form.{Form, IsForm, IsFormText, form_records}
+use Rattle.msr_report_reader.specs.Content.{Content, IsContent, IsContentText, content_records}
 
 -- no byte is a line feed
 abbrev pub IsOneLine : List ℕ → Type 0
@@ -13,24 +13,26 @@ AreLines zero text = text ≡ []
 AreLines (suc n) text = (line : List ℕ) × ((more : List ℕ)
     × (IsOneLine line × AreLines n more × (text ≡ line ++ (10 ∷ more))))
 
--- The first n lines of the text, each with its line feed, begin the text of a report of the right form. If they
--- are all its lines, its records fit 64 bits: that is a matter of the last line, which tells their number.
+-- The first n lines of the text, each with its line feed, begin the text of a report whose fields are in their
+-- ranges. If they are all its lines, its records fit 64 bits: that is a matter of the last line, which tells their
+-- number.
 pub record BeginsReport (text : List ℕ) (n : ℕ) : Type 0 where
-  pub form : Form
+  pub content : Content
   pub first : List ℕ
   pub behind : List ℕ
   pub rest : List ℕ
-  pub is_form : IsForm form
+  pub is_content : IsContent content
   pub lines : AreLines n first
   pub shown : text ≡ first ++ behind
-  pub begins : IsFormText form (first ++ rest)
-  pub records : rest ≡ [] → form_records form.segments < 2 ^ 64
+  pub begins : IsContentText content (first ++ rest)
+  pub records : rest ≡ [] → content_records content.segments < 2 ^ 64
 
 -- No report has the text, and line n, from 1, is the first with which it leaves them all: the lines before it
 -- begin some report, and with it they begin none. So a line that lacks, or that lacks its line feed, and a line
 -- after the last one are each at fault at their own number.
 pub record IsFaultLine (text : List ℕ) (n : ℕ) : Type 0 where
   pub counted : 1 ≤ n
-  pub no_report : (form : Form) → IsForm form → form_records form.segments < 2 ^ 64 → IsFormText form text → ⊥
+  pub no_report : (content : Content) → IsContent content → content_records content.segments < 2 ^ 64
+      → IsContentText content text → ⊥
   pub before : BeginsReport text (n - 1)
   pub fault : BeginsReport text n → ⊥

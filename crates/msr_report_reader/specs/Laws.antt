@@ -3,7 +3,7 @@ use Rattle.std.specs.Prelude.{◌≡◌, ℕ, List, Result, Ok, Err}
 use Rattle.msr_report.specs.Text.{IsReportText}
 use Rattle.msr_report.specs.declared.report.Report.{Report}
 use Rattle.msr_report_reader.specs.Fault.{IsFaultLine}
-use Rattle.msr_report_reader.specs.Form.{IsForm, form_of}
+use Rattle.msr_report_reader.specs.Content.{IsContent, content_of}
 use Rattle.msr_report_reader.specs.Reading.{IsReadFrom, ReadsReport}
 use Rattle.msr_report_reader.specs.declared.fault.ReportFault.{ReportFault}
 use Rattle.msr_report_reader.specs.declared.fault.ReportFault.TheVariants.{Line, Read, Memory}
@@ -12,9 +12,9 @@ use Rattle.msr_report_reader.specs.declared.fault.ReportFault.TheVariants.{Line,
 abbrev pub OneReport : Type 0
 OneReport =
     (report other : Report) (text : List ℕ)
-    → IsForm (form_of report) → IsForm (form_of other)
+    → IsContent (content_of report) → IsContent (content_of other)
     → IsReportText report text → IsReportText other text
-    → form_of report ≡ form_of other
+    → content_of report ≡ content_of other
 
 -- the text of a report has no line at fault
 abbrev pub NoLineAtFault : Type 0
@@ -22,7 +22,7 @@ NoLineAtFault = (report : Report) (text : List ℕ) (line : ℕ) → IsReadFrom 
 
 -- a report that says the same, unless the source failed or memory was refused
 abbrev pub GivesBack : Report → Result Report ReportFault → Type 0
-GivesBack report (Ok other) = form_of other ≡ form_of report
+GivesBack report (Ok other) = content_of other ≡ content_of report
 GivesBack report (Err (Line line)) = ⊥
 GivesBack report (Err Read) = Unit {0}
 GivesBack report (Err Memory) = Unit {0}

@@ -1,5 +1,5 @@
 pub mod Fields
-pub mod Form
+pub mod Content
 pub mod Fault
 pub mod LastLine
 pub mod Rest

@@ -2,6 +2,7 @@
 ghost use Rattle.std.specs.Prelude.{◌≡◌, ◌<◌, ◌+◌, ◌*◌, ◌^◌, ◌++◌, ◌∷◌, [], ℕ, List, Bool, All, IfOk, IfErr, IfSome, IsSomeAnd, SomeIff, OnOk, length, codes};
 ghost use Rattle.std.specs.Fmt.{decimal};
 ghost use Rattle.msr_report.specs.Proper.{records_of};
+ghost use Rattle.msr_report_reader.specs.Content.{lines_before};
 ghost use Rattle.msr_report_reader.specs.Draft.{Follows, IsRefused, IsStep, ReadOpening, numbers_then, stop_byte};
 ghost use Rattle.msr_report_reader.specs.LastLine.{IsLast};
 ghost use Rattle.msr_report_reader.specs.Reading.{IsReadFrom};
@@ -10,7 +11,7 @@ ghost use Rattle.msr_report_reader.specs.declared.draft.Place.TheVariants.{Start
 
 use crate::fault::ReportFault;
 use crate::fields::{after, may_be_number, may_begin, number};
-use crate::first::{FaultAt, FirstLines, first_lines};
+use crate::first::{FaultAt, FirstLines, first_lines, lines_before};
 use crate::lines::{FirstLine, end, opening};
 use msr_report::{Report, SegmentLine};
 use std::alloc::{AllocError, Global};
@@ -22,7 +23,7 @@ const LINE_LIMIT: usize = 4096;
 /// What may come next.
 #[derive(Clone, Copy)]
 pub(crate) enum Place {
-    /// The first four lines.
+    /// The lines before the segments.
     Start,
     /// The first line of a segment, or the last line.
     Segment(FirstLines),
@@ -127,11 +128,11 @@ fn last_line<'a>(text: &'a [u8], segments: &[SegmentLine]) -> Option<&'a [u8]>
 }
 
 /// The number of the line after those of the segments.
-fn line_after(segments: &[SegmentLine]) -> u64
-    ensures line { result ≡ 5 + 2 * length segments.now }
+fn line_after(first: FirstLines, segments: &[SegmentLine]) -> u64
+    ensures line { result ≡ 1 + lines_before first.kinds + 2 * length segments.now }
     ensures next { result + 1 < 2 ^ 64 }
 {
-    5 + 2 * segments.len() as u64
+    1 + lines_before(first.kinds) + 2 * segments.len() as u64
 }
 
 impl Draft {
@@ -147,7 +148,7 @@ impl Draft {
         }
     }
 
-    /// Reads what the text begins with: the first four lines, another line, or a word of the separators' line.
+    /// Reads what the text begins with: the lines before the segments, another line, or a word of the separators' line.
     pub(crate) fn step(&mut self, text: &[u8]) -> Result<Progress, ReportFault>
         ensures { IsStep self.old self.new text.now result }
     {
@@ -160,7 +161,7 @@ impl Draft {
         }
     }
 
-    /// Reads the first four lines.
+    /// Reads the lines before the segments.
     fn read_first(&mut self, text: &[u8]) -> Result<Progress, ReportFault>
         ensures { self.old.place ≡ Start → IsStep self.old self.new text.now result }
     {
@@ -186,7 +187,7 @@ impl Draft {
             return Ok(Progress::Consumed(text.len() - rest.len()));
         }
         let begins = may_begin(text, b"segment ") | may_begin(text, b"end ");
-        refuse(text, begins, line_after(self.segments.as_slice()))
+        refuse(text, begins, line_after(first, self.segments.as_slice()))
     }
 
     /// Reads the word before the separators.
@@ -200,7 +201,11 @@ impl Draft {
     {
         let Some((last, rest)) = separators_word(text) else {
             let begins = may_begin(text, b"separators");
-            return refuse(text, begins, 1 + line_after(self.segments.as_slice()));
+            return refuse(
+                text,
+                begins,
+                1 + line_after(first, self.segments.as_slice()),
+            );
         };
         self.go_on(first, line, last)?;
         Ok(Progress::Consumed(text.len() - rest.len()))
@@ -219,7 +224,7 @@ impl Draft {
             return refuse(
                 text,
                 may_be_number(text),
-                1 + line_after(self.segments.as_slice()),
+                1 + line_after(first, self.segments.as_slice()),
             );
         };
         self.numbers.push(n)?;
@@ -256,7 +261,7 @@ impl Draft {
         if text.is_empty() {
             Ok(Progress::Whole(first))
         } else {
-            Err(ReportFault::Line(1 + line_after(self.segments.as_slice())))
+            Err(ReportFault::Line(1 + line_after(first, self.segments.as_slice())))
         }
     }
 
@@ -274,6 +279,7 @@ impl Draft {
                 Progress::Whole(first) => {
                     return Ok(Report {
                         length: first.length,
+                        kinds: first.kinds,
                         tolerance: first.tolerance,
                         counts: first.counts,
                         segments: self.segments,

@@ -1,19 +1,20 @@
 //! The lines before the segments.
-ghost use Rattle.std.specs.Prelude.{◌≡◌, ◌++◌, ℕ, List, IfOk, IfErr};
+ghost use Rattle.std.specs.Prelude.{◌≡◌, ◌++◌, ℕ, List, IfOk, IfErr, codes, true};
 ghost use Rattle.msr_kinds.specs.Lengths.{bytes_of};
-ghost use Rattle.msr_report_reader.specs.Form.{first_then, IsFirst};
+ghost use Rattle.msr_report_reader.specs.Content.{IsFirst, first_then, lines_before};
 ghost use Rattle.msr_report_reader.specs.Fault.{IsFaultLine};
 ghost use Rattle.msr_report_reader.specs.Draft.{IsEnough};
 
 use crate::fields::may_begin;
-use crate::lines::{counts, record_length, title, tolerance};
-use msr_kinds::Length;
+use crate::lines::{counts, kinds, record_length, title, tolerance};
+use msr_kinds::{Kinds, Length};
 use msr_report::Counts;
 
 /// What the lines before the segments say.
 #[derive(Clone, Copy)]
 pub(crate) struct FirstLines {
     pub length: Length,
+    pub kinds: Kinds,
     pub tolerance: u32,
     pub counts: Counts,
 }
@@ -28,9 +29,30 @@ pub(crate) struct FaultAt<'a> {
     pub begins: bool,
 }
 
+/// How many lines stand before the segments.
+pub(crate) fn lines_before(kinds: Kinds) -> u64
+    ensures { result ≡ lines_before kinds }
+{
+    match kinds {
+        Kinds::All => 4,
+        Kinds::WithoutInt24 => 5,
+    }
+}
+
+/// Whether a text that begins with this one may begin with the line of the counts or, if no line of kinds was read,
+/// with one.
+fn may_go_on(text: &[u8], kinds: Kinds) -> bool
+    ensures counts { (more rest : List ℕ) → text.now ++ more ≡ codes "read " ++ rest → result ≡ true }
+    ensures kinds { (more rest : List ℕ) → kinds ≡ Kinds.All → text.now ++ more ≡ codes "kinds " ++ rest
+        → result ≡ true }
+{
+    may_begin(text, b"read ") | may_begin(text, b"kinds ") & (kinds == Kinds::All)
+}
+
 /// The lines before the segments.
 pub(crate) fn first_lines(text: &[u8]) -> Result<(FirstLines, &[u8]), FaultAt>
-    ensures found { IfOk result (λ x. text.now ≡ first_then (bytes_of x.0.length) x.0.tolerance x.0.counts x.1.now) }
+    ensures found { IfOk result (λ x. text.now ≡ first_then (bytes_of x.0.length) x.0.tolerance x.0.kinds x.0.counts
+        x.1.now) }
     ensures is_first { IfOk result (λ x. IsFirst (bytes_of x.0.length) x.0.tolerance x.0.counts) }
     ensures fault { IfErr result (λ e. (more : List ℕ) → IsEnough e.begins e.text.now more
         → IsFaultLine (text.now ++ more) e.line) }
@@ -56,15 +78,17 @@ pub(crate) fn first_lines(text: &[u8]) -> Result<(FirstLines, &[u8]), FaultAt>
             begins: may_begin(third, b"tolerance "),
         });
     };
-    let Some((counts, rest)) = counts(fourth) else {
+    let (kinds, last) = kinds(fourth);
+    let Some((counts, rest)) = counts(last) else {
         return Err(FaultAt {
-            line: 4,
-            text: fourth,
-            begins: may_begin(fourth, b"read "),
+            line: lines_before(kinds),
+            text: last,
+            begins: may_go_on(last, kinds),
         });
     };
     let first = FirstLines {
         length,
+        kinds,
         tolerance,
         counts,
     };

@@ -7,7 +7,7 @@ ghost use Rattle.msr_report.specs.Text.{hex_text, field_text};
 ghost use Rattle.msr_report_reader.specs.Fields.{EndsNumber, AreBytes, name_then, rate_then, flags_then};
 ghost use Rattle.msr_header.specs.Reading.{is_quality};
 ghost use Rattle.msr_rows.specs.declared.row.Key.{Key as ChannelKey};
-ghost use Rattle.msr_report_reader.specs.Form.{IsKey, key_then};
+ghost use Rattle.msr_report_reader.specs.Content.{IsKey, key_then};
 
 use crate::fields::{
     after, five_bytes, hex_byte, number, signed, signed_16, three_bytes, two_bytes,

@@ -2,7 +2,7 @@
 ghost use Rattle.std.specs.Prelude.{◌<◌, ◌^◌, All, IsTrue};
 ghost use Rattle.msr_header.specs.Reading.{is_quality};
 ghost use Rattle.msr_report.specs.Proper.{IsProper, IsProperLine};
-ghost use Rattle.msr_report_reader.specs.Form.{IsForm, IsFormLine, IsKey, form_line, form_of};
+ghost use Rattle.msr_report_reader.specs.Content.{IsContent, IsContentLine, IsKey, content_line, content_of};
 ghost use Rattle.msr_report_reader.specs.Laws.{NoLineAtFault, OneReport, TextIsReadBack};
 
 use msr_report::{Counts, Report, SegmentLine};
@@ -20,36 +20,35 @@ pub fn text_is_read_back()
     ensures back { TextIsReadBack }
 {}
 
-/// Each field of a report is in the range of its type, so what is said of reports in that form is so of each proper
-/// one.
-pub fn report_has_form(report: &Report)
-    ensures { IsProper report.now → IsForm (form_of report.now) }
+/// Each field of a report is in the range of its type, so what is said of such contents is so of each proper report.
+pub fn report_in_range(report: &Report)
+    ensures { IsProper report.now → IsContent (content_of report.now) }
 {
-    counts_have_form(report.counts);
+    counts_in_range(report.counts);
     for line in &report.segments {
-        line_has_form(line);
+        line_in_range(line);
     }
 }
 
 /// Each field of a segment's lines is in the range of its type.
-pub fn line_has_form(line: &SegmentLine)
-    ensures { IsProperLine line.now → IsFormLine (form_line line.now) }
+pub fn line_in_range(line: &SegmentLine)
+    ensures { IsProperLine line.now → IsContentLine (content_line line.now) }
 {
-    key_has_form(line.key);
-    numbers_have_form(&line.separators);
+    key_in_range(line.key);
+    numbers_in_range(&line.separators);
     let _samples = line.samples;
     let _records = line.records;
 }
 
-fn key_has_form(key: Key)
+fn key_in_range(key: Key)
     ensures { IsTrue (is_quality key.quality) → IsKey key }
 {}
 
-fn numbers_have_form(numbers: &[u64])
+fn numbers_in_range(numbers: &[u64])
     ensures { All (λ n. n < 2 ^ 64) numbers.now }
 {}
 
-fn counts_have_form(counts: Counts)
+fn counts_in_range(counts: Counts)
     ensures read { counts.read < 2 ^ 64 }
     ensures empty { counts.empty < 2 ^ 64 }
     ensures mismatched { counts.mismatched < 2 ^ 64 }

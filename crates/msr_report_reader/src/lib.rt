@@ -13,6 +13,6 @@ mod reports;
 mod times;
 
 pub use fault::ReportFault;
-pub use laws::{line_has_form, one_report, report_has_form, text_is_read_back};
+pub use laws::{line_in_range, one_report, report_in_range, text_is_read_back};
 pub use reading::read_report;
 pub use reports::report_of;

@@ -1,19 +1,20 @@
 //! The lines of a report at the start of a text: each reader answers what the line says and the text after it.
-ghost use Rattle.std.specs.Prelude.{◌≡◌, ◌<◌, ◌≤◌, ◌^◌, ◌++◌, ◌∷◌, ℕ, ℤ, List, IfSome, IsSomeAnd, codes};
+ghost use Rattle.std.specs.Prelude.{◌≡◌, ◌≢◌, ◌<◌, ◌≤◌, ◌^◌, ◌++◌, ◌∷◌, ℕ, ℤ, List, IfSome, IsSomeAnd, codes};
 ghost use Rattle.std.specs.Fmt.{decimal};
 ghost use Rattle.msr_time.specs.Instant.{IsInstant};
 ghost use Rattle.msr_kinds.specs.Lengths.{bytes_of};
 ghost use Rattle.msr_kinds.specs.RecordLength.{IsRecordLength};
-ghost use Rattle.msr_report.specs.Text.{IsTimeText};
+ghost use Rattle.msr_kinds.specs.declared.kinds.Kinds.{Kinds as AChoice};
+ghost use Rattle.msr_report.specs.Text.{IsTimeText, kinds_line};
 ghost use Rattle.msr_rows.specs.declared.row.Key.{Key as ChannelKey};
 ghost use Rattle.msr_report_reader.specs.Fields.{EndsNumber};
-ghost use Rattle.msr_report_reader.specs.Form.{IsKey, IsOpening};
+ghost use Rattle.msr_report_reader.specs.Content.{IsKey, IsOpening};
 
 use crate::fields::{after, number};
 use crate::keys::channel_key;
 use crate::times::instant;
-use msr_kinds::Length;
-use msr_report::Counts;
+use msr_kinds::{Kinds, Length};
+use msr_report::{Counts, kinds_line};
 use msr_rows::Key;
 
 /// The start of a segment.
@@ -88,6 +89,19 @@ pub(crate) fn tolerance(text: &[u8]) -> Option<(u32, &[u8])>
         return None;
     }
     Some((n as u32, text))
+}
+
+/// The line of the kinds, if one stands there: all five have none.
+pub(crate) fn kinds(text: &[u8]) -> (Kinds, &[u8])
+    ensures found { text.now ≡ kinds_line result.0 ++ result.1.now }
+    ensures only { (kinds : AChoice) (rest : List ℕ) → kinds ≢ Kinds.All → text.now ≡ kinds_line kinds ++ rest
+        → result.0 ≡ kinds }
+{
+    let fewer = Kinds::WithoutInt24;
+    match after(text, kinds_line(fewer).as_bytes()) {
+        Some(rest) => (fewer, rest),
+        None => (Kinds::All, text),
+    }
 }
 
 /// The number that stands after the word.

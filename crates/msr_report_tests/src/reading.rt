@@ -1,13 +1,14 @@
 //! msr_report_reader: reports that come little by little, and those at fault: which line is told, and that reading
 //! stops there.
 use msr_devices::{Behavior, TestSource};
-use msr_fixtures::{START, key_at};
+use msr_fixtures::{START, expect, key_at};
 use msr_report::{Counts, Report, SegmentLine};
 use msr_report_reader::{
-    ReportFault, line_has_form, one_report, read_report, report_has_form, report_of,
+    ReportFault, line_in_range, one_report, read_report, report_in_range, report_of,
     text_is_read_back,
 };
 use msr_time::Rate;
+use msr_words::Kinds;
 use std::alloc::{AllocError, Global};
 use std::test::Fail;
 
@@ -34,8 +35,8 @@ fn is_line(line: &SegmentLine, rate: Rate) -> bool {
         && line.separators.as_slice() == [0u64, 301].as_slice()
 }
 
-/// Whether it is what that text says.
-fn is_report(report: &Report, rate: Rate) -> bool {
+/// Whether it is what that text says, of records of these kinds.
+fn is_report(report: &Report, kinds: Kinds, rate: Rate) -> bool {
     let counts = Counts {
         read: 1,
         empty: 0,
@@ -45,6 +46,7 @@ fn is_report(report: &Report, rate: Rate) -> bool {
         return false;
     };
     report.length.bytes() == 256
+        && report.kinds == kinds
         && report.tolerance == 1000
         && report.counts == counts
         && is_line(line, rate)
@@ -59,11 +61,26 @@ fn reads_reports(rt: HostRuntime) -> Result<(), Fail> {
     let Ok(slow) = read_from(rt.alloc(), REPORT, None) else {
         return Err("no report of the source".into());
     };
-    assert!(rt; is_report(&whole, rate) && is_report(&slow, rate));
-    report_has_form(&slow);
+    let kinds = Kinds::All;
+    assert!(rt; is_report(&whole, kinds, rate) && is_report(&slow, kinds, rate));
+    report_in_range(&slow);
     if let [line] = slow.segments.as_slice() {
-        line_has_form(line);
+        line_in_range(line);
     }
+    Ok(())
+}
+
+/// The line of the tolerance, and after it that of the kinds if records may be of four.
+const FOUR: &str = "tolerance 1000\nkinds steim2 steim1 int16 int32\n";
+
+#[test]
+fn reads_reports_of_fewer_kinds(rt: HostRuntime) -> Result<(), Fail> {
+    let rate = Rate::new(20, 1).ok_or("no rate")?;
+    let text = REPORT.replace(rt.alloc(), "tolerance 1000\n", FOUR)?;
+    let Ok(report) = read_from(rt.alloc(), text.as_str(), None) else {
+        return Err("no report of four kinds".into());
+    };
+    assert!(rt; is_report(&report, Kinds::WithoutInt24, rate));
     Ok(())
 }
 
@@ -81,6 +98,62 @@ fn stops_at_the_line_at_fault(rt: HostRuntime) -> Result<(), Fail> {
     assert!(rt; stops_at(alloc, 2, "length 256", "length 0256")?);
     assert!(rt; read_from(alloc, REPORT, Some(20)).err() == Some(ReportFault::Read));
     assert!(rt; read_from(alloc, "", None).err() == Some(ReportFault::Line(1)));
+    Ok(())
+}
+
+/// Whether that line is told of the text with these words in place of the line of the tolerance.
+fn stops_after(alloc: Global, line: u64, words: &str) -> Result<bool, AllocError> {
+    let text = REPORT.replace(alloc, "tolerance 1000\n", words)?;
+    Ok(report_of(alloc, text.as_bytes()).err() == Some(ReportFault::Line(line)))
+}
+
+/// All five kinds, another order, the line twice, and before the tolerance: each is at fault where it stands.
+#[test]
+fn faults_of_the_kinds(rt: HostRuntime) -> Result<(), Fail> {
+    let alloc = rt.alloc();
+    for (line, words) in [
+        (4, "tolerance 1000\nkinds steim2 steim1 int16 int24 int32\n"),
+        (4, "tolerance 1000\nkinds steim1 steim2 int16 int32\n"),
+        (4, "tolerance 1000\nkinds steim2 steim1 int16 int32 \n"),
+        (4, "tolerance 1000\nkinds\n"),
+        (
+            5,
+            "tolerance 1000\nkinds steim2 steim1 int16 int32\nkinds steim2 steim1 int16 int32\n",
+        ),
+        (3, "kinds steim2 steim1 int16 int32\ntolerance 1000\n"),
+    ] {
+        expect(stops_after(alloc, line, words)?, words)?;
+    }
+    Ok(())
+}
+
+/// Whether that line is told of a report of four kinds with a part of it replaced.
+fn stops_in_four(alloc: Global, line: u64, part: &str, by: &str) -> Result<bool, AllocError> {
+    let text = REPORT
+        .replace(alloc, "tolerance 1000\n", FOUR)?
+        .replace(alloc, part, by)?;
+    Ok(report_of(alloc, text.as_bytes()).err() == Some(ReportFault::Line(line)))
+}
+
+/// The lines after that of the kinds are one further down, and none of them is another line of kinds.
+#[test]
+fn faults_after_the_kinds(rt: HostRuntime) -> Result<(), Fail> {
+    let alloc = rt.alloc();
+    for (line, part, by) in [
+        (5, "read 1", "read 01"),
+        (
+            6,
+            "segment XX",
+            "kinds steim2 steim1 int16 int32\nsegment XX",
+        ),
+        (6, "D rate", "X rate"),
+        (7, "separators 0", "separators 00"),
+        (8, "end 1", "end 2"),
+        (9, " records\n", " records\n\n"),
+        (4, "int32\n", "int32"),
+    ] {
+        expect(stops_in_four(alloc, line, part, by)?, by)?;
+    }
     Ok(())
 }
 

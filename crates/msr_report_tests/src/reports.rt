@@ -8,7 +8,7 @@ use msr_fixtures::{START, key_at};
 use msr_record::Key;
 use msr_report::{Counts, Report, SegmentLine, has_text, one_text};
 use msr_time::Rate;
-use msr_words::Length;
+use msr_words::{Kinds, Length};
 use std::alloc::{AllocError, Global};
 use std::test::Fail;
 
@@ -85,7 +85,8 @@ fn segments(alloc: Global, rates: [Rate; 3]) -> Result<Vec<SegmentLine>, AllocEr
     Ok(lines)
 }
 
-fn report(alloc: Global) -> Result<Report, Fail>
+/// The report of records of these kinds.
+fn report(alloc: Global, kinds: Kinds) -> Result<Report, Fail>
     ensures { IfOk result IsProper }
 {
     let rates = [
@@ -95,6 +96,7 @@ fn report(alloc: Global) -> Result<Report, Fail>
     ];
     Ok(Report {
         length: Length::new(256).ok_or("no length")?,
+        kinds,
         tolerance: 1000,
         counts: Counts {
             read: 3,
@@ -106,7 +108,13 @@ fn report(alloc: Global) -> Result<Report, Fail>
 }
 
 /// Whether a sink that takes 20 bytes in a call, and fails at that one if it is told, has the text as far as it came.
-fn is_written(alloc: Global, report: &Report, fails_at: Option<u64>, size: usize) -> bool
+fn is_written(
+    alloc: Global,
+    report: &Report,
+    text: &str,
+    fails_at: Option<u64>,
+    size: usize,
+) -> bool
     requires { IsProper report.now }
 {
     let behavior = Behavior {
@@ -121,18 +129,30 @@ fn is_written(alloc: Global, report: &Report, fails_at: Option<u64>, size: usize
     } else {
         None
     };
-    fault == want && sink.bytes().len() == size && TEXT.as_bytes().starts_with(sink.bytes())
+    fault == want && sink.bytes().len() == size && text.as_bytes().starts_with(sink.bytes())
 }
 
 /// The text has 539 bytes, so 27 writes.
 #[test]
 fn text_and_prefixes_of_it(rt: HostRuntime) -> Result<(), Fail> {
-    let report = report(rt.alloc())?;
-    assert!(rt; is_written(rt.alloc(), &report, None, TEXT.len()));
+    let report = report(rt.alloc(), Kinds::All)?;
+    assert!(rt; is_written(rt.alloc(), &report, TEXT, None, TEXT.len()));
     for call in 0usize..27 {
-        let is_part = is_written(rt.alloc(), &report, Some(call as u64), 20 * call);
+        let is_part = is_written(rt.alloc(), &report, TEXT, Some(call as u64), 20 * call);
         assert!(rt; is_part, "at {call}");
     }
+    Ok(())
+}
+
+/// The same report of records without 24-bit integers has one line more, of 32 bytes.
+#[test]
+fn text_of_fewer_kinds(rt: HostRuntime) -> Result<(), Fail> {
+    let report = report(rt.alloc(), Kinds::WithoutInt24)?;
+    let tolerance = "tolerance 1000\n";
+    let kinds = "tolerance 1000\nkinds steim2 steim1 int16 int32\n";
+    let text = TEXT.replace(rt.alloc(), tolerance, kinds)?;
+    assert!(rt; text.len() == TEXT.len() + 32);
+    assert!(rt; is_written(rt.alloc(), &report, text.as_str(), None, text.len()));
     Ok(())
 }
 

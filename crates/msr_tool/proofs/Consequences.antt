@@ -6,8 +6,8 @@ use Rattle.msr_report.specs.declared.report.Report.{Report}
 use Rattle.msr_input.specs.Input.{AllAgree, OneListOfRecords, OneFirstFault, ReadableHasNoFault, counts_of}
 use Rattle.msr_output.specs.Output.{OneOutput, Packed}
 use Rattle.msr_tool.specs.Answer.{IsReportOf, IsRepacked}
-use Rattle.msr_options.specs.Choice.{Choice, as_strict}
-use Rattle.msr_tool.specs.Settings.{form_chosen, settings_of}
+use Rattle.msr_options.specs.Choice.{Choice, as_strict, form_chosen}
+use Rattle.msr_tool.specs.Settings.{settings_of}
 use Rattle.msr_tool.specs.Laws.{OneRepacking, OneRefusal, ReadableIsRepacked, ReadableIsListed, StrictWritesTheSame}
 use Rattle.msr_tool.specs.declared.fault.ToolFault.TheVariants as fault
 
@@ -58,11 +58,12 @@ report_as : (a b : Bool) (choice : Choice) (records : List Record) (packed : Lis
     → IsReportOf (as_strict a choice) records packed report → IsReportOf (as_strict b choice) records packed report
 report_as a b choice records packed report is = record {
   record_length = is.record_length;
+  kinds = is.kinds;
   tolerance = is.tolerance;
   counts = is.counts;
   lines = is.lines;
   proper = is.proper;
-  is_form = is.is_form;
+  is_content = is.is_content;
 }
 
 repacked_as : (a b : Bool) (choice : Choice) (input written : List ℕ) (report : Report)

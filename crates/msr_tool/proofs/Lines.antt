@@ -18,7 +18,7 @@ use Rattle.msr_input.specs.Reading.{IsWritable}
 use Rattle.msr_input.specs.Rows.{StepsTo}
 use Rattle.msr_input.specs.Steps.{CanJoin}
 use Rattle.msr_input.specs.declared.row_reader.NextRow.{NextRow}
-use Rattle.msr_report_reader.specs.Form.{IsFormLine, form_line}
+use Rattle.msr_report_reader.specs.Content.{IsContentLine, content_line}
 use Rattle.msr_report_reader.proofs.SegmentsRead.{all_more}
 use Rattle.msr_output.specs.Opened.{Opened, CanGoOn, HasBegun, count_of}
 use Rattle.msr_output.specs.Output.{Packed, segment_of_packed, count_of_runs}
@@ -111,24 +111,24 @@ line_proper start now writing packed segment line opened h can same_key same_sta
     ∙ sym same_start ∙ can.is_open.start in
     record { quality = rw key can.writable.quality; start = rw at can.in_time.first_in }
 
-forms_snoc : (lines : List SegmentLine) (line : SegmentLine) → All IsFormLine (map form_line lines)
-    → IsFormLine (form_line line) → All IsFormLine (map form_line (lines ++ line ∷ []))
-forms_snoc lines line forms is = rw (map-append form_line lines (line ∷ []))
-    (all_more (map form_line lines) (form_line line) forms is)
+contents_snoc : (lines : List SegmentLine) (line : SegmentLine) → All IsContentLine (map content_line lines)
+    → IsContentLine (content_line line) → All IsContentLine (map content_line (lines ++ line ∷ []))
+contents_snoc lines line contents is = rw (map-append content_line lines (line ∷ []))
+    (all_more (map content_line lines) (content_line line) contents is)
 
 -- ---- a segment ends
 
 pub lines_more : (start now : Device) (writing : Writing) (old new : List SegmentLine) (packed : List Packed)
-    (segment : Segment) (line : SegmentLine) → AreLinesOf packed old → All IsFormLine (map form_line old)
-    → WritesSegment start now writing packed segment line → IsFormLine (form_line line) → new ≡ old ++ line ∷ []
+    (segment : Segment) (line : SegmentLine) → AreLinesOf packed old → All IsContentLine (map content_line old)
+    → WritesSegment start now writing packed segment line → IsContentLine (content_line line) → new ≡ old ++ line ∷ []
     → LinesMore start now (record { writing = writing; lines = new; last = None }) packed (segment ∷ []) None
-lines_more start now writing old new packed segment line are forms h is_form pushed = record {
+lines_more start now writing old new packed segment line are contents h is_content pushed = record {
   all = packed ++ h.more ∷ [];
   same = same_more packed h.more segment h.same;
   after = record {
     written = (h.rows, h.written);
     are_lines = rw pushed (lines_snoc packed old h.more line are h.is_line);
-    forms = rw pushed (forms_snoc old line forms is_form);
+    contents = rw pushed (contents_snoc old line contents is_content);
   };
 }
 
@@ -176,7 +176,7 @@ pub lined_begun : (start now : Device) (old : Lined) (packed : List Packed) (ope
     → HasLined start now (record { writing = old.writing; lines = old.lines; last = Some opened }) packed (Some segment)
 lined_begun start now old packed opened segment none begins h =
     let wrote = lined_none start now old packed none h in
-    record { written = begins wrote.0 wrote.1; are_lines = h.are_lines; forms = h.forms }
+    record { written = begins wrote.0 wrote.1; are_lines = h.are_lines; contents = h.contents }
 
 pub grows_new : (opened : Opened) (row : Row) → count_of opened ≡ 0 → opened.key ≡ row.key
     → opened.start ≡ row.start → IsWritable (row_segment row) → length row.samples ≤ 65_535
@@ -329,7 +329,7 @@ pub lined_flushed : (start old now : Device) (lined : Lined) (w' : Writing) (pac
 lined_flushed start old now lined w' packed current goes none begun h = record {
   written = flushed_so start old now lined.writing w' packed current lined.last goes none begun h.written;
   are_lines = h.are_lines;
-  forms = h.forms;
+  contents = h.contents;
 }
 
 stops_so : (start old now : Device) (w : Writing) (packed : List Packed) (current : Option Segment)

@@ -13,7 +13,7 @@ use Rattle.msr_base.specs.declared.counts.Counts.{Counts}
 use Rattle.msr_report.specs.declared.report.Report.{Report}
 use Rattle.msr_report.specs.declared.report.SegmentLine.{SegmentLine}
 use Rattle.msr_report.specs.Proper.{IsProperLine}
-use Rattle.msr_report_reader.specs.Form.{IsFirst}
+use Rattle.msr_report_reader.specs.Content.{IsFirst}
 use Rattle.msr_input.specs.Input.{AllAgree, NoneOverruns, rows_of_records}
 use Rattle.msr_input.specs.Reading.{GaveReadable, HoldsRecord, IsWritable, StopsReading}
 use Rattle.msr_input.specs.Records.{HaveComeShort}
@@ -24,8 +24,8 @@ use Rattle.msr_input.specs.declared.fault.ReadFault.TheVariants as read
 use Rattle.msr_input.specs.declared.row_reader.NextRow.{NextRow}
 use Rattle.msr_output.specs.Output.{Packed, OutputKeepsSegments, OutputHasSize, segment_of_packed, count_of_runs}
 use Rattle.msr_output.specs.Decided.{IsDecidedOutput, IsEncoded}
-use Rattle.msr_options.specs.Choice.{Choice, size_of}
-use Rattle.msr_tool.specs.Settings.{form_chosen, settings_of}
+use Rattle.msr_options.specs.Choice.{Choice, form_chosen, size_of}
+use Rattle.msr_tool.specs.Settings.{settings_of}
 use Rattle.msr_tool.specs.Writing.{Lined, GoesOn, HasLined, LinesMore, LinesAll, StopsLining, current_with, ended_with}
 use Rattle.msr_tool.specs.Answer.{Answers, AreLinesOf}
 use Rattle.msr_tool.specs.Fault.{fault_of_reading}
@@ -119,11 +119,12 @@ pub done : (choice : Choice) (source0 sink0 sink : Device) (segments : List Segm
     GaveReadable source0 (settings_of choice) segments counts → All IsWritable segments
     → LinesAll (form_chosen choice) sink0 sink segments lines →
     1 ≤ choice.tolerance → choice.tolerance ≤ 1_000_000 → 1 ≤ size_of choice → OutputKeepsSegments → OutputHasSize →
-    report.length ≡ choice.record_length → report.tolerance ≡ choice.tolerance → report.counts ≡ counts
+    report.length ≡ choice.record_length → report.kinds ≡ choice.kinds → report.tolerance ≡ choice.tolerance
+    → report.counts ≡ counts
     → report.segments.items ≡ lines → IsFirst (bytes_of report.length) report.tolerance report.counts
     → IsAnswered (Answers choice) source0 sink0 sink (Ok report)
 done choice source0 sink0 sink segments lines counts report gave can wrote least most some keeps has_size
-    same_length same_tolerance same_counts same_lines is_first =
+    same_length same_kinds same_tolerance same_counts same_lines is_first =
     let form = wrote.writing.form in
     let all = wrote.packed in
     let bytes = wrote.written.bytes in
@@ -144,6 +145,7 @@ done choice source0 sink0 sink segments lines counts report gave can wrote least
             (rw wrote.same gave.readable.are_segments) (some_samples all writable) wrote.written.output;
         is_report = record {
           record_length = same_length;
+          kinds = same_kinds;
           tolerance = same_tolerance;
           counts = same_counts ∙ gave.counted;
           lines = rw same_lines wrote.are_lines;
@@ -155,7 +157,7 @@ done choice source0 sink0 sink segments lines counts report gave can wrote least
                 (few_runs (bytes_of form.length) (count_of_runs all) (length bytes) (rw wrote.same_form some) count
                 wrote.written.short);
           };
-          is_form = record { first = is_first; segments = rw same_lines wrote.forms };
+          is_content = record { first = is_first; segments = rw same_lines wrote.contents };
         };
       },
     )

@@ -4,8 +4,8 @@ use Rattle.std.specs.List.{flat_map}
 use Rattle.std.specs.Prelude.{All}
 use Rattle.std.specs.Option.{option_to_list}
 use Rattle.msr_time.specs.SampleRate.{IsRoundedNominal}
-use Rattle.msr_kinds.specs.Forms.{all_kinds}
 use Rattle.msr_kinds.specs.Lengths.{bytes_of}
+use Rattle.msr_kinds.specs.declared.kinds.Kinds.{Kinds}
 use Rattle.msr_kinds.specs.declared.lengths.Length.{Length}
 use Rattle.msr_rows.specs.declared.row.Key.{Key}
 use Rattle.msr_rows.specs.declared.row.Row.{Row}
@@ -18,7 +18,8 @@ use Rattle.msr_input.specs.Input.{AreRead, NoneOverruns, OneListOfRecords, rows_
 use Rattle.msr_output.specs.Output.{cuts_of, segment_of_packed}
 use Rattle.msr_output.proofs.Times.{nominal_within}
 use Rattle.msr_verdict.specs.Packed.{IsFull, AreShownBy}
-use Rattle.msr_tool.specs.Settings.{form_chosen, settings_of}
+use Rattle.msr_options.specs.Choice.{form_chosen}
+use Rattle.msr_tool.specs.Settings.{settings_of}
 use Rattle.msr_tool.specs.Shown.{EndsBeforeTheLast, RepackedIsShown}
 use Rattle.msr_tool.proofs.ShownRows.{IsWithin, AreWithin, record_of, lines_within, cuts_within, rows_sound, bytes_begin, records_full, records_rows}
 use Rattle.msr_tool.proofs.ShownPrefixes.{IsPrefixOf, last_of_prefix}
@@ -107,5 +108,8 @@ repacked_shown law choice input written report records segments r readable befor
       are_read = subst (λ (t : ℕ). AreRead (record { tolerance = t; strict = false }) written found []) at are_read;
       division = subst (λ (t : ℕ). IsDivision t (rows_of_records found) parts) at division;
       full = subst (λ (l : Length). All (IsFull (bytes_of l)) found) of_length (records_full size r.rows);
-      shown = subst (λ (l : Length). AreShownBy (all_kinds l) parts report.segments.items) of_length shown;
+      shown = subst (λ (kinds : Kinds). AreShownBy (record { length = report.length; kinds = kinds }) parts
+          report.segments.items) (sym r.is_report.kinds)
+          (subst (λ (l : Length). AreShownBy (record { length = l; kinds = choice.kinds }) parts report.segments.items)
+          of_length shown);
     }

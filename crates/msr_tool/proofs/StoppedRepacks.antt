@@ -8,8 +8,8 @@ use Rattle.msr_input.specs.declared.settings.Settings.{Settings}
 use Rattle.msr_input.specs.declared.fault.ReadFault.{ReadFault}
 use Rattle.msr_input.specs.declared.fault.ReadFault.TheVariants as read
 use Rattle.msr_output.specs.Writing.{HasWrittenPrefix}
-use Rattle.msr_options.specs.Choice.{Choice}
-use Rattle.msr_tool.specs.Settings.{form_chosen, settings_of}
+use Rattle.msr_options.specs.Choice.{Choice, form_chosen}
+use Rattle.msr_tool.specs.Settings.{settings_of}
 use Rattle.msr_tool.specs.Fault.{ReadsAndWrites, fault_of_reading}
 use Rattle.msr_tool.specs.Writing.{StopsSink, StopsLining}
 use Rattle.msr_tool.specs.Answer.{IsStopped, Answers}

@@ -7,13 +7,13 @@ use Rattle.msr_segments.specs.declared.joiner.Segment.{Segment}
 use Rattle.msr_report.specs.Proper.{IsProper}
 use Rattle.msr_report.specs.declared.report.SegmentLine.{SegmentLine}
 use Rattle.msr_report.specs.declared.report.Report.{Report}
-use Rattle.msr_report_reader.specs.Form.{IsForm, form_of}
+use Rattle.msr_report_reader.specs.Content.{IsContent, content_of}
 use Rattle.msr_input.specs.declared.fault.Fault.{Fault}
 use Rattle.msr_input.specs.Input.{AreRead, IsReadable, IsFirstFault, rows_of_records, counts_of}
 use Rattle.msr_output.specs.Writing.{IsLineOf}
 use Rattle.msr_output.specs.Output.{Packed, IsOutput, IsPrefixOfOutput, segment_of_packed}
-use Rattle.msr_options.specs.Choice.{Choice}
-use Rattle.msr_tool.specs.Settings.{form_chosen, settings_of}
+use Rattle.msr_options.specs.Choice.{Choice, form_chosen}
+use Rattle.msr_tool.specs.Settings.{settings_of}
 use Rattle.msr_tool.specs.declared.fault.ToolFault.{ToolFault}
 use Rattle.msr_tool.specs.declared.fault.ToolFault.TheVariants as fault
 
@@ -26,15 +26,16 @@ AreLinesOf (packed ∷ others) (line ∷ lines) = IsLineOf packed line × AreLin
 -- The report of an input: the choice, the counts of its records, and a line for each segment as it was packed.
 pub record IsReportOf (choice : Choice) (records : List Record) (packed : List Packed) (report : Report) : Type 0 where
   pub record_length : report.length ≡ choice.record_length
+  pub kinds : report.kinds ≡ choice.kinds
   pub tolerance : report.tolerance ≡ choice.tolerance
   pub counts : report.counts ≡ counts_of records
   pub lines : AreLinesOf packed report.segments.items
   pub proper : IsProper report
-  pub is_form : IsForm (form_of report)
+  pub is_content : IsContent (content_of report)
 
 -- The input was repacked. It is readable; what was written is the output of its segments, each packed in the
--- fewest records with the separators that show it; the rows that were written have the same segments; and the
--- report is that of the input.
+-- fewest records of the chosen kinds with the separators that show it; the rows that were written have the same
+-- segments; and the report is that of the input.
 pub record IsRepacked (choice : Choice) (input written : List ℕ) (report : Report) : Type 0 where
   pub records : List Record
   pub packed : List Packed

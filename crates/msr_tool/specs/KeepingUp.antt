@@ -7,8 +7,8 @@ use Rattle.msr_segments.specs.declared.joiner.Segment.{Segment}
 use Rattle.msr_input.specs.Input.{AreRead, bytes_of_records, rows_of_records}
 use Rattle.msr_input.specs.Reading.{HoldsRecord}
 use Rattle.msr_output.specs.Decided.{IsDecidedOutput}
-use Rattle.msr_options.specs.Choice.{Choice}
-use Rattle.msr_tool.specs.Settings.{form_chosen, settings_of}
+use Rattle.msr_options.specs.Choice.{Choice, form_chosen}
+use Rattle.msr_tool.specs.Settings.{settings_of}
 
 -- These records came from the source, and after them no whole one. What their rows give went into the sink, but for
 -- the last samples of the segment that goes on.

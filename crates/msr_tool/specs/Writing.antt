@@ -12,7 +12,7 @@ use Rattle.msr_segments.specs.declared.joiner.Segment.{Segment}
 use Rattle.msr_input.specs.Reading.{IsWritable}
 use Rattle.msr_input.specs.declared.row_reader.NextRow.{NextRow}
 use Rattle.msr_report.specs.declared.report.SegmentLine.{SegmentLine}
-use Rattle.msr_report_reader.specs.Form.{IsFormLine, form_line}
+use Rattle.msr_report_reader.specs.Content.{IsContentLine, content_line}
 use Rattle.msr_output.specs.Opened.{Opened, CanGoOn, HasBegun, count_of, longer_by}
 use Rattle.msr_output.specs.Output.{Packed, segment_of_packed}
 use Rattle.msr_output.specs.Writing.{Writing, HasWritten, HasWrittenAll, HasWrittenPrefix}
@@ -69,7 +69,7 @@ pub record HasLined (start now : Device) (lined : Lined) (packed : List Packed)
     (current : Option Segment) : Type 0 where
   pub written : StandsWritten start now lined.writing packed current lined.last
   pub are_lines : AreLinesOf packed lined.lines
-  pub forms : All IsFormLine (map form_line lined.lines)
+  pub contents : All IsContentLine (map content_line lined.lines)
 
 -- these segments ended after the others, each with its line, and this one has not ended
 pub record LinesMore (start now : Device) (lined : Lined) (packed : List Packed) (more : List Segment)
@@ -88,7 +88,7 @@ pub record LinesAll (form : Form) (start now : Device) (segments : List Segment)
   pub same_form : writing.form ≡ form
   pub written : HasWrittenAll start now writing packed rows
   pub are_lines : AreLinesOf packed lines
-  pub forms : All IsFormLine (map form_line lines)
+  pub contents : All IsContentLine (map content_line lines)
 
 -- a segment that has not ended takes samples, in records of that form
 pub record GoesOn (form : Form) (opened : Opened) : Type 0 where

@@ -24,7 +24,7 @@ pub use msr_devices::{
     Behavior, DeviceFault, FromRead, FromWrite, Sink, Source, TestSink, TestSource,
 };
 pub use msr_input::Fault;
-pub use msr_kinds::Length;
+pub use msr_kinds::{Kinds, Length};
 pub use msr_options::Options;
 pub use msr_report::{Counts, Report, SegmentLine};
 pub use msr_report_reader::{ReportFault, read_report};

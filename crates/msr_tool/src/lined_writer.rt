@@ -5,7 +5,7 @@ use msr_input::{NextRecord, NextRow};
 use msr_kinds::Form;
 use msr_output::{OpenSegment, SegmentWriter};
 use msr_report::SegmentLine;
-use msr_report_reader::line_has_form;
+use msr_report_reader::line_in_range;
 use msr_rows::Row;
 use msr_segments::Step;
 use std::alloc::Global;
@@ -73,7 +73,7 @@ impl LinedWriter {
             return Ok(());
         };
         let line = self.writer.end(sink, segment)?;
-        line_has_form(&line);
+        line_in_range(&line);
         self.lines.push(line)?;
         Ok(())
     }

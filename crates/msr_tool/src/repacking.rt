@@ -8,7 +8,7 @@ ghost use Rattle.msr_tool.specs.KeepingUp.{HasKeptUp};
 
 use crate::fault::ToolFault;
 use crate::lined_writer::LinedWriter;
-use crate::settings::{form_chosen, settings_of};
+use crate::settings::settings_of;
 use msr_devices::{Sink, Source};
 use msr_input::RowReader;
 use msr_options::Options;
@@ -26,7 +26,8 @@ enum Flush {
 }
 
 /// Reads all records of the source, joins their rows into segments, and writes each segment again in the fewest
-/// records of the length that is asked for, while its samples come. It holds no segment, and a line for each.
+/// records of the length and the kinds that are asked for, while its samples come. It holds no segment, and a line for
+/// each.
 pub fn repack<R: Source, W: Sink>(
     alloc: Global,
     source: &mut R,
@@ -84,7 +85,8 @@ fn repack_with<R: Source, W: Sink>(
         → HasKeptUp options (R.device source.old) (R.device source.new) (W.device sink.old) (W.device sink.new) }
 {
     let mut reader = RowReader::new(alloc, settings_of(options));
-    let mut writer = LinedWriter::new(alloc, form_chosen(options));
+    let form = options.form();
+    let mut writer = LinedWriter::new(alloc, form);
     'records: while let Some(next) = reader.next_record(source)? {
         writer.take(sink, next)?;
         if must_flush(flush, &reader) {
@@ -97,6 +99,7 @@ fn repack_with<R: Source, W: Sink>(
     output_has_size();
     Ok(Report {
         length: options.length(),
+        kinds: form.kinds,
         tolerance: options.tolerance(),
         counts,
         segments,

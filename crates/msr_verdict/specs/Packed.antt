@@ -3,7 +3,6 @@ use Rattle.std.specs.Prelude.{◌≡◌, ℕ, ◌+◌, ◌≤◌, false, List, [
 use Rattle.msr_words.specs.Fit.{records_of}
 use Rattle.msr_words.specs.declared.kinds.Run.{Run}
 use Rattle.msr_kinds.specs.declared.forms.Form.{Form}
-use Rattle.msr_kinds.specs.Forms.{all_kinds}
 use Rattle.msr_kinds.specs.Lengths.{bytes_of}
 use Rattle.msr_words.specs.Packing.{IsPacking, IsSeparating}
 use Rattle.msr_rows.specs.declared.row.Row.{Row}
@@ -55,16 +54,17 @@ pub record IsFull (size : ℕ) (found : Record) : Type 0 where
   pub length_is : found.length ≡ size
   pub some : IsSome found.row
 
--- the records that a report speaks of: of its length, and of any of the five kinds
+-- the records that a report speaks of: of its length and of its kinds
 abbrev pub form_by : Report → Form
-form_by report = all_kinds report.length
+form_by report = record { length = report.length; kinds = report.kinds }
 
 -- how the records are read: with the report's tolerance, and not strictly
 abbrev pub settings_by : Report → Settings
 settings_by report = record { tolerance = report.tolerance; strict = false }
 
--- The report shows that every segment of the input stands in the fewest records: the input is readable, each of
--- its records has the report's length and some samples, and its segments are shown by the report's lines in order.
+-- The report shows that every segment of the input stands in the fewest records of its length and kinds: the input
+-- is readable, each of its records has the report's length and some samples, and its segments are shown by the
+-- report's lines in order.
 pub record ShowsLeast (report : Report) (input : List ℕ) : Type 0 where
   pub records : List Record
   pub parts : List Part

@@ -57,7 +57,10 @@ fn count_in(current: &Option<Segment>) -> u64
 fn form_by(report: &Report) -> Form
     ensures { result ≡ form_by report.now }
 {
-    Form::all_kinds(report.length)
+    Form {
+        length: report.length,
+        kinds: report.kinds,
+    }
 }
 
 /// How far the segments agree with the lines of one report. It keeps the open segment and its runs, and neither once a

@@ -140,6 +140,7 @@ pub record IsReportKept (choice : Choice) (repacked : Repacked) : Type 0 where
   pub report : Report
   pub reads : IsReadFrom report text
   pub record_length : bytes_of report.length ≡ size_of choice
+  pub kinds : report.kinds ≡ choice.kinds
   pub tolerance : report.tolerance ≡ choice.tolerance
   pub agree : IsTrue choice.strict → report.counts.mismatched ≡ 0
   pub read : repacked.read ≡ report.counts.read

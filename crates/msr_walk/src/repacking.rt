@@ -123,6 +123,7 @@ pub(crate) fn counts_kept<S: Source>(
         return None;
     };
     if report.length.bytes() != options.length().bytes()
+        || report.kinds != options.form().kinds
         || report.tolerance != options.tolerance()
     {
         return None;

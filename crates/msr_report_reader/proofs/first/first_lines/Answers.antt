@@ -1,6 +1,7 @@
 use Rattle.std.proofs.Common.{◌∙◌, ap, sym, rules, ℕ, List, ◌++◌, ◌∷◌, codes, decimal}
 use Rattle.msr_kinds.specs.Lengths.{bytes_of}
-use Rattle.msr_report_reader.proofs.FirstFaults.{fault_1, fault_2, fault_3, fault_4}
+use Rattle.msr_report.specs.Text.{kinds_line}
+use Rattle.msr_report_reader.proofs.FirstFaults.{fault_1, fault_2, fault_3, fault_counts}
 use Rattle.msr_report_reader.proofs.RestOfText.{counts_split, counts_then}
 use Rattle.msr_report_reader.proofs.first.first_lines.Goals as goal
 
@@ -21,11 +22,15 @@ returns-in_default-tolerance-clause-fault c = λ more enough.
 
 pub returns-in_default-counts-clause-fault : goal.returns-in_default-counts-clause-fault
 returns-in_default-counts-clause-fault c = λ more enough.
-    fault_4 c.args.text.now c.in-Some.second.now c.in-Some-record_length.third.now c.in-Some-tolerance.fourth.now more
-    (bytes_of c.in-Some-record_length.length) c.in-Some-tolerance.tolerance c.may_begin-in_default-counts.result
-    c.in-Some-record_length.ensures.is_length c.in-Some-tolerance.ensures.range.0
+    rw c.lines_before.ensures
+    (fault_counts c.args.text.now c.in-Some.second.now c.in-Some-record_length.third.now c.in-Some-tolerance.fourth.now
+    c.kinds-kinds.result.1.now more (bytes_of c.in-Some-record_length.length) c.in-Some-tolerance.tolerance
+    c.kinds-kinds.result.0
+    c.may_go_on.result c.in-Some-record_length.ensures.is_length c.in-Some-tolerance.ensures.range.0
     c.in-Some-tolerance.ensures.range.1 c.in-Some.ensures.found c.in-Some-record_length.ensures.found
-    c.in-Some-tolerance.ensures.found enough (c.may_begin-in_default-counts.ensures more) c.in_default-counts.ensures.only
+    c.in-Some-tolerance.ensures.found c.kinds-kinds.ensures.found c.kinds-kinds.ensures.only enough
+    (c.may_go_on.ensures.counts more)
+    (c.may_go_on.ensures.kinds more) c.in_default-counts.ensures.only)
 
 pub returns-clause-found : goal.returns-clause-found
 returns-clause-found c =
@@ -34,8 +39,9 @@ returns-clause-found c =
     ++ (decimal (bytes_of c.in-Some-record_length.length) ++ (10 ∷ l)))
     (c.in-Some-tolerance.ensures.found ∙ ap (λ (l : List ℕ). codes "tolerance "
     ++ (decimal c.in-Some-tolerance.tolerance ++ (10 ∷ l)))
+    (c.kinds-kinds.ensures.found ∙ ap (λ (l : List ℕ). kinds_line c.kinds-kinds.result.0 ++ l)
     (c.in-Some-counts.ensures.found ∙ sym (counts_split c.in-Some-counts.counts c.in-Some-counts.rest.now)
-    ∙ sym (counts_then c.in-Some-counts.counts c.in-Some-counts.rest.now))))
+    ∙ sym (counts_then c.in-Some-counts.counts c.in-Some-counts.rest.now)))))
 
 pub returns-clause-is_first : goal.returns-clause-is_first
 returns-clause-is_first c = record {

@@ -1,4 +1,4 @@
-use Rattle.msr_report_reader.proofs.OneForm.{no_fault, read_back}
+use Rattle.msr_report_reader.proofs.OneContent.{no_fault, read_back}
 use Rattle.msr_report_reader.proofs.laws.text_is_read_back.Goals as goal
 
 pub returns : goal.returns

@@ -1,6 +1,6 @@
 use Rattle.std.proofs.Common.{◌∙◌, ap, arith, to_z-of_z, FitsSigned, w64, ◌++◌, ◌∷◌, codes, decimal, refl, List, ℕ}
 use Rattle.jiff_core.proofs.SignedLemmas.{signed_arith}
-use Rattle.msr_report_reader.specs.Form.{key_then}
+use Rattle.msr_report_reader.specs.Content.{key_then}
 use Rattle.msr_report_reader.proofs.lines.opening.Goals as goal
 
 pub returns-in_default-clause-only : goal.returns-in_default-clause-only

@@ -2,9 +2,10 @@ use Rattle.std.proofs.Common.{◌≡◌, inl, inr, ◌++◌, [], None, map, refl
 use Rattle.std.proofs.lemmas.Result.{err_from_is_err_and}
 use Rattle.std.specs.Option.{option_to_list}
 use Rattle.msr_kinds.specs.Lengths.{bytes_of}
+use Rattle.msr_kinds.specs.declared.forms.Form.{Form}
 use Rattle.msr_segments.specs.Spans.{Following}
-use Rattle.msr_report_reader.specs.Form.{IsFirst}
-use Rattle.msr_report_reader.proofs.Forms.{is_length}
+use Rattle.msr_report_reader.specs.Content.{IsFirst}
+use Rattle.msr_report_reader.proofs.Ranges.{is_length}
 use Rattle.msr_devices.proofs.Chaining.{calm_same, steady_can_count}
 use Rattle.msr_input.specs.Reading.{StopsReading}
 use Rattle.msr_output.specs.Output.{segment_of_packed}
@@ -31,7 +32,7 @@ records-init g c =
             (rw c.settings_of.ensures.same at c.new-reader.ensures.strict);
         lined = c.new-writer.ensures.none (g.W.Sink.device c.args.sink.now);
         goes_on = rw c.new-writer.ensures.last tt;
-        form = rw (c.new-writer.ensures.form, c.form_chosen.ensures) refl;
+        form = rw (c.new-writer.ensures.form, c.form-form.ensures) refl;
         calm = calm_same (g.W.Sink.device c.args.sink.now);
         encoded = rw c.new-writer.ensures.last tt;
       };
@@ -211,4 +212,5 @@ returns-clause-does g c =
     (rw c.tolerance.ensures.same at c.tolerance.ensures.in_range.0)
     (rw c.tolerance.ensures.same at c.tolerance.ensures.in_range.1) (omega arith)
     c.output_keeps_segments.ensures c.output_has_size.ensures
-    c.length.ensures.same c.tolerance.ensures.same refl refl is_first)
+    c.length.ensures.same (ap (λ (form : Form). form.kinds) c.form-form.ensures) c.tolerance.ensures.same refl refl
+    is_first)

@@ -12,6 +12,7 @@ returns g c =
       reads = read.2;
       record_length = sym c.bytes.ensures.same ∙ c.if-bytes.false ∙ c.bytes-2.ensures.same
           ∙ ap bytes_of c.length.ensures.same;
+      kinds = search rules;
       tolerance = c.if-report-tolerance.false ∙ c.tolerance.ensures.same;
       agree = λ strict. elim c.else-is_strict.branch [
         | else-is_strict-via-then-is_strict+else-report-ne0 w ↦ w.if-report-ne0.false

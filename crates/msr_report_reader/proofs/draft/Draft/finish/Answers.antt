@@ -17,11 +17,12 @@ returns-in-Whole-clause-found c = λ past follows.
     let whole = rw c.in-Whole.is at c.in_ok-count.ensures in
     let report : Report = record {
       length = c.in-Whole.first.length;
+      kinds = c.in-Whole.first.kinds;
       tolerance = c.in-Whole.first.tolerance;
       counts = c.in-Whole.first.counts;
       segments = c.step.new.self.segments;
     } in
     subst (λ (t : List ℕ). IsReadFrom report t)
     (left_whole c.reading.self (past ++ c.args.text.now) c.reading.rest.now left whole.none)
-    (whole_report report c.in-Whole.first left.read refl refl refl
+    (whole_report report c.in-Whole.first left.read refl refl refl refl
     (rw whole.same (whole.read left.read left.follows)))

@@ -1,6 +1,7 @@
 use Rattle.std.proofs.Common.{◌∙◌, ap, refl, rules, arith, List, ◌+◌, ◌*◌, ◌++◌, length}
 use Rattle.msr_report.specs.declared.report.SegmentLine.{SegmentLine}
 use Rattle.msr_report_reader.specs.declared.draft.Draft.{Draft}
+use Rattle.msr_report_reader.specs.Content.{lines_before}
 use Rattle.msr_report_reader.specs.declared.draft.Place.TheVariants.{Number}
 use Rattle.msr_report_reader.proofs.Faults.{at_number, number_fault}
 use Rattle.msr_report_reader.proofs.Steps.{number_step, read_to, refused}
@@ -9,9 +10,11 @@ use Rattle.msr_report_reader.proofs.draft.Draft.read_number.Goals as goal
 pub returns-in_default : goal.returns-in_default
 returns-in_default c = λ place.
     let segments : List SegmentLine = c.args.self.now.segments.items in
-    let line = c.line_after.ensures.line ∙ ap (λ (ss : List SegmentLine). 5 + 2 * length ss) c.as_slice.ensures.value in
+    let line = c.line_after.ensures.line
+    ∙ ap (λ (ss : List SegmentLine). 1 + lines_before c.args.first.kinds + 2 * length ss) c.as_slice.ensures.value in
     refused c.args.self.now _ c.args.text.now c.may_be_number.result c.args.text.now (1 + c.line_after.result) c.refuse.result refl
-    (λ past more follows enough. at_number (past ++ (c.args.text.now ++ more)) (6 + 2 * length segments)
+    (λ past more follows enough. at_number (past ++ (c.args.text.now ++ more))
+    (2 + lines_before c.args.first.kinds + 2 * length segments)
     (1 + c.line_after.result) (omega (arith, line)) (number_fault c.args.first segments c.args.line
     c.args.self.now.numbers.items c.may_be_number.result past c.args.text.now more
     (read_to c.args.self.now (Number c.args.first c.args.line) past place follows)

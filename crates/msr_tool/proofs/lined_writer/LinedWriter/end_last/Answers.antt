@@ -25,10 +25,10 @@ returns-clause-written g c = λ start packed current h.
     let wrote = c.in_ok-line.ensures.written start packed last.segment last.begun in
     let goes : GoesOn c.self.inside.writer.form c.in-Some.segment =
     rw is at (rw (← c.self.view_is) at c.requires.last) in
-    let is_form = c.line_has_form.ensures (line_proper start
+    let is_content = c.line_in_range.ensures (line_proper start
     (g.W.Sink.device c.end.new.sink) c.end.new.self packed last.segment c.in_ok-line.line c.in-Some.segment
     wrote goes.can last.begun.is_open.key last.begun.is_open.start) in
     rw c.take.ensures.after (more_at_last start (g.W.Sink.device c.end.new.sink) _ packed current last.segment last.is
     (lines_more start (g.W.Sink.device c.end.new.sink) c.end.new.self c.self.inside.lines.items
-    c.push.new.self.items packed last.segment c.in_ok-line.line l.are_lines l.forms wrote is_form
+    c.push.new.self.items packed last.segment c.in_ok-line.line l.are_lines l.contents wrote is_content
     c.in_ok-push.ensures.items))

@@ -27,5 +27,5 @@ returns-clause-written g c = λ start packed current h.
       same_form = rw (← c.all.view_is) at c.in_ok-end_last.ensures.form;
       written = c.in_ok-finish.ensures.written start m.all wrote.0 wrote.1;
       are_lines = l.are_lines;
-      forms = l.forms;
+      contents = l.contents;
     }

@@ -1,5 +1,5 @@
 use Rattle.std.proofs.Common.{rules, arith, Fits, w8, slice_index}
-use Rattle.msr_report_reader.proofs.laws.key_has_form.Goals as goal
+use Rattle.msr_report_reader.proofs.laws.key_in_range.Goals as goal
 
 pub returns : goal.returns
 returns c quality = record {

@@ -8,7 +8,9 @@ use Rattle.msr_time.specs.Instant.{IsInstant}
 use Rattle.msr_header.specs.Reading.{is_quality}
 use Rattle.msr_kinds.specs.RecordLength.{IsRecordLength}
 use Rattle.msr_rows.specs.declared.row.Key.{Key}
-use Rattle.msr_report.specs.Text.{IsTimeText, segment_words, separators_line, counts_line, end_line}
+use Rattle.msr_kinds.specs.declared.kinds.Kinds.{Kinds}
+use Rattle.msr_kinds.specs.declared.kinds.Kinds.TheVariants.{All as AllKinds, WithoutInt24}
+use Rattle.msr_report.specs.Text.{IsTimeText, segment_words, separators_line, kinds_line, counts_line, end_line}
 use Rattle.msr_base.specs.declared.counts.Counts.{Counts}
 use Rattle.msr_report.specs.declared.report.SegmentLine.{SegmentLine}
 use Rattle.msr_report.specs.declared.report.Report.{Report}
@@ -48,7 +50,7 @@ pub record IsOpening (key : Key) (start : ℤ) (samples records : ℕ) (more tex
       ++ (word ++ (codes " samples " ++ (decimal samples ++ (codes " records " ++ (decimal records ++ (10 ∷ more)))))))
 
 -- what the two lines of a segment say
-pub record FormLine : Type 0 where
+pub record ContentLine : Type 0 where
   pub key : Key
   pub start : ℤ
   pub samples : ℕ
@@ -56,20 +58,21 @@ pub record FormLine : Type 0 where
   pub separators : List ℕ
 
 -- what the lines of a report say
-pub record Form : Type 0 where
+pub record Content : Type 0 where
   pub bytes : ℕ
+  pub kinds : Kinds
   pub tolerance : ℕ
   pub counts : Counts
-  pub segments : List FormLine
+  pub segments : List ContentLine
 
-pub record IsFormLine (line : FormLine) : Type 0 where
+pub record IsContentLine (line : ContentLine) : Type 0 where
   pub key : IsKey line.key
   pub start : IsInstant line.start
   pub samples : line.samples < 2 ^ 64
   pub records : line.records < 2 ^ 64
   pub separators : All (λ separator. separator < 2 ^ 64) line.separators
 
--- the numbers of the first four lines are in their ranges
+-- the numbers of the lines before the segments are in their ranges
 pub record IsFirst (bytes tolerance : ℕ) (counts : Counts) : Type 0 where
   pub is_length : IsRecordLength bytes
   pub least : 1 ≤ tolerance
@@ -78,45 +81,54 @@ pub record IsFirst (bytes tolerance : ℕ) (counts : Counts) : Type 0 where
   pub empty : counts.empty < 2 ^ 64
   pub mismatched : counts.mismatched < 2 ^ 64
 
-pub record IsForm (form : Form) : Type 0 where
-  pub first : IsFirst form.bytes form.tolerance form.counts
-  pub segments : All IsFormLine form.segments
+pub record IsContent (content : Content) : Type 0 where
+  pub first : IsFirst content.bytes content.tolerance content.counts
+  pub segments : All IsContentLine content.segments
 
 -- how many records the segments have in all
-abbrev pub form_records : List FormLine → ℕ
-form_records [] = 0
-form_records (line ∷ lines) = line.records + form_records lines
+abbrev pub content_records : List ContentLine → ℕ
+content_records [] = 0
+content_records (line ∷ lines) = line.records + content_records lines
 
 -- the two lines of a segment
-pub record IsFormLineText (line : FormLine) (text : List ℕ) : Type 0 where
+pub record IsContentLineText (line : ContentLine) (text : List ℕ) : Type 0 where
   pub word : List ℕ
   pub time : IsTimeText line.start word
   pub is : text ≡ segment_words line.key word line.samples
       (codes " records " ++ (decimal line.records ++ (10 ∷ separators_line line.separators)))
 
-abbrev pub AreFormLineTexts : List FormLine → List ℕ → Type 0
-AreFormLineTexts [] text = text ≡ []
-AreFormLineTexts (line ∷ lines) text =
-    (first : List ℕ) × ((more : List ℕ) × (IsFormLineText line first × AreFormLineTexts lines more
+abbrev pub AreContentLineTexts : List ContentLine → List ℕ → Type 0
+AreContentLineTexts [] text = text ≡ []
+AreContentLineTexts (line ∷ lines) text =
+    (first : List ℕ) × ((more : List ℕ) × (IsContentLineText line first × AreContentLineTexts lines more
     × (text ≡ first ++ more)))
 
--- the four lines before the segments, and then more text
-abbrev pub first_then : ℕ → ℕ → Counts → List ℕ → List ℕ
-first_then bytes tolerance counts more =
+-- how many lines stand before the segments
+abbrev pub lines_before : Kinds → ℕ
+lines_before AllKinds = 4
+lines_before WithoutInt24 = 5
+
+-- the first three lines, and then more text
+abbrev pub three_then : ℕ → ℕ → List ℕ → List ℕ
+three_then bytes tolerance more =
     codes "msrepack 1" ++ (10 ∷ (codes "length "
-    ++ (decimal bytes ++ (10 ∷ (codes "tolerance "
-    ++ (decimal tolerance ++ (10 ∷ (counts_line counts ++ more))))))))
+    ++ (decimal bytes ++ (10 ∷ (codes "tolerance " ++ (decimal tolerance ++ (10 ∷ more)))))))
+
+-- the lines before the segments, and then more text
+abbrev pub first_then : ℕ → ℕ → Kinds → Counts → List ℕ → List ℕ
+first_then bytes tolerance kinds counts more =
+    three_then bytes tolerance (kinds_line kinds ++ (counts_line counts ++ more))
 
 -- the text of what a report says
-pub record IsFormText (form : Form) (text : List ℕ) : Type 0 where
+pub record IsContentText (content : Content) (text : List ℕ) : Type 0 where
   pub segments : List ℕ
-  pub are : AreFormLineTexts form.segments segments
-  pub is : text ≡ first_then form.bytes form.tolerance form.counts
-      (segments ++ end_line (length form.segments) (form_records form.segments))
+  pub are : AreContentLineTexts content.segments segments
+  pub is : text ≡ first_then content.bytes content.tolerance content.kinds content.counts
+      (segments ++ end_line (length content.segments) (content_records content.segments))
 
 -- what the lines of a segment and of a report say
-abbrev pub form_line : SegmentLine → FormLine
-form_line line = record {
+abbrev pub content_line : SegmentLine → ContentLine
+content_line line = record {
   key = line.key;
   start = line.start;
   samples = line.samples;
@@ -124,10 +136,11 @@ form_line line = record {
   separators = line.separators.items;
 }
 
-abbrev pub form_of : Report → Form
-form_of report = record {
+abbrev pub content_of : Report → Content
+content_of report = record {
   bytes = bytes_of report.length;
+  kinds = report.kinds;
   tolerance = report.tolerance;
   counts = report.counts;
-  segments = map form_line report.segments.items;
+  segments = map content_line report.segments.items;
 }

@@ -9,10 +9,10 @@ use Rattle.msr_base.specs.declared.counts.Counts.{Counts}
 use Rattle.msr_report.specs.declared.report.SegmentLine.{SegmentLine}
 use Rattle.msr_report.specs.declared.report.Report.{Report}
 use Rattle.msr_report_reader.specs.Fields.{EndsNumber, name_then, rate_then, flags_then}
-use Rattle.msr_report_reader.specs.Form.{Form, FormLine, IsKey, IsForm, IsFirst, IsFormLine, IsFormText, AreFormLineTexts, IsOpening, key_then, first_then, form_line, form_of, form_records}
+use Rattle.msr_report_reader.specs.Content.{Content, ContentLine, IsKey, IsContent, IsFirst, IsContentLine, IsContentText, AreContentLineTexts, IsOpening, key_then, first_then, content_line, content_of, content_records}
 use Rattle.msr_report_reader.specs.Laws.{OneReport, NoLineAtFault, TextIsReadBack}
 use Rattle.msr_report_reader.specs.declared.fault.ReportFault.TheVariants.{Line, Read, Memory}
-use Rattle.msr_report_reader.proofs.RestOfText.{record_length_small, counts_then, counts_split}
+use Rattle.msr_report_reader.proofs.RestOfText.{record_length_small, counts_then, counts_split, same_kinds}
 use Rattle.msr_report_reader.proofs.LineFeeds.{same_cons}
 use Rattle.msr_report_reader.proofs.SegmentsRead.{first_same, opening_not_end, records_same, length-lines}
 use Rattle.msr_report_reader.proofs.SameFields.{differ, same_number, same_signed, same_hex, same_field, same_time, wider}
@@ -168,7 +168,7 @@ same_separators ns ms xs ys each_n each_m is =
     (flat_map spaced ns ++ (10 ∷ xs)) (flat_map spaced ms ++ (10 ∷ ys))
     (sym (line_then ns xs) ∙ is ∙ line_then ms ys))
 
-line_is : (a b : FormLine) → a.key ≡ b.key → a.start ≡ b.start → a.samples ≡ b.samples → a.records ≡ b.records
+line_is : (a b : ContentLine) → a.key ≡ b.key → a.start ≡ b.start → a.samples ≡ b.samples → a.records ≡ b.records
     → a.separators ≡ b.separators → a ≡ b
 line_is a b key start samples records separators =
     let same : record {
@@ -187,7 +187,7 @@ line_is a b key start samples records separators =
     } = cc in same
 
 -- the same two lines of a segment, and the same text after them
-same_line_of : (a b : FormLine) (text other xs ys : List ℕ) → IsFormLine a → IsFormLine b
+same_line_of : (a b : ContentLine) (text other xs ys : List ℕ) → IsContentLine a → IsContentLine b
     → IsOpening a.key a.start a.samples a.records (separators_line a.separators ++ xs) text
     → IsOpening b.key b.start b.samples b.records (separators_line b.separators ++ ys) other
     → text ≡ other → (a ≡ b) × (xs ≡ ys)
@@ -212,8 +212,8 @@ same_line_of a b text other xs ys is_a is_b opens_a opens_b is =
     (same_cons 10 10 _ _ records.1).1 in
     (line_is a b key.0 start.0 samples.0 records.0 separators.0, separators.1)
 
-opens_all : (line : FormLine) (lines : List FormLine) (text behind : List ℕ)
-    (are : AreFormLineTexts (line ∷ lines) text)
+opens_all : (line : ContentLine) (lines : List ContentLine) (text behind : List ℕ)
+    (are : AreContentLineTexts (line ∷ lines) text)
     → IsOpening line.key line.start line.samples line.records
     (separators_line line.separators ++ (are.1.0 ++ behind)) (text ++ behind)
 opens_all line lines text behind are =
@@ -223,9 +223,9 @@ opens_all line lines text behind are =
 same_end : (count total : ℕ) (text : List ℕ) → text ≡ end_line count total → text ≡ end_line count total ++ []
 same_end count total text is = is ∙ sym (append-nil (end_line count total))
 
-same_lines : (lines others : List FormLine) (text other : List ℕ) (count total other_count other_total : ℕ)
-    → All IsFormLine lines → All IsFormLine others
-    → AreFormLineTexts lines text → AreFormLineTexts others other
+same_lines : (lines others : List ContentLine) (text other : List ℕ) (count total other_count other_total : ℕ)
+    → All IsContentLine lines → All IsContentLine others
+    → AreContentLineTexts lines text → AreContentLineTexts others other
     → text ++ end_line count total ≡ other ++ end_line other_count other_total → lines ≡ others
 same_lines [] [] text other count total other_count other_total each each_other are are_other is = refl
 same_lines [] (line ∷ others) text other count total other_count other_total each each_other are are_other is =
@@ -249,66 +249,75 @@ same_lines (line ∷ lines)
     let rest = same_lines lines others are.1.0 are_other.1.0 count total other_count other_total
     (λ k d within. each (suc k) d (omega arith))
     (λ k d within. each_other (suc k) d (omega arith)) are.1.1.1 are_other.1.1.1 first.1 in
-    ap (λ (l : FormLine). l ∷ lines) first.0 ∙ ap (λ (ls : List FormLine). another ∷ ls) rest
+    ap (λ (l : ContentLine). l ∷ lines) first.0 ∙ ap (λ (ls : List ContentLine). another ∷ ls) rest
 
 same_counts : (a b : Counts) → a.read ≡ b.read → a.empty ≡ b.empty → a.mismatched ≡ b.mismatched → a ≡ b
 same_counts a b read empty mismatched =
     let same : record { read = a.read; empty = a.empty; mismatched = a.mismatched }
     ≡ record { read = b.read; empty = b.empty; mismatched = b.mismatched } = cc in same
 
--- the same first four lines, and the same text after them
-record IsSameFirst (form other : Form) (xs ys : List ℕ) : Type 0 where
-  bytes : form.bytes ≡ other.bytes
-  tolerance : form.tolerance ≡ other.tolerance
-  counts : form.counts ≡ other.counts
+-- the same lines before the segments, and the same text after them
+record IsSameFirst (content other : Content) (xs ys : List ℕ) : Type 0 where
+  bytes : content.bytes ≡ other.bytes
+  kinds : content.kinds ≡ other.kinds
+  tolerance : content.tolerance ≡ other.tolerance
+  counts : content.counts ≡ other.counts
   rest : xs ≡ ys
 
-same_first : (form other : Form) (xs ys : List ℕ) → IsFirst form.bytes form.tolerance form.counts
+same_first : (content other : Content) (xs ys : List ℕ) → IsFirst content.bytes content.tolerance content.counts
     → IsFirst other.bytes other.tolerance other.counts
-    → first_then form.bytes form.tolerance form.counts xs ≡ first_then other.bytes other.tolerance other.counts ys
-    → IsSameFirst form other xs ys
-same_first form other xs ys is_first is_other is =
-    let small = record_length_small form.bytes is_first.is_length in
+    → first_then content.bytes content.tolerance content.kinds content.counts xs
+    ≡ first_then other.bytes other.tolerance other.kinds other.counts ys
+    → IsSameFirst content other xs ys
+same_first content other xs ys is_first is_other is =
+    let small = record_length_small content.bytes is_first.is_length in
     let other_small = record_length_small other.bytes is_other.is_length in
     let title = same_cons 10 10 _ _ (append_cancel_left (codes "msrepack 1") _ _ is) in
-    let bytes = same_number form.bytes other.bytes _ _ (omega (arith, small))
+    let bytes = same_number content.bytes other.bytes _ _ (omega (arith, small))
     (omega (arith, other_small)) refl refl (append_cancel_left (codes "length ") _ _ title.1) in
-    let tolerance = same_number form.tolerance other.tolerance _ _ (omega (arith, is_first.most))
+    let tolerance = same_number content.tolerance other.tolerance _ _ (omega (arith, is_first.most))
     (omega (arith, is_other.most)) refl refl (append_cancel_left (codes "tolerance ") _ _
     (same_cons 10 10 _ _ bytes.1).1) in
-    let line = sym (counts_then form.counts xs ∙ counts_split form.counts xs) ∙ (same_cons 10 10 _ _ tolerance.1).1
+    let kinds = same_kinds content.kinds other.kinds content.counts other.counts xs ys
+    (same_cons 10 10 _ _ tolerance.1).1 in
+    let line = sym (counts_then content.counts xs ∙ counts_split content.counts xs) ∙ kinds.1
     ∙ counts_then other.counts ys ∙ counts_split other.counts ys in
-    let read = same_number form.counts.read other.counts.read _ _ is_first.read is_other.read refl refl
+    let read = same_number content.counts.read other.counts.read _ _ is_first.read is_other.read refl refl
     (append_cancel_left (codes "read ") _ _ line) in
-    let empty = same_number form.counts.empty other.counts.empty _ _ is_first.empty is_other.empty refl refl
+    let empty = same_number content.counts.empty other.counts.empty _ _ is_first.empty is_other.empty refl refl
     (append_cancel_left (codes " empty ") _ _ read.1) in
-    let mismatched = same_number form.counts.mismatched other.counts.mismatched (10 ∷ xs)
+    let mismatched = same_number content.counts.mismatched other.counts.mismatched (10 ∷ xs)
     (10 ∷ ys) is_first.mismatched is_other.mismatched refl refl
     (append_cancel_left (codes " mismatched ") _ _ empty.1) in
     record {
       bytes = bytes.0;
+      kinds = kinds.0;
       tolerance = tolerance.0;
-      counts = same_counts form.counts other.counts read.0 empty.0 mismatched.0;
+      counts = same_counts content.counts other.counts read.0 empty.0 mismatched.0;
       rest = (same_cons 10 10 xs ys mismatched.1).1;
     }
 
-form_is : (a b : Form) → a.bytes ≡ b.bytes → a.tolerance ≡ b.tolerance → a.counts ≡ b.counts
+content_is : (a b : Content) → a.bytes ≡ b.bytes → a.kinds ≡ b.kinds → a.tolerance ≡ b.tolerance → a.counts ≡ b.counts
     → a.segments ≡ b.segments → a ≡ b
-form_is a b bytes tolerance counts segments =
-    let same : record { bytes = a.bytes; tolerance = a.tolerance; counts = a.counts; segments = a.segments }
-    ≡ record { bytes = b.bytes; tolerance = b.tolerance; counts = b.counts; segments = b.segments } = cc in same
+content_is a b bytes kinds tolerance counts segments =
+    let same : record
+    { bytes = a.bytes; kinds = a.kinds; tolerance = a.tolerance; counts = a.counts; segments = a.segments }
+    ≡ record
+    { bytes = b.bytes; kinds = b.kinds; tolerance = b.tolerance; counts = b.counts; segments = b.segments } = cc in
+    same
 
-pub one_form : (form other : Form) (text : List ℕ) → IsForm form → IsForm other → IsFormText form text
-    → IsFormText other text → form ≡ other
-one_form form other text is_form is_other is_text is_other_text =
-    let first = same_first form other _ _ is_form.first is_other.first (sym is_text.is ∙ is_other_text.is) in
-    let segments = same_lines form.segments other.segments is_text.segments is_other_text.segments _ _ _ _
-    is_form.segments is_other.segments is_text.are is_other_text.are first.rest in
-    form_is form other first.bytes first.tolerance first.counts segments
+pub one_content : (content other : Content) (text : List ℕ) → IsContent content → IsContent other
+    → IsContentText content text
+    → IsContentText other text → content ≡ other
+one_content content other text is_content is_other is_text is_other_text =
+    let first = same_first content other _ _ is_content.first is_other.first (sym is_text.is ∙ is_other_text.is) in
+    let segments = same_lines content.segments other.segments is_text.segments is_other_text.segments _ _ _ _
+    is_content.segments is_other.segments is_text.are is_other_text.are first.rest in
+    content_is content other first.bytes first.kinds first.tolerance first.counts segments
 
--- a report's text in the words of its form
+-- a report's text in the words of its content
 texts_from : (segments : List SegmentLine) (text : List ℕ) → AreSegmentTexts segments text
-    → AreFormLineTexts (map form_line segments) text
+    → AreContentLineTexts (map content_line segments) text
 texts_from [] text are = are
 texts_from (s ∷ segments) text are =
     let first = are.1.1.0 in (
@@ -329,27 +338,27 @@ texts_from (s ∷ segments) text are =
       ),
     )
 
-pub form_text : (report : Report) (text : List ℕ) → IsReportText report text → IsFormText (form_of report) text
-form_text report text is_text = record {
+pub content_text : (report : Report) (text : List ℕ) → IsReportText report text → IsContentText (content_of report) text
+content_text report text is_text = record {
   segments = is_text.segments;
   are = texts_from report.segments.items is_text.segments is_text.are;
   is = rw (length-lines report.segments.items, records_same report.segments.items) (is_text.is ∙ first_same report _);
 }
 
 pub one_report : OneReport
-one_report report other text is_form is_other is_text is_other_text =
-    one_form (form_of report) (form_of other) text is_form is_other (form_text report text is_text)
-    (form_text other text is_other_text)
+one_report report other text is_content is_other is_text is_other_text =
+    one_content (content_of report) (content_of other) text is_content is_other (content_text report text is_text)
+    (content_text other text is_other_text)
 
 pub no_fault : NoLineAtFault
 no_fault report text line read fault =
-    let fits : form_records (form_of report).segments < 2 ^ 64 =
+    let fits : content_records (content_of report).segments < 2 ^ 64 =
     rw (records_same report.segments.items) read.proper.records in
-    fault.no_report (form_of report) read.is_form fits (form_text report text read.is_text)
+    fault.no_report (content_of report) read.is_content fits (content_text report text read.is_text)
 
 pub read_back : TextIsReadBack
 read_back report text (Ok other) read answer =
-    one_report other report text answer.is_form read.is_form answer.is_text read.is_text
+    one_report other report text answer.is_content read.is_content answer.is_text read.is_text
 read_back report text (Err (Line line)) read answer = no_fault report text line read answer
 read_back report text (Err Read) read answer = tt
 read_back report text (Err Memory) read answer = tt
