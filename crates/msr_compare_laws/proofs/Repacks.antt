@@ -1,8 +1,8 @@
 -- What follows of inputs and of what was repacked.
-use Rattle.std.proofs.Common.{◌≡◌, ◌∙◌, ℕ, false, List, map, refl, sym, ap, subst, Result, Ok}
+use Rattle.std.proofs.Common.{◌≡◌, ◌∙◌, ℕ, false, List, map, sym, subst}
 use Rattle.msr_segments.specs.declared.joiner.Segment.{Segment}
 use Rattle.msr_report.specs.declared.report.Report.{Report}
-use Rattle.msr_input.specs.Input.{IsReadable, OneListOfRecords}
+use Rattle.msr_input.specs.Input.{IsReadable}
 use Rattle.msr_rows.specs.declared.row.Record.{Record}
 use Rattle.msr_options.specs.Choice.{Choice, as_strict}
 use Rattle.msr_output.specs.Output.{OneOutput, segment_of_packed}

@@ -1,14 +1,12 @@
 -- What is told of a day whose file and records were compared.
-use Rattle.std.proofs.Common.{◌≡◌, ◌↔◌, ◌⊎◌, ℕ, false, refl, ap, List, inl, inr, Result, Ok, Err, IsErrOf}
+use Rattle.std.proofs.Common.{◌≡◌, ◌↔◌, ◌⊎◌, ℕ, false, refl, ap, subst, List, inl, inr, Result, Ok, Err, IsErrOf}
 use Rattle.msr_devices.specs.Device.{Device, HasFailed, HasLeft}
 use Rattle.msr_input.specs.declared.settings.Settings.{Settings}
-use Rattle.msr_input.specs.declared.fault.ReadFault.{ReadFault}
 use Rattle.msr_input.specs.declared.fault.ReadFault.TheVariants as read
 use Rattle.msr_options.specs.Choice.{Choice, as_strict}
 use Rattle.msr_compare.specs.Answers.{CompareAnswers, HaveSameSegments, IsOfInputs}
 use Rattle.msr_compare.specs.declared.comparison.Comparison.{Comparison}
 use Rattle.msr_compare.specs.declared.comparison.Comparison.TheVariants.{Same, Differ}
-use Rattle.msr_compare.specs.declared.comparison.Difference.{Difference}
 use Rattle.msr_compare.specs.declared.comparison.SameSegments.{SameSegments}
 use Rattle.msr_compare.specs.declared.fault.CompareFault.{CompareFault}
 use Rattle.msr_compare.specs.declared.fault.CompareFault.TheVariants.{One, Other}
@@ -20,7 +18,7 @@ use Rattle.msr_walk.specs.declared.outcome.DayFault.{DayFault}
 use Rattle.msr_walk.specs.declared.outcome.DayFault.TheVariants.{Differs, Tool}
 
 -- what is told for each answer
-pub told_by : Result Comparison CompareFault → Result (Unit {0}) DayFault
+abbrev pub told_by : Result Comparison CompareFault → Result (Unit {0}) DayFault
 told_by (Ok (Same told)) = Ok tt
 told_by (Ok (Differ difference)) = Err Differs
 told_by (Err (One why)) = Err (fault_of_comparing why)
@@ -70,20 +68,23 @@ told_failure (Err (Other (read.Input found))) P Q one other e = absurd cc
 told_failure (Err (Other read.Read)) P Q one other e = inr (other.0 refl)
 told_failure (Err (Other read.Memory)) P Q one other e = absurd cc
 
-pub compared : (choice : Choice) (file0 file records0 records : Device) (input written : List ℕ)
-    (answer : Result Comparison CompareFault) → HasLeft file0 input → HasLeft records0 written
-    → CompareAnswers (settings_of (as_strict false choice)) input written answer
+pub compared : (choice : Choice) (tolerance : ℕ) (file0 file records0 records : Device) (input written : List ℕ)
+    (answer : Result Comparison CompareFault) → tolerance ≡ choice.tolerance
+    → HasLeft file0 input → HasLeft records0 written
+    → CompareAnswers (record { tolerance = tolerance; strict = false }) input written answer
     → IsErrOf answer (One read.Read) ↔ HasFailed file0 file
     → IsErrOf answer (Other read.Read) ↔ HasFailed records0 records
     → ComparesDay choice file0 file records0 records (told_by answer)
-compared choice file0 file records0 records input written answer left left_records answers one other = record {
-  input = input;
-  written = written;
-  left = left;
-  left_records = left_records;
-  answers = told_so choice input written answer answers;
-  read = (
-    told_failure answer (HasFailed file0 file) (HasFailed records0 records) one other,
-    told_back answer (HasFailed file0 file) (HasFailed records0 records) one other,
-  );
-}
+compared choice tolerance file0 file records0 records input written answer by left left_records answers one other =
+    record {
+      input = input;
+      written = written;
+      left = left;
+      left_records = left_records;
+      answers = told_so choice input written answer
+          (subst (λ (t : ℕ). CompareAnswers (record { tolerance = t; strict = false }) input written answer) by answers);
+      read = (
+        told_failure answer (HasFailed file0 file) (HasFailed records0 records) one other,
+        told_back answer (HasFailed file0 file) (HasFailed records0 records) one other,
+      );
+    }
