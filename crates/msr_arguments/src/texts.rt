@@ -241,7 +241,8 @@ and time of change. For them one line is printed, which counts as one of those d
 `same PATH read N written M`";
 
 /// `--check`, in a line.
-pub(crate) const CHECKED: &str = "Hold records against their report and their file before they get their name";
+pub(crate) const CHECKED: &str =
+    "Hold records against their report and their file before they get their name";
 
 /// `--check`.
 pub(crate) const LONG_CHECKED: &str =

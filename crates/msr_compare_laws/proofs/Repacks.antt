@@ -61,7 +61,7 @@ one_output_of_same law choice one other written again report another same is oth
     let others = one_list settings other same.segments (map segment_of_packed other_is.packed) same.other_has
     (has_packed choice other again another other_is) in
     (law (form_chosen choice) is.packed other_is.packed is.rows other_is.rows written again (sym ones ∙ others)
-    is.output other_is.output).2.1
+    is.output other_is.output).2
 
 pub same_of_one_output : RepackedIsSame → OneOutputHasSameInputs
 same_of_one_output law choice one other written report another is other_is ends other_ends =
