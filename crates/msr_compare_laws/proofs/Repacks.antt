@@ -9,9 +9,9 @@ use Rattle.msr_output.specs.Output.{OneOutput, segment_of_packed}
 use Rattle.msr_compare.specs.Answers.{HasSegments, SameIsExact}
 use Rattle.msr_compare.proofs.SameInputs.{one_list}
 use Rattle.msr_tool.specs.Answer.{IsRepacked}
-use Rattle.msr_tool.specs.Repacked.{RepackedHasSegments}
+use Rattle.msr_tool.specs.Repacked.{ReadableHasSegments, RepackedHasSegments}
 use Rattle.msr_tool.specs.Settings.{form_chosen, settings_of}
-use Rattle.msr_compare_laws.specs.Laws.{OneOutputHasSameInputs, RepackedComparesAsSame, RepackedIsSame, SameInputsHaveOneOutput}
+use Rattle.msr_compare_laws.specs.Laws.{OneOutputHasSameInputs, ReadableIsSame, RepackedComparesAsSame, RepackedIsSame, SameInputsHaveOneOutput}
 
 -- what is readable is so whatever the reverse constants
 leniently : (choice : Choice) (input : List ℕ) (records : List Record) (segments : List Segment)
@@ -46,6 +46,15 @@ repacked_same law choice input written report is ends =
       segments = ends.segments;
       one_has = has_leniently choice input ends.segments ends.has;
       other_has = record { records = found.0; readable = found.1 };
+    }
+
+pub readable_same : ReadableHasSegments → ReadableIsSame
+readable_same law choice input written report segments is has =
+    let found = law choice false input written report has.records segments is has.readable in
+    record {
+      segments = segments;
+      one_has = record { records = found.0; readable = leniently choice input found.0 segments found.1 };
+      other_has = has;
     }
 
 pub repacked_compares : RepackedIsSame → SameIsExact → RepackedComparesAsSame

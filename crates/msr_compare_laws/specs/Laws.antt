@@ -29,7 +29,15 @@ RepackedIsSame =
     → EndsInTime choice input
     → AreSameBy choice input written
 
--- and every answer of comparing the two says so, but that a source failed or that memory was refused
+-- and it has them without that condition, if it is readable
+abbrev pub ReadableIsSame : Type 0
+ReadableIsSame =
+    (choice : Choice) (input written : List ℕ) (report : Report) (segments : List Segment)
+    → IsRepacked choice input written report
+    → HasSegments (settings_of (as_strict false choice)) written segments
+    → AreSameBy choice input written
+
+-- under it every answer of comparing the two says so, but that a source failed or that memory was refused
 abbrev pub RepackedComparesAsSame : Type 0
 RepackedComparesAsSame =
     (choice : Choice) (input written : List ℕ) (report : Report) (answer : Result Comparison CompareFault)

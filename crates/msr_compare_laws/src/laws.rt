@@ -1,14 +1,16 @@
 //! Laws of comparing what was repacked.
-ghost use Rattle.msr_compare_laws.specs.Laws.{OneOutputHasSameInputs, RepackedComparesAsSame, RepackedIsSame, SameInputsHaveOneOutput};
+ghost use Rattle.msr_compare_laws.specs.Laws.{OneOutputHasSameInputs, ReadableIsSame, RepackedComparesAsSame, RepackedIsSame, SameInputsHaveOneOutput};
 
 use msr_compare::same_is_exact;
 use msr_output::one_output;
 use msr_tool::repacked_has_segments;
 
 /// What `repack` wrote has the segments of its input, if none of them ends in the last microsecond of the supported
-/// years; and `compare` of the two answers `Same`, unless a source fails or memory is refused.
+/// years; and `compare` of the two answers `Same`, unless a source fails or memory is refused. Without that condition it
+/// has them if it is readable, as what `check_packed` calls `Least` is.
 pub fn repacked_is_same()
     ensures has { RepackedIsSame }
+    ensures readable { ReadableIsSame }
     ensures answers { RepackedComparesAsSame }
 {
     repacked_has_segments();
