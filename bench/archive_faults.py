@@ -150,7 +150,7 @@ class Tree:
 
 def entries_of(printed):
     """The lines of entries of a whole walk."""
-    words = ("done", "same", "skipped", "refused", "notshown")
+    words = ("done", "same", "skipped", "refused", "notshown", "differs")
     return [line for line in printed.splitlines() if line.split(" ")[0] in words]
 
 
@@ -172,7 +172,7 @@ def last_lines(told):
             channels[found[1]] = files + 1, read + int(found[2]), written + int(found[3])
     for name, (files, read, written) in channels.items():
         yield f"channel {name} files {files} read {read} written {written}"
-    done, refused = count["done"] + count["same"], count["refused"] + count["notshown"]
+    done, refused = count["done"] + count["same"], count["refused"] + count["notshown"] + count["differs"]
     yield f"files {done} skipped {count['skipped']} refused {refused}"
 
 
@@ -218,7 +218,7 @@ def wrong_with(tree, walked, failed):
         return f"printed {rest[-120:]!r} after {told[-1:]}"
     whole = rest == following[0] and rest.startswith(("channel ", "files "))
     complaints = {f"msrepack: {text}\n" for text in failed.texts}
-    refused = any(line.startswith(("refused ", "notshown ")) for line in told)
+    refused = any(line.startswith(("refused ", "notshown ", "differs ")) for line in told)
     if walked.status == KILLED:
         right = KILLED in failed.kinds
     elif walked.complained:
@@ -263,7 +263,7 @@ def day_wrong_with(tree, path, line, files, failed):
         return "left alone, and touched"
     if line.startswith("refused ") and path_of(line) != path and (has, left) != (old, killed):
         return "in a folder without a list, and touched"
-    if line.startswith(("refused ", "notshown ")) and path_of(line) == path and any(has) and not stays:
+    if line.startswith(("refused ", "notshown ", "differs ")) and path_of(line) == path and any(has) and not stays:
         return "refused, and not removed"
     return left_wrong_with(path, left, killed, stays or path_of(line) != path, kinds)
 

@@ -37,6 +37,10 @@ class NotDone(Exception):
     """Why a day is not done, as its line tells it."""
 
 
+class NotKept(NotDone):
+    """A day whose records are not kept, with the word of its line."""
+
+
 class Larger(NotDone):
     """A day that did not get smaller, with its counts."""
 
@@ -192,8 +196,7 @@ class Walk:
 
     def refuse(self, path, text):
         self.refused += 1
-        path = in_one_line(path)
-        return f"refused {path}: {text}" if text else f"notshown {path}"
+        return f"refused {in_one_line(path)}: {text}"
 
     def entry(self, path):
         why = skipped(path)
@@ -205,6 +208,9 @@ class Walk:
         except Larger as why:
             self.larger += 1
             return f"larger {path}{self.told(*why.args)}"
+        except NotKept as why:
+            self.refused += 1
+            return f"{why} {path}"
         except NotDone as why:
             return self.refuse(path, str(why))
         self.done += 1
@@ -358,8 +364,8 @@ class Walk:
         counts = read.counts[0], sum(line.records for line in read.lines), len(content), len(records)
         if self.task.only_smaller and len(content) <= len(records):
             raise Larger(*counts)
-        if self.task.check and not self.is_shown(parts):
-            raise NotDone("")
+        if self.task.check:
+            self.hold(source, parts)
         if not self.has(claim):
             raise NotDone(TAKEN)
         self.name(places, parts)
@@ -379,14 +385,26 @@ class Walk:
         with open(file, "wb") as opened:
             opened.write(content)
 
-    def is_shown(self, parts):
-        """Whether the report that was written shows the records that were; another file may be read in their place."""
-        read = [self.odd.other if is_like(self.odd.made, path) else path for path in parts[:2]]
-        packed, report = [open(path, "rb").read() for path in read]
+    def hold(self, source, parts):
+        """The report that was written has to show the records that were, and these have to have the segments of the
+        day's file, which is read again; another file may be read in the place of one of them."""
+        packed, report = (self.read_again(path) for path in parts[:2])
         try:
-            return verdict(packed, parsed(report))
-        except model.Refused as why:
-            raise NotDone(str(why)) from None
+            is_shown = verdict(packed, parsed(report))
+        except (NotAReport, model.Refused):
+            is_shown = False
+        if not is_shown:
+            raise NotKept("notshown")
+        try:
+            content = read_regular(source)
+        except OSError:
+            raise NotDone("cannot open") from None
+        if model.compared(content, packed, self.task.tolerance).status != 0:
+            raise NotKept("differs")
+
+    def read_again(self, path):
+        with open(self.odd.other if is_like(self.odd.made, path) else path, "rb") as file:
+            return file.read()
 
     def name(self, places, parts):
         """The old stamp and the old records go; the report gets its name, and then the records."""

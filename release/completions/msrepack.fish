@@ -26,6 +26,6 @@ complete -c msrepack -n '__fish_seen_subcommand_from repack feed list archive' -
     -d 'Refuse a record whose last sample is not its reverse constant'
 complete -c msrepack -n '__fish_seen_subcommand_from archive' -x -l below -d 'Walk only this folder, by its path from ROOT'
 complete -c msrepack -n '__fish_seen_subcommand_from archive' -l resume -d 'Leave files alone that an earlier walk did'
-complete -c msrepack -n '__fish_seen_subcommand_from archive' -l check -d 'Hold records against their report'
+complete -c msrepack -n '__fish_seen_subcommand_from archive' -l check -d 'Hold records against their report and their file'
 complete -c msrepack -n '__fish_seen_subcommand_from archive' -l only-smaller -d 'Keep only what gets smaller in bytes'
 complete -c msrepack -n '__fish_seen_subcommand_from archive' -l bytes -d 'Tell bytes read and written too'

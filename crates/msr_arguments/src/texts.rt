@@ -177,6 +177,7 @@ refused PATH: TEXT                    a fault, as repack tells it, or `cannot op
 refused PATH: listing                 a folder that cannot be listed, or has a name that
                                       is not UTF-8: nothing in it is handled
 notshown PATH                         its report did not show it, with --check: not kept
+differs PATH                          not the data of the file, with --check: not kept
 larger PATH read N written M          it did not get smaller, with --only-smaller: not kept
 
 and at the end, of the files that are done, one line for each channel, and the counts:
@@ -242,13 +243,16 @@ of the same size and time of change. For them one line is printed, which counts 
 of those done: `same PATH read N written M`";
 
 /// `--check`, in a line.
-pub(crate) const CHECKED: &str = "Hold records against their report before they get their name";
+pub(crate) const CHECKED: &str =
+    "Hold records against their report and their file before they get their name";
 
 /// `--check`.
 pub(crate) const LONG_CHECKED: &str =
-    "Hold records against their report, as `check` does, before they get their name. If the
-report does not show that they are the fewest, neither is kept, and `notshown PATH` is
-printed, which counts as one of those refused";
+    "Read records and report again before they get their names, hold one against the other,
+as `check` does, and compare the records with the file itself, as `compare` does. If the
+report does not show that they are the fewest, or if they are not the same data, neither
+is kept, and `notshown PATH` or `differs PATH` is printed, which counts as one of those
+refused";
 
 /// `--only-smaller`, in a line.
 pub(crate) const ONLY_SMALLER: &str = "Keep only what gets smaller in bytes";

@@ -12,3 +12,4 @@ pub mod ShownLeast
 pub mod Checked
 pub mod StoppedTexts
 pub mod RepackedLeast
+pub mod RepackedSegments

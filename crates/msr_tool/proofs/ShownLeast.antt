@@ -64,7 +64,7 @@ rows_append (found ∷ records) more =
     ∙ sym (append_assoc (option_to_list found.row) (rows_of_records records) (rows_of_records more))
 
 -- so no row of the records ends its segment out of range
-none_overruns : (tolerance : ℕ) (records : List Record) (parts : List Part)
+pub none_overruns : (tolerance : ℕ) (records : List Record) (parts : List Part)
     → IsDivision tolerance (rows_of_records records) parts → AreWithin (map segment_of parts)
     → NoneOverruns tolerance records
 none_overruns tolerance records parts d within before after found row e has_row out =

@@ -7,5 +7,6 @@ pub mod Listing
 pub mod ListWriting
 pub mod Laws
 pub mod Shown
+pub mod Repacked
 pub mod Checking
 pub mod Tasks

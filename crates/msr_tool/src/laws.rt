@@ -1,5 +1,6 @@
 //! Laws of answers, each the contract of a function that does nothing.
 ghost use Rattle.msr_tool.specs.Laws.{OneRefusal, OneRepacking, ReadableIsListed, ReadableIsRepacked, StrictWritesTheSame};
+ghost use Rattle.msr_tool.specs.Repacked.{ReadableHasSegments, RepackedHasSegments};
 ghost use Rattle.msr_tool.specs.Shown.{RepackedIsLeast, RepackedIsShown};
 
 use msr_input::{one_first_fault, one_list_of_records, readable_has_no_fault};
@@ -60,4 +61,13 @@ pub fn repacked_is_least()
     one_report();
     text_is_read_back();
     readable_has_no_fault();
+}
+
+/// What `repack` wrote is readable, strictly or not, and has the segments of the input, under the condition of
+/// [`repacked_is_shown`]; without it, it has these segments if it is readable.
+pub fn repacked_has_segments()
+    ensures within { RepackedHasSegments }
+    ensures readable { ReadableHasSegments }
+{
+    one_list_of_records();
 }

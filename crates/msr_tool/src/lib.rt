@@ -16,8 +16,8 @@ mod tasks;
 pub use check::check_packed;
 pub use fault::ToolFault;
 pub use laws::{
-    one_refusal, one_repacking, readable_is_listed, readable_is_repacked, repacked_is_least,
-    repacked_is_shown, strict_writes_the_same,
+    one_refusal, one_repacking, readable_is_listed, readable_is_repacked, repacked_has_segments,
+    repacked_is_least, repacked_is_shown, strict_writes_the_same,
 };
 pub use list::list_segments;
 pub use msr_devices::{

@@ -1,20 +1,23 @@
 -- Answers about days.
-use Rattle.std.proofs.Common.{◌≡◌, ℕ, refl, false, IfOk, List, [], inr, Result, Ok, Err}
+use Rattle.std.proofs.Common.{◌≡◌, ℕ, refl, sym, map, false, IfOk, List, [], inl, inr, Result, Ok, Err}
 use Rattle.std.proofs.lemmas.List.{append-nil}
 use Rattle.msr_devices.specs.Device.{Device}
 use Rattle.msr_kinds.specs.declared.lengths.Length.{Length}
 use Rattle.msr_options.specs.Choice.{Choice}
 use Rattle.msr_days.specs.Days.{in_length}
+use Rattle.msr_output.specs.Output.{segment_of_packed}
+use Rattle.msr_report.specs.declared.report.Report.{Report}
+use Rattle.msr_tool.specs.Answer.{IsRepacked, IsStopped}
 use Rattle.msr_tool.specs.Tasks.{Reports}
 use Rattle.msr_tool.specs.declared.fault.ToolFault.{ToolFault}
 use Rattle.msr_tool.specs.declared.fault.ToolFault.TheVariants as fault
 use Rattle.msr_days.specs.declared.DayOptions.{DayOptions}
-use Rattle.msr_walk.specs.Day.{RepacksDay, HasAnswer, IsDayOutcome, IsOutcomeOfDay, IsRepackedDay, IsShownIfAsked}
+use Rattle.msr_walk.specs.Day.{RepacksDay, HasAnswer, IsComparedIfAsked, IsDayOutcome, IsOutcomeOfDay, IsRepackedDay, IsShownIfAsked, IsUnread}
 use Rattle.msr_walk.specs.Entries.{IsDayOf, IsOutcomeOf}
 use Rattle.msr_walk.specs.declared.outcome.Outcome.{Outcome}
-use Rattle.msr_walk.specs.declared.outcome.Outcome.TheVariants.{Done, Same, Skipped, Refused, NotShown as Unshown, Larger as Grown}
+use Rattle.msr_walk.specs.declared.outcome.Outcome.TheVariants.{Done, Same, Skipped, Refused, NotShown as Unshown, Differs as Different, Larger as Grown}
 use Rattle.msr_walk.specs.declared.outcome.DayFault.{DayFault}
-use Rattle.msr_walk.specs.declared.outcome.DayFault.TheVariants.{CannotOpen, Gone, Listing, NotShown, Larger, ClaimedByAnother, Tool}
+use Rattle.msr_walk.specs.declared.outcome.DayFault.TheVariants.{CannotOpen, Gone, Listing, NotShown, Differs, Larger, ClaimedByAnother, Tool}
 use Rattle.msr_walk.specs.declared.outcome.Repacked.{Repacked}
 
 pub day_stops : (choice : Choice) (source records0 records text0 text : Device) (why : ToolFault) →
@@ -57,6 +60,7 @@ day_unkept asked source records0 records text0 text repacked CannotOpen does is 
 day_unkept asked source records0 records text0 text repacked Gone does is = absurd is.1
 day_unkept asked source records0 records text0 text repacked Listing does is = absurd is.1
 day_unkept asked source records0 records text0 text repacked NotShown does is = record { check = is.0; unshown = is.1 }
+day_unkept asked source records0 records text0 text repacked Differs does is = absurd is.1
 day_unkept asked source records0 records text0 text repacked (Larger counts) does is = absurd is.1
 day_unkept asked source records0 records text0 text repacked ClaimedByAnother does is = absurd is.1
 day_unkept asked source records0 records text0 text repacked (Tool why) does is = rw is.1 (record {
@@ -65,6 +69,59 @@ day_unkept asked source records0 records text0 text repacked (Tool why) does is 
   told = does.told;
   answers = inr (record { report = does.answers.report; rest = []; reported = rw append-nil does.answers.reported });
 })
+
+-- the records of what was repacked were read, and none refused
+stopped_after : (choice : Choice) (input written : List ℕ) (report : Report) → IsRepacked choice input written report
+    → IsStopped choice input written
+stopped_after choice input written report r = record {
+  records = r.records;
+  rest = [];
+  segments = map segment_of_packed r.packed;
+  are_read = r.readable.are_read;
+  are_segments = r.readable.are_segments;
+  prefix = record {
+    packed = r.packed;
+    others = [];
+    rows = r.rows;
+    tail = [];
+    some_first = sym (append-nil (map segment_of_packed r.packed));
+    output = rw append-nil r.output;
+  };
+}
+
+day_unread : (choice : Choice) (source records0 records text0 text : Device) (repacked : Repacked) (why : ToolFault)
+    → RepacksDay choice source records0 records text0 text (Ok repacked) → IsUnread why → HasAnswer choice (Err why)
+day_unread choice source records0 records text0 text repacked why does (inl is) = rw is (record {
+  input = does.input;
+  written = does.written;
+  told = [];
+  answers = record {
+    stopped = stopped_after choice does.input does.written does.answers.report does.answers.reported.repacked;
+    untold = refl;
+  };
+})
+day_unread choice source records0 records text0 text repacked why does (inr is) = rw is (record {
+  input = does.input;
+  written = does.written;
+  told = does.told;
+  answers = inr (record { report = does.answers.report; rest = []; reported = rw append-nil does.answers.reported });
+})
+
+-- what was written is not the same data as the day's own file
+pub day_differs : (asked : DayOptions) (source records0 records text0 text : Device) (repacked : Repacked)
+    (why : DayFault) → RepacksDay asked.options source records0 records text0 text (Ok repacked)
+    → IsComparedIfAsked asked (Err why)
+    → IsRepackedDay asked (Err why)
+day_differs asked source records0 records text0 text repacked CannotOpen does is = tt
+day_differs asked source records0 records text0 text repacked Gone does is = absurd is
+day_differs asked source records0 records text0 text repacked Listing does is = absurd is
+day_differs asked source records0 records text0 text repacked NotShown does is = absurd is
+day_differs asked source records0 records text0 text repacked Differs does is =
+    record { check = is.0; different = is.1 }
+day_differs asked source records0 records text0 text repacked (Larger counts) does is = absurd is
+day_differs asked source records0 records text0 text repacked ClaimedByAnother does is = absurd is
+day_differs asked source records0 records text0 text repacked (Tool why) does is =
+    day_unread asked.options source records0 records text0 text repacked why does is.1
 
 -- what becomes of a day for which this length is asked
 pub outcome_of_day : {E : Type 0} (days : DayOptions) (record_length : Length) (result : Result Outcome E) →
@@ -96,8 +153,10 @@ outcome_of asked path channel (Refused CannotOpen) day is = day
 outcome_of asked path channel (Refused Gone) day is = absurd is.is
 outcome_of asked path channel (Refused Listing) day is = absurd is.is
 outcome_of asked path channel (Refused NotShown) day is = absurd is.is
+outcome_of asked path channel (Refused Differs) day is = absurd is.is
 outcome_of asked path channel (Refused (Larger repacked)) day is = absurd is.is
 outcome_of asked path channel (Refused ClaimedByAnother) day is = day
 outcome_of asked path channel (Refused (Tool why)) day is = record { day = day; outcome_is = is }
 outcome_of asked path channel Unshown day is = record { day = day; outcome_is = is }
+outcome_of asked path channel Different day is = record { day = day; outcome_is = is }
 outcome_of asked path channel (Grown repacked) day is = record { day = day; outcome_is = is }

@@ -1,4 +1,5 @@
 pub mod EntriesTold
 pub mod Days
+pub mod Compared
 pub mod ChannelLines
 pub mod FolderLemmas

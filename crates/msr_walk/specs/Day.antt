@@ -1,25 +1,29 @@
 -- What is said of a day file that was repacked, or refused.
-use Rattle.std.specs.Prelude.{◌≡◌, ◌≢◌, ◌<◌, ◌*◌, ℕ, ⊤, Bool, false, IsTrue, List, Result, Ok, Err}
-use Rattle.msr_devices.specs.Device.{Device, HasLeft, Takes}
+use Rattle.std.specs.Prelude.{◌≡◌, ◌≢◌, ◌↔◌, ◌⊎◌, ◌<◌, ◌*◌, ℕ, ⊤, Bool, false, IsTrue, List, Result, Ok, Err, IsErrOf}
+use Rattle.msr_devices.specs.Device.{Device, HasFailed, HasLeft, Takes}
 use Rattle.msr_report_reader.specs.Reading.{IsReadFrom}
 use Rattle.msr_report.specs.Proper.{records_of}
 use Rattle.msr_report.specs.declared.report.Report.{Report}
+use Rattle.msr_input.specs.declared.fault.ReadFault.{ReadFault}
+use Rattle.msr_input.specs.declared.fault.ReadFault.TheVariants as read
+use Rattle.msr_compare.specs.Answers.{HaveSameSegments}
 use Rattle.msr_tool.specs.Checking.{CheckAnswers, IsChecked}
-use Rattle.msr_options.specs.Choice.{Choice, size_of}
+use Rattle.msr_tool.specs.Settings.{settings_of}
+use Rattle.msr_options.specs.Choice.{Choice, as_strict, size_of}
 use Rattle.msr_days.specs.Days.{in_length}
 use Rattle.msr_days.specs.declared.DayOptions.{DayOptions}
 use Rattle.msr_tool.specs.Tasks.{IsReported, ReportAnswers}
 use Rattle.msr_tool.specs.declared.fault.ToolFault.{ToolFault}
-use Rattle.msr_tool.specs.declared.fault.ToolFault.TheVariants.{Memory}
+use Rattle.msr_tool.specs.declared.fault.ToolFault.TheVariants.{Memory, Read}
 use Rattle.msr_verdict.specs.declared.verdict.Verdict.{Verdict}
 use Rattle.msr_verdict.specs.declared.verdict.Verdict.TheVariants.{Least}
 use Rattle.msr_kinds.specs.Lengths.{bytes_of}
 use Rattle.msr_kinds.specs.declared.lengths.Length.{Length}
 use Rattle.msr_totals.specs.Totals.{saturated}
 use Rattle.msr_walk.specs.declared.outcome.Outcome.{Outcome}
-use Rattle.msr_walk.specs.declared.outcome.Outcome.TheVariants.{Done, Same, Skipped, Refused, NotShown as Unshown, Larger as Grown}
+use Rattle.msr_walk.specs.declared.outcome.Outcome.TheVariants.{Done, Same, Skipped, Refused, NotShown as Unshown, Differs as Different, Larger as Grown}
 use Rattle.msr_walk.specs.declared.outcome.DayFault.{DayFault}
-use Rattle.msr_walk.specs.declared.outcome.DayFault.TheVariants.{CannotOpen, Gone, Listing, NotShown, Larger, ClaimedByAnother, Tool}
+use Rattle.msr_walk.specs.declared.outcome.DayFault.TheVariants.{CannotOpen, Gone, Listing, NotShown, Differs, Larger, ClaimedByAnother, Tool}
 use Rattle.msr_walk.specs.declared.outcome.Repacked.{Repacked}
 
 -- What is asked of one day: what is of all, but for the length if each day's own is asked for.
@@ -85,6 +89,7 @@ IsUnkept CannotOpen = ⊤
 IsUnkept Gone = ⊥
 IsUnkept Listing = ⊥
 IsUnkept NotShown = IsUnshown
+IsUnkept Differs = ⊥
 IsUnkept ClaimedByAnother = ⊥
 IsUnkept (Larger repacked) = ⊥
 IsUnkept (Tool fault) = fault ≡ Memory
@@ -99,15 +104,78 @@ abbrev pub IsShownIfAsked : Bool → Result (Unit {0}) DayFault → Type 0
 IsShownIfAsked check (Ok done) = IsTrue check → WasShown
 IsShownIfAsked check (Err refusal) = IsTrue check × IsUnkept refusal
 
+-- A day's file and its records have the same segments, read with the tolerance of these options, and never strictly.
+abbrev pub HaveSameData : Choice → (file records : List ℕ) → Type 0
+HaveSameData choice file records = HaveSameSegments (settings_of (as_strict false choice)) file records
+
+-- What is told of a day if reading its file or its records again stops so. Both could be read before, so what is refused
+-- now is not the same.
+abbrev pub fault_of_comparing : ReadFault → DayFault
+fault_of_comparing (read.Input found) = Differs
+fault_of_comparing read.Read = Tool Read
+fault_of_comparing read.Memory = Tool Memory
+
+-- reading one of two files failed, or memory was refused
+abbrev pub IsUnread : ToolFault → Type 0
+IsUnread fault = (fault ≡ Read) ⊎ (fault ≡ Memory)
+
+-- what comparing a day's file with its records answers
+abbrev pub SameAnswers : Choice → (file records : List ℕ) → Result (Unit {0}) DayFault → Type 0
+SameAnswers choice file records (Ok done) = HaveSameData choice file records
+SameAnswers choice file records (Err CannotOpen) = ⊥
+SameAnswers choice file records (Err Gone) = ⊥
+SameAnswers choice file records (Err Listing) = ⊥
+SameAnswers choice file records (Err NotShown) = ⊥
+SameAnswers choice file records (Err Differs) = ¬ (HaveSameData choice file records)
+SameAnswers choice file records (Err ClaimedByAnother) = ⊥
+SameAnswers choice file records (Err (Larger repacked)) = ⊥
+SameAnswers choice file records (Err (Tool fault)) = IsUnread fault
+
+-- What comparing a day's file with its records did with both sources, and what it answers. A failure of a source is
+-- answered as such, and nothing else is.
+pub record ComparesDay (choice : Choice) (file0 file records0 records : Device)
+    (result : Result (Unit {0}) DayFault) : Type 0 where
+  pub input : List ℕ
+  pub written : List ℕ
+  pub left : HasLeft file0 input
+  pub left_records : HasLeft records0 written
+  pub answers : SameAnswers choice input written result
+  pub read : IsErrOf result (Tool Read) ↔ (HasFailed file0 file ⊎ HasFailed records0 records)
+
+-- Some file and some records were compared, and have the same segments.
+pub record WasCompared (choice : Choice) : Type 0 where
+  pub file : List ℕ
+  pub records : List ℕ
+  pub same : HaveSameData choice file records
+
+-- Some file and some records were compared, and have other segments, or one of them cannot be read.
+pub record WasDifferent (choice : Choice) : Type 0 where
+  pub file : List ℕ
+  pub records : List ℕ
+  pub differ : ¬ (HaveSameData choice file records)
+
+-- what comparing a day's file with its records answers, if it is asked for
+abbrev pub IsComparedIfAsked : DayOptions → Result (Unit {0}) DayFault → Type 0
+IsComparedIfAsked asked (Ok done) = IsTrue asked.check → WasCompared asked.options
+IsComparedIfAsked asked (Err CannotOpen) = IsTrue asked.check
+IsComparedIfAsked asked (Err Gone) = ⊥
+IsComparedIfAsked asked (Err Listing) = ⊥
+IsComparedIfAsked asked (Err NotShown) = ⊥
+IsComparedIfAsked asked (Err Differs) = IsTrue asked.check × WasDifferent asked.options
+IsComparedIfAsked asked (Err ClaimedByAnother) = ⊥
+IsComparedIfAsked asked (Err (Larger repacked)) = ⊥
+IsComparedIfAsked asked (Err (Tool fault)) = IsTrue asked.check × IsUnread fault
+
 -- the bytes that were written are fewer than those that were read
 abbrev pub GotSmaller : Repacked → Type 0
 GotSmaller repacked = repacked.bytes_written < repacked.bytes_read
 
--- Some input was repacked with these counts, and if that is asked for, what was written was shown to be the fewest, and
--- is smaller than what was read.
+-- Some input was repacked with these counts, and if that is asked for, what was written was shown to be the fewest and
+-- compared with the day's file, and is smaller than what was read.
 pub record IsDone (asked : DayOptions) (repacked : Repacked) : Type 0 where
   pub answer : HasAnswer asked.options (Ok repacked)
   pub shown : IsTrue asked.check → WasShown
+  pub same : IsTrue asked.check → WasCompared asked.options
   pub smaller : IsTrue asked.only_smaller → GotSmaller repacked
 
 -- Some input was repacked with these counts, it was asked for that only what gets smaller is kept, and it did not.
@@ -121,6 +189,11 @@ pub record IsNotShown (asked : DayOptions) : Type 0 where
   pub check : IsTrue asked.check
   pub unshown : IsUnshown
 
+-- It was asked for that what is written is compared with the day's file, and it was not the same.
+pub record IsDifferent (asked : DayOptions) : Type 0 where
+  pub check : IsTrue asked.check
+  pub different : WasDifferent asked.options
+
 -- what an answer says of a day file; nothing is known of the files of the system but that they have some bytes
 abbrev pub IsRepackedDay : DayOptions → Result Repacked DayFault → Type 0
 IsRepackedDay asked (Ok repacked) = IsDone asked repacked
@@ -128,6 +201,7 @@ IsRepackedDay asked (Err CannotOpen) = ⊤
 IsRepackedDay asked (Err Gone) = ⊥
 IsRepackedDay asked (Err Listing) = ⊥
 IsRepackedDay asked (Err NotShown) = IsNotShown asked
+IsRepackedDay asked (Err Differs) = IsDifferent asked
 IsRepackedDay asked (Err (Larger repacked)) = IsLarger asked repacked
 IsRepackedDay asked (Err ClaimedByAnother) = ⊤
 IsRepackedDay asked (Err (Tool fault)) = HasAnswer asked.options (Err fault)
@@ -166,10 +240,12 @@ IsDayOutcome asked (Refused CannotOpen) = ⊤
 IsDayOutcome asked (Refused Gone) = ⊥
 IsDayOutcome asked (Refused Listing) = ⊥
 IsDayOutcome asked (Refused NotShown) = ⊥
+IsDayOutcome asked (Refused Differs) = ⊥
 IsDayOutcome asked (Refused (Larger repacked)) = ⊥
 IsDayOutcome asked (Refused ClaimedByAnother) = ⊤
 IsDayOutcome asked (Refused (Tool fault)) = HasAnswer asked.options (Err fault)
 IsDayOutcome asked Unshown = IsNotShown asked
+IsDayOutcome asked Different = IsDifferent asked
 IsDayOutcome asked (Grown repacked) = IsLarger asked repacked
 
 -- What an outcome says of a day of an archive of whose days this is asked.

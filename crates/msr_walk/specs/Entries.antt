@@ -11,8 +11,8 @@ use Rattle.msr_days.specs.declared.DayOptions.{DayOptions}
 use Rattle.msr_walk.specs.Day.{IsOutcomeOfDay}
 use Rattle.msr_walk.specs.Paths.{channel_of, shown_path}
 use Rattle.msr_walk.specs.declared.outcome.Outcome.{Outcome}
-use Rattle.msr_walk.specs.declared.outcome.Outcome.TheVariants.{Done, Same, Skipped, Refused, NotShown as Unshown, Larger as Grown}
-use Rattle.msr_walk.specs.declared.outcome.DayFault.TheVariants.{CannotOpen, Gone, Listing, NotShown, Larger, ClaimedByAnother, Tool}
+use Rattle.msr_walk.specs.declared.outcome.Outcome.TheVariants.{Done, Same, Skipped, Refused, NotShown as Unshown, Differs as Different, Larger as Grown}
+use Rattle.msr_walk.specs.declared.outcome.DayFault.TheVariants.{CannotOpen, Gone, Listing, NotShown, Differs, Larger, ClaimedByAnother, Tool}
 use Rattle.msr_walk.specs.declared.outcome.Repacked.{Repacked}
 use Rattle.msr_walk.specs.declared.tally.Tally.{Tally}
 
@@ -48,10 +48,12 @@ IsOutcomeOf asked path channel (Refused CannotOpen) = IsDayOf path channel
 IsOutcomeOf asked path channel (Refused Gone) = ⊤
 IsOutcomeOf asked path channel (Refused Listing) = ⊤
 IsOutcomeOf asked path channel (Refused NotShown) = ⊥
+IsOutcomeOf asked path channel (Refused Differs) = ⊥
 IsOutcomeOf asked path channel (Refused (Larger repacked)) = ⊥
 IsOutcomeOf asked path channel (Refused ClaimedByAnother) = IsDayOf path channel
 IsOutcomeOf asked path channel (Refused (Tool fault)) = IsToldOfDay asked path channel (Refused (Tool fault))
 IsOutcomeOf asked path channel Unshown = IsToldOfDay asked path channel Unshown
+IsOutcomeOf asked path channel Different = IsToldOfDay asked path channel Different
 IsOutcomeOf asked path channel (Grown repacked) = IsToldOfDay asked path channel (Grown repacked)
 
 abbrev pub IsEntry : DayOptions → Entry → Type 0
@@ -77,6 +79,7 @@ IsLineOf bytes path (Skipped fault) line = (why : List ℕ)
 IsLineOf bytes path (Refused refusal) line = (why : List ℕ)
     × (line ≡ codes "refused " ++ (shown_path path ++ (codes ": " ++ (why ++ codes "\n"))))
 IsLineOf bytes path Unshown line = line ≡ codes "notshown " ++ (shown_path path ++ codes "\n")
+IsLineOf bytes path Different line = line ≡ codes "differs " ++ (shown_path path ++ codes "\n")
 IsLineOf bytes path (Grown repacked) line = line ≡ codes "larger " ++ (shown_path path ++ counts_told bytes repacked)
 
 -- a line for each entry, in order
@@ -92,6 +95,7 @@ is_done (Same repacked) = true
 is_done (Skipped fault) = false
 is_done (Refused refusal) = false
 is_done Unshown = false
+is_done Different = false
 is_done (Grown repacked) = false
 
 abbrev pub is_skipped : Outcome → Bool
@@ -100,15 +104,17 @@ is_skipped (Same repacked) = false
 is_skipped (Skipped fault) = true
 is_skipped (Refused refusal) = false
 is_skipped Unshown = false
+is_skipped Different = false
 is_skipped (Grown repacked) = false
 
--- refused, or not kept since it is not shown
+-- refused, or not kept since it is not shown or not the same data
 abbrev pub is_refused : Outcome → Bool
 is_refused (Done repacked) = false
 is_refused (Same repacked) = false
 is_refused (Skipped fault) = false
 is_refused (Refused refusal) = true
 is_refused Unshown = true
+is_refused Different = true
 is_refused (Grown repacked) = false
 
 -- not kept since it did not get smaller
@@ -118,6 +124,7 @@ is_larger (Same repacked) = false
 is_larger (Skipped fault) = false
 is_larger (Refused refusal) = false
 is_larger Unshown = false
+is_larger Different = false
 is_larger (Grown repacked) = true
 
 -- the records of an entry that are counted: of what was done
@@ -127,6 +134,7 @@ dones_of (Same repacked) = repacked ∷ []
 dones_of (Skipped fault) = []
 dones_of (Refused refusal) = []
 dones_of Unshown = []
+dones_of Different = []
 dones_of (Grown repacked) = []
 
 -- what a day that was done adds to the totals of its channel, in records and in bytes

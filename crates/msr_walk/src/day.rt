@@ -1,6 +1,6 @@
 //! One day file: from its file to the files of its records and its report.
 ghost use Rattle.std.specs.Prelude.{◌≡◌, false, IfErr, IfOk, IfSome};
-ghost use Rattle.msr_walk.specs.Day.{IsDayOutcome, IsKept, IsOutcomeOfDay, IsRepackedDay, IsShownIfAsked};
+ghost use Rattle.msr_walk.specs.Day.{IsComparedIfAsked, IsDayOutcome, IsKept, IsOutcomeOfDay, IsRepackedDay, IsShownIfAsked};
 ghost use Rattle.msr_walk.specs.Files.{day_files, day_names};
 
 use crate::claim::{Claim, ClaimFault, LockFile, claim_day};
@@ -8,7 +8,9 @@ use crate::files::{NewFile, may_be_one, open_regular, settle};
 use crate::folders::Archive;
 use crate::outcome::{DayFault, Outcome, Repacked};
 use crate::paths::{ended, join};
-use crate::repacking::{Counting, counts_kept, first_length, repack_day_of, require_shown};
+use crate::repacking::{
+    Counting, counts_kept, first_length, repack_day_of, require_same, require_shown,
+};
 use crate::stamp::Stamp;
 use msr_days::DayOptions;
 use msr_tool::{FromRead, FromWrite, Length};
@@ -150,7 +152,35 @@ impl Day {
         })
     }
 
-    /// Opens the input before any file is made. What is to be shown is shown before anything gets its name.
+    /// Reads the day's own file and the records again that were written, and compares them, if that is asked for.
+    fn compare<R: Files>(
+        &self,
+        rt: &R,
+        alloc: Global,
+        asked: &DayOptions,
+        files: &DayFiles,
+    ) -> Result<(), DayFault>
+        ensures { IsComparedIfAsked asked.now result }
+    {
+        if !asked.check {
+            return Ok(());
+        }
+        let Ok(input) = open_regular(rt, self.input.as_str()) else {
+            return Err(DayFault::CannotOpen);
+        };
+        let Ok(records) = open_regular(rt, files.records.part()) else {
+            return Err(DayFault::CannotOpen);
+        };
+        require_same(
+            alloc,
+            &mut FromRead::new(input),
+            &mut FromRead::new(records),
+            asked.options,
+        )
+    }
+
+    /// Opens the input before any file is made. What is to be shown is shown, and what is to be compared is compared,
+    /// before anything gets its name.
     fn write<R: Files>(
         &self,
         rt: &R,
@@ -177,6 +207,7 @@ impl Day {
         settle(&records)?;
         settle(&report)?;
         files.hold(rt, alloc, asked.check)?;
+        self.compare(rt, alloc, asked, files)?;
         if !claim.is_ours(rt, self.claim()) {
             return Err(DayFault::ClaimedByAnother);
         }
@@ -369,13 +400,14 @@ impl Day {
     }
 }
 
-/// What becomes of a day that is refused: what is not shown, or larger, has an outcome of its own.
+/// What becomes of a day that is refused: what is not shown, not the same data, or larger, has an outcome of its own.
 fn refused(refusal: DayFault) -> Outcome
     ensures { (asked : DayOptions) → IsRepackedDay asked (Err refusal) → IsDayOutcome asked result }
 {
     match refusal {
         DayFault::Larger(repacked) => Outcome::Larger(repacked),
         DayFault::NotShown => Outcome::NotShown,
+        DayFault::Differs => Outcome::Differs,
         DayFault::CannotOpen
         | DayFault::Gone
         | DayFault::Listing

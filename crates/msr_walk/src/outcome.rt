@@ -21,6 +21,9 @@ pub(crate) enum DayFault {
     /// The report did not show that the records are the fewest, though it is their own.
     #[error("not shown")]
     NotShown,
+    /// The records, read again, have not the segments of the day's own file, read again.
+    #[error("differs")]
+    Differs,
     /// Its records are not smaller than its file, and only those are kept that are.
     #[error("larger")]
     Larger(Repacked),
@@ -66,6 +69,8 @@ pub(crate) enum Outcome {
     Refused(DayFault),
     /// It was repacked, but not shown to be in the fewest records, and so not kept.
     NotShown,
+    /// It was repacked, but the records are not the data of the day's own file, and so not kept.
+    Differs,
     /// It was repacked, but did not get smaller, and so not kept.
     Larger(Repacked),
 }
@@ -144,6 +149,7 @@ impl Outcome {
                 format!(in alloc; "skipped {path}: {why}\n")
             }
             Outcome::NotShown => format!(in alloc; "notshown {path}\n"),
+            Outcome::Differs => format!(in alloc; "differs {path}\n"),
             Outcome::Refused(refusal) => {
                 let why = refusal.to_string(alloc)?;
                 format!(in alloc; "refused {path}: {why}\n")

@@ -4,11 +4,13 @@ ghost use Rattle.msr_devices.specs.Device.{CanCountCall};
 ghost use Rattle.msr_options.specs.Choice.{size_of};
 ghost use Rattle.msr_report.specs.Proper.{IsProper, records_of};
 ghost use Rattle.msr_totals.specs.Totals.{saturated};
-ghost use Rattle.msr_walk.specs.Day.{IsReportKept, IsShown, RepacksDay};
+ghost use Rattle.msr_walk.specs.Day.{ComparesDay, IsReportKept, IsShown, RepacksDay, fault_of_comparing};
 
 use crate::outcome::{DayFault, Repacked};
+use msr_compare::{CompareFault, Comparison, compare};
 use msr_devices::{DeviceFault, ReadBuffer};
 use msr_header::{read_header, record_length};
+use msr_input::{ReadFault, Settings};
 use msr_report::Report;
 use msr_tool::{
     Length, Options, Sink, Source, ToolFault, Verdict, check_packed, read_report, repack_and_report,
@@ -155,5 +157,43 @@ pub(crate) fn require_shown<P: Source, Q: Source>(
         Ok(Verdict::NotShown) => Err(DayFault::NotShown),
         Err(ToolFault::Memory) => Err(DayFault::Tool(ToolFault::Memory)),
         Err(_) => Err(DayFault::NotShown),
+    }
+}
+
+/// What is told of a day if reading its file or its records again stops so.
+fn fault_of_comparing(why: ReadFault) -> DayFault
+    ensures { result ≡ fault_of_comparing why }
+{
+    match why {
+        // Both could be read before: the file when it was repacked, the records when they were shown.
+        ReadFault::Input(_) => DayFault::Differs,
+        ReadFault::Read => DayFault::Tool(ToolFault::Read),
+        ReadFault::Memory => DayFault::Tool(ToolFault::Memory),
+    }
+}
+
+/// Compares a day's own file with the records that were written for it. Those that end in the last microsecond of the
+/// supported years may not be readable, and a report does not show these: so records are compared that were shown, and
+/// what an honest repack wrote never differs.
+pub(crate) fn require_same<P: Source, Q: Source>(
+    alloc: Global,
+    input: &mut P,
+    packed: &mut Q,
+    options: Options,
+) -> Result<(), DayFault>
+    requires input { CanCountCall (P.device input.old) }
+    requires packed { CanCountCall (Q.device packed.old) }
+    ensures { ComparesDay options (P.device input.old) (P.device input.new) (Q.device packed.old) (Q.device packed.new)
+        result }
+{
+    let settings = Settings {
+        tolerance: options.tolerance(),
+        strict: false,
+    };
+    match compare(alloc, input, packed, settings) {
+        Ok(Comparison::Same(_)) => Ok(()),
+        Ok(Comparison::Differ(_)) => Err(DayFault::Differs),
+        Err(CompareFault::One(why)) => Err(fault_of_comparing(why)),
+        Err(CompareFault::Other(why)) => Err(fault_of_comparing(why)),
     }
 }

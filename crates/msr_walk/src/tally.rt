@@ -60,6 +60,7 @@ impl Tally {
             Outcome::Skipped(_) => self.skipped = self.skipped.saturating_add(1),
             Outcome::Larger(_) => self.larger = self.larger.saturating_add(1),
             Outcome::NotShown => self.refused = self.refused.saturating_add(1),
+            Outcome::Differs => self.refused = self.refused.saturating_add(1),
             Outcome::Refused(_) => self.refused = self.refused.saturating_add(1),
         }
         Ok(())

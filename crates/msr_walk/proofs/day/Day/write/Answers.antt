@@ -1,6 +1,6 @@
 use Rattle.std.proofs.Common.{arith}
 use Rattle.std.proofs.lemmas.Result.{err_from_is_err_and}
-use Rattle.msr_walk.proofs.Days.{day_answer, day_unkept, day_unsettled}
+use Rattle.msr_walk.proofs.Days.{day_answer, day_differs, day_unkept, day_unsettled}
 use Rattle.msr_walk.proofs.day.Day.write.Goals.{else-asked-via-then-asked+else-repacked, else-asked-via-else-asked}
 use Rattle.msr_walk.proofs.day.Day.write.Goals as goal
 
@@ -41,6 +41,13 @@ returns-in_err-hold g c =
     c.args.asked.now _ _ _ _ _ _ c.in_err-hold.field-0.0 c.in_ok-repacked.ensures
     c.in_err-hold.ensures)
 
+pub returns-in_err-compare : goal.returns-in_err-compare
+returns-in_err-compare g c =
+    let p = err_from_is_err_and c.from_residual-in_err-compare.result c.from_residual-in_err-compare.ensures.1 in
+    rw (p.1, p.2) (day_differs
+    c.args.asked.now _ _ _ _ _ _ c.in_err-compare.field-0.0 c.in_ok-repacked.ensures
+    c.in_err-compare.ensures)
+
 pub returns-in_err-keep : goal.returns-in_err-keep
 returns-in_err-keep g c =
     let p = err_from_is_err_and c.from_residual-in_err-keep.result c.from_residual-in_err-keep.ensures.1 in
@@ -50,6 +57,7 @@ pub returns : goal.returns
 returns g c = record {
   answer = day_answer _ _ _ _ _ _ _ c.in_ok-repacked.ensures;
   shown = c.in_ok-hold.ensures;
+  same = c.in_ok-compare.ensures;
   smaller = λ only. elim c.else-asked.branch [
     | else-asked-via-then-asked+else-repacked w ↦ (let smaller = w.if-repacked.false in omega (arith, smaller))
     | else-asked-via-else-asked w ↦ (let other = w.if-asked.false in absurd cc)
