@@ -1,4 +1,3 @@
 pub mod EntriesTold
 pub mod Days
 pub mod ChannelLines
-pub mod FolderLemmas
