@@ -32,7 +32,8 @@ Examples:
   msrepack repack --length 4096 day.mseed packed.mseed > packed.txt
   msrepack check packed.mseed packed.txt
   msrepack compare day.mseed packed.mseed
-  msrepack archive sds packed reports";
+  msrepack archive sds packed reports
+  msrepack verify sds packed reports";
 
 /// What `repack` does, in a line.
 pub(crate) const REPACK_ABOUT: &str =

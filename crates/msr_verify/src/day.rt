@@ -11,9 +11,9 @@ use std::alloc::{AllocError, Global};
 use std::fs;
 use std::rt::Files;
 
-/// Whether the system tells that nothing stands under a name.
+/// Whether the system tells that nothing stands under a name, not even a link that leads nowhere.
 pub(crate) fn is_gone<R: Files>(rt: &R, path: &str) -> bool {
-    match fs::metadata(rt, path) {
+    match fs::symlink_metadata(rt, path) {
         Ok(_) => false,
         Err(error) => tells_none(error.kind()),
     }
