@@ -9,9 +9,12 @@ use Rattle.msr_report.specs.Writing.{TakesPrefix}
 use Rattle.msr_tool.specs.Writing.{StopsSink}
 use Rattle.msr_tool.specs.declared.fault.ToolFault.{ToolFault}
 use Rattle.msr_tool.specs.declared.fault.ToolFault.TheVariants.{Input, Report, Read, Write, Memory}
-use Rattle.msr_verify.specs.Entries.{Entry, IsEntry, IsOutcomeOf, IsLineOf, AreLines, IsTally, counted, is_unverified}
-use Rattle.msr_verify.specs.Walk.{IsWalkInPart, StopsPrefix, StopsTelling, Tells, TellsInPart, TellsUnverified, Verifies, summary}
+use Rattle.msr_verify.specs.Entries.{Entry, IsEntry, IsOutcomeOf, IsOutcomeOfDay, IsLineOf, AreLines, IsTally, counted, is_unverified}
+use Rattle.msr_sds.specs.SdsPath.{SdsPath, ReadsAsDay}
+use Rattle.msr_verify.specs.Walk.{IsWalkInPart, StopsPrefix, StopsTelling, Tells, TellsInPart, TellsUnverified, Verifies, counts_line, summary}
 use Rattle.msr_verify.specs.declared.outcome.Outcome.{Outcome}
+use Rattle.msr_verify.specs.declared.outcome.Outcome.TheVariants.{Verified, Missing, NotShown, Differs, Refused, Skipped, Orphan}
+use Rattle.msr_verify.specs.declared.outcome.Refusal.TheVariants.{FileUnopened, RecordsUnopened, ReportUnopened, SameFile, Listing, RecordsListing, Day}
 use Rattle.msr_verify.specs.declared.tally.Tally.{Tally}
 
 lines_append : (entries others : List Entry) (lines more : List ℕ) → AreLines entries lines
@@ -234,3 +237,34 @@ walk_ends out0 out1 out tally0 tally unverified told prints refusals = record {
 pub unverified_told : (entries : List Entry) (n : ℕ) → n ≡ counted is_unverified entries
     → TellsUnverified entries (nat_lt 0 n)
 unverified_told entries n h = (λ yes. omega (arith, h, ltb-true 0 n yes), λ no. omega (arith, h, ltb-false 0 n no))
+
+-- the last line, from the counts of the entries
+pub summary_is : (entries : List Entry) (tally : Tally) → IsTally entries tally → counts_line tally ≡ summary entries
+summary_is entries tally h =
+    rw (h.verified, h.skipped, h.refused, h.missing, h.not_shown, h.differ, h.orphans) refl
+
+-- a prefix of a text
+pub front_piece : (old new : Device) (text : List ℕ) (n : ℕ) → Takes old new (take n text) → TakesPrefix old new text
+front_piece old new text n piece = record {
+  taken = take n text;
+  rest = drop n text;
+  takes = piece;
+  whole = sym (take-append-drop n text);
+}
+
+-- what an outcome says of a day, it says of the entry with the day's path
+pub found_of_day : (path : List ℕ) (name : SdsPath) (outcome : Outcome) → ReadsAsDay path name
+    → IsOutcomeOfDay outcome → IsOutcomeOf path outcome
+found_of_day path name Verified day is = record { day = (name, day); outcome_is = is }
+found_of_day path name Missing day is = (name, day)
+found_of_day path name NotShown day is = record { day = (name, day); outcome_is = is }
+found_of_day path name Differs day is = record { day = (name, day); outcome_is = is }
+found_of_day path name (Refused FileUnopened) day is = tt
+found_of_day path name (Refused RecordsUnopened) day is = (name, day)
+found_of_day path name (Refused ReportUnopened) day is = (name, day)
+found_of_day path name (Refused SameFile) day is = (name, day)
+found_of_day path name (Refused Listing) day is = absurd is
+found_of_day path name (Refused RecordsListing) day is = absurd is
+found_of_day path name (Refused (Day fault)) day is = record { day = (name, day); outcome_is = is }
+found_of_day path name (Skipped fault) day is = absurd is
+found_of_day path name Orphan day is = (name, day)

@@ -1,5 +1,5 @@
 -- What the three files of a day show, put together from what was read of each.
-use Rattle.std.proofs.Common.{◌≡◌, ℕ, List, Ok, Err, inl, inr, refl}
+use Rattle.std.proofs.Common.{◌≡◌, ℕ, List, Result, Ok, Err, inl, inr, refl}
 use Rattle.msr_devices.specs.Device.{Device, HasLeft}
 use Rattle.msr_devices.proofs.Chaining.{left_of}
 use Rattle.msr_report.specs.declared.report.Report.{Report}
@@ -10,15 +10,17 @@ use Rattle.msr_input.specs.declared.fault.ReadFault.{ReadFault}
 use Rattle.msr_input.specs.declared.fault.ReadFault.TheVariants as stop
 use Rattle.msr_verdict.specs.Packed.{VerifyAnswers, settings_by}
 use Rattle.msr_verdict.specs.declared.verdict.Verdict.TheVariants as verdict
-use Rattle.msr_compare.specs.Answers.{CompareAnswers}
-use Rattle.msr_compare.specs.declared.comparison.Comparison.{Comparison}
-use Rattle.msr_compare.specs.declared.comparison.Comparison.TheVariants as comparison
-use Rattle.msr_compare.specs.declared.fault.CompareFault.TheVariants as side
 use Rattle.msr_verify.specs.Day.{ComparesDay, DataAnswers, DayAnswers, IsShownLeast, VerifiesDay, fault_of_report}
 use Rattle.msr_verify.specs.declared.judging.Finding.{Finding}
 use Rattle.msr_verify.specs.declared.judging.Finding.TheVariants.{Verified, NotShown, Differs}
 use Rattle.msr_verify.specs.declared.judging.DayFault.{DayFault}
 use Rattle.msr_verify.specs.declared.judging.DayFault.TheVariants.{File, Records, ReportLine, ReportRead, ReportMemory}
+
+fault_said : (first second third text : List ℕ) (why : ReportFault) → ReadsReport text (Err why)
+    → DayAnswers first second third text (Err (fault_of_report why))
+fault_said first second third text (report_stop.Line line) reads = reads
+fault_said first second third text report_stop.Read reads = tt
+fault_said first second third text report_stop.Memory reads = tt
 
 -- a report that is at fault
 pub report_fails : (file records again report : Device) (text : List ℕ) (why : ReportFault) → HasLeft report text
@@ -39,11 +41,12 @@ report_fails file records again report text why left reads =
       answers = fault_said f.0 r.0 a.0 text why reads;
     }
 
-fault_said : (first second third text : List ℕ) (why : ReportFault) → ReadsReport text (Err why)
-    → DayAnswers first second third text (Err (fault_of_report why))
-fault_said first second third text (report_stop.Line line) reads = reads
-fault_said first second third text report_stop.Read reads = tt
-fault_said first second third text report_stop.Memory reads = tt
+refusal_said : (first second third text : List ℕ) (found : Report) (why : ReadFault) → ReadsReport text (Ok found)
+    → VerifyAnswers found second (Err why) → DayAnswers first second third text (Err (Records why))
+refusal_said first second third text found (stop.Input fault) reads answers =
+    inl (record { report = found; read = reads; first = answers })
+refusal_said first second third text found stop.Read reads answers = tt
+refusal_said first second third text found stop.Memory reads answers = tt
 
 -- records that are at fault, read for the report
 pub records_fail : (file records again report : Device) (second text : List ℕ) (found : Report) (why : ReadFault)
@@ -64,13 +67,6 @@ records_fail file records again report second text found why left_records left r
       answers = refusal_said f.0 second a.0 text found why reads answers;
     }
 
-refusal_said : (first second third text : List ℕ) (found : Report) (why : ReadFault) → ReadsReport text (Ok found)
-    → VerifyAnswers found second (Err why) → DayAnswers first second third text (Err (Records why))
-refusal_said first second third text found (stop.Input fault) reads answers =
-    inl (record { report = found; read = reads; first = answers })
-refusal_said first second third text found stop.Read reads answers = tt
-refusal_said first second third text found stop.Memory reads answers = tt
-
 -- records that are not shown
 pub records_unshown : (file records again report : Device) (second text : List ℕ) (found : Report)
     → HasLeft records second → HasLeft report text → ReadsReport text (Ok found)
@@ -89,24 +85,6 @@ records_unshown file records again report second text found left_records left re
       left_report = left;
       answers = record { report = found; read = reads; unshown = answers };
     }
-
--- records that are shown, compared with the day's own file
-pub data_compared : (file records again report : Device) (second text : List ℕ) (found : Report)
-    (result : Result Finding DayFault) → HasLeft records second → HasLeft report text → ReadsReport text (Ok found)
-    → VerifyAnswers found second (Ok verdict.Least) → ComparesDay (settings_by found) file again result
-    → VerifiesDay file records again report result
-data_compared file records again report second text found result left_records left reads least compared = record {
-  first = compared.first;
-  second = second;
-  third = compared.second;
-  text = text;
-  left_file = compared.left_file;
-  left_records = left_records;
-  left_again = compared.left_records;
-  left_report = left;
-  answers = comparison_said compared.first second compared.second text found result
-      (record { report = found; read = reads; least = least }) refl compared.answers;
-}
 
 comparison_said : (first second third text : List ℕ) (found : Report) (result : Result Finding DayFault)
     (shown : IsShownLeast second text) → shown.report ≡ found → DataAnswers (settings_by found) first third result
@@ -127,3 +105,21 @@ comparison_said first second third text found (Err (Records stop.Memory)) shown 
 comparison_said first second third text found (Err (ReportLine line)) shown is said = absurd said
 comparison_said first second third text found (Err ReportRead) shown is said = absurd said
 comparison_said first second third text found (Err ReportMemory) shown is said = absurd said
+
+-- records that are shown, compared with the day's own file
+pub data_compared : (file records again report : Device) (second text : List ℕ) (found : Report)
+    (result : Result Finding DayFault) → HasLeft records second → HasLeft report text → ReadsReport text (Ok found)
+    → VerifyAnswers found second (Ok verdict.Least) → ComparesDay (settings_by found) file again result
+    → VerifiesDay file records again report result
+data_compared file records again report second text found result left_records left reads least compared = record {
+  first = compared.first;
+  second = second;
+  third = compared.second;
+  text = text;
+  left_file = compared.left_file;
+  left_records = left_records;
+  left_again = compared.left_records;
+  left_report = left;
+  answers = comparison_said compared.first second compared.second text found result
+      (record { report = found; read = reads; least = least }) refl compared.answers;
+}

@@ -10,14 +10,19 @@ use Rattle.msr_tool.specs.declared.fault.ToolFault.TheVariants.{Input, Report, R
 use Rattle.msr_verify.specs.Entries.{Entry, IsEntry, AreLines, IsTally, counted, is_unverified, tally_of}
 use Rattle.msr_verify.specs.declared.tally.Tally.{Tally}
 
+-- the counts at the end of the last line
+abbrev pub others_told : Tally → List ℕ
+others_told tally =
+    codes " missing " ++ (decimal tally.missing ++ (codes " notshown "
+    ++ (decimal tally.not_shown ++ (codes " differs " ++ (decimal tally.differ
+    ++ (codes " orphan " ++ decimal tally.orphans))))))
+
 -- the last line
 abbrev pub counts_line : Tally → List ℕ
 counts_line tally =
     codes "files " ++ (decimal tally.verified ++ (codes " skipped "
     ++ (decimal tally.skipped ++ (codes " refused " ++ (decimal tally.refused
-    ++ (codes " missing " ++ (decimal tally.missing ++ (codes " notshown "
-    ++ (decimal tally.not_shown ++ (codes " differs " ++ (decimal tally.differ
-    ++ (codes " orphan " ++ (decimal tally.orphans ++ codes "\n")))))))))))))
+    ++ (others_told tally ++ codes "\n"))))))
 
 -- the line after those of the entries
 abbrev pub summary : List Entry → List ℕ

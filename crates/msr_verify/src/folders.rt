@@ -118,12 +118,11 @@ fn tell_entry<R: Files, O: Sink>(
             if walker.tree == Tree::Out {
                 return Ok(());
             }
-            let outcome = if kind == Kind::Gone {
-                Outcome::Refused(Refusal::FileUnopened)
-            } else {
-                Outcome::Skipped(fault)
-            };
-            tell(walker, path, outcome, out, tally)
+            if kind == Kind::Gone {
+                let refused = Outcome::Refused(Refusal::FileUnopened);
+                return tell(walker, path, refused, out, tally);
+            }
+            tell(walker, path, Outcome::Skipped(fault), out, tally)
         }
     }
 }

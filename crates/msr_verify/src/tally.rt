@@ -3,7 +3,7 @@ ghost use Rattle.std.specs.Prelude.{◌≡◌, ◌++◌, ◌∷◌, [], List, If
 ghost use Rattle.std.specs.String.{string_bytes};
 ghost use Rattle.msr_devices.specs.Device.{CanCountCall, IsCalm, Takes};
 ghost use Rattle.msr_verify.specs.Entries.{Entry, IsTally};
-ghost use Rattle.msr_verify.specs.Walk.{StopsPrefix, counts_line};
+ghost use Rattle.msr_verify.specs.Walk.{StopsPrefix, counts_line, others_told};
 
 use crate::outcome::Outcome;
 use msr_devices::write_all;
@@ -63,14 +63,22 @@ impl Tally {
         self.unverified = self.unverified.saturating_add(1);
     }
 
+    /// The counts at the end of the last line, which no other walk has.
+    fn others(self, alloc: Global) -> Result<String, AllocError>
+        ensures { IfOk result (λ text. string_bytes text ≡ others_told self) }
+    {
+        let (missing, unshown) = (self.missing, self.not_shown);
+        let (differ, orphans) = (self.differ, self.orphans);
+        format!(in alloc; " missing {missing} notshown {unshown} differs {differ} orphan {orphans}")
+    }
+
     /// The last line.
     fn line(self, alloc: Global) -> Result<String, AllocError>
         ensures { IfOk result (λ line. string_bytes line ≡ counts_line self) }
     {
         let (files, skipped, refused) = (self.verified, self.skipped, self.refused);
-        let (missing, unshown) = (self.missing, self.not_shown);
-        let (differ, orphans) = (self.differ, self.orphans);
-        format!(in alloc; "files {files} skipped {skipped} refused {refused} missing {missing} notshown {unshown} differs {differ} orphan {orphans}\n")
+        let others = self.others(alloc)?;
+        format!(in alloc; "files {files} skipped {skipped} refused {refused}{others}\n")
     }
 
     /// Writes the last line.

@@ -2,7 +2,7 @@ use Rattle.std.proofs.lemmas.Result.{err_from_is_err_and}
 use Rattle.msr_devices.proofs.Chaining.{calm_same}
 use Rattle.msr_verify.proofs.EntriesFound.{part_none, part_all, stops_more, tells_none, tells_more}
 use Rattle.msr_verify.proofs.folders.+walk_folder.Goals as goal
-use Rattle.msr_verify.proofs.folders.+walk_folder.Goals.{then-levels-gt0-2+then-eq+in_ok-walk_folder, else-levels-gt0-2+in_ok-tell_entry}
+use Rattle.msr_verify.proofs.folders.+walk_folder.Goals.{then-levels-gt0+then-eq+in_ok-walk_folder, else-levels-gt0+in_ok-tell_entry}
 
 pub returns-in_err-place-clause-stops : goal.returns-in_err-place-clause-stops
 returns-in_err-place-clause-stops g t c =
@@ -49,13 +49,13 @@ returns-in_err-tell_entry-clause-stops g t c =
     c.loop-name.invariant c.in_err-tell_entry.ensures.stops)
 
 pub loop-name-preserved : goal.loop-name-preserved
-loop-name-preserved g t c = elim c.if-levels-gt0-2.branch [
-  | then-levels-gt0-2+then-eq+in_ok-walk_folder w ↦
+loop-name-preserved g t c = elim c.if-levels-gt0.branch [
+  | then-levels-gt0+then-eq+in_ok-walk_folder w ↦
       rw (w.out-is, w.tally-is) (tells_more
       (g.O.Sink.device c.args.out.now) (g.O.Sink.device c.loop-name.out)
       (g.O.Sink.device w.walk_folder.new.out) c.args.tally.now c.loop-name.tally w.walk_folder.new.tally
       c.loop-name.invariant w.in_ok-walk_folder.ensures.told)
-  | else-levels-gt0-2+in_ok-tell_entry w ↦
+  | else-levels-gt0+in_ok-tell_entry w ↦
       rw (w.out-is, w.tally-is) (tells_more
       (g.O.Sink.device c.args.out.now) (g.O.Sink.device c.loop-name.out)
       (g.O.Sink.device w.tell_entry.new.out) c.args.tally.now c.loop-name.tally w.tell_entry.new.tally

@@ -1,0 +1,5 @@
+use Rattle.msr_verify.proofs.EntriesFound.{tells_none}
+use Rattle.msr_verify.proofs.folders.tell_entry.Goals as goal
+
+pub returns-then-eq-clause-told : goal.returns-then-eq-clause-told
+returns-then-eq-clause-told g c = tells_none (g.O.Sink.device c.args.out.now) c.args.tally.now
