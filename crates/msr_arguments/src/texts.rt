@@ -197,7 +197,8 @@ pub(crate) const ARCHIVE_AFTER: &str = "Examples:
   msrepack archive --resume --check --below 2020/XX sds packed reports > log.txt";
 
 /// What `verify` does, in a line.
-pub(crate) const VERIFY_ABOUT: &str = "Says of every day file of an SDS archive whether its repack holds";
+pub(crate) const VERIFY_ABOUT: &str =
+    "Says of every day file of an SDS archive whether its repack holds";
 
 /// What `verify` does.
 pub(crate) const VERIFY_LONG_ABOUT: &str =

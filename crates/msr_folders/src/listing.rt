@@ -49,11 +49,7 @@ impl From<io::Error> for ListFault {
 
 /// The names in the folder, in the order of their bytes. A folder that goes away while it is listed has no list: the
 /// system gives its end in place of what is left.
-pub fn names_in<R: Files>(
-    rt: &R,
-    alloc: Global,
-    folder: &str,
-) -> Result<Vec<String>, ListFault>
+pub fn names_in<R: Files>(rt: &R, alloc: Global, folder: &str) -> Result<Vec<String>, ListFault>
     ensures { IfOk result (λ names. IsSorted string_cmp names.items) }
 {
     let mut names = Vec::new(alloc);

@@ -20,13 +20,7 @@ pub(crate) fn is_gone<R: Files>(rt: &R, path: &str) -> bool {
 }
 
 /// What the files with these names show. All are opened before one is read, the records twice.
-fn judge_files<R: Files>(
-    rt: &R,
-    alloc: Global,
-    file: &str,
-    records: &str,
-    report: &str,
-) -> Outcome
+fn judge_files<R: Files>(rt: &R, alloc: Global, file: &str, records: &str, report: &str) -> Outcome
     ensures { IsOutcomeOfDay result }
 {
     if is_gone(rt, records) || is_gone(rt, report) {
@@ -69,11 +63,5 @@ pub(crate) fn judge_day<R: Files>(
     let records = join(alloc, archive.out, path)?;
     let report = join(alloc, archive.reports, path)?;
     let report = ended(alloc, report.as_str(), ".txt")?;
-    Ok(judge_files(
-        rt,
-        alloc,
-        file.as_str(),
-        records.as_str(),
-        report.as_str(),
-    ))
+    Ok(judge_files(rt, alloc, file.as_str(), records.as_str(), report.as_str()))
 }
