@@ -1,5 +1,5 @@
 -- Entries told one after another, and walks put together from them.
-use Rattle.std.proofs.Common.{◌≡◌, ℕ, nat_lt, arith, List, [], ◌∷◌, ◌++◌, ◌∙◌, refl, ap, sym, subst, append_assoc, take, drop, Bool, Ok, Err, Some}
+use Rattle.std.proofs.Common.{◌≡◌, ℕ, nat_lt, arith, List, [], ◌∷◌, ◌++◌, ◌∙◌, refl, ap, sym, subst, append_assoc, take, drop, Bool, Ok, Err}
 use Rattle.std.proofs.lemmas.List.{append-nil, take-append-drop}
 use Rattle.std.proofs.lemmas.Bool.{ltb-true, ltb-false}
 use Rattle.msr_devices.specs.Device.{Device, IsCalm, Takes}
@@ -9,12 +9,9 @@ use Rattle.msr_report.specs.Writing.{TakesPrefix}
 use Rattle.msr_tool.specs.Writing.{StopsSink}
 use Rattle.msr_tool.specs.declared.fault.ToolFault.{ToolFault}
 use Rattle.msr_tool.specs.declared.fault.ToolFault.TheVariants.{Input, Report, Read, Write, Memory}
-use Rattle.msr_verify.specs.Entries.{Entry, IsEntry, IsOutcomeOf, IsOutcomeOfDay, IsLineOf, AreLines, IsTally, counted, is_unverified}
-use Rattle.msr_sds.specs.SdsPath.{SdsPath, ReadsAsDay}
+use Rattle.msr_verify.specs.Entries.{Entry, IsEntry, IsOutcomeOf, IsLineOf, AreLines, IsTally, counted, is_unverified}
 use Rattle.msr_verify.specs.Walk.{IsWalkInPart, StopsPrefix, StopsTelling, Tells, TellsInPart, TellsUnverified, Verifies, counts_line, summary}
 use Rattle.msr_verify.specs.declared.outcome.Outcome.{Outcome}
-use Rattle.msr_verify.specs.declared.outcome.Outcome.TheVariants.{Verified, Missing, NotShown, Differs, Refused, Skipped, Orphan}
-use Rattle.msr_verify.specs.declared.outcome.Refusal.TheVariants.{FileUnopened, RecordsUnopened, ReportUnopened, SameFile, Listing, RecordsListing, Day}
 use Rattle.msr_verify.specs.declared.tally.Tally.{Tally}
 
 lines_append : (entries others : List Entry) (lines more : List ℕ) → AreLines entries lines
@@ -100,20 +97,6 @@ part_line out0 out n path line outcome is_outcome is_line prints = record {
   are_entries = (is_outcome, tt);
   are_lines = rw (take-append-drop n line) (one_line
       (record { path = path; outcome = outcome }) line is_line);
-  prints = prints;
-}
-
--- a whole line
-pub part_one : (out0 out : Device) (path line : List ℕ) (outcome : Outcome) →
-    IsOutcomeOf path outcome → IsLineOf path outcome line → Takes out0 out line
-    → TellsInPart out0 out
-part_one out0 out path line outcome is_outcome is_line prints = record {
-  entries = record { path = path; outcome = outcome } ∷ [];
-  printed = line;
-  rest = [];
-  are_entries = (is_outcome, tt);
-  are_lines = rw (append-nil line) (one_line (record
-      { path = path; outcome = outcome }) line is_line);
   prints = prints;
 }
 
@@ -251,20 +234,3 @@ front_piece old new text n piece = record {
   takes = piece;
   whole = sym (take-append-drop n text);
 }
-
--- what an outcome says of a day, it says of the entry with the day's path
-pub found_of_day : (path : List ℕ) (name : SdsPath) (outcome : Outcome) → ReadsAsDay path name
-    → IsOutcomeOfDay outcome → IsOutcomeOf path outcome
-found_of_day path name Verified day is = record { day = (name, day); outcome_is = is }
-found_of_day path name Missing day is = (name, day)
-found_of_day path name NotShown day is = record { day = (name, day); outcome_is = is }
-found_of_day path name Differs day is = record { day = (name, day); outcome_is = is }
-found_of_day path name (Refused FileUnopened) day is = tt
-found_of_day path name (Refused RecordsUnopened) day is = (name, day)
-found_of_day path name (Refused ReportUnopened) day is = (name, day)
-found_of_day path name (Refused SameFile) day is = (name, day)
-found_of_day path name (Refused Listing) day is = absurd is
-found_of_day path name (Refused RecordsListing) day is = absurd is
-found_of_day path name (Refused (Day fault)) day is = record { day = (name, day); outcome_is = is }
-found_of_day path name (Skipped fault) day is = absurd is
-found_of_day path name Orphan day is = (name, day)

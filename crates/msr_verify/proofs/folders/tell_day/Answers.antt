@@ -1,6 +1,6 @@
 use Rattle.std.proofs.lemmas.Result.{err_from_is_err_and}
 use Rattle.msr_devices.proofs.Chaining.{calm_same}
-use Rattle.msr_verify.proofs.EntriesFound.{found_of_day, part_none, tells_none}
+use Rattle.msr_verify.proofs.EntriesFound.{part_none, tells_none}
 use Rattle.msr_verify.proofs.folders.tell_day.Goals as goal
 
 pub returns-in_err-outcome-clause-stops : goal.returns-in_err-outcome-clause-stops
