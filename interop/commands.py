@@ -22,6 +22,7 @@ COMMANDS = {
     "check": ((), (2, 2)),
     "compare": (("--tolerance",), (2, 2)),
     "archive": (("--length", "--no-int24", "--tolerance", "--strict", "--below", *OF_DAYS), (3, 3)),
+    "verify": (("--below",), (3, 3)),
 }
 VALUED = ("--length", "--tolerance", "--below")
 LENGTHS = [2**exponent for exponent in range(8, 17)]
@@ -127,7 +128,7 @@ def read_words(words):
         raise Ends(2, told("the output is the input"))
     if command == "compare" and names == ["-", "-"]:
         raise Ends(2, told("only one input can be standard input"))
-    if command == "archive" and (overlap(names) or overlap(below)):
+    if command in ("archive", "verify") and (overlap(names) or overlap(below)):
         raise Ends(2, told("the folders overlap"))
     if not all(map(is_place, below)):
         raise Ends(2, told("not a folder of an archive"))
@@ -301,7 +302,23 @@ def archive(task, given):
     yield Outcome(int(walk.refused > 0), text, b"", lines=True)
 
 
-DOES = {"repack": repack, "feed": feed, "list": list_segments, "check": check, "compare": compare, "archive": archive}
+def verify(task, given):
+    if walks.overlap(task.names):
+        raise Ends(2, told("the folders overlap"))
+    found = walks.Verification(task, given.odd)
+    text = model.text(found.lines()).encode()
+    yield Outcome(int(found.is_to_be_looked_at()), text, b"", lines=True)
+
+
+DOES = {
+    "repack": repack,
+    "feed": feed,
+    "list": list_segments,
+    "check": check,
+    "compare": compare,
+    "archive": archive,
+    "verify": verify,
+}
 
 
 def printing(outcome, device):

@@ -1,5 +1,5 @@
-"""The walk over an archive, said again from docs/MANUAL.md (`archive`, "Shares of an archive") and docs/PROFILE.md
-("Paths of an archive"), over the files that there are.
+"""The walks over an archive, said again from docs/MANUAL.md (`archive`, "Shares of an archive", `verify`) and
+docs/PROFILE.md ("Paths of an archive"), over the files that there are.
 """
 import contextlib
 import errno
@@ -157,13 +157,13 @@ class Walk:
     def told(self, read, written, bytes_read, bytes_written):
         return f" read {read} written {written}" + (f" bytes {bytes_read} {bytes_written}" if self.task.bytes else "")
 
-    def names(self, path):
+    @staticmethod
+    def names_in(top, odd):
         """The names in a folder, in the order of their bytes; an odd one cannot be listed, or has odd names."""
-        top = f"{self.root}/{path}" if path else self.root
-        if self.odd.folder != f"{top}/":
+        if odd.folder != f"{top}/":
             names = os.listdir(os.fsencode(top))
-        elif self.odd.names in NAMES:
-            names = NAMES[self.odd.names]
+        elif odd.names in NAMES:
+            names = NAMES[odd.names]
             os.stat(top)
         else:
             raise OSError
@@ -172,7 +172,7 @@ class Walk:
     def folder(self, path):
         """The lines of a folder; the one of a day has four above it below ROOT."""
         try:
-            names = self.names(path)
+            names = self.names_in(f"{self.root}/{path}" if path else self.root, self.odd)
         except (OSError, UnicodeDecodeError):
             yield self.refuse(path or ".", "listing")
             return
@@ -422,6 +422,114 @@ class Walk:
         if path == odd.later and (not os.path.exists(odd.earlier) or odd.gone and os.path.exists(odd.gone)):
             raise OSError
         os.rename(part, path)
+
+
+class Verification:
+    """What is found of each day of an archive, and then of the days of its records."""
+
+    SUMS = "files skipped refused missing notshown differs orphan".split()
+
+    def __init__(self, task, odd):
+        self.task, self.odd = task, odd
+        self.root, self.out, self.reports = task.names
+        self.sums = dict.fromkeys(self.SUMS, 0)
+
+    def lines(self):
+        tops = self.task.below or [""]
+        for top in tops:
+            for path, why in self.entries(self.root, top, "listing", "file: cannot open"):
+                yield self.refused(path, why) if why else self.entry(path)
+        for top in tops:
+            for path, why in self.entries(self.out, top, "records: listing", None):
+                if why:
+                    yield self.refused(path, why)
+                elif not skipped(path) and self.is_not_there(f"{self.root}/{path}"):
+                    yield self.told("orphan", path)
+        yield " ".join(f"{word} {count}" for word, count in self.sums.items())
+
+    def is_to_be_looked_at(self):
+        return any(count for word, count in self.sums.items() if word not in ("files", "skipped"))
+
+    def told(self, word, path):
+        self.sums["files" if word == "verified" else word] += 1
+        return f"{word} {in_one_line(path)}"
+
+    def refused(self, path, why):
+        return f"{self.told('refused', path)}: {why}"
+
+    def entries(self, top, path, unlisted, gone):
+        """The paths of what is no folder of the walk; or of one that has no list, or of what is gone, and why."""
+        place = f"{top}/{path}" if path else top
+        if unlisted != "listing" and self.is_not_there(place):
+            return
+        try:
+            names = Walk.names_in(place, self.odd)
+        except (OSError, UnicodeDecodeError):
+            yield path or ".", unlisted
+            return
+        for name in names:
+            below = f"{path}/{name}" if path else name
+            place = f"{top}/{below}"
+            try:
+                told = found(place) if below.count("/") < 4 else True
+            except OSError:
+                yield below, unlisted
+                continue
+            if told is not True and told and stat.S_ISDIR(told.st_mode):
+                yield from self.entries(top, below, unlisted, gone)
+            elif told or os.path.lexists(place):
+                yield below, None
+            elif gone:
+                yield below, gone
+
+    @staticmethod
+    def is_not_there(path):
+        """Whether nothing stands there, not even a link that leads nowhere."""
+        try:
+            os.lstat(path)
+        except OSError as why:
+            return why.errno in MISSING
+        return False
+
+    def entry(self, path):
+        why = skipped(path)
+        if why:
+            return f"{self.told('skipped', path)}: {why}"
+        try:
+            return self.told(self.found_of(*(f"{top}/{path}" for top in (self.root, self.out, self.reports))), path)
+        except NotDone as why:
+            return self.refused(path, why)
+
+    def found_of(self, file, records, report):
+        """What is told of a day. All of its files are opened first; then the report is judged, then the records, and
+        then both against its own file."""
+        report = f"{report}.txt"
+        if self.is_not_there(records) or self.is_not_there(report):
+            return "missing"
+        text, packed = self.opened("report", report), self.opened("records", records)
+        if os.path.exists(file) and os.path.samefile(file, records):
+            raise NotDone("records: the file itself")
+        content = self.opened("file", file)
+        try:
+            read = parsed(text)
+        except NotAReport as why:
+            raise NotDone(f"report: {str(why).removeprefix('report ')}") from None
+        try:
+            if not verdict(packed, read):
+                return "notshown"
+        except model.Refused as why:
+            raise NotDone(f"records: {why}") from None
+        answer = model.compared(content, packed, read.tolerance)
+        if answer.fault:
+            raise NotDone(f"file: {answer.fault}")
+        return "differs" if answer.status else "verified"
+
+    def opened(self, which, path):
+        """The bytes of a regular file."""
+        try:
+            return read_regular(path)
+        except OSError:
+            raise NotDone(f"{which}: cannot open") from None
 
 
 def stamp_of(path):

@@ -1,6 +1,6 @@
 # Completions of msrepack for bash: commands, options, lengths, files and folders.
 _msrepack() {
-    local word=$2 before=$3 words='' commands='repack feed list check compare archive help'
+    local word=$2 before=$3 words='' commands='repack feed list check compare archive verify help'
     COMPREPLY=()
     case ${COMP_WORDS[1]} in
         repack | feed) words='--length --no-int24 --tolerance --strict --help' ;;
@@ -8,6 +8,7 @@ _msrepack() {
         check) words='--help' ;;
         compare) words='--tolerance --help' ;;
         archive) words='--length --no-int24 --tolerance --strict --below --resume --check --only-smaller --bytes --help' ;;
+        verify) words='--below --help' ;;
     esac
     if [ "$COMP_CWORD" -eq 1 ]; then
         words="$commands --help --version"
@@ -19,7 +20,10 @@ _msrepack() {
     elif [ "$before" = --tolerance ] || [ "$before" = --below ]; then
         return # a number, or a path that is counted from ROOT
     elif [[ $word != -* ]]; then
-        if [ "${COMP_WORDS[1]}" = archive ]; then compopt -o dirnames; else compopt -o default; fi
+        case ${COMP_WORDS[1]} in
+            archive | verify) compopt -o dirnames ;;
+            *) compopt -o default ;;
+        esac
         return
     fi
     COMPREPLY=($(compgen -W "$words" -- "$word"))

@@ -1,5 +1,5 @@
 # Completions of msrepack for fish: commands, options, lengths, files and folders.
-set -l commands repack feed list check compare archive help
+set -l commands repack feed list check compare archive verify help
 set -l none "not __fish_seen_subcommand_from $commands"
 complete -c msrepack -f
 complete -c msrepack -n $none -a repack -d 'Write the segments of a file in the fewest records'
@@ -8,13 +8,14 @@ complete -c msrepack -n $none -a list -d 'List the segments of a file'
 complete -c msrepack -n $none -a check -d 'Say whether a report shows that records are the fewest'
 complete -c msrepack -n $none -a compare -d 'Say whether two files have the same segments'
 complete -c msrepack -n $none -a archive -d 'Repack every day file of an SDS archive'
+complete -c msrepack -n $none -a verify -d 'Say of every day file of an SDS archive whether its repack holds'
 complete -c msrepack -n $none -a help -d 'Print help'
 complete -c msrepack -n $none -s V -l version -d 'Print the version'
 complete -c msrepack -s h -l help -d 'Print help'
-complete -c msrepack -n '__fish_seen_subcommand_from help' -a 'repack feed list check compare archive'
+complete -c msrepack -n '__fish_seen_subcommand_from help' -a 'repack feed list check compare archive verify'
 
 complete -c msrepack -n '__fish_seen_subcommand_from repack feed list check compare' -F
-complete -c msrepack -n '__fish_seen_subcommand_from archive' -a '(__fish_complete_directories)'
+complete -c msrepack -n '__fish_seen_subcommand_from archive verify' -a '(__fish_complete_directories)'
 complete -c msrepack -n '__fish_seen_subcommand_from repack feed archive' -x -l length \
     -a '256 512 1024 2048 4096 8192 16384 32768 65536' -d 'Bytes of each record'
 complete -c msrepack -n '__fish_seen_subcommand_from archive' -x -l length -a same -d 'That of each first record'
@@ -24,7 +25,8 @@ complete -c msrepack -n '__fish_seen_subcommand_from repack feed list compare ar
     -d 'Microseconds by which a record may be early or late'
 complete -c msrepack -n '__fish_seen_subcommand_from repack feed list archive' -l strict \
     -d 'Refuse a record whose last sample is not its reverse constant'
-complete -c msrepack -n '__fish_seen_subcommand_from archive' -x -l below -d 'Walk only this folder, by its path from ROOT'
+complete -c msrepack -n '__fish_seen_subcommand_from archive verify' -x -l below \
+    -d 'Walk only this folder, by its path from ROOT'
 complete -c msrepack -n '__fish_seen_subcommand_from archive' -l resume -d 'Leave files alone that an earlier walk did'
 complete -c msrepack -n '__fish_seen_subcommand_from archive' -l check -d 'Hold records against their report and their file'
 complete -c msrepack -n '__fish_seen_subcommand_from archive' -l only-smaller -d 'Keep only what gets smaller in bytes'

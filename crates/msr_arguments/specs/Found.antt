@@ -17,7 +17,8 @@ use Rattle.msr_arguments.specs.declared.task.Folders.{Folders}
 use Rattle.msr_arguments.specs.declared.task.NoTask.{NoTask}
 use Rattle.msr_arguments.specs.declared.task.NoTask.TheVariants.{Ending, Memory}
 use Rattle.msr_arguments.specs.declared.task.Task.{Task}
-use Rattle.msr_arguments.specs.declared.task.Task.TheVariants.{Repack, List as Listing, Check, Compare, Archive, Feed}
+use Rattle.msr_arguments.specs.declared.task.Task.TheVariants.{Repack, List as Listing, Check, Compare, Archive, Verify, Feed}
+use Rattle.msr_arguments.specs.declared.task.Verifying.{Verifying}
 
 -- the number of 32 bits that a text is in decimal digits, with or without a plus before them; `None` if there is no
 -- text, or it is no such number
@@ -105,6 +106,11 @@ pub record AsksArchive (found : Found) (asked : Archiving) : Type 0 where
   pub below : AsksBelow found (map (λ folder. folder.now) asked.below.items)
   pub days : AsksDays found asked.days
 
+-- the repack of an archive is to be verified as was found
+pub record AsksVerify (found : Found) (asked : Verifying) : Type 0 where
+  pub folders : AsksFolders found asked.folders
+  pub below : AsksBelow found (map (λ folder. folder.now) asked.below.items)
+
 -- the names of a check are those of its words
 pub record AsksCheck (found : Found) (checking : Checking) : Type 0 where
   pub packed : first_value found (codes "PACKED") ≡ Some checking.packed.now
@@ -121,6 +127,7 @@ AsksTask found (Check asked) = AsksCheck found asked
 AsksTask found (Compare asked) = AsksOptions found (length_in found) asked.options
     × (first_value found (codes "ONE") ≡ Some asked.one.now) × (first_value found (codes "OTHER") ≡ Some asked.other.now)
 AsksTask found (Archive asked) = AsksArchive found asked
+AsksTask found (Verify asked) = AsksVerify found asked
 AsksTask found (Feed asked) =
     AsksOptions found (length_in found) asked.options × (first_value found (codes "REPORT") ≡ Some asked.report.now)
 
@@ -131,6 +138,7 @@ command_of (Listing asked) = codes "list"
 command_of (Check asked) = codes "check"
 command_of (Compare asked) = codes "compare"
 command_of (Archive asked) = codes "archive"
+command_of (Verify asked) = codes "verify"
 command_of (Feed asked) = codes "feed"
 
 -- clap was asked for help or for the version

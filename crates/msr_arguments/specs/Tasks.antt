@@ -5,7 +5,7 @@ use Rattle.msr_kinds.specs.declared.kinds.Kinds.TheVariants.{All}
 use Rattle.msr_options.specs.Choice.{Choice, size_of}
 use Rattle.msr_arguments.specs.declared.task.Folders.{Folders}
 use Rattle.msr_arguments.specs.declared.task.Task.{Task}
-use Rattle.msr_arguments.specs.declared.task.Task.TheVariants.{Repack, List as Listing, Check, Compare, Archive, Feed}
+use Rattle.msr_arguments.specs.declared.task.Task.TheVariants.{Repack, List as Listing, Check, Compare, Archive, Verify, Feed}
 use Rattle.msr_arguments.specs.declared.task.NoTask.{NoTask}
 use Rattle.msr_arguments.specs.declared.task.NoTask.TheVariants.{Ending, Memory}
 
@@ -14,13 +14,14 @@ pub record IsTolerance (tolerance : ℕ) : Type 0 where
   pub least : 1 ≤ tolerance
   pub most : tolerance ≤ 1_000_000
 
--- the tolerance that is asked for is in its range; a check takes that of the report
+-- the tolerance that is asked for is in its range; checking and verifying take that of the report
 abbrev pub HasTolerance : Task → Type 0
 HasTolerance (Repack asked) = IsTolerance asked.options.tolerance
 HasTolerance (Listing asked) = IsTolerance asked.options.tolerance
 HasTolerance (Check asked) = ⊤
 HasTolerance (Compare asked) = IsTolerance asked.options.tolerance
 HasTolerance (Archive asked) = IsTolerance asked.days.options.tolerance
+HasTolerance (Verify asked) = ⊤
 HasTolerance (Feed asked) = IsTolerance asked.options.tolerance
 
 -- the path begins with the folder's name and a slash
@@ -53,6 +54,7 @@ KeepsInput (Listing asked) = ⊤
 KeepsInput (Check asked) = ⊤
 KeepsInput (Compare asked) = ¬ (AreBothStandard asked.one.now asked.other.now)
 KeepsInput (Archive asked) = StandApart asked.folders
+KeepsInput (Verify asked) = StandApart asked.folders
 KeepsInput (Feed asked) = ⊤
 
 -- the options that have these numbers and these kinds
@@ -71,6 +73,7 @@ IsDefault (Listing asked) = ⊥
 IsDefault (Check asked) = ⊥
 IsDefault (Compare asked) = ⊥
 IsDefault (Archive asked) = ⊥
+IsDefault (Verify asked) = ⊥
 IsDefault (Feed asked) = ⊥
 
 -- a bad command line: the text to end with, and status 2, unless memory is refused

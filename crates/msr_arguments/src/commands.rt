@@ -217,6 +217,25 @@ fn archive<'a>(alloc: Global) -> Result<Command<'a>, AllocError> {
     )
 }
 
+fn verify<'a>(alloc: Global) -> Result<Command<'a>, AllocError> {
+    let command = described(
+        alloc,
+        "verify",
+        texts::VERIFY_ABOUT,
+        texts::VERIFY_LONG_ABOUT,
+        texts::VERIFY_AFTER,
+    );
+    files(
+        alloc,
+        command.arg(below(alloc))?,
+        &[
+            ("ROOT", texts::ROOT),
+            ("OUT", texts::VERIFIED_OUT),
+            ("REPORTS", texts::VERIFIED_REPORTS),
+        ],
+    )
+}
+
 /// The commands.
 #[derive(Clone, Copy)]
 enum Verb {
@@ -225,6 +244,7 @@ enum Verb {
     Check,
     Compare,
     Archive,
+    Verify,
     Feed,
 }
 
@@ -235,6 +255,7 @@ fn command_for<'a>(alloc: Global, verb: Verb) -> Result<Command<'a>, AllocError>
         Verb::Check => check(alloc),
         Verb::Compare => compare(alloc),
         Verb::Archive => archive(alloc),
+        Verb::Verify => verify(alloc),
         Verb::Feed => feed(alloc),
     }
 }
@@ -262,6 +283,7 @@ pub(crate) fn command<'a>(alloc: Global) -> Result<Command<'a>, AllocError> {
         Verb::Check,
         Verb::Compare,
         Verb::Archive,
+        Verb::Verify,
         Verb::Feed,
     ] {
         command = command.subcommand(command_for(alloc, verb)?)?;

@@ -67,6 +67,14 @@ pub struct Archiving<'a> {
     pub days: DayOptions,
 }
 
+/// An archive whose repack is to be verified.
+#[derive(Debug, Drop, PartialEq, Eq)]
+pub struct Verifying<'a> {
+    pub folders: Folders<'a>,
+    /// The paths, from the archive's folder, of the folders that are walked; none for the whole archive.
+    pub below: Vec<&'a str>,
+}
+
 /// What the program is asked to do.
 #[derive(Debug, Drop, PartialEq, Eq)]
 pub enum Task<'a> {
@@ -75,6 +83,7 @@ pub enum Task<'a> {
     Check(Checking<'a>),
     Compare(Comparing<'a>),
     Archive(Archiving<'a>),
+    Verify(Verifying<'a>),
     Feed(Feeding<'a>),
 }
 

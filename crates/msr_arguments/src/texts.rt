@@ -32,7 +32,8 @@ Examples:
   msrepack repack --length 4096 day.mseed packed.mseed > packed.txt
   msrepack check packed.mseed packed.txt
   msrepack compare day.mseed packed.mseed
-  msrepack archive sds packed reports";
+  msrepack archive sds packed reports
+  msrepack verify sds packed reports";
 
 /// What `repack` does, in a line.
 pub(crate) const REPACK_ABOUT: &str =
@@ -197,6 +198,52 @@ Status 0 if all was walked and nothing refused, else 1; 2 if the command line is
 pub(crate) const ARCHIVE_AFTER: &str = "Examples:
   msrepack archive --no-int24 --length 4096 sds packed reports > log.txt
   msrepack archive --no-int24 --resume --check --below 2020/XX sds packed reports > log.txt";
+
+/// What `verify` does, in a line.
+pub(crate) const VERIFY_ABOUT: &str =
+    "Says of every day file of an SDS archive whether its repack holds";
+
+/// What `verify` does.
+pub(crate) const VERIFY_LONG_ABOUT: &str =
+    "Says of every day file of an archive whether its records, as `archive` made them, have
+the same data and are the fewest. No file is made, changed or locked.
+
+Walks the folders below ROOT as `archive` does, and prints one line for each entry:
+
+verified PATH                         its report shows that the records are the fewest,
+                                      as `check` says, and file and records have the same
+                                      segments, as `compare` says, read with the tolerance
+                                      that the report tells
+missing PATH                          no records, or no report, are there
+notshown PATH                         the report does not show that
+differs PATH                          file and records have not the same segments
+refused PATH: file: TEXT              a fault of the file, as `offset 512: 1 Truncated`,
+                                      or `read fault`, `out of memory` or `cannot open`
+refused PATH: records: TEXT           one of the records, also `the file itself`, if they
+                                      are or may be the file of ROOT
+refused PATH: report: TEXT            one of the report, as `line 7`
+refused PATH: listing                 a folder that cannot be listed; of OUT `records:
+                                      listing`
+skipped PATH: TEXT                    no day of waveform data, as `archive` tells it
+orphan PATH                           after all others: a day of OUT, where ROOT has
+                                      nothing
+
+and last the counts, of days that are verified first:
+
+files N skipped N refused N missing N notshown N differs N orphan N
+
+Status 0 if all is verified or skipped, else 1; 2 if the command line is wrong.";
+
+/// Examples of `verify`.
+pub(crate) const VERIFY_AFTER: &str = "Examples:
+  msrepack verify sds packed reports > log.txt
+  msrepack verify --below 2020/XX sds packed reports | grep -v ^verified";
+
+/// The second folder of `verify`.
+pub(crate) const VERIFIED_OUT: &str = "The folder of the records";
+
+/// The third folder of `verify`.
+pub(crate) const VERIFIED_REPORTS: &str = "The folder of the reports";
 
 /// What `feed` does, in a line.
 pub(crate) const FEED_ABOUT: &str = "Repacks standard input to standard output while it comes";

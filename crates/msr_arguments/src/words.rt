@@ -2,12 +2,13 @@
 ghost use Rattle.std.specs.Prelude.{◌≡◌, ◌≢◌, ◌<◌, ◌↔◌, ℕ, length, codes, false, Some, IfOk, IfErr, IfSome, IsSome, IsOk, IsOkAnd, IsTrue, Any, map, option_map};
 ghost use Rattle.msr_kinds.specs.RecordLength.{IsRecordLength};
 ghost use Rattle.clap.specs.Words.{first_value, found_of, kind_of, one_text, subcommand_name_of};
-ghost use Rattle.msr_arguments.specs.Found.{AsksArchive, AsksBelow, AsksCheck, AsksDays, AsksFlags, AsksFolders, AsksOptions, AsksTask, EndsFor, HoldsOptions, IsFlagOf, IsKindsOf, IsLengthOf, IsNumberOf, command_of, without_slash};
+ghost use Rattle.msr_arguments.specs.Found.{AsksArchive, AsksBelow, AsksCheck, AsksDays, AsksFlags, AsksFolders, AsksOptions, AsksTask, AsksVerify, EndsFor, HoldsOptions, IsFlagOf, IsKindsOf, IsLengthOf, IsNumberOf, command_of, without_slash};
 ghost use Rattle.msr_arguments.specs.Tasks.{AreApart, AreBothStandard, AreOptions, HasStatus, HasTolerance, IsBadLine, IsBelow, IsDefault, IsTolerance, IsWrong, KeepsInput, Overlap, StandApart};
 
 use crate::commands::command;
 use crate::task::{
     Archiving, Checking, Comparing, Ending, Feeding, Folders, Listing, NoTask, Repacking, Task,
+    Verifying,
 };
 use crate::texts;
 use clap::ArgMatches;
@@ -356,6 +357,35 @@ fn archiving_in<'a>(alloc: Global, found: &ArgMatches<'a>) -> Result<Archiving<'
     }
 }
 
+/// An archive whose repack is to be verified, exactly if no two folders overlap.
+fn verifying_of<'a>(
+    alloc: Global,
+    folders: Folders<'a>,
+    below: Vec<&'a str>,
+) -> Result<Verifying<'a>, NoTask>
+    ensures ok { IsOk result ↔ StandApart folders.entry }
+    ensures asked { IfOk result (λ asked. (asked.folders ≡ folders.entry) × (asked.below ≡ below.entry)) }
+    ensures status { IfErr result IsBadLine }
+{
+    if !stand_apart(folders) {
+        return Err(wrong(alloc, texts::OVERLAP));
+    }
+    Ok(Verifying { folders, below })
+}
+
+/// The archive that clap found, whose repack is to be verified.
+fn verifying_in<'a>(alloc: Global, found: &ArgMatches<'a>) -> Result<Verifying<'a>, NoTask>
+    ensures asked { IfOk result (AsksVerify (found_of found.now)) }
+    ensures apart { IfOk result (λ asked. StandApart asked.folders) }
+    ensures status { IfErr result IsBadLine }
+{
+    let below = below_in(alloc, found)?;
+    match folders_in(found) {
+        Some(folders) => verifying_of(alloc, folders, below),
+        None => Err(wrong(alloc, texts::NO_COMMAND)),
+    }
+}
+
 /// The value of this name.
 fn given<'a>(alloc: Global, found: &ArgMatches<'a>, name: &str) -> Result<&'a str, NoTask>
     ensures asked { IfOk result (λ text. first_value (found_of found.now) name.now ≡ Some text.now) }
@@ -452,6 +482,9 @@ fn task_in<'a>(alloc: Global, name: &str, found: &ArgMatches<'a>) -> Result<Task
     }
     if name == "archive" {
         return Ok(Task::Archive(archiving_in(alloc, found)?));
+    }
+    if name == "verify" {
+        return Ok(Task::Verify(verifying_in(alloc, found)?));
     }
     let options = options_in(alloc, found, found.get_str("length"))?;
     if name == "feed" {

@@ -15,16 +15,18 @@ use Rattle.msr_tool.specs.declared.fault.ToolFault.TheVariants as fault
 use Rattle.msr_days.specs.declared.DayOptions.{DayOptions}
 use Rattle.msr_walk.specs.Walk.{IsWalk, Walks}
 use Rattle.msr_walk.proofs.EntriesTold.{part_none, stops_entries, walk_stops}
+use Rattle.msr_verify.specs.Walk.{IsWalk as IsVerifying, Verifies}
+use Rattle.msr_verify.proofs.EntriesFound.{part_none as none_found, stops_entries as stops_found, walk_stops as verifying_stops}
 use Rattle.msr_command.specs.declared.done.Done.{Done}
 use Rattle.msr_command.specs.declared.done.Done.TheVariants.{Written, Repacked, Checked, Compared, Walked}
 use Rattle.msr_command.specs.declared.task_fault.TaskFault.{TaskFault}
 use Rattle.msr_command.specs.declared.task_fault.TaskFault.TheVariants.{CannotOpen, Input, SameFile, SameOutput, Overlap, Closed, Tool}
 use Rattle.msr_arguments.specs.declared.task.Task.{Task}
-use Rattle.msr_arguments.specs.declared.task.Task.TheVariants.{Repack, List as Listing, Check, Compare, Archive, Feed}
+use Rattle.msr_arguments.specs.declared.task.Task.TheVariants.{Repack, List as Listing, Check, Compare, Archive, Verify, Feed}
 use Rattle.msr_command.specs.Turns.{AreTurns}
 use Rattle.msr_command.specs.Comparing.{names_of}
 use Rattle.msr_command.proofs.Comparisons.{compare_unsettled, two_after, two_none}
-use Rattle.msr_command.specs.Ends.{Checks, Does, Ends, EndsClosed, Feeds, FeedAnswers, FeedEnds, FeedsTo, IfChecked, IfRepacked, IfWritten, IsUncreated, IsUnread, ListEnds, ListsNamed, Over, RepackEnds, Repacks, RepacksNamed, StopsRecords, StopsReport, WalksArchive, WritesList, WritesRecords, WritesReport}
+use Rattle.msr_command.specs.Ends.{Checks, Does, Ends, EndsClosed, Feeds, FeedAnswers, FeedEnds, FeedsTo, IfChecked, IfRepacked, IfWritten, IsUncreated, IsUnread, ListEnds, ListsNamed, IsOverlapOrMemory, Over, RepackEnds, Repacks, RepacksNamed, StopsRecords, StopsReport, VerifiesArchive, WalksArchive, WritesList, WritesRecords, WritesReport}
 
 -- nothing was read or printed
 over_none : (known : Type 0) (says : (input printed : List ℕ) → Type 0) (source out0 out : Device) → Takes out0 out [] →
@@ -139,6 +141,8 @@ task_closed (Compare asked) standard out0 out stop none ends =
     rw ends (two_none _ _ _ standard standard out0 out none (λ first second. refl))
 task_closed (Archive asked) standard out0 out stop none ends =
     rw ends (record { printed = []; prints = none; ends = refl })
+task_closed (Verify asked) standard out0 out stop none ends =
+    rw ends (record { printed = []; prints = none; ends = refl })
 task_closed (Feed asked) standard out0 out stop none ends = feed_closed asked.options standard out0 out stop none ends
 
 pub then_does : (task : Task) (standard out0 out1 out : Device) (result : Result Done TaskFault) → Takes out0 out1 [] →
@@ -155,6 +159,11 @@ then_does (Check asked) standard out0 out1 out result none does = record {
 then_does (Compare asked) standard out0 out1 out result none does =
     two_after _ _ _ standard standard out0 out1 out none does
 then_does (Archive asked) standard out0 out1 out result none does = record {
+  printed = does.printed;
+  ends = does.ends;
+  prints = takes_append out0 out1 out [] does.printed none does.prints;
+}
+then_does (Verify asked) standard out0 out1 out result none does = record {
   printed = does.printed;
   ends = does.ends;
   prints = takes_append out0 out1 out [] does.printed none does.prints;
@@ -242,15 +251,29 @@ pub archive_stops : (asked : DayOptions) (out0 out : Device) (why : ToolFault) �
     WalksArchive asked out0 out (Err (Tool why))
 archive_stops asked out0 out why does = record { printed = does.printed; prints = does.prints; ends = does.ends }
 
--- folders overlap
-pub archive_overlaps : (asked : DayOptions) (out : Device) → WalksArchive asked out out (Err Overlap)
-archive_overlaps asked out = record { printed = []; prints = takes_none out; ends = (tt, refl) }
-
--- memory was refused before the walk began
-pub archive_unbegun : (asked : DayOptions) (out : Device) → WalksArchive asked out out (Err (Tool fault.Memory))
-archive_unbegun asked out = archive_stops asked out out fault.Memory
+-- folders overlap, or memory was refused before the walk began
+pub archive_unbegun : (asked : DayOptions) (out : Device) (stop : TaskFault) → IsOverlapOrMemory stop
+    → WalksArchive asked out out (Err stop)
+archive_unbegun asked out stop (inl overlap) = rw overlap
+    (record { printed = []; prints = takes_none out; ends = (tt, refl) })
+archive_unbegun asked out stop (inr refused) = rw refused (archive_stops asked out out fault.Memory
     (walk_stops asked out out fault.Memory
-    (stops_entries asked out out fault.Memory (part_none asked out, (calm_same out).steady)))
+    (stops_entries asked out out fault.Memory (part_none asked out, (calm_same out).steady))))
+
+pub verify_done : (out0 out : Device) (unverified : Bool) → Verifies out0 out (Ok unverified) →
+    VerifiesArchive out0 out (Ok (Walked unverified))
+verify_done out0 out unverified does = record { printed = does.printed; prints = does.prints; ends = does.ends }
+
+pub verify_stops : (out0 out : Device) (why : ToolFault) → Verifies out0 out (Err why) →
+    VerifiesArchive out0 out (Err (Tool why))
+verify_stops out0 out why does = record { printed = does.printed; prints = does.prints; ends = does.ends }
+
+pub verify_unbegun : (out : Device) (stop : TaskFault) → IsOverlapOrMemory stop → VerifiesArchive out out (Err stop)
+verify_unbegun out stop (inl overlap) = rw overlap
+    (record { printed = []; prints = takes_none out; ends = (tt, refl) })
+verify_unbegun out stop (inr refused) = rw refused (verify_stops out out fault.Memory
+    (verifying_stops out out fault.Memory
+    (stops_found out out fault.Memory (none_found out, (calm_same out).steady))))
 
 -- what was printed is not stored
 
@@ -331,6 +354,17 @@ task_unsettled (Archive asked) standard out0 out (Checked verdict) does = absurd
 task_unsettled (Archive asked) standard out0 out (Compared comparison) does = absurd does.ends
 task_unsettled (Archive asked) standard out0 out (Walked refused) does =
     let P : List ℕ → Type 0 = λ text. IsWalk asked.days text does.ends.0 in
+    record {
+      printed = does.printed;
+      prints = does.prints;
+      ends = record { entries = does.ends.0; rest = []; walk = subst P (sym (append-nil does.printed)) does.ends.1 };
+    }
+task_unsettled (Verify asked) standard out0 out Written does = absurd does.ends
+task_unsettled (Verify asked) standard out0 out (Repacked in_turns) does = absurd does.ends
+task_unsettled (Verify asked) standard out0 out (Checked verdict) does = absurd does.ends
+task_unsettled (Verify asked) standard out0 out (Compared comparison) does = absurd does.ends
+task_unsettled (Verify asked) standard out0 out (Walked refused) does =
+    let P : List ℕ → Type 0 = λ text. IsVerifying text does.ends.0 in
     record {
       printed = does.printed;
       prints = does.prints;

@@ -13,6 +13,8 @@ use Rattle.msr_verdict.specs.declared.verdict.Verdict.{Verdict}
 use Rattle.msr_verdict.specs.declared.verdict.Verdict.TheVariants.{Least, NotShown}
 use Rattle.msr_tool.specs.declared.fault.ToolFault.{ToolFault}
 use Rattle.msr_walk.specs.Walk.{WalkEnds}
+use Rattle.msr_verify.specs.Walk.{WalkEnds as VerifyingEnds}
+use Rattle.msr_tool.specs.declared.fault.ToolFault.TheVariants as fault
 use Rattle.msr_compare.specs.declared.comparison.Comparison.{Comparison}
 use Rattle.msr_compare.specs.declared.comparison.Comparison.TheVariants.{Same, Differ}
 use Rattle.msr_command.specs.declared.done.Done.{Done}
@@ -25,11 +27,11 @@ use Rattle.msr_command.specs.Turns.{AreTurns}
 use Rattle.msr_arguments.specs.declared.task.NoTask.{NoTask}
 use Rattle.msr_arguments.specs.declared.task.NoTask.TheVariants.{Ending, Memory}
 use Rattle.msr_arguments.specs.declared.task.Task.{Task}
-use Rattle.msr_arguments.specs.declared.task.Task.TheVariants.{Repack, List as Listing, Check, Compare, Archive, Feed}
+use Rattle.msr_arguments.specs.declared.task.Task.TheVariants.{Repack, List as Listing, Check, Compare, Archive, Verify, Feed}
 use Rattle.msr_arguments.specs.Tasks.{HasStatus, IsDefault}
 
 -- 0 for what was written, is least or is the same, 3 for what is not shown or differs, 1 for a walk on which an entry was
--- refused
+-- refused, or not verified
 abbrev pub status_of_done : Done → ℕ
 status_of_done Written = 0
 status_of_done (Repacked in_turns) = 0
@@ -82,6 +84,10 @@ IsOverlap SameOutput = ⊥
 IsOverlap Overlap = ⊤
 IsOverlap Closed = ⊥
 IsOverlap (Tool fault) = ⊥
+
+-- folders overlap, or memory was refused
+abbrev pub IsOverlapOrMemory : TaskFault → Type 0
+IsOverlapOrMemory stop = (stop ≡ Overlap) ⊎ (stop ≡ Tool fault.Memory)
 
 -- what it says that a task was done by writing, by a repack, by a verdict, by an answer, or by a walk
 abbrev pub IfWritten : Type 0 → Done → Type 0
@@ -266,6 +272,17 @@ pub record WalksArchive (asked : DayOptions) (out0 out : Device) (result : Resul
   pub prints : Takes out0 out printed
   pub ends : ArchiveEnds asked printed result
 
+abbrev pub VerifyEnds : (printed : List ℕ) → Result Done TaskFault → Type 0
+VerifyEnds printed result =
+    Ends (IfWalked (λ unverified. VerifyingEnds printed (Ok unverified))) IsOverlap
+    (λ fault. VerifyingEnds printed (Err fault)) printed result
+
+-- Verifying the repack of an archive, and what was printed.
+pub record VerifiesArchive (out0 out : Device) (result : Result Done TaskFault) : Type 0 where
+  pub printed : List ℕ
+  pub prints : Takes out0 out printed
+  pub ends : VerifyEnds printed result
+
 -- A call was made, and it failed or was interrupted.
 pub record WasRefused (old new : Device) : Type 0 where
   pub error : Error
@@ -284,6 +301,7 @@ EndsClosed (Listing asked) stop = stop ≡ Closed
 EndsClosed (Check asked) stop = stop ≡ Closed
 EndsClosed (Compare asked) stop = stop ≡ Closed
 EndsClosed (Archive asked) stop = stop ≡ Closed
+EndsClosed (Verify asked) stop = stop ≡ Closed
 EndsClosed (Feed asked) stop = (stop ≡ Closed) ⊎ IsUncreated stop
 
 -- what doing a task reads and prints, and how it ends
@@ -294,6 +312,7 @@ Does (Check asked) standard out0 out result = Checks out0 out result
 Does (Compare asked) standard out0 out result =
     ComparesNamed asked.options (names_of asked) standard out0 out result
 Does (Archive asked) standard out0 out result = WalksArchive asked.days out0 out result
+Does (Verify asked) standard out0 out result = VerifiesArchive out0 out result
 Does (Feed asked) standard out0 out result = Feeds asked.options standard out0 out result
 
 -- The words ask for a task, with none for the default, and it ended with this status.

@@ -5,7 +5,7 @@ use Rattle.msr_hints.specs.Hints.{IsOfBytes, line_of}
 use Rattle.msr_hints.specs.declared.hint.Hint.{Hint}
 use Rattle.msr_hints.specs.declared.hint.Hint.TheVariants.{Folder, System, Turns}
 use Rattle.msr_arguments.specs.declared.task.Task.{Task}
-use Rattle.msr_arguments.specs.declared.task.Task.TheVariants.{Repack, List as Listing, Check, Compare, Archive, Feed}
+use Rattle.msr_arguments.specs.declared.task.Task.TheVariants.{Repack, List as Listing, Check, Compare, Archive, Verify, Feed}
 use Rattle.msr_input.specs.declared.fault.ReadFault.{ReadFault}
 use Rattle.msr_tool.specs.Fault.{fault_of_reading}
 use Rattle.msr_tool.specs.declared.fault.ToolFault.{ToolFault}
@@ -29,6 +29,7 @@ AreFilesOf (Listing asked) read = IsInput asked.input.now read
 AreFilesOf (Check asked) read = (read.records ≡ Some asked.packed) × (read.report ≡ Some asked.report)
 AreFilesOf (Compare asked) read = (read.records ≡ None) × (read.report ≡ None)
 AreFilesOf (Archive asked) read = (read.records ≡ None) × (read.report ≡ None)
+AreFilesOf (Verify asked) read = (read.records ≡ None) × (read.report ≡ None)
 AreFilesOf (Feed asked) read = (read.records ≡ None) × (read.report ≡ None)
 
 -- the bytes of a file tell it, if there is a file

@@ -16,7 +16,7 @@ pub(crate) enum Done {
     Checked(Verdict),
     /// An answer was printed.
     Compared(Comparison),
-    /// An archive was walked to its end, and an entry was refused, or none.
+    /// An archive was walked to its end, and an entry was refused, or not verified, or none.
     Walked { refused: bool },
 }
 

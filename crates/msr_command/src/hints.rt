@@ -30,7 +30,7 @@ impl<'a> FilesRead<'a> {
                 records: Some(asked.packed),
                 report: Some(asked.report),
             },
-            Task::Compare(_) | Task::Archive(_) | Task::Feed(_) => FilesRead {
+            Task::Compare(_) | Task::Archive(_) | Task::Verify(_) | Task::Feed(_) => FilesRead {
                 records: None,
                 report: None,
             },

@@ -1,7 +1,8 @@
 //! The tasks of the program, over the system's files, and over any source and sink in the place of standard input and
 //! output.
+ghost use Rattle.std.specs.Prelude.{IfErr};
 ghost use Rattle.msr_devices.specs.Device.{CanCountCall};
-ghost use Rattle.msr_command.specs.Ends.{Checks, Does, EndsClosed, Feeds, FeedsTo, ListsNamed, OpensOutput, Repacks, RepacksNamed, WalksArchive};
+ghost use Rattle.msr_command.specs.Ends.{Checks, Does, EndsClosed, Feeds, FeedsTo, IsOverlapOrMemory, ListsNamed, OpensOutput, Repacks, RepacksNamed, VerifiesArchive, WalksArchive};
 
 use crate::comparing::compare_files;
 use crate::done::Done;
@@ -10,12 +11,14 @@ use crate::files::{
 };
 use crate::task_fault::TaskFault;
 use crate::turns::is_in_turns;
-use msr_arguments::{Archiving, Checking, Feeding, Listing, Repacking, Task};
+use msr_arguments::{Archiving, Checking, Feeding, Folders, Listing, Repacking, Task, Verifying};
+use msr_folders::folders_overlap;
 use msr_tool::{
     FromRead, FromWrite, Options, Sink, Source, ToolFault, check_and_tell, feed_and_report,
     list_segments, repack_and_report,
 };
-use msr_walk::{Archive, LockFile, folders_overlap, settle, walk};
+use msr_verify::{RepackedArchive, verify};
+use msr_walk::{Archive, LockFile, settle, walk};
 use std::alloc::Global;
 use std::fs::OpenFile;
 use std::io;
@@ -67,6 +70,7 @@ where
         Task::Check(asked) => check_files(rt, alloc, asked, output),
         Task::Compare(asked) => compare_files(rt, alloc, asked, input, output),
         Task::Archive(asked) => repack_archive(rt, alloc, asked, output),
+        Task::Verify(asked) => verify_archive(rt, alloc, asked, output),
         Task::Feed(asked) => feed_input(rt, alloc, asked, input, output),
     }
 }
@@ -266,6 +270,22 @@ fn check_files<'a, R: Files, O: Sink>(
     Ok(Done::Checked(verdict))
 }
 
+/// None of the folders of an archive is another or stands below it, by whatever names.
+fn require_apart<'a, R: Files>(
+    rt: &R,
+    alloc: Global,
+    folders: Folders<'_>,
+) -> Result<(), TaskFault<'a>>
+    ensures { IfErr result IsOverlapOrMemory }
+{
+    let Folders { root, out, reports } = folders;
+    match folders_overlap(rt, alloc, root, out, reports) {
+        Ok(true) => Err(TaskFault::Overlap),
+        Ok(false) => Ok(()),
+        Err(_) => Err(TaskFault::Tool(ToolFault::Memory)),
+    }
+}
+
 fn repack_archive<'a, R: Files, O: Sink>(
     rt: &R,
     alloc: Global,
@@ -289,11 +309,28 @@ where
         below: below.as_slice(),
         days,
     };
-    match folders_overlap(rt, alloc, &archive) {
-        Ok(true) => return Err(TaskFault::Overlap),
-        Ok(false) => {}
-        Err(_) => return Err(TaskFault::Tool(ToolFault::Memory)),
-    }
+    require_apart(rt, alloc, folders)?;
     let refused = walk(rt, alloc, &archive, output)?;
+    Ok(Done::Walked { refused })
+}
+
+fn verify_archive<'a, R: Files, O: Sink>(
+    rt: &R,
+    alloc: Global,
+    asked: Verifying<'a>,
+    output: &mut O,
+) -> Result<Done, TaskFault<'a>>
+    requires { CanCountCall (O.device output.old) }
+    ensures { VerifiesArchive (O.device output.old) (O.device output.new) result }
+{
+    let Verifying { folders, below } = asked;
+    require_apart(rt, alloc, folders)?;
+    let archive = RepackedArchive {
+        root: folders.root,
+        out: folders.out,
+        reports: folders.reports,
+        below: below.as_slice(),
+    };
+    let refused = verify(rt, alloc, &archive, output)?;
     Ok(Done::Walked { refused })
 }

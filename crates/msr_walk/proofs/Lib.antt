@@ -2,4 +2,3 @@ pub mod EntriesTold
 pub mod Days
 pub mod Compared
 pub mod ChannelLines
-pub mod FolderLemmas

@@ -2,14 +2,15 @@
 use Rattle.std.specs.Prelude.{◌≡◌, ◌+◌, ℕ, ⊤, Bool, true, false, List, [], ◌∷◌, ◌++◌, map, codes}
 use Rattle.std.specs.Fmt.{decimal}
 use Rattle.std.specs.List.{count_by, flat_map, sum_by}
-use Rattle.msr_sds.specs.SdsPath.{SdsPath, ReadsAs, ReadsAsDay, IsWaveform, HasDate}
+use Rattle.msr_sds.specs.SdsPath.{SdsPath, ReadsAsDay}
 use Rattle.msr_sds.specs.declared.SdsFault.{SdsFault}
-use Rattle.msr_sds.specs.declared.SdsFault.TheVariants.{NotSds, NotWaveform, BadDay}
 use Rattle.msr_totals.specs.Totals.{Add, saturated, totals_of}
 use Rattle.msr_totals.specs.declared.Total.{Total}
 use Rattle.msr_days.specs.declared.DayOptions.{DayOptions}
 use Rattle.msr_walk.specs.Day.{IsOutcomeOfDay}
-use Rattle.msr_walk.specs.Paths.{channel_of, shown_path}
+use Rattle.msr_folders.specs.Days.{IsNoDay}
+use Rattle.msr_folders.specs.Paths.{shown_path}
+use Rattle.msr_walk.specs.Paths.{channel_of}
 use Rattle.msr_walk.specs.declared.outcome.Outcome.{Outcome}
 use Rattle.msr_walk.specs.declared.outcome.Outcome.TheVariants.{Done, Same, Skipped, Refused, NotShown as Unshown, Differs as Different, Larger as Grown}
 use Rattle.msr_walk.specs.declared.outcome.DayFault.TheVariants.{CannotOpen, Gone, Listing, NotShown, Differs, Larger, ClaimedByAnother, Tool}
@@ -27,12 +28,6 @@ pub record IsDayOf (path channel : List ℕ) : Type 0 where
   pub name : SdsPath
   pub reads : ReadsAsDay path name
   pub channel_is : channel ≡ channel_of name
-
--- the path is that of no day of waveform data, with the first reason
-abbrev pub IsNoDay : List ℕ → SdsFault → Type 0
-IsNoDay path NotSds = (name : SdsPath) → ¬ (ReadsAs path name)
-IsNoDay path NotWaveform = (name : SdsPath) × ReadsAs path name × ¬ (IsWaveform name)
-IsNoDay path BadDay = (name : SdsPath) × ReadsAs path name × IsWaveform name × ¬ (HasDate name)
 
 -- the entry is a day, with this outcome
 pub record IsToldOfDay (asked : DayOptions) (path channel : List ℕ) (outcome : Outcome) : Type 0 where

@@ -1,18 +1,7 @@
 -- The names of files.
 use Rattle.std.specs.Prelude.{ℕ, List, [], ◌∷◌, ◌++◌, codes}
 use Rattle.std.specs.Fmt.{decimal}
-use Rattle.std.specs.List.{before_last}
-use Rattle.msr_sds.specs.Folders.{is_slash}
-use Rattle.msr_walk.specs.Paths.{joined}
-
--- the folder of a path: what stands before its last slash, nothing if it has none
-abbrev pub folder_of : List ℕ → List ℕ
-folder_of path = before_last is_slash path
-
--- a name with an ending; the path that no file has gets none
-abbrev pub ended : (path ending : List ℕ) → List ℕ
-ended [] ending = []
-ended (p ∷ path) ending = (p ∷ path) ++ ending
+use Rattle.msr_folders.specs.Paths.{ended, joined}
 
 -- the names of a new file: the one that it gets, and the one beside it under which it is written
 pub record FileNames : Type 0 where

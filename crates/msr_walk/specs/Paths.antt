@@ -1,30 +1,7 @@
--- The paths of a walk.
-use Rattle.std.specs.Prelude.{ℕ, List, [], ◌∷◌, ◌++◌, cond, codes}
-use Rattle.std.specs.Char.{encode_utf8, is_ascii_control}
-use Rattle.std.specs.List.{flat_map}
-use Rattle.std.specs.Str.{chars}
-use Rattle.msr_report.specs.Text.{hex_text}
+-- The names of channels.
+use Rattle.std.specs.Prelude.{ℕ, List, ◌++◌, codes}
 use Rattle.msr_sds.specs.SdsPath.{SdsPath}
-
--- what stands below a folder; below a folder without a name the path that no file has
-abbrev pub joined : (folder path : List ℕ) → List ℕ
-joined [] path = []
-joined (f ∷ folder) [] = f ∷ folder
-joined (f ∷ folder) (p ∷ path) = (f ∷ folder) ++ (codes "/" ++ (p ∷ path))
-
--- an entry of a folder, counted from the archive's own folder, whose path is empty
-abbrev pub below : (folder name : List ℕ) → List ℕ
-below [] name = name
-below (f ∷ folder) name = (f ∷ folder) ++ (codes "/" ++ name)
 
 -- NET.STA.LOC.CHAN
 abbrev pub channel_of : SdsPath → List ℕ
 channel_of p = p.network ++ (codes "." ++ (p.station ++ (codes "." ++ (p.location ++ (codes "." ++ p.channel)))))
-
--- a character as it is printed: a control character as `%` and the two hexadecimal digits of its byte
-abbrev pub shown_letter : ℕ → List ℕ
-shown_letter letter = cond (is_ascii_control letter) (37 ∷ hex_text letter) (encode_utf8 letter)
-
--- a path as it is printed
-abbrev pub shown_path : List ℕ → List ℕ
-shown_path path = flat_map shown_letter (chars path)

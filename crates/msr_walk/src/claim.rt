@@ -1,6 +1,7 @@
 //! Days that are claimed: at any time one walk alone makes, renames or removes the files of a day.
 use crate::day::Day;
-use crate::files::{FileId, create_new, make_folder};
+use crate::files::{create_new, make_folder};
+use msr_folders::FileId;
 use std::alloc::{AllocError, Global};
 use std::fs;
 use std::fs::{File, OpenFile, OpenOptions, TryLockError};

@@ -4,15 +4,15 @@ ghost use Rattle.msr_walk.specs.Day.{IsComparedIfAsked, IsDayOutcome, IsKept, Is
 ghost use Rattle.msr_walk.specs.Files.{day_files, day_names};
 
 use crate::claim::{Claim, ClaimFault, LockFile, claim_day};
-use crate::files::{NewFile, may_be_one, open_regular, settle};
+use crate::files::{NewFile, open_regular, settle};
 use crate::folders::Archive;
 use crate::outcome::{DayFault, Outcome, Repacked};
-use crate::paths::{ended, join};
 use crate::repacking::{
     Counting, counts_kept, first_length, repack_day_of, require_same, require_shown,
 };
 use crate::stamp::Stamp;
 use msr_days::DayOptions;
+use msr_folders::{ended, join, may_be_one};
 use msr_tool::{FromRead, FromWrite, Length};
 use std::alloc::{AllocError, Global};
 use std::fs;

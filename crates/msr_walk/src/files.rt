@@ -1,15 +1,14 @@
 //! Files that appear whole under their names, or not at all.
 ghost use Rattle.std.specs.Prelude.{◌≡◌, IfErr, IfOk};
-ghost use Rattle.msr_walk.specs.Files.{folder_of, new_file};
+ghost use Rattle.msr_walk.specs.Files.{new_file};
 
 use crate::outcome::DayFault;
-use crate::paths::ended;
+use msr_folders::{ended, folder_of, tells_none};
 use msr_tool::ToolFault;
 use std::alloc::{AllocError, Global};
-use std::fs::{File, Metadata, OpenFile, OpenOptions};
+use std::fs::{OpenFile, OpenOptions};
 use std::io::ErrorKind;
 use std::marker::Model;
-use std::os::unix::fs::MetadataExt;
 use std::rt::Files;
 use std::{fs, io};
 
@@ -33,63 +32,13 @@ pub fn settle<F: OpenFile>(file: &F) -> Result<(), ToolFault>
     }
 }
 
-/// Which file or folder it is, whatever its names: its device, and its number there.
-#[derive(Clone, Copy, PartialEq, Eq)]
-pub(crate) struct FileId {
-    device: u64,
-    pub number: u64,
-}
-
-impl FileId {
-    pub(crate) fn of(metadata: &Metadata) -> FileId {
-        FileId {
-            device: metadata.dev(),
-            number: metadata.ino(),
-        }
-    }
-}
-
-/// Whether such an error tells that nothing stands under a name.
-pub(crate) fn tells_none(kind: ErrorKind) -> bool {
-    matches!(kind, ErrorKind::NotFound | ErrorKind::NotADirectory)
-}
-
-/// Whether both names lead to one file or folder, by whatever paths or links, or the system does not tell. If nothing
-/// stands under one of them they do not.
-pub(crate) fn may_be_one<R: Files>(rt: &R, a: &str, b: &str) -> bool {
-    let first = match fs::metadata(rt, a) {
-        Ok(metadata) => metadata,
-        Err(error) => return !tells_none(error.kind()),
-    };
-    match fs::metadata(rt, b) {
-        Ok(second) => FileId::of(&first) == FileId::of(&second),
-        Err(error) => !tells_none(error.kind()),
-    }
-}
-
-/// The folder in which a name stands; without a slash none, which is no folder's name.
-pub(crate) fn folder_of(path: &str) -> &str
-    ensures { result.now ≡ folder_of path.now }
-{
-    match path.rsplit_once('/') {
-        Some((folder, _)) => folder,
-        None => "",
-    }
-}
-
-/// Opens a regular file to be read. Nothing else is opened, since opening a pipe waits for somebody who writes to it.
+/// Opens a regular file to be read.
 pub(crate) fn open_regular<R: Files>(rt: &R, path: &str) -> Result<R::File, DayFault>
     ensures { IfErr result (λ why. why ≡ DayFault.CannotOpen) }
 {
-    let Ok(metadata) = fs::metadata(rt, path) else {
-        return Err(DayFault::CannotOpen);
-    };
-    if !metadata.is_file() {
-        return Err(DayFault::CannotOpen);
-    }
-    match File::open(rt, path) {
-        Ok(file) => Ok(file),
-        Err(_) => Err(DayFault::CannotOpen),
+    match msr_folders::open_regular(rt, path) {
+        Some(file) => Ok(file),
+        None => Err(DayFault::CannotOpen),
     }
 }
 

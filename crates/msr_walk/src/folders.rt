@@ -8,19 +8,17 @@ ghost use Rattle.msr_walk.specs.Walk.{StopsTelling, Tells, Walks};
 
 use crate::claim::LockFile;
 use crate::day::Day;
-use crate::listing::{ListFault, names_in};
 use crate::outcome::{DayFault, Outcome};
-use crate::paths::{channel_text, entry_path, join};
+use crate::paths::channel_text;
 use crate::places::stands_apart;
 use crate::summary::write_summary;
 use crate::tally::Tally;
 use msr_days::DayOptions;
 use msr_devices::write_all;
+use msr_folders::{Kind, ListFault, entry_path, join, kind_of, names_in};
 use msr_sds::{FOLDERS, SdsName, levels_below};
 use msr_tool::{Sink, ToolFault};
 use std::alloc::{AllocError, Global};
-use std::fs;
-use std::io::ErrorKind;
 use std::rt::Files;
 
 /// An archive that is to be repacked.
@@ -126,38 +124,6 @@ where
     match SdsName::parse(path) {
         Ok(name) => tell_day(walker, path, &name, apart, out, tally),
         Err(fault) => tell(walker, path, "", Outcome::Skipped(fault), out, tally),
-    }
-}
-
-/// What stands under the name of an entry.
-#[derive(Clone, Copy, PartialEq, Eq)]
-enum Kind {
-    Folder,
-    Other,
-    /// Nothing, though the folder had it when it was listed.
-    Gone,
-}
-
-/// Links are followed, and one that leads nowhere is an entry. What the system does not tell of may be a folder: then
-/// it is refused if it has no list, and no part of the archive is taken for something else.
-fn kind_of<R: Files>(rt: &R, path: &str) -> Kind {
-    match fs::metadata(rt, path) {
-        Ok(metadata) => {
-            if metadata.is_dir() {
-                Kind::Folder
-            } else {
-                Kind::Other
-            }
-        }
-        Err(error) => {
-            if error.kind() != ErrorKind::NotFound {
-                Kind::Folder
-            } else if fs::symlink_metadata(rt, path).is_ok() {
-                Kind::Other
-            } else {
-                Kind::Gone
-            }
-        }
     }
 }
 

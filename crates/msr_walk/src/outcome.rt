@@ -2,8 +2,8 @@
 ghost use Rattle.std.specs.Prelude.{◌≡◌, IfOk};
 ghost use Rattle.std.specs.String.{string_bytes};
 ghost use Rattle.msr_walk.specs.Entries.{IsLineOf, bytes_told, counts_told};
-ghost use Rattle.msr_walk.specs.Paths.{shown_path, shown_letter};
 
+use msr_folders::shown_path;
 use msr_sds::SdsFault;
 use msr_tool::ToolFault;
 use std::alloc::{AllocError, Global};
@@ -73,30 +73,6 @@ pub(crate) enum Outcome {
     Differs,
     /// It was repacked, but did not get smaller, and so not kept.
     Larger(Repacked),
-}
-
-/// A character of a path as it is printed: a line feed in a name would begin another line.
-#[tactic(auto, using(std::proofs::lemmas::Fmt::hex_byte))]
-fn shown_letter(alloc: Global, letter: char) -> Result<String, AllocError>
-    ensures { IfOk result (λ text. string_bytes text ≡ shown_letter letter) }
-{
-    if letter.is_ascii_control() {
-        let code = letter as u8;
-        format!(in alloc; "%{code:02x}")
-    } else {
-        letter.to_string(alloc)
-    }
-}
-
-/// The path as it is printed.
-fn shown_path(alloc: Global, path: &str) -> Result<String, AllocError>
-    ensures { IfOk result (λ text. string_bytes text ≡ shown_path path.now) }
-{
-    let mut text = String::new(alloc);
-    for letter in path.chars() {
-        text.push_str(shown_letter(alloc, letter)?.as_str())?;
-    }
-    Ok(text)
 }
 
 /// What a line says of bytes: nothing, unless that is asked for.

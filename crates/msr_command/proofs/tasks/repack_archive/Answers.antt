@@ -1,16 +1,15 @@
 use Rattle.std.proofs.lemmas.Result.{err_from_is_err_and}
-use Rattle.msr_command.proofs.Endings.{archive_done, archive_overlaps, archive_stops, archive_unbegun}
+use Rattle.msr_command.proofs.Endings.{archive_done, archive_stops, archive_unbegun}
 use Rattle.msr_command.proofs.tasks.repack_archive.Goals as goal
 
-pub returns-in-Ok-true : goal.returns-in-Ok-true
-returns-in-Ok-true g c = archive_overlaps c.args.asked.days (g.O.Sink.device c.args.output.now)
-
-pub returns-in-Err : goal.returns-in-Err
-returns-in-Err g c = archive_unbegun c.args.asked.days (g.O.Sink.device c.args.output.now)
+pub returns-in_err-require_apart : goal.returns-in_err-require_apart
+returns-in_err-require_apart g c =
+    let p = err_from_is_err_and c.from_residual.result c.from_residual.ensures.1 in
+    rw (p.1, p.2) (archive_unbegun c.args.asked.days (g.O.Sink.device c.args.output.now) _ c.in_err-require_apart.ensures)
 
 pub returns-in_err-refused : goal.returns-in_err-refused
 returns-in_err-refused g c =
-    let p = err_from_is_err_and c.from_residual.result c.from_residual.ensures.1 in
+    let p = err_from_is_err_and c.from_residual-in_err-refused.result c.from_residual-in_err-refused.ensures.1 in
     rw (p.1, p.2) (archive_stops _ _ _ _ c.in_err-refused.ensures.answer)
 
 pub returns : goal.returns

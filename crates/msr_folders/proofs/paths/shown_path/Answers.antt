@@ -4,8 +4,8 @@ use Rattle.std.proofs.lemmas.Iterator.Consumers.{YieldsList-end}
 use Rattle.std.proofs.lemmas.List.{map-id}
 use Rattle.std.specs.List.{flat_map}
 use Rattle.std.specs.Str.{chars}
-use Rattle.msr_walk.specs.Paths.{shown_letter}
-use Rattle.msr_walk.proofs.outcome.shown_path.Goals as goal
+use Rattle.msr_folders.specs.Paths.{shown_letter}
+use Rattle.msr_folders.proofs.paths.shown_path.Goals as goal
 
 pub returns : goal.returns
 returns c =

@@ -4,7 +4,7 @@ ghost use Rattle.std.specs.IoError.{error_kind};
 ghost use Rattle.std.specs.declared.io.ErrorKind.TheVariants.{OutOfMemory};
 ghost use Rattle.std.specs.List.Sorted.{IsSorted};
 ghost use Rattle.std.specs.String.{string_cmp};
-ghost use Rattle.msr_walk.specs.declared.listing.ListFault.TheVariants.{Listing, Memory};
+ghost use Rattle.msr_folders.specs.declared.listing.ListFault.TheVariants.{Listing, Memory};
 
 use std::alloc::{AllocError, AllocFailed, Global};
 use std::io::ErrorKind;
@@ -13,7 +13,7 @@ use std::{fs, io};
 
 /// Why a folder has no list.
 #[derive(Clone, Copy)]
-pub(crate) enum ListFault {
+pub enum ListFault {
     /// It cannot be read, or a name in it is not UTF-8.
     Listing,
     Memory,
@@ -49,11 +49,7 @@ impl From<io::Error> for ListFault {
 
 /// The names in the folder, in the order of their bytes. A folder that goes away while it is listed has no list: the
 /// system gives its end in place of what is left.
-pub(crate) fn names_in<R: Files>(
-    rt: &R,
-    alloc: Global,
-    folder: &str,
-) -> Result<Vec<String>, ListFault>
+pub fn names_in<R: Files>(rt: &R, alloc: Global, folder: &str) -> Result<Vec<String>, ListFault>
     ensures { IfOk result (λ names. IsSorted string_cmp names.items) }
 {
     let mut names = Vec::new(alloc);

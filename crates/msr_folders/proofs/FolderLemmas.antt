@@ -9,7 +9,7 @@ use Rattle.std.specs.List.{suffix_len}
 use Rattle.std.specs.Option.{MatchOption, option_map, unwrap_or}
 use Rattle.std.specs.Str.Pattern.{RFindsChar, SplitsAroundMatch}
 use Rattle.msr_sds.specs.Folders.{is_slash}
-use Rattle.msr_walk.specs.Files.{folder_of}
+use Rattle.msr_folders.specs.Paths.{folder_of}
 use denote.Ref.{Bor}
 
 is_other : (byte : ℕ) → byte ≢ 47 → not (is_slash byte) ≡ true

@@ -1,0 +1,15 @@
+//! The files and folders of an archive: what is in a folder, what stands under a name, where a folder stands, and the
+//! paths of them.
+#![tactic(auto)]
+
+mod files;
+mod kind;
+mod listing;
+mod paths;
+mod places;
+
+pub use files::{FileId, may_be_one, open_regular, tells_none};
+pub use kind::{Kind, kind_of};
+pub use listing::{ListFault, names_in};
+pub use paths::{ended, entry_path, folder_of, join, shown_path};
+pub use places::{Place, folders_overlap, place_of};

@@ -1,0 +1,75 @@
+//! The paths of folders and files.
+ghost use Rattle.std.specs.Prelude.{◌≡◌, IfOk};
+ghost use Rattle.std.specs.String.{string_bytes};
+ghost use Rattle.msr_folders.specs.Paths.{below, ended, folder_of, joined, shown_letter, shown_path};
+
+use std::alloc::{AllocError, Global};
+
+/// The path of what stands below a folder. A folder without a name has nothing below it: the answer is the path that
+/// no file has.
+pub fn join(alloc: Global, folder: &str, path: &str) -> Result<String, AllocError>
+    ensures { IfOk result (λ text. string_bytes text ≡ joined folder.now path.now) }
+{
+    if folder.is_empty() {
+        return Ok(String::new(alloc));
+    }
+    if path.is_empty() {
+        return String::from_str(alloc, folder);
+    }
+    format!(in alloc; "{folder}/{path}")
+}
+
+/// The path with that ending; the path that no file has gets none.
+pub fn ended(alloc: Global, path: &str, ending: &str) -> Result<String, AllocError>
+    ensures { IfOk result (λ text. string_bytes text ≡ ended path.now ending.now) }
+{
+    if path.is_empty() {
+        return Ok(String::new(alloc));
+    }
+    format!(in alloc; "{path}{ending}")
+}
+
+/// The path, from the archive's folder, of an entry of the folder with this path, which is empty for the archive's
+/// own.
+pub fn entry_path(alloc: Global, folder: &str, name: &str) -> Result<String, AllocError>
+    ensures { IfOk result (λ text. string_bytes text ≡ below folder.now name.now) }
+{
+    if folder.is_empty() {
+        return String::from_str(alloc, name);
+    }
+    format!(in alloc; "{folder}/{name}")
+}
+
+/// The folder in which a name stands; without a slash none, which is no folder's name.
+pub fn folder_of(path: &str) -> &str
+    ensures { result.now ≡ folder_of path.now }
+{
+    match path.rsplit_once('/') {
+        Some((folder, _)) => folder,
+        None => "",
+    }
+}
+
+/// A character of a path as it is printed: a line feed in a name would begin another line.
+#[tactic(auto, using(std::proofs::lemmas::Fmt::hex_byte))]
+fn shown_letter(alloc: Global, letter: char) -> Result<String, AllocError>
+    ensures { IfOk result (λ text. string_bytes text ≡ shown_letter letter) }
+{
+    if letter.is_ascii_control() {
+        let code = letter as u8;
+        format!(in alloc; "%{code:02x}")
+    } else {
+        letter.to_string(alloc)
+    }
+}
+
+/// The path as it is printed.
+pub fn shown_path(alloc: Global, path: &str) -> Result<String, AllocError>
+    ensures { IfOk result (λ text. string_bytes text ≡ shown_path path.now) }
+{
+    let mut text = String::new(alloc);
+    for letter in path.chars() {
+        text.push_str(shown_letter(alloc, letter)?.as_str())?;
+    }
+    Ok(text)
+}

@@ -1,0 +1,2 @@
+pub mod EntriesFound
+pub mod Judged

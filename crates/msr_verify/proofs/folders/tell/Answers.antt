@@ -1,0 +1,31 @@
+use Rattle.std.proofs.lemmas.Result.{err_from_is_err_and}
+use Rattle.std.proofs.Common.{refl}
+use Rattle.msr_devices.proofs.Chaining.{calm_same}
+use Rattle.msr_verify.proofs.EntriesFound.{part_none, part_line, tells_one}
+use Rattle.msr_verify.proofs.folders.tell.Goals as goal
+
+pub returns-in_err-line-clause-stops : goal.returns-in_err-line-clause-stops
+returns-in_err-line-clause-stops g c =
+    let p = err_from_is_err_and c.from_residual.result c.from_residual.ensures.1 in
+    let out = g.O.Sink.device c.args.out.now in
+    λ is. rw (p.1, p.2) (part_none out, (calm_same out).steady)
+
+pub returns-in_err-write_all-clause-stops : goal.returns-in_err-write_all-clause-stops
+returns-in_err-write_all-clause-stops g c =
+    let p = err_from_is_err_and c.from_residual-in_err-write_all.result c.from_residual-in_err-write_all.ensures.1 in
+    let part = c.in_err-write_all.ensures.part in
+    λ is. rw (p.1, p.2) (
+      part_line (g.O.Sink.device c.args.out.now)
+          (g.O.Sink.device c.write_all.new.sink) part.0 c.args.path.now c.as_bytes.result.now
+          c.args.outcome is (rw c.as_bytes.ensures.value c.in_ok-line.ensures) part.1,
+      c.in_err-write_all.ensures.failed,
+    )
+
+pub returns-clause-told : goal.returns-clause-told
+returns-clause-told g c =
+    λ is. tells_one (g.O.Sink.device c.args.out.now)
+    (g.O.Sink.device c.write_all.new.sink) c.args.tally.now c.add.new.self c.args.path.now
+    c.as_bytes.result.now c.args.outcome is
+    (rw c.as_bytes.ensures.value c.in_ok-line.ensures) c.in_ok-write_all.ensures.all c.in_ok-write_all.ensures.calm
+    (λ before h. c.add.ensures before (record
+    { path = c.args.path.now; outcome = c.args.outcome }) h refl)

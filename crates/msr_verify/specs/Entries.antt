@@ -1,0 +1,203 @@
+-- The entries of a walk: what was found of each, its line, and what they sum up to.
+use Rattle.std.specs.Prelude.{◌≡◌, ℕ, ⊤, Bool, true, false, List, [], ◌∷◌, ◌++◌, codes, Result, Ok, Err}
+use Rattle.std.specs.List.{count_by}
+use Rattle.msr_sds.specs.SdsPath.{SdsPath, ReadsAsDay}
+use Rattle.msr_sds.specs.declared.SdsFault.{SdsFault}
+use Rattle.msr_totals.specs.Totals.{saturated}
+use Rattle.msr_folders.specs.Days.{IsNoDay}
+use Rattle.msr_folders.specs.Paths.{shown_path}
+use Rattle.msr_verify.specs.Day.{DayAnswers}
+use Rattle.msr_verify.specs.declared.judging.Finding.{Finding}
+use Rattle.msr_verify.specs.declared.judging.Finding.TheVariants as finding
+use Rattle.msr_verify.specs.declared.judging.DayFault.{DayFault}
+use Rattle.msr_verify.specs.declared.outcome.Outcome.{Outcome}
+use Rattle.msr_verify.specs.declared.outcome.Outcome.TheVariants.{Verified, Missing, NotShown, Differs, Refused, Skipped, Orphan}
+use Rattle.msr_verify.specs.declared.outcome.Refusal.TheVariants.{FileUnopened, RecordsUnopened, ReportUnopened, SameFile, Listing, RecordsListing, Day}
+use Rattle.msr_verify.specs.declared.tally.Tally.{Tally}
+
+-- an entry: its path from the archive's folder, and what was found of it
+pub record Entry : Type 0 where
+  pub path : List ℕ
+  pub outcome : Outcome
+
+-- what is told of a day with this answer
+abbrev pub outcome_of : Result Finding DayFault → Outcome
+outcome_of (Ok finding.Verified) = Verified
+outcome_of (Ok finding.NotShown) = NotShown
+outcome_of (Ok finding.Differs) = Differs
+outcome_of (Err fault) = Refused (Day fault)
+
+-- Some files, the day's own, its records, twice, and its report, have this answer. Nothing is known of the files of the
+-- system but that they have some bytes.
+pub record HasAnswer (answer : Result Finding DayFault) : Type 0 where
+  pub file : List ℕ
+  pub records : List ℕ
+  pub again : List ℕ
+  pub text : List ℕ
+  pub answers : DayAnswers file records again text answer
+
+-- what an outcome says of a day
+abbrev pub IsOutcomeOfDay : Outcome → Type 0
+IsOutcomeOfDay Verified = HasAnswer (Ok finding.Verified)
+IsOutcomeOfDay Missing = ⊤
+IsOutcomeOfDay NotShown = HasAnswer (Ok finding.NotShown)
+IsOutcomeOfDay Differs = HasAnswer (Ok finding.Differs)
+IsOutcomeOfDay (Refused FileUnopened) = ⊤
+IsOutcomeOfDay (Refused RecordsUnopened) = ⊤
+IsOutcomeOfDay (Refused ReportUnopened) = ⊤
+IsOutcomeOfDay (Refused SameFile) = ⊤
+IsOutcomeOfDay (Refused Listing) = ⊥
+IsOutcomeOfDay (Refused RecordsListing) = ⊥
+IsOutcomeOfDay (Refused (Day fault)) = HasAnswer (Err fault)
+IsOutcomeOfDay (Skipped fault) = ⊥
+IsOutcomeOfDay Orphan = ⊤
+
+-- the path is that of a day of waveform data
+abbrev pub IsDay : List ℕ → Type 0
+IsDay path = (name : SdsPath) × ReadsAsDay path name
+
+-- The entry is a day, with this outcome.
+pub record IsFoundOfDay (path : List ℕ) (outcome : Outcome) : Type 0 where
+  pub day : IsDay path
+  pub outcome_is : IsOutcomeOfDay outcome
+
+-- what an outcome says of an entry
+abbrev pub IsOutcomeOf : List ℕ → Outcome → Type 0
+IsOutcomeOf path Verified = IsFoundOfDay path Verified
+IsOutcomeOf path Missing = IsDay path
+IsOutcomeOf path NotShown = IsFoundOfDay path NotShown
+IsOutcomeOf path Differs = IsFoundOfDay path Differs
+IsOutcomeOf path (Refused FileUnopened) = ⊤
+IsOutcomeOf path (Refused RecordsUnopened) = IsDay path
+IsOutcomeOf path (Refused ReportUnopened) = IsDay path
+IsOutcomeOf path (Refused SameFile) = IsDay path
+IsOutcomeOf path (Refused Listing) = ⊤
+IsOutcomeOf path (Refused RecordsListing) = ⊤
+IsOutcomeOf path (Refused (Day fault)) = IsFoundOfDay path (Refused (Day fault))
+IsOutcomeOf path (Skipped fault) = IsNoDay path fault
+IsOutcomeOf path Orphan = IsDay path
+
+abbrev pub IsEntry : Entry → Type 0
+IsEntry entry = IsOutcomeOf entry.path entry.outcome
+
+-- a line that says why
+abbrev pub IsLineWithReason : (word path line : List ℕ) → Type 0
+IsLineWithReason word path line = (why : List ℕ)
+    × (line ≡ word ++ (shown_path path ++ (codes ": " ++ (why ++ codes "\n"))))
+
+-- The line of an entry. The texts of faults are shown by tests.
+abbrev pub IsLineOf : List ℕ → Outcome → List ℕ → Type 0
+IsLineOf path Verified line = line ≡ codes "verified " ++ (shown_path path ++ codes "\n")
+IsLineOf path Missing line = line ≡ codes "missing " ++ (shown_path path ++ codes "\n")
+IsLineOf path NotShown line = line ≡ codes "notshown " ++ (shown_path path ++ codes "\n")
+IsLineOf path Differs line = line ≡ codes "differs " ++ (shown_path path ++ codes "\n")
+IsLineOf path Orphan line = line ≡ codes "orphan " ++ (shown_path path ++ codes "\n")
+IsLineOf path (Skipped fault) line = IsLineWithReason (codes "skipped ") path line
+IsLineOf path (Refused refusal) line = IsLineWithReason (codes "refused ") path line
+
+-- the lines of entries, one after another
+abbrev pub AreLines : List Entry → List ℕ → Type 0
+AreLines [] lines = lines ≡ []
+AreLines (entry ∷ entries) lines = (line : List ℕ) × (rest : List ℕ)
+    × IsLineOf entry.path entry.outcome line × AreLines entries rest × (lines ≡ line ++ rest)
+
+abbrev pub is_verified : Outcome → Bool
+is_verified Verified = true
+is_verified Missing = false
+is_verified NotShown = false
+is_verified Differs = false
+is_verified (Refused refusal) = false
+is_verified (Skipped fault) = false
+is_verified Orphan = false
+
+abbrev pub is_missing : Outcome → Bool
+is_missing Verified = false
+is_missing Missing = true
+is_missing NotShown = false
+is_missing Differs = false
+is_missing (Refused refusal) = false
+is_missing (Skipped fault) = false
+is_missing Orphan = false
+
+abbrev pub is_not_shown : Outcome → Bool
+is_not_shown Verified = false
+is_not_shown Missing = false
+is_not_shown NotShown = true
+is_not_shown Differs = false
+is_not_shown (Refused refusal) = false
+is_not_shown (Skipped fault) = false
+is_not_shown Orphan = false
+
+abbrev pub is_different : Outcome → Bool
+is_different Verified = false
+is_different Missing = false
+is_different NotShown = false
+is_different Differs = true
+is_different (Refused refusal) = false
+is_different (Skipped fault) = false
+is_different Orphan = false
+
+abbrev pub is_refused : Outcome → Bool
+is_refused Verified = false
+is_refused Missing = false
+is_refused NotShown = false
+is_refused Differs = false
+is_refused (Refused refusal) = true
+is_refused (Skipped fault) = false
+is_refused Orphan = false
+
+abbrev pub is_skipped : Outcome → Bool
+is_skipped Verified = false
+is_skipped Missing = false
+is_skipped NotShown = false
+is_skipped Differs = false
+is_skipped (Refused refusal) = false
+is_skipped (Skipped fault) = true
+is_skipped Orphan = false
+
+abbrev pub is_orphan : Outcome → Bool
+is_orphan Verified = false
+is_orphan Missing = false
+is_orphan NotShown = false
+is_orphan Differs = false
+is_orphan (Refused refusal) = false
+is_orphan (Skipped fault) = false
+is_orphan Orphan = true
+
+-- neither verified nor skipped
+abbrev pub is_unverified : Outcome → Bool
+is_unverified Verified = false
+is_unverified Missing = true
+is_unverified NotShown = true
+is_unverified Differs = true
+is_unverified (Refused refusal) = true
+is_unverified (Skipped fault) = false
+is_unverified Orphan = true
+
+-- how many entries have such an outcome, or 2^64 - 1 if they are more
+abbrev pub counted : (Outcome → Bool) → List Entry → ℕ
+counted of entries = saturated (count_by (λ entry. of entry.outcome) entries)
+
+-- the counts of the entries
+abbrev pub tally_of : List Entry → Tally
+tally_of entries = record {
+  verified = counted is_verified entries;
+  skipped = counted is_skipped entries;
+  refused = counted is_refused entries;
+  missing = counted is_missing entries;
+  not_shown = counted is_not_shown entries;
+  differ = counted is_different entries;
+  orphans = counted is_orphan entries;
+  unverified = counted is_unverified entries;
+}
+
+-- These are the counts of the entries.
+pub record IsTally (entries : List Entry) (tally : Tally) : Type 0 where
+  pub verified : tally.verified ≡ counted is_verified entries
+  pub skipped : tally.skipped ≡ counted is_skipped entries
+  pub refused : tally.refused ≡ counted is_refused entries
+  pub missing : tally.missing ≡ counted is_missing entries
+  pub not_shown : tally.not_shown ≡ counted is_not_shown entries
+  pub differ : tally.differ ≡ counted is_different entries
+  pub orphans : tally.orphans ≡ counted is_orphan entries
+  pub unverified : tally.unverified ≡ counted is_unverified entries

@@ -1,0 +1,3 @@
+pub mod Day
+pub mod Entries
+pub mod Walk

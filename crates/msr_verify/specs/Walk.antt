@@ -1,0 +1,90 @@
+-- What a walk prints, and how it ends.
+use Rattle.std.specs.Prelude.{◌≡◌, ℕ, ◌<◌, Bool, true, false, List, [], ◌++◌, codes, Result, Ok, Err}
+use Rattle.std.specs.Fmt.{decimal}
+use Rattle.std.specs.List.{AllByRecursion}
+use Rattle.msr_devices.specs.Device.{Device, IsCalm, Takes}
+use Rattle.msr_report.specs.Writing.{TakesPrefix}
+use Rattle.msr_tool.specs.Writing.{StopsSink}
+use Rattle.msr_tool.specs.declared.fault.ToolFault.{ToolFault}
+use Rattle.msr_tool.specs.declared.fault.ToolFault.TheVariants.{Input, Report, Read, Write, Memory}
+use Rattle.msr_verify.specs.Entries.{Entry, IsEntry, AreLines, IsTally, counted, is_unverified, tally_of}
+use Rattle.msr_verify.specs.declared.tally.Tally.{Tally}
+
+-- the counts at the end of the last line
+abbrev pub others_told : Tally → List ℕ
+others_told tally =
+    codes " missing " ++ (decimal tally.missing ++ (codes " notshown "
+    ++ (decimal tally.not_shown ++ (codes " differs " ++ (decimal tally.differ
+    ++ (codes " orphan " ++ decimal tally.orphans))))))
+
+-- the last line
+abbrev pub counts_line : Tally → List ℕ
+counts_line tally =
+    codes "files " ++ (decimal tally.verified ++ (codes " skipped "
+    ++ (decimal tally.skipped ++ (codes " refused " ++ (decimal tally.refused
+    ++ (others_told tally ++ codes "\n"))))))
+
+-- the line after those of the entries
+abbrev pub summary : List Entry → List ℕ
+summary entries = counts_line (tally_of entries)
+
+-- a prefix of a text was printed when the walk stops: the sink failed, or else memory was refused
+abbrev pub StopsPrefix : Device → Device → List ℕ → ToolFault → Type 0
+StopsPrefix out0 out text fault = StopsSink (TakesPrefix out0 out text) (TakesPrefix out0 out text) out0 out fault
+
+-- Some more entries were told: their lines were printed, and they are counted.
+pub record Tells (out0 out : Device) (tally0 tally : Tally) : Type 0 where
+  pub entries : List Entry
+  pub lines : List ℕ
+  pub are_entries : AllByRecursion IsEntry entries
+  pub are_lines : AreLines entries lines
+  pub prints : Takes out0 out lines
+  pub calm : IsCalm out0 out
+  pub counts : (before : List Entry) → IsTally before tally0 → IsTally (before ++ entries) tally
+
+-- A prefix of the lines of some more entries was printed.
+pub record TellsInPart (out0 out : Device) : Type 0 where
+  pub entries : List Entry
+  pub printed : List ℕ
+  pub rest : List ℕ
+  pub are_entries : AllByRecursion IsEntry entries
+  pub are_lines : AreLines entries (printed ++ rest)
+  pub prints : Takes out0 out printed
+
+-- a prefix of the lines of some more entries was printed when the walk stopped
+abbrev pub StopsTelling : Device → Device → ToolFault → Type 0
+StopsTelling out0 out fault = StopsSink (TellsInPart out0 out) (TellsInPart out0 out) out0 out fault
+
+-- The text of a whole walk: a line for each of some entries, and then what these very entries sum up to.
+pub record IsWalk (text : List ℕ) (entries : List Entry) : Type 0 where
+  pub lines : List ℕ
+  pub are_entries : AllByRecursion IsEntry entries
+  pub are_lines : AreLines entries lines
+  pub whole : text ≡ lines ++ summary entries
+
+-- a walk that came to its end tells whether one of its entries is neither verified nor skipped
+abbrev pub TellsUnverified : List Entry → Bool → Type 0
+TellsUnverified entries unverified = (unverified ≡ true → 0 < counted is_unverified entries)
+    × (unverified ≡ false → counted is_unverified entries ≡ 0)
+
+-- A prefix of the text of a whole walk.
+pub record IsWalkInPart (printed : List ℕ) : Type 0 where
+  pub entries : List Entry
+  pub rest : List ℕ
+  pub walk : IsWalk (printed ++ rest) entries
+
+-- the whole text was printed, or a prefix of it when the walk stopped, which no input and no source can make it do
+abbrev pub WalkEnds : (printed : List ℕ) → Result Bool ToolFault → Type 0
+WalkEnds printed (Ok unverified) = (entries : List Entry) × IsWalk printed entries
+    × TellsUnverified entries unverified
+WalkEnds printed (Err (Input found)) = ⊥
+WalkEnds printed (Err (Report line)) = ⊥
+WalkEnds printed (Err Read) = ⊥
+WalkEnds printed (Err Write) = IsWalkInPart printed
+WalkEnds printed (Err Memory) = IsWalkInPart printed
+
+-- What verifying an archive printed, and how it ended.
+pub record Verifies (out0 out : Device) (result : Result Bool ToolFault) : Type 0 where
+  pub printed : List ℕ
+  pub prints : Takes out0 out printed
+  pub ends : WalkEnds printed result

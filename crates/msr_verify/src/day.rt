@@ -1,0 +1,67 @@
+//! The three files of a day: which they are, and what they show.
+ghost use Rattle.std.specs.Prelude.{IfOk};
+ghost use Rattle.msr_verify.specs.Entries.{IsOutcomeOfDay};
+
+use crate::folders::RepackedArchive;
+use crate::judging::verify_day;
+use crate::outcome::{Outcome, Refusal, outcome_of};
+use msr_folders::{ended, join, may_be_one, open_regular, tells_none};
+use msr_tool::FromRead;
+use std::alloc::{AllocError, Global};
+use std::fs;
+use std::rt::Files;
+
+/// Whether the system tells that nothing stands under a name, not even a link that leads nowhere.
+pub(crate) fn is_gone<R: Files>(rt: &R, path: &str) -> bool {
+    match fs::symlink_metadata(rt, path) {
+        Ok(_) => false,
+        Err(error) => tells_none(error.kind()),
+    }
+}
+
+/// What the files with these names show. All are opened before one is read, the records twice.
+fn judge_files<R: Files>(rt: &R, alloc: Global, file: &str, records: &str, report: &str) -> Outcome
+    ensures { IsOutcomeOfDay result }
+{
+    if is_gone(rt, records) || is_gone(rt, report) {
+        return Outcome::Missing;
+    }
+    let Some(text) = open_regular(rt, report) else {
+        return Outcome::Refused(Refusal::ReportUnopened);
+    };
+    let Some(packed) = open_regular(rt, records) else {
+        return Outcome::Refused(Refusal::RecordsUnopened);
+    };
+    if may_be_one(rt, file, records) {
+        return Outcome::Refused(Refusal::SameFile);
+    }
+    let Some(again) = open_regular(rt, records) else {
+        return Outcome::Refused(Refusal::RecordsUnopened);
+    };
+    let Some(own) = open_regular(rt, file) else {
+        return Outcome::Refused(Refusal::FileUnopened);
+    };
+    outcome_of(verify_day(
+        alloc,
+        &mut FromRead::new(own),
+        &mut FromRead::new(packed),
+        &mut FromRead::new(again),
+        &mut FromRead::new(text),
+    ))
+}
+
+/// What is found of the day with this path.
+pub(crate) fn judge_day<R: Files>(
+    rt: &R,
+    alloc: Global,
+    archive: &RepackedArchive<'_>,
+    path: &str,
+) -> Result<Outcome, AllocError>
+    ensures { IfOk result IsOutcomeOfDay }
+{
+    let file = join(alloc, archive.root, path)?;
+    let records = join(alloc, archive.out, path)?;
+    let report = join(alloc, archive.reports, path)?;
+    let report = ended(alloc, report.as_str(), ".txt")?;
+    Ok(judge_files(rt, alloc, file.as_str(), records.as_str(), report.as_str()))
+}

@@ -1,0 +1,89 @@
+//! What is found of an entry of a folder, and its line.
+ghost use Rattle.std.specs.Prelude.{◌≡◌, IfOk};
+ghost use Rattle.std.specs.String.{string_bytes};
+ghost use Rattle.msr_verify.specs.Entries.{IsLineOf, outcome_of};
+
+use crate::judging::{DayFault, Finding};
+use msr_folders::shown_path;
+use msr_sds::SdsFault;
+use std::alloc::{AllocError, Global};
+use thiserror::Error;
+
+/// Why a day or a folder is refused.
+#[derive(Clone, Copy, Debug, Error)]
+pub(crate) enum Refusal {
+    /// The day's own file is no regular file, or could not be opened, or was gone when it was looked at.
+    #[error("file: cannot open")]
+    FileUnopened,
+    /// The same of its records.
+    #[error("records: cannot open")]
+    RecordsUnopened,
+    /// The same of its report.
+    #[error("report: cannot open")]
+    ReportUnopened,
+    /// The records may be the day's own file under another name.
+    #[error("records: the file itself")]
+    SameFile,
+    /// A folder of the archive could not be listed, or has a name that is not UTF-8.
+    #[error("listing")]
+    Listing,
+    /// The same of a folder of the records.
+    #[error("records: listing")]
+    RecordsListing,
+    /// One of the files of the day is at fault.
+    #[error("{0}")]
+    Day(DayFault),
+}
+
+/// What was found of an entry.
+#[derive(Clone, Copy)]
+pub(crate) enum Outcome {
+    /// Records and report of the day are there, and show what they have to.
+    Verified,
+    /// There are no records of the day, or no report.
+    Missing,
+    /// The report does not show that the records are the fewest.
+    NotShown,
+    /// The records have other data than the day's own file.
+    Differs,
+    Refused(Refusal),
+    Skipped(SdsFault),
+    /// Records of a day that the archive does not have.
+    Orphan,
+}
+
+/// What is told of a day with this answer.
+pub(crate) fn outcome_of(answer: Result<Finding, DayFault>) -> Outcome
+    ensures { result ≡ outcome_of answer }
+{
+    match answer {
+        Ok(Finding::Verified) => Outcome::Verified,
+        Ok(Finding::NotShown) => Outcome::NotShown,
+        Ok(Finding::Differs) => Outcome::Differs,
+        Err(fault) => Outcome::Refused(Refusal::Day(fault)),
+    }
+}
+
+impl Outcome {
+    /// The line that tells it of the entry with this path.
+    pub(crate) fn line(self, alloc: Global, path: &str) -> Result<String, AllocError>
+        ensures { IfOk result (λ line. IsLineOf path.now self (string_bytes line)) }
+    {
+        let path = shown_path(alloc, path)?;
+        match self {
+            Outcome::Verified => format!(in alloc; "verified {path}\n"),
+            Outcome::Missing => format!(in alloc; "missing {path}\n"),
+            Outcome::NotShown => format!(in alloc; "notshown {path}\n"),
+            Outcome::Differs => format!(in alloc; "differs {path}\n"),
+            Outcome::Orphan => format!(in alloc; "orphan {path}\n"),
+            Outcome::Skipped(fault) => {
+                let why = fault.to_string(alloc)?;
+                format!(in alloc; "skipped {path}: {why}\n")
+            }
+            Outcome::Refused(refusal) => {
+                let why = refusal.to_string(alloc)?;
+                format!(in alloc; "refused {path}: {why}\n")
+            }
+        }
+    }
+}

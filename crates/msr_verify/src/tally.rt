@@ -1,0 +1,95 @@
+//! What was told so far, counted, and the last line.
+ghost use Rattle.std.specs.Prelude.{◌≡◌, ◌++◌, ◌∷◌, [], List, IfErr, IfOk, OnOk};
+ghost use Rattle.std.specs.String.{string_bytes};
+ghost use Rattle.msr_devices.specs.Device.{CanCountCall, IsCalm, Takes};
+ghost use Rattle.msr_verify.specs.Entries.{Entry, IsTally};
+ghost use Rattle.msr_verify.specs.Walk.{StopsPrefix, counts_line, others_told};
+
+use crate::outcome::Outcome;
+use msr_devices::write_all;
+use msr_tool::{Sink, ToolFault};
+use std::alloc::{AllocError, Global};
+
+/// How many entries had each outcome, and how many were neither verified nor skipped.
+#[derive(Clone, Copy)]
+pub(crate) struct Tally {
+    pub verified: u64,
+    pub skipped: u64,
+    pub refused: u64,
+    pub missing: u64,
+    pub not_shown: u64,
+    pub differ: u64,
+    pub orphans: u64,
+    pub unverified: u64,
+}
+
+impl Tally {
+    /// The tally before anything was told.
+    pub(crate) fn new() -> Tally
+        ensures { IsTally [] result }
+    {
+        Tally {
+            verified: 0,
+            skipped: 0,
+            refused: 0,
+            missing: 0,
+            not_shown: 0,
+            differ: 0,
+            orphans: 0,
+            unverified: 0,
+        }
+    }
+
+    /// Counts one entry more.
+    pub(crate) fn add(&mut self, outcome: Outcome)
+        ensures { (before : List Entry) (entry : Entry) → IsTally before self.old → entry.outcome ≡ outcome
+            → IsTally (before ++ entry ∷ []) self.new }
+    {
+        match outcome {
+            Outcome::Verified => {
+                self.verified = self.verified.saturating_add(1);
+                return;
+            }
+            Outcome::Skipped(_) => {
+                self.skipped = self.skipped.saturating_add(1);
+                return;
+            }
+            Outcome::Missing => self.missing = self.missing.saturating_add(1),
+            Outcome::NotShown => self.not_shown = self.not_shown.saturating_add(1),
+            Outcome::Differs => self.differ = self.differ.saturating_add(1),
+            Outcome::Refused(_) => self.refused = self.refused.saturating_add(1),
+            Outcome::Orphan => self.orphans = self.orphans.saturating_add(1),
+        }
+        self.unverified = self.unverified.saturating_add(1);
+    }
+
+    /// The counts at the end of the last line, which no other walk has.
+    fn others(self, alloc: Global) -> Result<String, AllocError>
+        ensures { IfOk result (λ text. string_bytes text ≡ others_told self) }
+    {
+        let (missing, unshown) = (self.missing, self.not_shown);
+        let (differ, orphans) = (self.differ, self.orphans);
+        format!(in alloc; " missing {missing} notshown {unshown} differs {differ} orphan {orphans}")
+    }
+
+    /// The last line.
+    fn line(self, alloc: Global) -> Result<String, AllocError>
+        ensures { IfOk result (λ line. string_bytes line ≡ counts_line self) }
+    {
+        let (files, skipped, refused) = (self.verified, self.skipped, self.refused);
+        let others = self.others(alloc)?;
+        format!(in alloc; "files {files} skipped {skipped} refused {refused}{others}\n")
+    }
+
+    /// Writes the last line.
+    pub(crate) fn write<O: Sink>(self, alloc: Global, out: &mut O) -> Result<(), ToolFault>
+        requires { CanCountCall (O.device out.old) }
+        ensures all { OnOk result (Takes (O.device out.old) (O.device out.new) (counts_line self)) }
+        ensures calm { OnOk result (IsCalm (O.device out.old) (O.device out.new)) }
+        ensures stops { IfErr result (StopsPrefix (O.device out.old) (O.device out.new) (counts_line self)) }
+    {
+        let line = self.line(alloc)?;
+        write_all(out, line.as_bytes())?;
+        Ok(())
+    }
+}
