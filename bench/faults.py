@@ -9,8 +9,9 @@ or with status 1, the fault's line, and a prefix of the report and of the record
 `N faults, M wrong`, and the status 0 if none is wrong. --only takes the runs with this text in their titles;
 archive_faults.py tries `archive`.
 
-The commands are `repack` to a file and to a report only, `list`, `check` (of both verdicts), `feed`, `repack` and `feed`
-of a file that is cut, and help, over both examples and a file of 3 MB. What fails, and how:
+The commands are `repack` to a file and to a report only, `list`, `check` (of both verdicts), `compare` (of files that are
+the same and that differ, with standard input on either side), `feed`, `repack`, `feed` and `compare` of a file that is cut,
+and help, over both examples and a file of 3 MB. What fails, and how:
 
 - reading, writing, opening, looking at a file, cutting it to nothing, syncing, closing, memory: each call after the
   program's start, with the errors that fit it (EIO, ENOSPC, EMFILE, EINVAL, ENOMEM), once and for all from there on;
@@ -26,7 +27,7 @@ A run is right if it ends as the undisturbed one in every byte, and the fault al
 closed, 63 interruptions, memory that was found elsewhere); or if its status is 1, standard error has the line of that
 fault alone, what was printed is a prefix of the undisturbed text, and OUT has a prefix of the records, or, if the fault
 came before it was cut to nothing, what stood there before. After a fault, and if nothing can be printed, the REPORT of
-`feed` is empty.
+`feed` is empty. The line of `compare` names the file that cannot be read, which is ONE if neither can be.
 """
 import argparse
 import collections
@@ -48,6 +49,7 @@ from calls import IN_A_ROW, calls_in, faults_of, injected, words_of_trace
 
 OLD = b"what stood in OUT before"
 SAME = "no fault"
+READ = "read fault"
 
 # Words, what is standard input, and whether standard output is a pipe, not a file.
 Case = collections.namedtuple("Case", "title words input pipes")
@@ -95,7 +97,7 @@ def allowed(case, call, fault):
     names = [word for word in case.words if word == call.target]
     opened = {f"cannot open {name}" for name in names}
     answers = {
-        "reading": {"read fault"},
+        "reading": {READ},
         "writing": {"write fault"},
         "opening": opened or {SAME},
         "looking": {SAME} if call.target.startswith("/dev/") else opened | {"write fault"},
@@ -121,7 +123,15 @@ def allowed_of(case, call, hit, fault):
     for following in hit[1:] if fault.row == 0 else ():
         if SAME in lines:
             lines = lines - {SAME} | allowed(case, following, fault)
+    if case.words[0] == "compare" and READ in lines:
+        lines = lines - {READ} | {f"{unread(case, hit)}: {READ}"}
     return lines
+
+
+def unread(case, hit):
+    """The input of `compare` that is told if these calls fail: ONE also if OTHER's failed before."""
+    names = {"-" if it.fd == 0 else it.target for it in hit if it.kind == "reading"}
+    return next((word for word in case.words if word in names), None)
 
 
 def without(text, calls, at, short):
@@ -282,15 +292,22 @@ def single_bytes(bench, case):
     bench.hold(f"{case.title}, a byte at a time", None if outcome == calm else f"status {outcome.status}")
 
 
+def with_another_sample(packed):
+    """Records whose first sample is another one: byte 71 is its lowest one in Steim, and in wider integers part of it."""
+    return packed[:71] + bytes([packed[71] ^ 1]) + packed[72:]
+
+
 def cases_of(bench, title, name):
     """The commands over a file, with its records and reports beside it."""
     beside = f"{bench.folder}/{os.path.basename(name)}"
-    packed, report, edited, cut = (f"{beside}.{it}" for it in ("packed", "report", "edited", "cut"))
+    packed, report, edited, cut, other = (f"{beside}.{it}" for it in ("packed", "report", "edited", "cut", "other"))
     day.run([bench.program, "repack", "--length", "256", name, packed], report)
     with open(report, "rb") as it, open(edited, "wb") as to:
         to.write(it.read().replace(b"start 2020,001", b"start 2020,002", 1))
     with open(name, "rb") as it, open(cut, "wb") as to:
         to.write(it.read()[:-1])
+    with open(packed, "rb") as it, open(other, "wb") as to:
+        to.write(with_another_sample(it.read()))
     repack, feed = ["repack", "--length", "256"], ["feed", "--length", "256"]
     return [
         Case(f"{title}: repack IN OUT > FILE", [*repack, name, bench.out], None, False),
@@ -305,6 +322,10 @@ def cases_of(bench, title, name):
         Case(f"{title}: list - < IN | ..", ["list", "-"], name, True),
         Case(f"{title}: check, least", ["check", packed, report], None, False),
         Case(f"{title}: check, not shown", ["check", packed, edited], None, True),
+        Case(f"{title}: compare ONE OTHER > FILE, same", ["compare", name, packed], None, False),
+        Case(f"{title}: compare - OTHER < ONE | .., same", ["compare", "-", packed], name, True),
+        Case(f"{title}: compare ONE - < OTHER | .., differ", ["compare", name, "-"], other, True),
+        Case(f"{title}: compare with a file that is cut", ["compare", packed, cut], None, False),
     ]
 
 
