@@ -182,24 +182,12 @@ module _ (records : Records) (samples : List ℤ) (first second : ℕ) (order : 
       (second + 1) holds.end (omega arith) (omega arith) holds.run in
       let cut = subst (Fits Steim1 records.bytes)
       (sym (run_points_cut samples holds.start first (second + 1) from (omega arith))) less.2.1 in
-      held Steim2 first (omega arith) (chosen,
-        steim2_dominates records.bytes (run_points samples holds.start first) (run_points samples first (second + 1)) narrow cut)
+      held Steim2 first (omega arith) (
+        chosen,
+        steim2_dominates records.bytes (run_points samples holds.start first) (run_points samples first (second + 1)) narrow cut,
+      )
 
   -- ---- all kinds
-
-  pub steim_without_room : HaveNoRoom records.bytes samples first second → SteimHolds records samples first second → ⊥
-  steim_without_room none some = elim some.holds [
-    | inl two ↦
-        let past = two.past in
-        none.steim2 two.start two.end two.from (omega arith) (two.run.0, two.run.1, two.run.2.1)
-    | inr one ↦
-        let past = one.past in
-        none.steim1 one.start one.end one.from (omega arith) (one.run.0, one.run.1, one.run.2.1)
-  ]
-
-  pub steim_alone : (HoldsBoth Steim2 records samples first second → ⊥) → SteimHolds records samples first second
-      → HoldsBoth Steim1 records samples first second
-  steim_alone none some = elim some.holds [ | inl two ↦ absurd (none two) | inr one ↦ one ]
 
   -- no run of any kind
   pub none_of_any : ((kind : Kind) → HoldsBoth kind records samples first second → ⊥)

@@ -1,6 +1,8 @@
 //! Whether a packing and its separators show that the packing is least.
 #![tactic(auto)]
 
+mod reach;
+
 ghost use Rattle.std.specs.Prelude.{◌≡◌, ◌<◌, ◌≤◌, ◌↔◌, length, IsTrue, IsFalse};
 ghost use Rattle.msr_kinds.specs.declared.kinds.Kind.TheVariants.{Steim1, Steim2};
 ghost use Rattle.msr_kinds.specs.Forms.{all_kinds};
@@ -14,13 +16,9 @@ ghost use Rattle.msr_check.specs.Known.{IsKnown};
 ghost use Rattle.msr_check.specs.Next.{IsNext};
 ghost use Rattle.msr_words.specs.Packing.{NoneHolds, IsPacking, IsSeparating, IsLeast};
 
-mod reach;
-
 use crate::reach::{Reach, reach_of};
 use msr_kinds::{Form, Kind, Length};
-use msr_words::{
-    Fitting, Run, are_narrow, begins_with_four, count_wide, run_fits, steim1_reach,
-};
+use msr_words::{Fitting, Run, are_narrow, begins_with_four, count_wide, run_fits, steim1_reach};
 
 /// Whether some run of that kind, which the form has, holds both samples. A part after a cut fits such a kind by itself,
 /// so it is enough to try the run from the first to the second.
@@ -132,13 +130,7 @@ fn some_holds_both(
 }
 
 /// Whether the first sample stands before the second, and no run that fits holds both.
-fn none_between(
-    samples: &[i32],
-    form: Form,
-    first: u64,
-    second: u64,
-    known: Option<Reach>,
-) -> bool
+fn none_between(samples: &[i32], form: Form, first: u64, second: u64, known: Option<Reach>) -> bool
     requires known { IsKnown (bytes_of form.length) samples.now known }
     requires within { second < length samples.now }
     ensures { IsTrue result ↔ (first < second) × NoneHolds (records_of form) samples.now first second }
@@ -182,13 +174,7 @@ pub fn separates_in(samples: &[i32], form: Form, separators: &[u64]) -> bool
 
 /// Whether the samples `start` to `end - 1` fit one record of Steim-2, which the form has: by how far it reaches, if that
 /// is known.
-fn steim2_fits(
-    samples: &[i32],
-    start: usize,
-    end: usize,
-    form: Form,
-    known: Option<Reach>,
-) -> bool
+fn steim2_fits(samples: &[i32], start: usize, end: usize, form: Form, known: Option<Reach>) -> bool
     requires order { start ≤ end }
     requires within { end ≤ length samples.now }
     requires known { IsKnown (bytes_of form.length) samples.now known }
