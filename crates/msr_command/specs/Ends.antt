@@ -14,7 +14,7 @@ use Rattle.msr_verdict.specs.declared.verdict.Verdict.TheVariants.{Least, NotSho
 use Rattle.msr_tool.specs.declared.fault.ToolFault.{ToolFault}
 use Rattle.msr_walk.specs.Walk.{WalkEnds}
 use Rattle.msr_verify.specs.Walk.{WalkEnds as VerifyingEnds}
-use Rattle.msr_tool.specs.declared.fault.ToolFault.TheVariants as fault
+use Rattle.msr_tool.specs.declared.fault.ToolFault.TheVariants as engine
 use Rattle.msr_compare.specs.declared.comparison.Comparison.{Comparison}
 use Rattle.msr_compare.specs.declared.comparison.Comparison.TheVariants.{Same, Differ}
 use Rattle.msr_command.specs.declared.done.Done.{Done}
@@ -87,7 +87,7 @@ IsOverlap (Tool fault) = ⊥
 
 -- folders overlap, or memory was refused
 abbrev pub IsOverlapOrMemory : TaskFault → Type 0
-IsOverlapOrMemory stop = (stop ≡ Overlap) ⊎ (stop ≡ Tool fault.Memory)
+IsOverlapOrMemory stop = (stop ≡ Overlap) ⊎ (stop ≡ Tool engine.Memory)
 
 -- what it says that a task was done by writing, by a repack, by a verdict, by an answer, or by a walk
 abbrev pub IfWritten : Type 0 → Done → Type 0
