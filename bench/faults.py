@@ -27,7 +27,7 @@ A run is right if it ends as the undisturbed one in every byte, and the fault al
 closed, 63 interruptions, memory that was found elsewhere); or if its status is 1, standard error has the line of that
 fault alone, what was printed is a prefix of the undisturbed text, and OUT has a prefix of the records, or, if the fault
 came before it was cut to nothing, what stood there before. After a fault, and if nothing can be printed, the REPORT of
-`feed` is empty. The line of `compare` names the file that cannot be read, which is ONE if neither can be.
+`feed` is empty. The line of `compare` names the file that could not be read, or of two the one that failed first.
 """
 import argparse
 import collections
@@ -49,7 +49,6 @@ from calls import IN_A_ROW, calls_in, faults_of, injected, words_of_trace
 
 OLD = b"what stood in OUT before"
 SAME = "no fault"
-READ = "read fault"
 
 # Words, what is standard input, and whether standard output is a pipe, not a file.
 Case = collections.namedtuple("Case", "title words input pipes")
@@ -92,12 +91,18 @@ class Bench:
             print(f"{title}: {wrong}", flush=True)
 
 
+def read_fault(case, call):
+    """The line that tells that an input cannot be read: with its name if there are two."""
+    name = "-" if call.fd == 0 else call.target
+    return f"{name}: read fault" if case.words[0] == "compare" else "read fault"
+
+
 def allowed(case, call, fault):
     """The lines that may tell the fault, SAME for a run that ends as the undisturbed one."""
     names = [word for word in case.words if word == call.target]
     opened = {f"cannot open {name}" for name in names}
     answers = {
-        "reading": {READ},
+        "reading": {read_fault(case, call)},
         "writing": {"write fault"},
         "opening": opened or {SAME},
         "looking": {SAME} if call.target.startswith("/dev/") else opened | {"write fault"},
@@ -123,15 +128,7 @@ def allowed_of(case, call, hit, fault):
     for following in hit[1:] if fault.row == 0 else ():
         if SAME in lines:
             lines = lines - {SAME} | allowed(case, following, fault)
-    if case.words[0] == "compare" and READ in lines:
-        lines = lines - {READ} | {f"{unread(case, hit)}: {READ}"}
     return lines
-
-
-def unread(case, hit):
-    """The input of `compare` that is told if these calls fail: ONE also if OTHER's failed before."""
-    names = {"-" if it.fd == 0 else it.target for it in hit if it.kind == "reading"}
-    return next((word for word in case.words if word in names), None)
 
 
 def without(text, calls, at, short):
