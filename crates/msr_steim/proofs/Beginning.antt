@@ -15,7 +15,7 @@ use Rattle.msr_steim.specs.Word.{AreFields, layout_of}
 use Rattle.msr_steim.proofs.Decoding.{AreReadBelow, differences_push, length-samples_of, length-sums_after}
 use Rattle.msr_steim.proofs.InOrderLemmas.{numbers_are_fields, one_word}
 use Rattle.msr_steim.proofs.OneList.{HasBits, has_bits, holds_one}
-use Rattle.msr_steim.proofs.Reading.{code_data, held_so, no_samples}
+use Rattle.msr_steim.proofs.Reading.{IsReached, IsStart, code_data, held_so, no_samples}
 use Rattle.msr_steim.proofs.Shifts.{code_shifted}
 
 -- ---- what a word holds is what it has in order
@@ -95,6 +95,56 @@ begins_here version order area count number samples group last read none begins 
     ∙ ap (differences_from version order area) read.number_is in
     first_part (constant order area 1) last group rest (differences_from version order area 0)
     (before ∙ one_group version order area number group within here) begins.sums
+
+-- the first samples begin after it, the others after the one before
+pub starts_here : (version : Version) (order : Order) (area : List ℕ) (number code word : ℕ) (at : Place) (out : List ℤ)
+    → IsReached version order area number at out
+    → (at.place ≡ 0 → BeginsAfter version order area at.last)
+    → number < word_count area → code ≡ code_of order area number
+    → word ≡ arranged_word version order code area number
+    → IsStart version code word (constant order area 1) at at
+starts_here version order area number code word at out reached begins within code_is word_is = record {
+  place = refl;
+  kept = λ some. refl;
+  first = λ none group holds.
+      begins_here version order area (length out) number (take at.place out) group at.last reached.read
+      (length-take at.place out ∙ omega (arith, none)) (begins none) within
+      (held_so version order area number code word group code_is word_is holds);
+}
+
+-- as long as no sample was written, the next word begins after the same number
+pub begins_on : (version : Version) (order : Order) (area : List ℕ) (at next : Place)
+    → (next ≡ at) ⊎ (at.place < next.place)
+    → (at.place ≡ 0 → BeginsAfter version order area at.last)
+    → next.place ≡ 0 → BeginsAfter version order area next.last
+begins_on version order area at next on begins none =
+    ⊎_elim
+    (λ (same : next ≡ at). subst (λ (p : Place). BeginsAfter version order area p.last) (sym same)
+    (begins (sym (ap (λ (p : Place). p.place) same) ∙ none)))
+    (λ (more : at.place < next.place). absurd (omega (arith, more, none)))
+    on
+
+-- ---- where the samples end
+
+-- a word that reaches the end was written up to the end
+pub end_reached : (version : Version) (code word : ℕ) (at next : Place) (old new : List ℤ)
+    → ReachesEnd version code word at.place (length old)
+    → IsWritten version code word at old new next
+    → at.place < length old → length new ≡ length old → next.place ≡ length new
+end_reached version code word at next old new ends written room same =
+    let reaches : length old ≤ at.place + length written.group = ends.reaches written.group written.holds in
+    let sums = sums_after at.last written.group in
+    let taken : length (take next.place new) ≡ length (take (length old) (take at.place old ++ sums)) =
+    ap length written.samples in
+    let left : length (take next.place new) ≡ min next.place (length new) = length-take next.place new in
+    let right : length (take (length old) (take at.place old ++ sums))
+    ≡ min (length old) (length (take at.place old ++ sums)) =
+    length-take (length old) (take at.place old ++ sums) in
+    let both : length (take at.place old ++ sums) ≡ length (take at.place old) + length sums =
+    length-append (take at.place old) sums in
+    let front : length (take at.place old) ≡ min at.place (length old) = length-take at.place old in
+    let many : length sums ≡ length written.group = length-sums_after at.last written.group in
+    omega (arith, written.within)
 
 -- ---- the codes of a frame
 

@@ -83,7 +83,41 @@ grown first last samples group before last_is begins same =
     ∙ ap (λ s. s ++ sums_after last group) (sym (no_samples first samples empty)))
     (cases_lt 0 (length samples))
 
+-- what was written for a word is what its group gives
+pub pushed : (first : ℤ) (at start : Place) (old new group : List ℤ) (n : ℕ)
+    → start.place ≡ at.place → (0 < at.place → start ≡ at)
+    → (at.place ≡ 0 → samples_of first group ≡ sums_after start.last group)
+    → (0 < at.place → at.last ≡ get_or old (at.place - 1) (pos 0)) → at.place < length old
+    → take n new ≡ take (length old) (take start.place old ++ sums_after start.last group)
+    → (before : List ℤ) → take at.place old ≡ samples_of first before
+    → take n new ≡ take (length old) (samples_of first (before ++ group))
+pushed first at start old new group n place kept begins last room written before same =
+    let samples = take at.place old in
+    let size : length samples ≡ at.place = length-take at.place old ∙ omega (arith, room) in
+    let last_is : 0 < length samples → start.last ≡ get_or samples (length samples - 1) (pos 0) = λ more.
+    let some : 0 < at.place = omega (arith, size, more) in
+    ap (λ (p : Place). p.last) (kept some) ∙ last some
+    ∙ sym (get_or-take at.place old (at.place - 1) (pos 0) (omega (arith, some)))
+    ∙ ap (λ k. get_or samples (k - 1) (pos 0)) (sym size) in
+    written ∙ ap (λ k. take (length old) (take k old ++ sums_after start.last group)) place
+    ∙ ap (take (length old)) (sym (grown first start.last samples group before last_is
+    (λ none. begins (sym size ∙ none)) same))
+
 -- ---- word by word
+
+-- the words below this number were read, and their samples stand before the place
+pub record IsReached (version : Version) (order : Order) (area : List ℕ) (number : ℕ) (at : Place)
+    (out : List ℤ) : Type 0 where
+  pub read : AreReadBelow version order area (length out) number (constant order area 1) (take at.place out)
+  pub room : at.place < length out
+  pub last : 0 < at.place → at.last ≡ get_or out (at.place - 1) (pos 0)
+
+-- where the samples of a word begin
+pub record IsStart (version : Version) (code word : ℕ) (forward : ℤ) (at start : Place) : Type 0 where
+  pub place : start.place ≡ at.place
+  pub kept : 0 < at.place → start ≡ at
+  pub first : at.place ≡ 0 → (group : List ℤ) → Holds version code word group
+      → samples_of forward group ≡ sums_after start.last group
 
 pub held_so : (version : Version) (order : Order) (area : List ℕ) (number code word : ℕ) (group : List ℤ)
     → code ≡ code_of order area number → word ≡ arranged_word version order code area number
@@ -98,6 +132,70 @@ pub undefined_so : (version : Version) (order : Order) (area : List ℕ) (number
 undefined_so version order area number code word e f undefined =
     let P : ℕ → Type 0 = λ k. IsUndefinedWord version k (arranged_word version order k area number) in
     subst P e (subst (λ w. IsUndefinedWord version code w) f undefined)
+
+pushed_here : (version : Version) (order : Order) (area : List ℕ) (number code word : ℕ) (at start next : Place)
+    (old new : List ℤ) → IsReached version order area number at old
+    → IsStart version code word (constant order area 1) at start
+    → (written : IsWritten version code word start old new next)
+    → (before : List ℤ) → take at.place old ≡ samples_of (constant order area 1) before
+    → take next.place new ≡ take (length old) (samples_of (constant order area 1) (before ++ written.group))
+pushed_here version order area number code word at start next old new reached begin written =
+    pushed (constant order area 1) at start old new written.group next.place begin.place begin.kept
+    (λ none. begin.first none written.group written.holds) reached.last reached.room written.samples
+
+last_here : (version : Version) (order : Order) (area : List ℕ) (number code word : ℕ) (at start next : Place)
+    (old new : List ℤ) → IsReached version order area number at old
+    → IsStart version code word (constant order area 1) at start
+    → IsWritten version code word start old new next → 0 < next.place → next.last ≡ get_or new (next.place - 1) (pos 0)
+last_here version order area number code word at start next old new reached begin written some =
+    written.last (λ more.
+    let least : 0 < at.place = omega (arith, begin.place, more) in
+    ap (λ (p : Place). p.last) (begin.kept least) ∙ reached.last least
+    ∙ ap (λ k. get_or old (k - 1) (pos 0)) (sym begin.place)) some
+
+pub step_more : (version : Version) (order : Order) (area : List ℕ) (number code word : ℕ) (at start next : Place)
+    (old new : List ℤ) → IsReached version order area number at old
+    → IsStart version code word (constant order area 1) at start
+    → IsWritten version code word start old new next → code ≡ code_of order area number
+    → word ≡ arranged_word version order code area number → number < word_count area → length new ≡ length old
+    → next.place ≢ length new
+    → IsReached version order area (number + 1) next new
+step_more version order area number code word at start next old new reached begin written e f within same unlike =
+    let size : length (take next.place new) ≡ next.place = length-take next.place new
+    ∙ omega (arith, written.within, same) in
+    let not_full : length (take next.place new) ≢ length old = λ full. unlike (sym size ∙ full ∙ sym same) in
+    let more : AreReadBelow version order area (length old) (number + 1) (constant order area 1) (take next.place new) =
+    read_more version order area (length old) number (constant order area 1) (take at.place old)
+    (take next.place new) written.group reached.read within
+    (held_so version order area number code word written.group e f written.holds)
+    (pushed_here version order area number code word at start next old new reached begin written) not_full in
+    record {
+      read = subst (λ n. AreReadBelow version order area n (number + 1) (constant order area 1)
+          (take next.place new)) (sym same) more;
+      room = room (next.place) (length new) unlike (omega (arith, written.within, same));
+      last = last_here version order area number code word at start next old new reached begin written;
+    }
+  where
+    room : (a b : ℕ) → a ≢ b → a ≤ b → a < b
+    room a b unlike le = ⊎_elim (λ (lt : a < b). lt) (λ (ge : b ≤ a). absurd (unlike (omega (arith, ge, le))))
+        (cases_lt a b)
+
+pub step_enough : (version : Version) (order : Order) (area : List ℕ) (number code word : ℕ)
+    (at start next : Place) (old new : List ℤ) → IsReached version order area number at old
+    → IsStart version code word (constant order area 1) at start
+    → IsWritten version code word start old new next → code ≡ code_of order area number
+    → word ≡ arranged_word version order code area number → number < word_count area → length new ≡ length old
+    → next.place ≡ length new
+    → CarriesSteim version order area new
+step_enough version order area number code word at start next old new reached begin written e f within same full =
+    let whole : take next.place new ≡ new = ap (λ k. take k new) full ∙ take_all (length new) new (omega arith) in
+    let size : length (take next.place new) ≡ length old = ap length whole ∙ same in
+    let carried : CarriesSteim version order area (take next.place new) =
+    read_enough version order area (length old) number (take at.place old)
+    (take next.place new) written.group reached.read within
+    (held_so version order area number code word written.group e f written.holds)
+    (pushed_here version order area number code word at start next old new reached begin written) size in
+    subst (CarriesSteim version order area) whole carried
 
 -- ---- words with no differences
 

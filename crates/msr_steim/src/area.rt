@@ -4,11 +4,9 @@ ghost use Rattle.std.specs.Prelude.{◌≡◌, ◌<◌, ◌≤◌, ◌↔◌, �
 ghost use Rattle.msr_base.specs.declared.order.Order.{Order};
 ghost use Rattle.msr_kinds.specs.declared.storage.Version.{Version};
 ghost use Rattle.msr_steim.specs.Area.{CarriesSteim, EndsBefore, IsUndefinedBefore, ReverseAgrees, arranged_word, constant, whole_word};
-ghost use Rattle.msr_steim.specs.Taking.{AreStored};
-ghost use Rattle.msr_steim.specs.TakingLaws.{stored_wants};
 
+use crate::borrowed::before_first;
 use crate::sums::{Place, write_inner_word, write_last_word};
-use crate::taker::{Taken, TakesSamples, read_area};
 use byteorder::{BigEndian, ByteOrder, LittleEndian};
 use msr_base::{Order, SampleVec};
 use msr_kinds::Version;
@@ -106,46 +104,50 @@ pub(crate) fn is_last(samples: &[i32], sample: i32) -> bool
     samples.last().copied() == Some(sample)
 }
 
-/// Stores the samples in the places, one after the other.
-#[derive(Drop)]
-struct Stored {
-    /// The next sample's place.
-    place: usize,
-}
-
-impl TakesSamples for Stored {
-    ghost has = { λ stored. AreStored stored.place };
-
-    ghost has_all = { λ _ places samples. samples ≡ places };
-
-    ghost wanted = { λ _ places. length places };
-
-    ghost can_take = { λ stored places. (stored.place < length places) × (length places ≤ 65535) };
-
-    ghost wants = { λ stored. stored_wants stored.place };
-
-    #[inline(always)]
-    fn take(
-        &mut self,
-        version: Version,
-        code: u8,
-        word: u32,
-        last: i32,
-        places: &mut [i32],
-    ) -> Taken {
-        let at = Place {
-            place: self.place,
-            last,
-        };
-        let Some(next) = write_inner_word(version, code, word, at, places) else {
-            return match write_last_word(version, code, word, at, places) {
-                Some(_) => Taken::All,
-                None => Taken::Undefined,
-            };
-        };
-        self.place = next.place;
-        Taken::More(next.last)
+/// Reads word after word until `out` is full. Inlined with literals for version and order, each word is
+/// read without a test of them.
+#[inline(always)]
+fn decode_words(
+    version: Version,
+    order: Order,
+    area: &[u8],
+    out: &mut [i32],
+) -> Result<bool, SteimFault>
+    requires some { 1 ≤ length out.old }
+    requires few { length out.old ≤ 65535 }
+    requires small { length area.now ≤ 1048576 }
+    ensures samples { OnOk result (CarriesSteim version order area.now out.new) }
+    ensures reverse { IfOk result (λ agrees. IsTrue agrees ↔ ReverseAgrees order area.now out.new) }
+    ensures short { IsErrOf result SteimFault.DataShort → EndsBefore version order area.now (length out.old) }
+    ensures bad { (number : ℕ) → IsErrOf result (SteimFault.BadCode number)
+        → IsUndefinedBefore version order area.now (length out.old) number }
+    ensures never_memory { IsErrOf result SteimFault.Memory → ⊥ }
+{
+    let frames = area.len() / 64;
+    if frames == 0 {
+        return Err(SteimFault::DataShort);
     }
+    let last = before_first(version, order, area);
+    let mut at = Place { place: 0, last };
+    for frame in 0..frames {
+        let from = first_slot(frame);
+        // The code of the next word stands in the highest bits.
+        let mut codes = whole_word_at(order, area, 16 * frame) << (2 * from);
+        for slot in from..16 {
+            let number = 16 * frame + slot;
+            let code = (codes >> 30) as u8;
+            let word = arranged_word_at(version, order, code, area, number);
+            let Some(next) = write_inner_word(version, code, word, at, out) else {
+                return match write_last_word(version, code, word, at, out) {
+                    Some(_) => Ok(is_last(out, constant_at(order, area, 2))),
+                    None => Err(SteimFault::BadCode(number as u32)),
+                };
+            };
+            codes <<= 2;
+            at = next;
+        }
+    }
+    Err(SteimFault::DataShort)
 }
 
 /// Fills `out` with the first samples that the area carries, and says whether the last of them is the
@@ -168,9 +170,11 @@ pub fn decode_steim_into(
         → IsUndefinedBefore version order area.now (length out.old) number }
     ensures never_memory { IsErrOf result SteimFault.Memory → ⊥ }
 {
-    match read_area(version, order, area, &mut Stored { place: 0 }, out) {
-        Ok(()) => Ok(is_last(out, constant_at(order, area, 2))),
-        Err(fault) => Err(fault),
+    match (version, order) {
+        (Version::One, Order::Big) => decode_words(Version::One, Order::Big, area, out),
+        (Version::One, Order::Little) => decode_words(Version::One, Order::Little, area, out),
+        (Version::Two, Order::Big) => decode_words(Version::Two, Order::Big, area, out),
+        (Version::Two, Order::Little) => decode_words(Version::Two, Order::Little, area, out),
     }
 }
 

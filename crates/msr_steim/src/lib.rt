@@ -8,7 +8,6 @@ mod check;
 mod frames;
 mod group;
 mod sums;
-mod taker;
 mod word;
 
 pub use area::{Decoded, SteimFault, decode_steim, decode_steim_into, one_outcome};

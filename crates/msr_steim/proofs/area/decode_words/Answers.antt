@@ -1,0 +1,122 @@
+-- One more word was read.
+use Rattle.std.proofs.Common.{◌≡◌, ◌≢◌, ◌<◌, ◌+◌, ◌*◌, ◌/◌, ◌%◌, ◌^◌, length, take, arith, ap, refl, subst, ◌∙◌}
+use Rattle.msr_steim.specs.Area.{IsUndefined, IsUndefinedBefore, arranged_word, code_of, constant}
+use Rattle.msr_steim.specs.Sums.{IsWritten, ReachesEnd}
+use Rattle.msr_steim.proofs.Beginning.{begins_on, code_here, codes_on, end_reached, starts_here}
+use Rattle.msr_steim.proofs.Reading.{IsReached, IsStart, same_word, skip_first, slot_bounds, step_enough, step_more, undefined_before, undefined_so}
+use Rattle.msr_steim.proofs.area.decode_words.Goals as goal
+
+pub loop-slot-init : goal.loop-slot-init
+loop-slot-init c =
+    let at = c.loop-frame.at in
+    let out = c.loop-frame.out in
+    let area = c.args.area.now in
+    let frame = c.loop-frame.frame in
+    let from = c.first_slot-from.result in
+    let zeroth = c.first_slot-from.ensures.first in
+    let others = c.first_slot-from.ensures.others in
+    let held = c.loop-frame.invariant in
+    let bounds = slot_bounds frame from zeroth others in
+    record {
+      reached = record {
+        read = skip_first c.args.version c.args.order area (length out) frame from (constant c.args.order area 1)
+            (take at.place out) zeroth others held.reached.read (omega (arith, c.loop-frame-test.true));
+        room = held.reached.room;
+        last = held.reached.last;
+      };
+      begins = held.begins;
+      codes = ap (λ n. n * 2 ^ (2 * from) % 4294967296) c.whole_word_at.ensures;
+      some = bounds.0;
+      late = bounds.1;
+      few = bounds.2;
+    }
+
+pub returns-in-None-clause-bad : goal.returns-in-None-clause-bad
+returns-in-None-clause-bad c =
+    let order = c.args.order in
+    let area = c.args.area.now in
+    let frame = c.loop-frame.frame in
+    let slot = c.loop-slot.slot in
+    let number = 16 * frame + slot in
+    let code = c.loop-slot.codes / 1073741824 in
+    let word = c.arranged_word_at-word.result in
+    let at = c.loop-slot.at in
+    let held = c.loop-slot.invariant in
+    let small : slot < 16 = c.loop-slot-test.true in
+    let within : number < length area / 64 * 16 = omega (arith, small, c.loop-frame-test.true) in
+    let code_is : code ≡ code_of order area number =
+    code_here order area frame slot c.loop-slot.codes held.some small held.late held.codes in
+    let word_is : word ≡ arranged_word c.args.version order code area number = c.arranged_word_at-word.ensures in
+    let undefined : IsUndefined c.args.version order area number =
+    undefined_so c.args.version order area number code word code_is word_is (c.in-None.ensures.none refl) in
+    let here : IsUndefinedBefore c.args.version order area (length c.args.out.now) number =
+    subst (λ n. IsUndefinedBefore c.args.version order area n number) (c.loop-slot.auto.out ∙ c.loop-frame.auto.out)
+    (undefined_before c.args.version order area (length c.loop-slot.out) number (constant order area 1)
+    (take at.place c.loop-slot.out) held.reached.read within undefined) in
+    λ other e. subst (λ n. IsUndefinedBefore c.args.version order area (length c.args.out.now) n)
+    (same_word number other e) here
+
+pub returns-in-Some-write_last_word-clause-samples : goal.returns-in-Some-write_last_word-clause-samples
+returns-in-Some-write_last_word-clause-samples c =
+    let order = c.args.order in
+    let area = c.args.area.now in
+    let frame = c.loop-frame.frame in
+    let slot = c.loop-slot.slot in
+    let number = 16 * frame + slot in
+    let code = c.loop-slot.codes / 1073741824 in
+    let word = c.arranged_word_at-word.result in
+    let at = c.loop-slot.at in
+    let held = c.loop-slot.invariant in
+    let small : slot < 16 = c.loop-slot-test.true in
+    let within : number < length area / 64 * 16 = omega (arith, small, c.loop-frame-test.true) in
+    let code_is : code ≡ code_of order area number =
+    code_here order area frame slot c.loop-slot.codes held.some small held.late held.codes in
+    let word_is : word ≡ arranged_word c.args.version order code area number = c.arranged_word_at-word.ensures in
+    let begin : IsStart c.args.version code word (constant order area 1) at at =
+    starts_here c.args.version order area number code word at c.loop-slot.out held.reached held.begins within
+    code_is word_is in
+    let old = c.loop-slot.out in
+    let new = c.write_last_word.new.out in
+    let next = c.in-Some-write_last_word.field-0 in
+    let same : c.write_inner_word.new.out ≡ old = c.in_default.ensures.kept refl in
+    let written : IsWritten c.args.version code word at old new next =
+    subst (λ out. IsWritten c.args.version code word at out new next) same c.in-Some-write_last_word.ensures.some in
+    let ends : ReachesEnd c.args.version code word at.place (length old) = c.in_default.ensures.none refl in
+    let size : length new ≡ length old = c.write_last_word.auto.out ∙ ap length same in
+    step_enough c.args.version order area number code word at at next old new held.reached begin written code_is
+    word_is within size (end_reached c.args.version code word at next old new ends written held.reached.room size)
+
+pub loop-slot-preserved : goal.loop-slot-preserved
+loop-slot-preserved c =
+    let order = c.args.order in
+    let area = c.args.area.now in
+    let frame = c.loop-frame.frame in
+    let slot = c.loop-slot.slot in
+    let number = 16 * frame + slot in
+    let code = c.loop-slot.codes / 1073741824 in
+    let word = c.arranged_word_at-word.result in
+    let at = c.loop-slot.at in
+    let held = c.loop-slot.invariant in
+    let small : slot < 16 = c.loop-slot-test.true in
+    let within : number < length area / 64 * 16 = omega (arith, small, c.loop-frame-test.true) in
+    let code_is : code ≡ code_of order area number =
+    code_here order area frame slot c.loop-slot.codes held.some small held.late held.codes in
+    let word_is : word ≡ arranged_word c.args.version order code area number = c.arranged_word_at-word.ensures in
+    let begin : IsStart c.args.version code word (constant order area 1) at at =
+    starts_here c.args.version order area number code word at c.loop-slot.out held.reached held.begins within
+    code_is word_is in
+    let next = c.in-Some.next in
+    let new = c.write_inner_word.new.out in
+    let inner = c.in-Some.ensures.some in
+    let unlike : next.place ≢ length new = λ e. omega (arith, e, inner.room, c.write_inner_word.auto.out) in
+    let next_number : number + 1 ≡ 16 * frame + (slot + 1) = omega arith in
+    record {
+      reached = subst (λ n. IsReached c.args.version order area n next new) next_number
+          (step_more c.args.version order area number code word at at next c.loop-slot.out new held.reached begin
+          inner.written code_is word_is within c.write_inner_word.auto.out unlike);
+      begins = begins_on c.args.version order area at next inner.on held.begins;
+      codes = codes_on c.loop-slot.codes _ slot held.codes;
+      some = omega arith;
+      late = omega (arith, held.late);
+      few = omega (arith, small);
+    }

@@ -1,0 +1,114 @@
+-- One more word was looked at.
+use Rattle.std.proofs.Common.{◌≡◌, ◌<◌, ◌+◌, ◌-◌, ◌*◌, ◌/◌, ◌%◌, ◌^◌, ◌↔◌, IsTrue, Some, slice_get, length, take, to_z, of_z, w32, SFits, rules, arith, ap, refl, sym, subst, ◌∙◌}
+use Rattle.std.proofs.lemmas.Int.{to_z-of_z}
+use Rattle.msr_steim.specs.declared.sums.Place.{Place}
+use Rattle.msr_steim.specs.Area.{IsUndefined, IsUndefinedBefore, code_of, constant}
+use Rattle.msr_steim.proofs.Beginning.{code_here, codes_on}
+use Rattle.msr_steim.proofs.Checking.{ArePassed, looked_at, passed_enough, passed_on, undefined_alone}
+use Rattle.msr_steim.proofs.Reading.{same_word, skip_first, slot_bounds, undefined_before, undefined_so}
+use Rattle.msr_steim.proofs.check.check_words.Goals as goal
+
+pub loop-slot-init : goal.loop-slot-init
+loop-slot-init c =
+    let area = c.args.area.now in
+    let frame = c.loop-frame.frame in
+    let from = c.first_slot-from.result in
+    let zeroth = c.first_slot-from.ensures.first in
+    let others = c.first_slot-from.ensures.others in
+    let held = c.loop-frame.invariant in
+    let bounds = slot_bounds frame from zeroth others in
+    record {
+      passed = record {
+        samples = held.samples;
+        read = skip_first c.args.version c.args.order area c.args.count frame from
+            (constant c.args.order area 1) held.samples zeroth others held.read (omega (arith, c.loop-frame-test.true));
+        left_is = held.left_is;
+        last_is = held.last_is;
+        begins = held.begins;
+      };
+      codes = ap (λ n. n * 2 ^ (2 * from) % 4294967296) c.whole_word_at.ensures;
+      some = bounds.0;
+      late = bounds.1;
+      few = bounds.2;
+    }
+
+pub returns-in_default-clause-bad : goal.returns-in_default-clause-bad
+returns-in_default-clause-bad c =
+    let order = c.args.order in
+    let area = c.args.area.now in
+    let frame = c.loop-frame.frame in
+    let slot = c.loop-slot.slot in
+    let number = 16 * frame + slot in
+    let code = c.loop-slot.codes / 1073741824 in
+    let word = c.arranged_word_at-word.result in
+    let held = c.loop-slot.invariant in
+    let small : slot < 16 = c.loop-slot-test.true in
+    let within : number < length area / 64 * 16 = omega (arith, small, c.loop-frame-test.true) in
+    let code_is : code ≡ code_of order area number =
+    code_here order area frame slot c.loop-slot.codes held.some small held.late held.codes in
+    let undefined : IsUndefined c.args.version order area number =
+    undefined_so c.args.version order area number code word code_is c.arranged_word_at-word.ensures
+    (undefined_alone c.args.version code word (length c.loop-slot.samples) c.arranged_word_at-word.array_long
+    (c.in_default.ensures.none refl)) in
+    let here : IsUndefinedBefore c.args.version order area c.args.count number =
+    undefined_before c.args.version order area c.args.count number
+    (constant order area 1) held.passed.samples held.passed.read within undefined in
+    λ other e. subst (λ n. IsUndefinedBefore c.args.version order area c.args.count n) (same_word number other e) here
+
+pub returns-then-next-left-clause-samples : goal.returns-then-next-left-clause-samples
+returns-then-next-left-clause-samples c =
+    let version = c.args.version in
+    let order = c.args.order in
+    let area = c.args.area.now in
+    let frame = c.loop-frame.frame in
+    let slot = c.loop-slot.slot in
+    let codes = c.loop-slot.codes in
+    let word = c.arranged_word_at-word.result in
+    let held = c.loop-slot.invariant in
+    let at : Place = record { place = 0; last = to_z w32 c.loop-slot.last-bits } in
+    let next = c.in-Some.next in
+    let old = c.loop-slot.samples in
+    let new = c.write_inner_word.new.out in
+    let fits : SFits w32 c.constant_at.result = search rules in
+    let looked = looked_at version order area frame slot codes word at next old new c.in-Some.ensures.some refl
+    c.write_inner_word.auto.out held.some c.loop-slot-test.true held.late c.loop-frame-test.true held.codes
+    c.arranged_word_at-word.ensures in
+    passed_enough version order area (16 * frame + slot) c.args.count c.loop-slot.left
+    (codes / 1073741824) word at next old new held.passed looked
+    c.if-next-left.true c.is_last.result (take c.loop-slot.left new) refl
+    (subst (λ constant_is. IsTrue c.is_last.result
+    ↔ (slice_get (take c.loop-slot.left new) (length (take c.loop-slot.left new) - 1) ≡ Some constant_is))
+    (to_z-of_z w32 c.constant_at.result fits ∙ c.constant_at.ensures) c.is_last.ensures)
+
+pub loop-slot-preserved : goal.loop-slot-preserved
+loop-slot-preserved c =
+    let version = c.args.version in
+    let order = c.args.order in
+    let area = c.args.area.now in
+    let frame = c.loop-frame.frame in
+    let slot = c.loop-slot.slot in
+    let codes = c.loop-slot.codes in
+    let word = c.arranged_word_at-word.result in
+    let held = c.loop-slot.invariant in
+    let at : Place = record { place = 0; last = to_z w32 c.loop-slot.last-bits } in
+    let next = c.in-Some.next in
+    let old = c.loop-slot.samples in
+    let new = c.write_inner_word.new.out in
+    let left = c.loop-slot.left - next.place in
+    let fits : SFits w32 next.last = search rules in
+    let looked = looked_at version order area frame slot codes word at next old new c.in-Some.ensures.some refl
+    c.write_inner_word.auto.out held.some c.loop-slot-test.true held.late c.loop-frame-test.true held.codes
+    c.arranged_word_at-word.ensures in
+    let on : ArePassed version order area (16 * frame + slot + 1) c.args.count left next.last =
+    passed_on version order area (16 * frame + slot) c.args.count c.loop-slot.left
+    (codes / 1073741824) word at next old new held.passed looked c.if-next-left.false in
+    let number : 16 * frame + slot + 1 ≡ 16 * frame + (slot + 1) = omega arith in
+    record {
+      passed = subst (λ n. ArePassed version order area n c.args.count left (to_z w32 (of_z w32 next.last))) number
+          (subst (ArePassed version order area (16 * frame + slot + 1) c.args.count left)
+          (sym (to_z-of_z w32 next.last fits)) on);
+      codes = codes_on codes _ slot held.codes;
+      some = omega arith;
+      late = omega (arith, held.late);
+      few = omega (arith, c.loop-slot-test.true);
+    }
