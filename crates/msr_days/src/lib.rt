@@ -15,7 +15,7 @@ pub struct DayOptions {
     pub same_length: bool,
     /// Whether days are left alone that an earlier walk did.
     pub resume: bool,
-    /// Whether the records of a day are held against their report before they get their name.
+    /// Whether the records of a day are held against their report and compared with its file before they get their name.
     pub check: bool,
     /// Whether only days are kept that get smaller in bytes.
     pub only_smaller: bool,
