@@ -10,13 +10,13 @@ use msr_tool::Verdict;
 pub(crate) enum Done {
     /// Everything was written.
     Written,
-    /// Records and report were written, and channels seem to alternate, or not.
+    /// Records and report were written; `in_turns` says whether channels seem to alternate.
     Repacked { in_turns: bool },
     /// A verdict was printed.
     Checked(Verdict),
     /// An answer was printed.
     Compared(Comparison),
-    /// An archive was walked to its end, and an entry was refused, or not verified, or none.
+    /// An archive was walked to its end; `refused` says whether an entry was refused or not verified.
     Walked { refused: bool },
 }
 

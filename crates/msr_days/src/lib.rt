@@ -9,7 +9,7 @@ use msr_options::Options;
 /// How the days of an archive are repacked, which of them are kept, and what is told of them.
 #[derive(Clone, Copy, Debug, PartialEq, Eq)]
 pub struct DayOptions {
-    /// With `same_length`, the length is that of the days whose first record has none in which records are written.
+    /// With `same_length`, this length is for days whose first record has a length that is not written.
     pub options: Options,
     /// Whether each day is written in the length of its first record.
     pub same_length: bool,

@@ -33,11 +33,11 @@ pub struct RepackedArchive<'a> {
 enum Tree {
     /// That of the archive, each of whose days is judged.
     Root,
-    /// That of the records, for those of days that the archive does not have.
+    /// That of the records, in search of days that the archive does not have.
     Out,
 }
 
-/// What walks: the files that it goes through, memory, and which folders.
+/// What the walk needs: the system's files, memory, the folders, and which of the two trees is walked.
 #[derive(Drop)]
 struct Walker<'a, R: Files> {
     rt: &'a R,
@@ -151,7 +151,7 @@ fn tell_unlisted<R: Files, O: Sink>(
     tell(walker, path, refused, out, tally)
 }
 
-/// The entries of a folder with that path from the one that is walked, below which folders stand that many levels deep.
+/// Tells of the entries of the folder with that path from the one that is walked, and of folders up to `levels` below it.
 fn walk_folder<R: Files, O: Sink>(
     walker: &Walker<'_, R>,
     folder: &str,
@@ -187,7 +187,7 @@ fn walk_folder<R: Files, O: Sink>(
     Ok(())
 }
 
-/// The whole of it, or the folders that are asked for, one after another.
+/// Walks the whole tree, or the folders that are asked for, one after another.
 fn walk_folders<R: Files, O: Sink>(
     walker: &Walker<'_, R>,
     out: &mut O,

@@ -86,7 +86,7 @@ fn compare_day<F: Source, P: Source>(
 }
 
 /// Reads the report, then the records, and, if it shows that they are the fewest, the day's own file beside the records
-/// a second time: from another source of theirs, so that no segment is held. What is not needed is not read.
+/// a second time: from another source of theirs, so that comparing keeps no segment. What is not needed is not read.
 pub fn verify_day<F: Source, P: Source, A: Source, Q: Source>(
     alloc: Global,
     file: &mut F,

@@ -15,10 +15,10 @@ pub(crate) enum Refusal {
     /// The day's own file is no regular file, or could not be opened, or was gone when it was looked at.
     #[error("file: cannot open")]
     FileUnopened,
-    /// The same of its records.
+    /// Its records are no regular file, or could not be opened.
     #[error("records: cannot open")]
     RecordsUnopened,
-    /// The same of its report.
+    /// Its report is no regular file, or could not be opened.
     #[error("report: cannot open")]
     ReportUnopened,
     /// The records may be the day's own file under another name.
@@ -27,7 +27,7 @@ pub(crate) enum Refusal {
     /// A folder of the archive could not be listed, or has a name that is not UTF-8.
     #[error("listing")]
     Listing,
-    /// The same of a folder of the records.
+    /// A folder of the records could not be listed, or has a name that is not UTF-8.
     #[error("records: listing")]
     RecordsListing,
     /// One of the files of the day is at fault.

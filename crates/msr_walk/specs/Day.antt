@@ -207,8 +207,8 @@ IsRepackedDay asked (Err ClaimedByAnother) = ⊤
 IsRepackedDay asked (Err (Tool fault)) = HasAnswer asked.options (Err fault)
 
 -- Some text is that of a report of these options, and the counts are those of this report, with the bytes of the records
--- that it counts. A report says no strictness: if reading is strict it counts no record whose reverse constant does not
--- agree, as that of a strict repack does.
+-- that it counts. A report does not say whether reading was strict: if reading is strict it counts no record whose
+-- reverse constant does not agree, as that of a strict repack does.
 pub record IsReportKept (choice : Choice) (repacked : Repacked) : Type 0 where
   pub text : List ℕ
   pub report : Report

@@ -363,8 +363,8 @@ impl Day {
         self.claim_and_do(rt, alloc, asked)
     }
 
-    /// The length of this day's records: if each day's own is asked for, that of its first record, if records are
-    /// written in it.
+    /// The length of this day's records: if each day's own is asked for, that of its first record, if that
+    /// is one that is written.
     fn length<R: Files>(
         &self,
         rt: &R,

@@ -36,7 +36,7 @@ pub struct Archive<'a> {
     pub days: DayOptions,
 }
 
-/// What walks an archive: the files that it goes through, memory and what is asked for.
+/// What the walk needs: the system's files, memory and what is asked for.
 #[derive(Drop)]
 struct Walker<'a, R: Files> {
     rt: &'a R,
@@ -169,7 +169,7 @@ fn tell_unlisted<R: Files, O: Sink>(
     tell(walker, path, "", refused, out, tally)
 }
 
-/// The entries of a folder with that path from the archive's own, below which folders stand that many levels deep.
+/// Tells of the entries of the folder with that path from the archive's own, and of folders up to `levels` below it.
 fn walk_folder<R: Files, O: Sink>(
     walker: &Walker<'_, R>,
     folder: &str,

@@ -111,7 +111,7 @@ pub(crate) fn repack_day_of<S: Source, W: Sink, T: Sink>(
 }
 
 /// The counts of the report that the source has, if it is one of these options, with the bytes that the input has. A
-/// report says no strictness, and a strict repack writes what any other does that counts no mismatch.
+/// report does not say whether reading was strict, and a strict repack writes what any other does that counts no mismatch.
 pub(crate) fn counts_kept<S: Source>(
     alloc: Global,
     source: &mut S,
@@ -160,7 +160,7 @@ pub(crate) fn require_shown<P: Source, Q: Source>(
     }
 }
 
-/// What is told of a day if reading its file or its records again stops so.
+/// What is told of a day whose file or records cannot be read again.
 fn fault_of_comparing(why: ReadFault) -> DayFault
     ensures { result ≡ fault_of_comparing why }
 {
