@@ -20,7 +20,8 @@ use Rattle.msr_input.specs.Input.{BeginsWith, IsReadable, OneListOfRecords, mism
 use Rattle.msr_input.proofs.Records.{nothing_begins}
 use Rattle.msr_output.specs.Output.{AreWritten, Cut, cuts_of, next_number, segment_of_packed}
 use Rattle.msr_tool.specs.Repacked.{ReadableHasSegments, RepackedHasSegments}
-use Rattle.msr_tool.specs.Settings.{form_chosen, settings_of}
+use Rattle.msr_options.specs.Choice.{form_chosen}
+use Rattle.msr_tool.specs.Settings.{settings_of}
 use Rattle.msr_tool.specs.Shown.{EndsBeforeTheLast}
 use Rattle.msr_tool.proofs.ShownRows.{AreWithin, bytes_begin, cuts_within, lines_within, record_of, records_rows}
 use Rattle.msr_tool.proofs.ShownLeast.{none_overruns}
