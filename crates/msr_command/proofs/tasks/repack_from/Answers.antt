@@ -6,6 +6,11 @@ use Rattle.msr_command.proofs.tasks.repack_from.Goals as goal
 pub returns-in_default : goal.returns-in_default
 returns-in_default g c = repack_done _ _ _ _ _ _ _ _ c.in_ok-report.ensures.answer c.is_in_turns.ensures
 
+pub returns-in_err-report : goal.returns-in_err-report
+returns-in_err-report g c =
+    let p = err_from_is_err_and c.from_residual.result c.from_residual.ensures.1 in
+    rw (p.1, p.2) (repack_stops _ _ _ _ _ _ _ c.in_err-report.ensures.answer)
+
 pub returns-in_err-file : goal.returns-in_err-file
 returns-in_err-file g c =
     let p = err_from_is_err_and c.from_residual-in_err-file.result c.from_residual-in_err-file.ensures.1 in
