@@ -8,7 +8,7 @@ use crate::fault::DeviceFailed;
 use crate::loops::{PartialFault, write_counted};
 use std::alloc::Global;
 
-/// At most this number of bytes waits when a call has ended well.
+/// Fewer bytes than this wait after `flush_full` has ended well.
 const PIECE: usize = 65_536;
 
 /// Bytes that wait to be written to a sink. All calls take the same sink.

@@ -72,7 +72,8 @@ pub fn steim1_reach(samples: &[i32], record_length: Length, start: usize) -> usi
     at + next_word(window.four_sizes(samples, at), true).size
 }
 
-/// Whether the difference of a sample and those of the next three are of 8 bits.
+/// Whether the difference of a sample and those of the next three are of 8 bits. The contract promises nothing if the
+/// answer is `true`.
 pub fn begins_with_four(samples: &[i32], start: usize) -> bool
     requires { start < length samples.now }
     ensures { IsFalse result → (b : ℕ) → start ≤ b → b ≤ length samples.now
