@@ -21,7 +21,7 @@ pub use bounds::{
     two_wide_in_a_word,
 };
 pub use codecs::{Codec, Int16, Int24, Int32, Integers, Steim1, Steim2, Tracker};
-pub use counts::{is_narrow, magnitude, wide_one};
+pub use counts::{is_narrow, magnitude};
 pub use division::{groups, one_division};
 pub use existence::{division_exists, fitting_is_decided};
 pub use first_group::sizes_of;
