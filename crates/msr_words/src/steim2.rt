@@ -26,18 +26,17 @@ pub struct Steim2Reach {
     pub narrow: bool,
 }
 
-/// Gives what Steim-2 reaches, if the least of its groups has `least` differences: those of a group
-/// of two or more are narrow.
-fn reach_to(samples: &[i32], end: usize, groups: usize, least: usize) -> Steim2Reach
+/// Gives what Steim-2 reaches; `shared` says that each of its groups has two differences or more: such are narrow.
+fn reach_to(samples: &[i32], end: usize, groups: usize, shared: bool) -> Steim2Reach
     ensures end { result.end ≡ end }
     ensures number { result.groups ≡ groups }
-    ensures groups { IsTrue result.narrow → 1 < least }
+    ensures groups { IsTrue result.narrow → IsTrue shared }
     ensures behind { IsTrue result.narrow → end < length samples.now → IsNarrow (difference_at samples.now end) }
 {
     Steim2Reach {
         end,
         groups,
-        narrow: least > 1 && (end >= samples.len() || is_narrow(difference(samples, end))),
+        narrow: shared && (end >= samples.len() || is_narrow(difference(samples, end))),
     }
 }
 
@@ -78,17 +77,19 @@ fn walk(
     let words = record_length.data_words() as usize;
     let mut window = Window::new();
     let mut at = start;
-    let mut least = 7;
+    let mut shared = true;
     for word in 0..words {
         let size = window.longest_steim2_group(seen, at);
-        if size == 0 {
-            return reach_to(samples, at, word, least);
+        if size < 2 {
+            if size == 0 {
+                return reach_to(samples, at, word, shared);
+            }
+            shared = false;
         }
         tell(sizes, room, word, size);
-        least = least.min(size);
         at += size;
     }
-    reach_to(samples, at, words, least)
+    reach_to(samples, at, words, shared)
 }
 
 /// How far Steim-2 reaches from `start` on. The sizes of the groups of that run are told, one after another, if there is

@@ -1,5 +1,6 @@
 -- Word by word, until no group begins or no word is left.
-use Rattle.std.proofs.Common.{arith, ◌≡◌, ◌+◌, ◌-◌, suc, None, length, take, drop, refl, subst}
+use Rattle.std.proofs.Common.{arith, ◌≡◌, ◌+◌, ◌-◌, ◌<◌, suc, None, length, take, drop, refl, subst, inl, inr}
+use Rattle.std.proofs.lemmas.Bool.{cases_lt}
 use Rattle.std.proofs.lemmas.List.{length-take-le}
 use Rattle.msr_kinds.specs.declared.kinds.Kind.TheVariants.{Steim2}
 use Rattle.msr_words.specs.Bounds.{IsGreedyReach, latest_end}
@@ -12,6 +13,7 @@ use Rattle.msr_words.proofs.Stretches.{none_narrow}
 use Rattle.msr_words.proofs.Steim2Runs.{IsWalked, group_narrow, walk_begins, walk_more, walked_out}
 use Rattle.msr_words.proofs.Steim2Sizes.{AreTold, none_told, size_few, walk_told, walked_sizes}
 use Rattle.msr_words.proofs.steim2.walk.Goals as goal
+use Rattle.msr_words.proofs.steim2.walk.Goals.{then-size-lt2+else-size-eq0, else-size-lt2}
 
 pub loop-word-init : goal.loop-word-init
 loop-word-init c =
@@ -38,6 +40,10 @@ loop-word-preserved c =
     let seen = take (c.args.start + c.min.result) c.args.samples.now in
     let left : words - c.loop-word.word ≡ suc (words - (c.loop-word.word + 1)) = omega arith in
     let walked = c.loop-word.invariant.walked in
+    let some : 0 < c.longest_steim2_group-size.result = (elim c.if-size-lt2.branch [
+      | then-size-lt2+else-size-eq0 w ↦ (let not = w.if-size-eq0.false in grind arith)
+      | else-size-lt2 w ↦ omega (arith, w.if-size-lt2.false)
+    ]) in
     record {
       walked = walk_more words (words - (c.loop-word.word + 1)) seen c.args.start c.loop-word.at
           c.longest_steim2_group-size.result c.longest_steim2_group-size.ensures.longest
@@ -49,10 +55,13 @@ loop-word-preserved c =
           let is = c.tell.ensures (omega arith) in
           rw is (walk_told seen c.args.start c.loop-word.at c.loop-word.word c.longest_steim2_group-size.result
           c.loop-word.sizes walked.from (omega arith) c.longest_steim2_group-size.ensures.longest
-          (let some = c.if-size-eq0.false in grind arith) (c.loop-word.invariant.told room));
-      small = λ some. group_narrow seen c.args.start c.loop-word.at c.longest_steim2_group-size.result walked.from
-          walked.within c.longest_steim2_group-size.ensures.longest
-          (omega (arith, c.min-least.ensures)) (c.loop-word.invariant.small (omega (arith, c.min-least.ensures)));
+          some (c.loop-word.invariant.told room));
+      small = λ shared. elim c.if-size-lt2.branch [
+        | then-size-lt2+else-size-eq0 w ↦ absurd (let not = w.shared-is in cc)
+        | else-size-lt2 w ↦ group_narrow seen c.args.start c.loop-word.at c.longest_steim2_group-size.result walked.from
+            walked.within c.longest_steim2_group-size.ensures.longest (omega (arith, w.if-size-lt2.false))
+            (c.loop-word.invariant.small (let same = w.shared-is in cc))
+      ];
     }
 
 pub longest_steim2_group-size-requires-clause-within : goal.longest_steim2_group-size-requires-clause-within
@@ -60,10 +69,14 @@ longest_steim2_group-size-requires-clause-within c = c.loop-word.invariant.walke
 
 pub tell-requires-clause-small : goal.tell-requires-clause-small
 tell-requires-clause-small c =
-    let few = size_few (drop c.loop-word.at (differences None (take (c.args.start + c.min.result) c.args.samples.now)))
-    c.longest_steim2_group-size.result (let some = c.if-size-eq0.false in grind arith)
-    c.longest_steim2_group-size.ensures.longest in
-    omega arith
+    elim (cases_lt 0 c.longest_steim2_group-size.result) [
+      | inl some ↦
+          let few = size_few (drop c.loop-word.at
+          (differences None (take (c.args.start + c.min.result) c.args.samples.now)))
+          c.longest_steim2_group-size.result some c.longest_steim2_group-size.ensures.longest in
+          omega arith
+      | inr none ↦ omega arith
+    ]
 
 pub longest_steim2_group-size-requires-clause-window : goal.longest_steim2_group-size-requires-clause-window
 longest_steim2_group-size-requires-clause-window c = c.loop-word.invariant.window

@@ -1,5 +1,5 @@
 -- The words that are filled, the sizes of their groups, and whether these are of two or more.
-use Rattle.std.proofs.Common.{None, ◌-◌, ◌<◌, ◌≤◌, drop, take}
+use Rattle.std.proofs.Common.{IsTrue, None, ◌-◌, ◌≤◌, drop, take}
 use Rattle.msr_words.specs.Window.{IsWindow}
 use Rattle.msr_words.specs.Bounds.{AreNarrow}
 use Rattle.msr_words.specs.Segment.{differences}
@@ -13,5 +13,5 @@ invariant-loop-word l = record {
   window : IsWindow (take l.latest l.samples) l.at l.window;
   told : l.words ≤ l.room
       → AreTold (drop l.start (differences None (take l.latest l.samples))) (l.at - l.start) l.word l.sizes;
-  small : 1 < l.least → AreNarrow (take l.latest l.samples) l.start l.at;
+  small : IsTrue l.shared → AreNarrow (take l.latest l.samples) l.start l.at;
 }
