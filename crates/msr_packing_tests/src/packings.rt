@@ -494,6 +494,23 @@ fn zeros_one_after_another(rt: HostRuntime) -> Result<(), Fail> {
     expect(is, "no samples")
 }
 
+/// Of 603 samples of 0 the sizes of all groups are told: twice 43 words of seven, and a word of one.
+#[test]
+fn sizes_of_groups_of_zeros(rt: HostRuntime) -> Result<(), Fail> {
+    let alloc = rt.alloc();
+    let zeros = vec![in alloc; 0; 603]?;
+    let mut packer = BlockPacker::new(alloc, form_of(256, Kinds::All)?);
+    expect(packer.group_sizes().is_empty(), "none before the first")?;
+    packer.push_all(&zeros)?;
+    let full = [7u8; 43];
+    let first = packer.next_piece();
+    expect(first.is_some() && packer.group_sizes() == &full[..], "the first record")?;
+    let second = packer.last_piece();
+    expect(second.is_some() && packer.group_sizes() == &full[..], "the second record")?;
+    let third = packer.last_piece();
+    expect(third.is_some() && packer.group_sizes() == &[1u8][..], "one sample")
+}
+
 /// What a stream packer kept back while it was pushed samples.
 #[derive(Clone, Copy)]
 struct KeptBack {

@@ -1,5 +1,5 @@
 -- How many differences share one Steim-2 word (SEED 2.4, appendix B).
-use Rattle.std.specs.Prelude.{◌≡◌, ℕ, ◌+◌, ◌<◌, ◌≤◌, ◌↔◌, ℤ, List, length, take, Some}
+use Rattle.std.specs.Prelude.{◌≡◌, ℕ, ◌+◌, ◌<◌, ◌≤◌, ◌↔◌, ℤ, List, [], length, take, drop, sum, slice_index, Some}
 use Rattle.msr_kinds.specs.declared.storage.Version.TheVariants.{Two}
 use Rattle.msr_steim.specs.Word.{FitsBits, IsGroup, group_width}
 
@@ -18,3 +18,14 @@ pub record IsLongestGroup (ds : List ℤ) (count : ℕ) : Type 0 where
 pub record IsOneBelow (size limit r : ℕ) : Type 0 where
   pub most : r ≤ 1
   pub below : 1 ≤ r ↔ size < limit
+
+-- the sizes of groups that divide these differences, each the longest that can stand in a word with what is left
+pub record AreGroupSizes (ds : List ℤ) (sizes : List ℕ) : Type 0 where
+  pub all : sum sizes ≡ length ds
+  pub each : (number : ℕ) → number < length sizes
+      → IsLongestGroup (drop (sum (take number sizes)) ds) (slice_index sizes number)
+  pub some : (number : ℕ) → number < length sizes → 0 < slice_index sizes number
+
+-- the sizes are told, or it is not known what they are (an empty list)
+pub record AreGroupSizesIfKnown (ds : List ℤ) (sizes : List ℕ) : Type 0 where
+  pub known : (sizes ≡ [] → ⊥) → AreGroupSizes ds sizes

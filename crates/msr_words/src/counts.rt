@@ -1,12 +1,11 @@
 //! How many differences share a word, and the least number of Steim-1 groups of a run to which differences are added.
 
-ghost use Rattle.std.specs.Prelude.{◌≡◌, ◌<◌, ◌≤◌, ◌↔◌, ◌∷◌, [], ℕ, ℤ, List, ◌-◌, ◌^◌, bit_or, IsTrue, cond, true, length};
+ghost use Rattle.std.specs.Prelude.{◌≡◌, ◌<◌, ◌≤◌, ◌↔◌, ◌∷◌, [], ℕ, ℤ, List, ◌-◌, ◌^◌, bit_or, IsTrue, true, length};
 ghost use Rattle.msr_kinds.specs.declared.storage.Version.TheVariants.{One};
 ghost use Rattle.msr_steim.specs.Word.{FitsBits};
 ghost use Rattle.msr_words.specs.Counts.{EndsIn};
 ghost use Rattle.msr_words.specs.FirstGroup.{AreFewest};
 ghost use Rattle.msr_words.specs.Groups.{IsCapacity, IsOneBelow};
-ghost use Rattle.msr_words.specs.Bounds.{is_wide};
 ghost use Rattle.msr_words.specs.Laws.{IsNarrow};
 
 /// Gives the number of groups that is one above `fewest`; past `words`, it gives `words + 1`.
@@ -165,11 +164,4 @@ pub fn is_narrow(diff: i64) -> bool
         return false;
     }
     size < 536_870_912
-}
-
-/// 1 if a difference is of more than 10 bits, else 0.
-pub fn wide_one(diff: i64) -> u8
-    ensures { result ≡ cond (is_wide diff) 1 0 }
-{
-    1 - one_below(magnitude(diff), 512)
 }
