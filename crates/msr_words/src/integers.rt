@@ -57,7 +57,7 @@ pub fn leading_of_bits(run: &[i32], bits: u32) -> usize
     ensures { AreLeading bits run.now result }
 {
     let mut at = 0;
-    let mut together = 1;
+    let mut together: usize = 1;
     while at < run.len() {
         let next = at + together.min(run.len() - at);
         if !together_of_bits(&run[at..next], bits) {

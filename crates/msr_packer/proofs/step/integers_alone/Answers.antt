@@ -1,7 +1,8 @@
-use Rattle.std.proofs.Common.{arith, refl, ◌-◌, [], ◌∷◌, inl, inr}
+use Rattle.std.proofs.Common.{arith, refl, ◌+◌, ◌-◌, [], ◌∷◌, inl, inr}
 use Rattle.msr_kinds.specs.Kinds.{IsChosen}
 use Rattle.msr_kinds.specs.declared.kinds.Kind.TheVariants.{Int16, Steim1, Steim2}
 use Rattle.msr_words.specs.Lemmas.KindLaws.{int16_by_bits}
+use Rattle.msr_words.proofs.Runs.{length-run_points}
 use Rattle.msr_words.proofs.Stretches.{none_with_wide}
 use Rattle.msr_words.proofs.WordRoom.{wide_of_steim1, wide_of_steim2}
 use Rattle.msr_packer.specs.declared.step.StepRun.{StepRun}
@@ -16,6 +17,13 @@ furthest_integers-int16-requires-clause-are c =
     let least = c.args.form.length.least in
     int16_by_bits c.args.form.length.bytes (omega arith)
 
+pub count_wide-requires-clause-few : goal.count_wide-requires-clause-few
+count_wide-requires-clause-few c =
+    let run = c.furthest_integers-int16.ensures.fits in
+    let counted = run.2.0 in
+    let long = length-run_points c.args.samples.now c.args.frontier c.furthest_integers-int16.result run.0 run.1 in
+    omega arith
+
 pub with_wide_integers-requires : goal.with_wide_integers-requires
 with_wide_integers-requires c =
     let form = records_of c.args.form in
@@ -28,7 +36,7 @@ with_wide_integers-requires c =
     let is = c.furthest_integers-int16.ensures in
     let by_int16 : StepRun = record { start = c.args.frontier; end = c.furthest_integers-int16.result; kind = Int16 } in
     let up = is.fits.0 in
-    let same = c.data_words-words.ensures.same in
+    let same = c.data_words-most.ensures.same in
     let wide = c.count_wide.ensures in
     let none2 = none_with_wide bytes samples Steim2 (wide_of_steim2 bytes) (g + 1)
     (c.furthest_integers-int16.result - 1) (omega arith) (omega arith) in
