@@ -12,11 +12,12 @@ use Rattle.msr_words.specs.Fit.{Records, Fits, FitsIn, IsRun}
 use Rattle.msr_words.specs.Laws.{IsNarrow, look_back_of, most_of}
 use Rattle.msr_words.specs.Lemmas.KindLaws.{back_step_in, prefix_in, size_kind}
 use Rattle.msr_words.proofs.Runs.{back_step_run, length-run_points, prefix_run, run_points_cut, run_points_more, run_points_none}
-use Rattle.msr_words.proofs.Stretches.{none_with_wide}
+use Rattle.msr_words.proofs.Stretches.{no_further, none_with_wide}
 use Rattle.msr_words.proofs.Dominance.{steim2_dominates}
 use Rattle.msr_words.proofs.WordRoom.{rest_of_run, wide_of_steim1, wide_of_steim2}
 use Rattle.msr_words.specs.Packing.{NoneHolds}
 use Rattle.msr_check.specs.HoldsBoth.{HaveNoRoom, HoldsBoth, SteimHolds}
+use Rattle.msr_check.specs.Known.{MeetsNarrow}
 
 module _ (samples : List ℤ) (first second : ℕ) (order : first < second) (within : second < length samples) where
   -- a run that is longer than any of its kind
@@ -81,18 +82,17 @@ module _ (records : Records) (samples : List ℤ) (first second : ℕ) (order : 
       let same : cut.0 ≡ first = omega arith in
       subst (λ s. FitsIn kind records (run_points samples s (second + 1))) same cut.3.2
 
-  -- ---- Steim-1
-
-  pub reaches_both : IsChosen records.kinds Steim1 → (start end : ℕ) → start ≤ first
-      → IsEnd Steim1 records.bytes samples start end → second < end
-      → HoldsBoth Steim1 records samples first second
-  reaches_both chosen start end before is past = record {
+  pub reaches_both : (kind : Kind) → IsChosen records.kinds kind → (start end : ℕ) → start ≤ first
+      → IsEnd kind records.bytes samples start end → second < end → HoldsBoth kind records samples first second
+  reaches_both kind chosen start end before is past = record {
     start = start;
     end = end;
     run = (is.fits.0, is.fits.1, (chosen, is.fits.2));
     from = before;
     past = past;
   }
+
+  -- ---- Steim-1
 
   -- the run can leave its first sample out, if that shares a word with three others no more
   without_first : 0 < first → ((b : ℕ) → first - 1 ≤ b → b ≤ length samples
@@ -186,6 +186,18 @@ module _ (records : Records) (samples : List ℤ) (first second : ℕ) (order : 
         chosen,
         steim2_dominates records.bytes (run_points samples holds.start first) (run_points samples first (second + 1)) narrow cut,
       )
+
+  -- so it is if they are from the first on to the first that Steim-2 does not reach
+  pub overtaken : IsChosen records.kinds Steim2 → MeetsNarrow records.bytes samples first
+      → (HoldsBoth Steim2 records samples first second → ⊥) → HoldsBoth Steim1 records samples first second → ⊥
+  overtaken chosen met none holds = elim (cases_lt second met.end) [
+    | inl past ↦ none (reaches_both Steim2 chosen first met.end (omega arith) met.end_is past)
+    | inr not ↦
+        let most = no_further records.bytes samples first met.end met.end_is met.narrow holds.start holds.end holds.from
+        (holds.run.0, holds.run.1, holds.run.2.1) in
+        let past = holds.past in
+        absurd (omega arith)
+  ]
 
   -- ---- all kinds
 

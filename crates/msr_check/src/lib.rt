@@ -16,7 +16,7 @@ ghost use Rattle.msr_check.specs.Known.{IsKnown};
 ghost use Rattle.msr_check.specs.Next.{IsNext};
 ghost use Rattle.msr_words.specs.Packing.{NoneHolds, IsPacking, IsSeparating, IsLeast};
 
-use crate::reach::{Reach, reach_of};
+use crate::reach::{Reach, meets_narrow, reach_of};
 use msr_kinds::{Form, Kind, Length};
 use msr_words::{Fitting, Run, are_narrow, begins_with_four, count_wide, run_fits, steim1_reach};
 
@@ -57,8 +57,16 @@ fn steim1_holds_both(samples: &[i32], form: Form, first: usize, second: usize) -
 }
 
 /// Whether no record of Steim-1 holds both samples, given that none of Steim-2 does: there are too many, or each of
-/// their differences has as much room in Steim-2. The contract promises nothing if the answer is `false`.
-fn steim1_is_short(samples: &[i32], form: Form, first: usize, second: usize) -> bool
+/// their differences has as much room in Steim-2, which how far that reaches may tell. The contract promises nothing if
+/// the answer is `false`.
+fn steim1_is_short(
+    samples: &[i32],
+    form: Form,
+    first: usize,
+    second: usize,
+    known: Option<Reach>,
+) -> bool
+    requires known { IsKnown (bytes_of form.length) samples.now known }
     requires none { HoldsBoth Steim2 (records_of form) samples.now first second → ⊥ }
     requires order { first < second }
     requires within { second < length samples.now }
@@ -68,7 +76,13 @@ fn steim1_is_short(samples: &[i32], form: Form, first: usize, second: usize) -> 
     if !form.kinds.contains(Kind::Steim1) || second - first >= Kind::Steim1.most(form.length) {
         return true;
     }
-    form.kinds.contains(Kind::Steim2) && are_narrow(samples, first, second + 1)
+    if !form.kinds.contains(Kind::Steim2) {
+        return false;
+    }
+    if meets_narrow(samples, form.length, first, known) {
+        return true;
+    }
+    are_narrow(samples, first, second + 1)
 }
 
 /// Whether no Steim record, of either version, has room for both samples and those between them: there are too many, or
@@ -104,7 +118,7 @@ fn steim_holds_both(
     if holds_both(Kind::Steim2, samples, form, first, second, known) {
         return true;
     }
-    if steim1_is_short(samples, form, first, second) {
+    if steim1_is_short(samples, form, first, second, known) {
         return false;
     }
     steim1_holds_both(samples, form, first, second)
@@ -186,7 +200,7 @@ fn steim2_fits(samples: &[i32], start: usize, end: usize, form: Form, known: Opt
     if reach.start != start {
         return run_fits(Kind::Steim2, samples, start, end, form);
     }
-    form.kinds.contains(Kind::Steim2) && end <= reach.end
+    form.kinds.contains(Kind::Steim2) && end <= reach.to.end
 }
 
 /// Whether the samples `start` to `end - 1` fit one record of that kind, which the form has; Steim-1 word by word.

@@ -22,20 +22,6 @@ use Rattle.msr_packer.specs.Steps.{Among, AreEnds, AreEndsAmong, IsEndIn, IsStep
 use Rattle.msr_packer.proofs.StepsByKinds.{each_kind, one_kind}
 use Rattle.msr_packer.proofs.Search.{IsBest, best_first, step_found}
 
-pub no_wide : (samples : List ℤ) (a : ℕ) → 0 ≡ count_by is_wide (map (λ p. p.1) (run_points samples a a))
-no_wide samples a = rw run_points_none refl
-
-pub wide_more : (samples : List ℤ) (a i : ℕ) → a ≤ i → i < length samples →
-    count_by is_wide (map (λ p. p.1) (run_points samples a (i + 1)))
-    ≡ count_by is_wide (map (λ p. p.1) (run_points samples a i)) + cond (is_wide (difference_at samples i)) 1 0
-wide_more samples a i le less =
-    let p : ℤ × ℤ = (slice_index_or samples i (pos 0), difference_at samples i) in
-    let parts : map (λ (q : ℤ × ℤ). q.1) (run_points samples a (i + 1)) ≡ map (λ q. q.1) (run_points samples a i)
-    ++ p.1 ∷ [] =
-    ap (map (λ (q : ℤ × ℤ). q.1)) (run_points_more samples a i le less)
-    ∙ map-append (λ (q : ℤ × ℤ). q.1) (run_points samples a i) (p ∷ []) in
-    ap (count_by is_wide) parts ∙ sum_by_push (λ d. cond (is_wide d) 1 0) (map (λ q. q.1) (run_points samples a i)) p.1
-
 module _ (bytes : ℕ) (samples : List ℤ) (g : ℕ) where
   -- no samples
   pub empty_run : (kind : Kind) → 64 ≤ bytes → g ≤ length samples → IsRun (Fits kind bytes) samples g g
@@ -65,25 +51,6 @@ module _ (bytes : ℕ) (samples : List ℤ) (g : ℕ) where
             let in' = r.1 in
             omega arith;
       }
-
-  -- no record has room for more wide differences than two a word, if that holds of its kind
-  pub none_with_wide : (kind : Kind) → ((run : List (ℤ × ℤ)) → Fits kind bytes run
-      → count_by is_wide (map (λ p. p.1) run) ≤ 2 * words_of bytes) → (e : ℕ) → g ≤ e →
-      2 * words_of bytes < count_by is_wide (map (λ p. p.1) (run_points samples g e)) → (s b : ℕ) → s ≤ g
-      → IsRun (Fits kind bytes) samples s b → b < e
-  none_with_wide kind two e order more s b le run = elim (cases_lt b e) [
-    | inl less ↦ less
-    | inr not ↦
-        let shorter = prefix_run (Fits kind bytes) (prefix_kind kind bytes) samples s e b (omega arith) not run in
-        let all = two (run_points samples s e) shorter.2 in
-        let parts : map (λ p. p.1) (run_points samples s e) ≡ map (λ p. p.1) (run_points samples s g)
-        ++ map (λ p. p.1) (run_points samples g e) =
-        ap (map (λ (p : ℤ × ℤ). p.1)) (sym (run_points_cut samples s g e le order))
-        ∙ map-append (λ (p : ℤ × ℤ). p.1) (run_points samples s g) (run_points samples g e) in
-        let sum = ap (count_by is_wide) parts ∙ sum_by-append (λ d. cond (is_wide d) 1 0)
-        (map (λ p. p.1) (run_points samples s g)) (map (λ p. p.1) (run_points samples g e)) in
-        absurd (omega arith)
-  ]
 
   -- Steim-1 from the frontier, and from the sample before it
   module _ (end : ℕ) (is : IsEnd Steim1 bytes samples g end) where

@@ -10,7 +10,7 @@ use Rattle.msr_words.specs.Fit.{Records, records_of, FitsIn, FitsAny, IsRun, IsF
 use Rattle.msr_words.specs.Laws.{most_any}
 use Rattle.msr_words.specs.Lemmas.KindLaws.{back_step_any, short_any, size_any}
 use Rattle.msr_words.specs.Packing.{IsCanonical, IsStep, Joins}
-use Rattle.msr_words.proofs.Runs.{length-run_points}
+use Rattle.msr_words.proofs.Runs.{length-run_points, run_points_stay}
 use Rattle.msr_packer.specs.SoFar.{IsSoFar}
 use Rattle.msr_packer.specs.HeldSamples.{BeginsAll, GivesPiece, HoldsRest, InsideIfAny, IsRunToCut, IsNext, IsSound, IsWindow, LeavesFew, Shows, StandsAt, Stays, before_place, frontier_of, piece_of, pieces_of, runs_of, samples_of, separators_of, start_of}
 use Rattle.msr_packer.specs.declared.held.RunToCut.{RunToCut}
@@ -18,7 +18,7 @@ use Rattle.msr_packer.specs.declared.held.HeldSamples.{HeldSamples}
 use Rattle.msr_packer.specs.declared.held.Piece.{Piece}
 use Rattle.msr_packer.proofs.PackingsExist.{HasRest, has_packing, rest_of}
 use Rattle.msr_packer.proofs.Least.{forth, goes_on, last_one, one_more}
-use Rattle.msr_packer.proofs.Windows.{front_of_all, near_by_one, run_of_window, run_points_stay, run_points_window, so_far_stays, step_of_window}
+use Rattle.msr_packer.proofs.Windows.{front_of_all, near_by_one, run_of_window, run_points_window, so_far_stays, step_of_window}
 
 -- no run has more samples than a record of some kind
 pub run_size : (records : Records) (samples : List ℤ) (a b : ℕ) (kind : Kind) → IsRun (FitsIn kind records) samples a b

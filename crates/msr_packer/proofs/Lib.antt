@@ -5,9 +5,7 @@ pub mod PackingsExist
 pub mod Holding
 pub mod InBlocks
 pub mod Least
-pub mod Narrow
 pub mod OfBits
-pub mod Reach
 pub mod Search
 pub mod Streaming
 pub mod Windows

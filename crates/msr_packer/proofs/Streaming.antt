@@ -8,7 +8,7 @@ use Rattle.msr_words.specs.Segment.{run_points}
 use Rattle.msr_words.specs.Laws.{most_any}
 use Rattle.msr_words.specs.Lemmas.KindLaws.{back_step_any, empty_any, empty_kind}
 use Rattle.msr_words.specs.Packing.{IsStep}
-use Rattle.msr_words.proofs.Runs.{run_points_none}
+use Rattle.msr_words.proofs.Runs.{run_points_none, run_points_stay}
 use Rattle.msr_packer.specs.Growing.{Follows, IsDecided, IsGrowing, IsTracked, kind_of_tracker}
 use Rattle.msr_packer.specs.HeldSamples.{InsideIfAny, frontier_of, start_of}
 use Rattle.msr_packer.specs.Steps.{end_of}
@@ -17,7 +17,7 @@ use Rattle.msr_packer.specs.declared.growing.GrowingRun.{GrowingRun}
 use Rattle.msr_packer.specs.declared.held.RunToCut.{RunToCut}
 use Rattle.msr_packer.specs.declared.step.StepWithEnds.{StepWithEnds}
 use Rattle.msr_packer.proofs.Holding.{run_size}
-use Rattle.msr_packer.proofs.Windows.{near_by_one, run_points_stay, run_points_window, run_stays, run_was}
+use Rattle.msr_packer.proofs.Windows.{near_by_one, run_points_window, run_stays, run_was}
 
 -- ---- the run that takes the samples after the frontier
 

@@ -2,7 +2,7 @@
 use Rattle.std.proofs.Common.{◌≡◌, ℕ, zero, suc, ◌+◌, ◌-◌, ◌<◌, ◌≤◌, ◌⊎◌, ℤ, pos, List, [], ◌∷◌, ◌++◌, length, take, drop, None, refl, sym, ap, ◌∙◌, subst, arith, inl, inr, length-append, length-drop}
 use Rattle.std.specs.Prelude.{get_or}
 use Rattle.std.proofs.lemmas.Bool.{cases_lt}
-use Rattle.std.proofs.lemmas.List.{drop-take, drop-drop, get_or-drop, take-append-le}
+use Rattle.std.proofs.lemmas.List.{drop-drop, get_or-drop}
 use Rattle.msr_kinds.specs.declared.kinds.Kind.{Kind}
 use Rattle.msr_words.specs.declared.kinds.Run.{Run}
 use Rattle.msr_words.specs.Segment.{points, points_after, run_points}
@@ -10,24 +10,12 @@ use Rattle.msr_words.specs.Fit.{Records, FitsIn, FitsAny, IsRun, IsFirstKind}
 use Rattle.msr_words.specs.Laws.{PrefixLaw, BackStepLaw}
 use Rattle.msr_words.specs.Lemmas.KindLaws.{prefix_any, back_step_any}
 use Rattle.msr_words.specs.Packing.{Joins, IsStep, CanonicalTo}
-use Rattle.msr_words.proofs.Runs.{back_step_run, points_drop, points_take, prefix_run}
+use Rattle.msr_words.proofs.Runs.{back_step_run, points_drop, prefix_run, run_points_stay}
 use Rattle.msr_packer.proofs.PackingsExist.{HasRest, rest_of}
 use Rattle.msr_packer.specs.SoFar.{IsSoFar}
 use Rattle.msr_packer.proofs.Least.{goes_on}
 
 -- ---- samples that more follow
-
-pub by_front : (samples : List ℤ) (a b : ℕ) → a ≤ b → run_points samples a b ≡ drop a (points None (take b samples))
-by_front samples a b order =
-    let e : a + (b - a) ≡ b = omega arith in
-    sym (drop-take a (b - a) (points None samples)) ∙ ap (λ n. drop a (take n (points None samples))) e
-    ∙ ap (drop a) (points_take samples b)
-
-pub run_points_stay : (samples more : List ℤ) (a b : ℕ) → a ≤ b → b ≤ length samples
-    → run_points (samples ++ more) a b ≡ run_points samples a b
-run_points_stay samples more a b order within =
-    by_front (samples ++ more) a b order ∙ ap (λ xs. drop a (points None xs))
-    (take-append-le b samples more within) ∙ sym (by_front samples a b order)
 
 module _ (fits : List (ℤ × ℤ) → Type 0) (samples more : List ℤ) where
   pub run_stays : (a b : ℕ) → IsRun fits samples a b → IsRun fits (samples ++ more) a b

@@ -1,12 +1,9 @@
 -- Steps from a frontier with records of some kinds.
-use Rattle.std.specs.Prelude.{◌≡◌, ℕ, ◌+◌, ◌<◌, ◌≤◌, ◌⊎◌, min, ℤ, List, [], ◌∷◌, length, All}
-use Rattle.msr_words.specs.Bounds.{IsOfBits}
+use Rattle.std.specs.Prelude.{◌≡◌, ℕ, ◌+◌, ◌<◌, ◌≤◌, ◌⊎◌, ℤ, List, [], ◌∷◌}
 use Rattle.msr_words.specs.Fit.{Records, Fits, FitsIn, IsRun, rank}
 use Rattle.msr_kinds.specs.declared.kinds.Kind.{Kind}
 use Rattle.msr_kinds.specs.declared.kinds.Kind.TheVariants.{Int16, Int24, Int32, Steim1, Steim2}
 use Rattle.msr_kinds.specs.Kinds.{IsChosen}
-use Rattle.msr_words.specs.Laws.{IsNarrow}
-use Rattle.msr_words.specs.Segment.{run_points}
 use Rattle.msr_packer.specs.declared.step.Ends.{Ends}
 use Rattle.msr_packer.specs.declared.step.StepRun.{StepRun}
 
@@ -35,14 +32,6 @@ pub record NotLess (step other : StepRun) : Type 0 where
 -- it reaches further, or starts later and reaches as far
 pub record IsBetter (step other : StepRun) : Type 0 where
   pub further : (other.end < step.end) ⊎ ((other.end ≡ step.end) × (other.start < step.start))
-
--- the differences of the samples a to b-1 are narrow
-abbrev pub AreNarrow : List ℤ → ℕ → ℕ → Type 0
-AreNarrow samples a b = All (λ p. IsNarrow p.1) (run_points samples a b)
-
--- the differences of the samples a to b-1 are narrow, and that of the sample b, if there is one
-abbrev pub AreNarrowThrough : List ℤ → ℕ → ℕ → Type 0
-AreNarrowThrough samples a b = AreNarrow samples a (min (b + 1) (length samples))
 
 -- the greatest end of a run of that kind from the frontier g; g itself, if none of the records is of that kind
 pub record IsEndIn (kind : Kind) (records : Records) (samples : List ℤ) (g end : ℕ) : Type 0 where
@@ -83,7 +72,3 @@ every_kind = Int32 ∷ Int24 ∷ longer_kinds
 
 abbrev pub AreEnds : Records → List ℤ → ℕ → ℕ → Ends → Type 0
 AreEnds records samples g end ends = AreEndsAmong every_kind records samples g end ends
-
--- the samples a to b-1 are of that many bits
-abbrev pub AreOfBits : ℕ → List ℤ → ℕ → ℕ → Type 0
-AreOfBits bits samples a b = All (λ p. IsOfBits bits p.0) (run_points samples a b)

@@ -5,7 +5,6 @@ mod blocks;
 mod existence;
 mod growing;
 mod held;
-mod steim1;
 mod step;
 mod stream;
 

@@ -1,22 +1,19 @@
 //! One record more: how far a record reaches that starts at or before a frontier.
 
-ghost use Rattle.std.specs.Prelude.{pos, slice_index_or, ◌≡◌, ℕ, ◌+◌, ◌<◌, ◌≤◌, ◌⊎◌, ◌∷◌, [], length, IsTrue, IsFalse, IfSome, map, count_by};
+ghost use Rattle.std.specs.Prelude.{◌≡◌, ℕ, ◌+◌, ◌<◌, ◌≤◌, ◌⊎◌, ◌∷◌, [], length, IsTrue, IsFalse, IfSome};
 ghost use Rattle.msr_kinds.specs.declared.kinds.Kind.TheVariants.{Int32 as Integers32, Steim1 as FirstSteim, Steim2 as SecondSteim};
-ghost use Rattle.msr_words.specs.Bounds.{AreIntegers, BeginsWithFour, IsEnd, IsOfBits, is_wide};
+ghost use Rattle.msr_words.specs.Bounds.{AreIntegers, AreNarrowThrough, IsEnd};
 ghost use Rattle.msr_kinds.specs.Kinds.{IsChosen};
 ghost use Rattle.msr_kinds.specs.Lengths.{bytes_of};
 ghost use Rattle.msr_words.specs.Fit.{Fits, FitsAny, FitsIn, IsRun, records_of};
 ghost use Rattle.msr_words.specs.Packing.{IsStep};
-ghost use Rattle.msr_words.specs.Laws.{IsNarrow, look_back_of};
-ghost use Rattle.msr_words.specs.Segment.{difference_at, run_points};
-ghost use Rattle.msr_words.specs.Window.{IsSize};
-ghost use Rattle.msr_packer.specs.Steps.{AreEnds, AreEndsAmong, AreNarrowThrough, AreOfBits, IsBetter, IsEndIn, IsStepAmong, NonePast, NotLess, longer_kinds};
+ghost use Rattle.msr_words.specs.Laws.{look_back_of};
+ghost use Rattle.msr_packer.specs.Steps.{AreEnds, AreEndsAmong, IsBetter, IsEndIn, IsStepAmong, NonePast, NotLess, longer_kinds};
 
-use crate::steim1::steim1_reach;
 use msr_kinds::{Form, Kind, Length};
 use msr_words::{
-    Fitting, Int32, Steim2, Tracker, Window, difference, fits_bits, is_narrow, steim2_greedy_reach,
-    wide_one,
+    Fitting, Int32, Steim2Reach, Tracker, begins_with_four, count_wide, leading_of_bits, steim1_reach,
+    steim2_reach,
 };
 
 /// One record more: it starts at `start`, reaches to `end`, and is of that kind.
@@ -59,56 +56,9 @@ pub(crate) struct StepWithEnds {
     pub ends: Ends,
 }
 
-/// The greatest end of a run. If `narrow` is set, all differences of the run and the one after it are narrow.
-#[derive(Clone, Copy, Debug)]
-struct Reach {
-    end: usize,
-    narrow: bool,
-}
-
-/// Gives what Steim-2 reaches, if the least of its groups has `least` differences: those of a group
-/// of two or more are narrow.
-fn reach_to(samples: &[i32], end: usize, least: usize) -> Reach
-    ensures end { result.end ≡ end }
-    ensures groups { IsTrue result.narrow → 1 < least }
-    ensures behind { IsTrue result.narrow → end < length samples.now → IsNarrow (difference_at samples.now end) }
-{
-    Reach {
-        end,
-        narrow: least > 1 && (end >= samples.len() || is_narrow(difference(samples, end))),
-    }
-}
-
-/// The greatest end of a run of Steim-2 from `start` on: as many of the longest groups as there are words, of no more
-/// samples than a record has.
-fn steim2_reach(samples: &[i32], record_length: Length, start: usize) -> Reach
-    requires { start ≤ length samples.now }
-    ensures fits { IsRun (Fits SecondSteim (bytes_of record_length)) samples.now start result.end }
-    ensures furthest { (end : ℕ) → IsRun (Fits SecondSteim (bytes_of record_length)) samples.now start end
-        → end ≤ result.end }
-    ensures narrow { IsTrue result.narrow → AreNarrowThrough samples.now start result.end }
-{
-    steim2_greedy_reach();
-    let latest = start + Steim2::most(record_length).min(samples.len() - start);
-    let seen = &samples[..latest];
-    let words = record_length.data_words();
-    let mut window = Window::new();
-    let mut at = start;
-    let mut least = 7;
-    for _word in 0..words {
-        let size = window.longest_steim2_group(seen, at);
-        if size == 0 {
-            return reach_to(samples, at, least);
-        }
-        least = least.min(size);
-        at += size;
-    }
-    reach_to(samples, at, least)
-}
-
 /// The greatest end of a run of Steim-2 from the frontier on; the frontier, if the form has no such records.
 #[inline(always)]
-fn steim2_end(samples: &[i32], form: Form, frontier: usize) -> Reach
+fn steim2_end(samples: &[i32], form: Form, frontier: usize) -> Steim2Reach
     requires { frontier ≤ length samples.now }
     ensures end { IsEndIn SecondSteim (records_of form) samples.now frontier result.end }
     ensures chosen { IsTrue result.narrow → IsChosen form.kinds SecondSteim }
@@ -117,64 +67,13 @@ fn steim2_end(samples: &[i32], form: Form, frontier: usize) -> Reach
     if form.kinds.contains(Kind::Steim2) {
         return steim2_reach(samples, form.length, frontier);
     }
-    Reach {
+    Steim2Reach {
         end: frontier,
         narrow: false,
     }
 }
 
-/// How far a sample is from 0, or from -1 if it is negative, in 32 bits: a vector register holds more numbers of 32
-/// bits than of 64.
-fn size_of(sample: i32) -> u32
-    ensures { IsSize sample result }
-{
-    if sample < 0 {
-        (-(sample + 1)) as u32
-    } else {
-        sample as u32
-    }
-}
-
-/// Whether each of the samples from `start` to `end - 1` is of that many bits, tested on all of their bits at once.
-/// The contract promises nothing if the answer is `false`.
-fn all_of_bits(samples: &[i32], start: usize, end: usize, bits: u32) -> bool
-    requires order { start ≤ end }
-    requires within { end ≤ length samples.now }
-    requires positive { 0 < bits }
-    requires small { bits ≤ 32 }
-    ensures { IsTrue result → AreOfBits bits samples.now start end }
-{
-    let mut sizes = 0;
-    for at in start..end {
-        sizes |= size_of(samples[at]);
-    }
-    fits_bits(i64::from(sizes), bits)
-}
-
-/// The first sample from `start` on that is not of that many bits, or `end`.
-fn first_wider(samples: &[i32], start: usize, end: usize, bits: u32) -> usize
-    requires order { start ≤ end }
-    requires within { end ≤ length samples.now }
-    requires positive { 0 < bits }
-    requires small { bits ≤ 32 }
-    ensures from { start ≤ result }
-    ensures to { result ≤ end }
-    ensures before { AreOfBits bits samples.now start result }
-    ensures there { result < end → IsOfBits bits (slice_index_or samples.now result (pos 0)) → ⊥ }
-{
-    for at in start..end {
-        if !fits_bits(i64::from(samples[at]), bits) {
-            return at;
-        }
-    }
-    end
-}
-
-/// How many samples are tried together.
-const TOGETHER: usize = 64;
-
-/// The greatest end of a run of integers of that many bits from `start` on. The first sample is tried by itself, since
-/// it mostly tells that all are wider.
+/// The greatest end of a run of integers of that many bits from `start` on.
 fn furthest_integers(
     samples: &[i32],
     record_length: Length,
@@ -189,21 +88,7 @@ fn furthest_integers(
     ensures { IsEnd kind (bytes_of record_length) samples.now start result }
 {
     let end = start + kind.most(record_length).min(samples.len() - start);
-    if start < end && !fits_bits(i64::from(samples[start]), bits) {
-        return start;
-    }
-    let mut at = start;
-    while at < end {
-        let next = at + TOGETHER.min(end - at);
-        if !all_of_bits(samples, at, next, bits) {
-            let wider = first_wider(samples, at, next, bits);
-            if wider < next {
-                return wider;
-            }
-        }
-        at = next;
-    }
-    end
+    start + leading_of_bits(&samples[start..end], bits)
 }
 
 /// The end of a run of integers of that many bits from the frontier on; if the form has no such records, or none is long
@@ -248,7 +133,13 @@ fn int32_end(samples: &[i32], record_length: Length, frontier: usize) -> usize
 /// Whether no Steim-1 record that starts at or before the frontier reaches past the end of Steim-2 and close to `end`.
 /// It does not if the form has none, if the differences are narrow, nor if there are too many: each takes a quarter of a
 /// word at least.
-fn steim1_is_short(samples: &[i32], form: Form, frontier: usize, reach: Reach, end: usize) -> bool
+fn steim1_is_short(
+    samples: &[i32],
+    form: Form,
+    frontier: usize,
+    reach: Steim2Reach,
+    end: usize,
+) -> bool
     requires reach { IsEndIn SecondSteim (records_of form) samples.now frontier reach.end }
     requires chosen { IsTrue reach.narrow → IsChosen form.kinds SecondSteim }
     requires narrow { IsTrue reach.narrow → AreNarrowThrough samples.now frontier reach.end }
@@ -266,23 +157,6 @@ fn steim1_is_short(samples: &[i32], form: Form, frontier: usize, reach: Reach, e
     }
     let words = form.length.data_words() as usize;
     end - frontier > 4 * words + 1
-}
-
-/// Whether the difference of a sample and those of the next three are of 8 bits.
-fn begins_with_four(samples: &[i32], start: usize) -> bool
-    requires { start < length samples.now }
-    ensures { IsFalse result → (b : ℕ) → start ≤ b → b ≤ length samples.now
-        → BeginsWithFour (map (λ p. p.1) (run_points samples.now start b)) → ⊥ }
-{
-    if samples.len() - start < 4 {
-        return false;
-    }
-    for at in start..start + 4 {
-        if !fits_bits(difference(samples, at), 8) {
-            return false;
-        }
-    }
-    true
 }
 
 /// The step from a frontier with records of Steim-1, if the end of its run from there is known. One that starts
@@ -313,20 +187,6 @@ fn steim1_step(samples: &[i32], form: Form, frontier: usize, end: usize) -> Step
         };
     }
     here
-}
-
-/// Tells whether more than `most` of the differences of the samples from `start` to `end - 1` are
-/// of more than 10 bits.
-fn has_more_wide(samples: &[i32], start: usize, end: usize, most: usize) -> bool
-    requires order { start ≤ end }
-    requires within { end ≤ length samples.now }
-    ensures { IsTrue result → most < count_by is_wide (map (λ p. p.1) (run_points samples.now start end)) }
-{
-    let mut wide = 0;
-    for at in start..end {
-        wide += usize::from(wide_one(difference(samples, at)));
-    }
-    wide > most
 }
 
 /// The best of `step`, which is the step with the other kinds, and of those with 24-bit and 32-bit integers, given the
@@ -385,11 +245,11 @@ fn integers_alone(samples: &[i32], form: Form, frontier: usize) -> Option<StepWi
         return None;
     }
     let int16 = furthest_integers(samples, form.length, frontier, Kind::Int16, 16);
-    if int16 == frontier {
+    let most = 2 * form.length.data_words();
+    if int16 - frontier <= most as usize + 2 {
         return None;
     }
-    let words = form.length.data_words() as usize;
-    if !has_more_wide(samples, frontier, int16 - 1, 2 * words) {
+    if count_wide(samples, frontier, int16 - 1) <= most {
         return None;
     }
     let by_int16 = StepRun {

@@ -15,7 +15,7 @@ use Rattle.msr_steim.specs.Area.{differences}
 use Rattle.msr_steim.specs.Word.{AreGroups, FitsBits, IsGroup, IsGroupAt, group_width}
 use Rattle.msr_kinds.specs.declared.kinds.Kind.{Kind}
 use Rattle.msr_kinds.specs.declared.kinds.Kind.TheVariants.{Int16, Int24, Int32, Steim1, Steim2}
-use Rattle.msr_words.specs.Fit.{Records, Fits, FitsAny, FitsIn, FitsIntegers, HasRoom, IsFirstKind, most_counted, rank}
+use Rattle.msr_words.specs.Fit.{Records, Fits, FitsAny, FitsIn, HasRoom, IsFirstKind, most_counted, rank}
 use Rattle.msr_kinds.specs.declared.kinds.Kinds.{Kinds}
 use Rattle.msr_kinds.specs.Kinds.{IsChosen, contains}
 use Rattle.msr_words.specs.Division.{CanDivide}

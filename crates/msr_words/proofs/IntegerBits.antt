@@ -1,11 +1,13 @@
 -- Samples of that many bits, by the bits that are set in the size of any of them.
-use Rattle.std.proofs.Common.{◌≡◌, ◌↔◌, ℕ, ◌+◌, ◌-◌, ◌<◌, ◌≤◌, ◌^◌, ℤ, pos, List, [], ◌∷◌, ◌++◌, length, take, drop, get_or, bit_or, arith, refl, sym, subst}
+use Rattle.std.proofs.Common.{◌≡◌, ◌↔◌, ℕ, ◌+◌, ◌-◌, ◌<◌, ◌≤◌, ◌^◌, ℤ, pos, List, [], ◌∷◌, ◌++◌, length, take, drop, get_or, bit_or, arith, refl, sym, ◌∙◌, subst, inl, inr}
 use Rattle.std.specs.Prelude.{All, slice_range}
 use Rattle.std.proofs.Math.Seq.{take-add}
 use Rattle.std.proofs.lemmas.Nat.{le_or_l, le_or_r, or_lt, pow_pos}
-use Rattle.std.proofs.lemmas.List.{take_all, take_at, take_more}
-use Rattle.std.proofs.lemmas.List.Elements.{All-append, All-contains, All-drop, All-nil, All-push, All-take, Contains-push}
+use Rattle.std.proofs.lemmas.Bool.{cases_lt}
+use Rattle.std.proofs.lemmas.List.{get_or-drop, get_or-take, length-drop, length-take-le, take-take, take_all, take_at, take_more}
+use Rattle.std.proofs.lemmas.List.Elements.{All-append, All-contains, All-nil, All-push, All-take, Contains-push}
 use Rattle.msr_steim.specs.Word.{FitsBits}
+use Rattle.msr_words.specs.Bounds.{AreLeading}
 use Rattle.msr_words.specs.Window.{IsSize}
 
 module _ (bits : ℕ) (run : List ℤ) where
@@ -57,8 +59,50 @@ module _ (bits : ℕ) (run : List ℤ) where
         (All-append (FitsBits bits) (take at run) (take (next - at) (drop at run)) before.all part));
   }
 
-  pub part_of_all : (at next : ℕ) → All (FitsBits bits) run → All (FitsBits bits) (slice_range run at next)
-  part_of_all at next all = All-take (FitsBits bits) (next - at) (drop at run) (All-drop (FitsBits bits) at run all)
+  pub one_of_all : (at : ℕ) → at < length run → FitsBits bits (get_or run at (pos 0)) → AreAll at → AreAll (at + 1)
+  one_of_all at less here before = record {
+    within = omega arith;
+    all = rw (take_more run at (pos 0) less)
+        (All-push (FitsBits bits) (take at run) (get_or run at (pos 0)) before.all here);
+  }
 
   pub all_of_all : (at : ℕ) → length run ≤ at → All (FitsBits bits) (take at run) → All (FitsBits bits) run
   all_of_all at end all = subst (All (FitsBits bits)) (take_all at run end) all
+
+  -- ---- as many as are
+
+  pub leading_there : (at : ℕ) → AreAll at → (at < length run → FitsBits bits (get_or run at (pos 0)) → ⊥)
+      → AreLeading bits run at
+  leading_there at are wider = record { within = are.within; all = are.all; no_more = wider }
+
+  pub leading_all : (count : ℕ) → AreLeading bits run count → length run ≤ count → All (FitsBits bits) run
+  leading_all count is end = all_of_all count end is.all
+
+  pub all_leading : (count : ℕ) → AreLeading bits run count → All (FitsBits bits) run → count ≡ length run
+  all_leading count is all = elim (cases_lt count (length run)) [
+    | inl less ↦ absurd (is.no_more less (all count (pos 0) less))
+    | inr not ↦ let within = is.within in omega arith
+  ]
+
+-- those of a part that follows others of that many bits, and that are not all of it
+pub leading_of_part : (bits : ℕ) (run : List ℤ) (at next count : ℕ) → at ≤ next → next ≤ length run → AreAll bits run at
+    → AreLeading bits (slice_range run at next) count → (All (FitsBits bits) (slice_range run at next) → ⊥)
+    → AreLeading bits run (at + count)
+leading_of_part bits run at next count le within before is not =
+    let d = length-drop at run in
+    let long : length (slice_range run at next) ≡ next - at = length-take-le (next - at) (drop at run) (omega arith) in
+    let least = is.within in
+    let short : count < next - at = (elim (cases_lt count (next - at)) [
+      | inl less ↦ less
+      | inr none ↦ absurd (not (leading_all bits (slice_range run at next) count is (omega arith)))
+    ]) in
+    record {
+      within = omega arith;
+      all = subst (All (FitsBits bits)) (sym (take-add at count run))
+          (All-append (FitsBits bits) (take at run) (take count (drop at run)) before.all
+          (subst (All (FitsBits bits)) (take-take count (next - at) (drop at run) (omega arith)) is.all));
+      no_more = λ less fits.
+          let same : get_or (slice_range run at next) count (pos 0) ≡ get_or run (at + count) (pos 0) =
+          get_or-take (next - at) (drop at run) count (pos 0) short ∙ get_or-drop at run count (pos 0) in
+          is.no_more (omega arith) (subst (FitsBits bits) (sym same) fits);
+    }

@@ -1,7 +1,7 @@
 -- The samples of a run, one more at the end, and a run that is cut.
-use Rattle.std.specs.Prelude.{◌≡◌, ℕ, zero, suc, ◌+◌, ◌-◌, ◌<◌, ◌≤◌, ℤ, pos, ◌-ℤ◌, List, [], ◌∷◌, ◌++◌, length, take, drop, Some, None, slice_range, slice_index_or, get_or, map, Option, ◌*◌, ◌↔◌, All}
+use Rattle.std.specs.Prelude.{◌≡◌, ℕ, zero, suc, ◌+◌, ◌-◌, ◌<◌, ◌≤◌, ℤ, pos, ◌-ℤ◌, List, [], ◌∷◌, ◌++◌, length, take, drop, Some, None, slice_range, slice_index_or, get_or, map, Option, ◌↔◌, All}
 use Rattle.std.proofs.Common.{refl, arith, sym, ◌∙◌, ap, subst}
-use Rattle.std.proofs.lemmas.List.{take-append-drop, take-take, drop-take, drop-drop, take_more, get_or-drop, length-take, length-drop, drop_at, length-map}
+use Rattle.std.proofs.lemmas.List.{take-append-drop, take-append-le, take-take, drop-take, drop-drop, take_more, get_or-drop, length-take, length-drop, drop_at, drop-map, take-map, length-map}
 use Rattle.msr_words.specs.Segment.{points, points_after, run_points, difference_at, difference_from}
 use Rattle.msr_kinds.specs.declared.storage.Width.{Width}
 use Rattle.msr_words.specs.Fit.{IsInteger, IsRun}
@@ -124,6 +124,18 @@ points_take samples zero = refl
 points_take [] (suc b) = refl
 points_take (x ∷ xs) (suc b) = ap (λ r. (x, pos 0) ∷ r) (points_after_take x xs b)
 
+pub by_front : (samples : List ℤ) (a b : ℕ) → a ≤ b → run_points samples a b ≡ drop a (points None (take b samples))
+by_front samples a b order =
+    let e : a + (b - a) ≡ b = omega arith in
+    sym (drop-take a (b - a) (points None samples)) ∙ ap (λ n. drop a (take n (points None samples))) e
+    ∙ ap (drop a) (points_take samples b)
+
+pub run_points_stay : (samples more : List ℤ) (a b : ℕ) → a ≤ b → b ≤ length samples
+    → run_points (samples ++ more) a b ≡ run_points samples a b
+run_points_stay samples more a b order within =
+    by_front (samples ++ more) a b order ∙ ap (λ xs. drop a (points None xs))
+    (take-append-le b samples more within) ∙ sym (by_front samples a b order)
+
 pub run_from_start : (samples : List ℤ) (b : ℕ) → points None (take b samples) ≡ run_points samples 0 b
 run_from_start samples b = let e : b - 0 ≡ b = omega arith in rw e (sym (points_take samples b))
 
@@ -150,17 +162,26 @@ get_or_first [] k d = refl
 get_or_first (p ∷ run) zero d = refl
 get_or_first (p ∷ run) (suc k) d = get_or_first run k d
 
-all_unmap : (width : Width) (run : List (ℤ × ℤ)) → All (IsInteger width) (map (λ p. p.0) run)
-    → All (λ p. IsInteger width p.0) run
-all_unmap width run h k d in' =
+all_unmap : (P : ℤ → Type 0) (run : List (ℤ × ℤ)) → All P (map (λ p. p.0) run) → All (λ p. P p.0) run
+all_unmap P run h k d in' =
     let e : get_or (map (λ (p : ℤ × ℤ). p.0) run) k d.0 ≡ (get_or run k d).0 = get_or_first run k d in
-    subst (IsInteger width) e (h k d.0 (rw length-map in'))
+    subst P e (h k d.0 (rw length-map in'))
+
+-- what holds of the samples of a run holds of its points
+pub all_of_run : (P : ℤ → Type 0) (samples : List ℤ) (a b : ℕ) → All P (slice_range samples a b)
+    → All (λ p. P p.0) (run_points samples a b)
+all_of_run P samples a b all =
+    let same : slice_range samples a b ≡ map (λ p. p.0) (run_points samples a b) =
+    ap (λ xs. take (b - a) (drop a xs)) (sym (samples_of_points None samples))
+    ∙ ap (take (b - a)) (drop-map (λ (p : ℤ × ℤ). p.0) a (points None samples))
+    ∙ take-map (λ (p : ℤ × ℤ). p.0) (b - a) (drop a (points None samples)) in
+    all_unmap P (run_points samples a b) (subst (All P) same all)
 
 -- so it depends on the samples alone whether they are such integers
 pub integers_points : (width : Width) (before : Option ℤ) (run : List ℤ)
     → All (IsInteger width) run ↔ All (λ p. IsInteger width p.0) (points before run)
 integers_points width before run = (
-  λ h. all_unmap width (points before run) (subst (All (IsInteger width)) (sym (samples_of_points before run)) h),
+  λ h. all_unmap (IsInteger width) (points before run) (subst (All (IsInteger width)) (sym (samples_of_points before run)) h),
   λ h. subst (All (IsInteger width)) (samples_of_points before run)
       (All-map (IsInteger width) (λ (p : ℤ × ℤ). p.0) (points before run) h),
 )

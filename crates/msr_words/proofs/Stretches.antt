@@ -1,19 +1,20 @@
 -- How wide the differences of a stretch are, and one difference more at its end.
-use Rattle.std.proofs.Common.{◌≡◌, ℕ, zero, suc, ◌+◌, ◌-◌, ◌*◌, ◌<◌, ◌≤◌, ℤ, pos, ◌-ℤ◌, List, [], ◌∷◌, ◌++◌, length, map, get_or, arith, refl, sym, ap, ◌∙◌, subst, inl, inr}
-use Rattle.std.specs.Prelude.{All, slice_index_or, cond, count_by}
+use Rattle.std.proofs.Common.{◌≡◌, ℕ, zero, suc, ◌+◌, ◌-◌, ◌*◌, ◌<◌, ◌≤◌, min, ℤ, pos, ◌-ℤ◌, List, [], ◌∷◌, ◌++◌, length, map, get_or, arith, refl, sym, ap, ◌∙◌, subst, inl, inr}
+use Rattle.std.specs.Prelude.{slice_index_or, cond, count_by}
 use Rattle.std.proofs.lemmas.Bool.{cases_lt}
 use Rattle.std.proofs.lemmas.List.{map-append}
 use Rattle.std.proofs.lemmas.List.Elements.{All-append, All-nil, All-push}
 use Rattle.std.proofs.lemmas.List.Sums.{sum_by-append, sum_by_push}
 use Rattle.msr_kinds.specs.declared.kinds.Kind.{Kind}
+use Rattle.msr_kinds.specs.declared.kinds.Kind.TheVariants.{Steim1, Steim2}
 use Rattle.msr_kinds.specs.RecordLength.{words_of}
-use Rattle.msr_words.specs.Bounds.{is_wide}
+use Rattle.msr_words.specs.Bounds.{AreNarrow, AreNarrowThrough, IsEnd, is_wide}
 use Rattle.msr_words.specs.Fit.{Fits, IsRun}
 use Rattle.msr_words.specs.Laws.{IsNarrow}
 use Rattle.msr_words.specs.Segment.{difference_at, run_points}
 use Rattle.msr_words.specs.Lemmas.KindLaws.{prefix_kind}
 use Rattle.msr_words.specs.Window.{IsSize}
-use Rattle.msr_words.proofs.Dominance.{narrow_yes}
+use Rattle.msr_words.proofs.Dominance.{narrow_yes, steim2_dominates}
 use Rattle.msr_words.proofs.Runs.{prefix_run, run_points_cut, run_points_more, run_points_none}
 
 -- ---- one difference
@@ -64,10 +65,6 @@ none_with_wide bytes samples kind two g e order more s b le run = elim (cases_lt
 
 -- ---- narrow ones
 
--- the differences of the samples a to b-1 are narrow
-pub record AreNarrow (samples : List ℤ) (a b : ℕ) : Type 0 where
-  pub all : All (λ p. IsNarrow p.1) (run_points samples a b)
-
 pub none_narrow : (samples : List ℤ) (a : ℕ) → AreNarrow samples a a
 none_narrow samples a = record { all = rw run_points_none (All-nil (λ (p : ℤ × ℤ). IsNarrow p.1)) }
 
@@ -89,3 +86,22 @@ first_narrow samples a b order less here rest =
           (All-append (λ (p : ℤ × ℤ). IsNarrow p.1) (run_points samples a (a + 1)) (run_points samples (a + 1) b)
           one.all rest.all);
     }
+
+-- no run of Steim-1 that starts at g or before reaches past the end of Steim-2 from g, if the differences up to there
+-- are narrow
+pub no_further : (bytes : ℕ) (samples : List ℤ) (g h : ℕ) → IsEnd Steim2 bytes samples g h
+    → AreNarrowThrough samples g h → (s b : ℕ) → s ≤ g → IsRun (Fits Steim1 bytes) samples s b → b ≤ h
+no_further bytes samples g h is narrow s b le one = elim (cases_lt h b) [
+  | inl less ↦
+      let past = is.fits.0 in
+      let within = one.1 in
+      let shorter = prefix_run (Fits Steim1 bytes) (prefix_kind Steim1 bytes) samples s (h + 1) b (omega arith)
+      (omega arith) one in
+      let cut = subst (Fits Steim1 bytes) (sym (run_points_cut samples s g (h + 1) le (omega arith))) shorter.2 in
+      let all : min (h + 1) (length samples) ≡ h + 1 = omega arith in
+      let two = steim2_dominates bytes (run_points samples s g) (run_points samples g (h + 1))
+      (subst (AreNarrow samples g) all narrow).all cut in
+      let m = is.furthest (h + 1) (omega arith, omega arith, two) in
+      absurd (omega arith)
+  | inr not ↦ not
+]

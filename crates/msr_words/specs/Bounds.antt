@@ -1,5 +1,5 @@
 -- What the differences of a run tell of the records that hold it.
-use Rattle.std.specs.Prelude.{◌≡◌, ℕ, zero, suc, ◌+◌, ◌-◌, ◌*◌, ◌^◌, ◌≤◌, ◌↔◌, min, ℤ, pos, negsuc, Bool, not, nat_lt, List, ◌∷◌, length, map, take, drop, count_by, get_or, All}
+use Rattle.std.specs.Prelude.{◌≡◌, ℕ, zero, suc, ◌+◌, ◌-◌, ◌*◌, ◌^◌, ◌≤◌, ◌<◌, ◌↔◌, min, ℤ, pos, negsuc, Bool, not, nat_lt, List, ◌∷◌, length, map, take, drop, count_by, get_or, slice_index_or, All}
 use Rattle.std.specs.List.{AllByRecursion}
 use Rattle.msr_kinds.specs.declared.storage.Version.{Version}
 use Rattle.msr_kinds.specs.declared.storage.Version.TheVariants.{One}
@@ -9,7 +9,7 @@ use Rattle.msr_kinds.specs.declared.kinds.Kind.TheVariants.{Steim2}
 use Rattle.msr_words.specs.Division.{CanDivide}
 use Rattle.msr_words.specs.Fit.{Fits, IsRun}
 use Rattle.msr_words.specs.Groups.{IsLongestGroup}
-use Rattle.msr_words.specs.Laws.{most_of}
+use Rattle.msr_words.specs.Laws.{IsNarrow, most_of}
 use Rattle.msr_kinds.specs.RecordLength.{words_of}
 use Rattle.msr_words.specs.Segment.{run_points}
 
@@ -80,3 +80,17 @@ pub record AreIntegers (kind : Kind) (bits bytes : ℕ) : Type 0 where
   pub takes : (run : List (ℤ × ℤ)) → All (λ p. IsOfBits bits p.0) run → length run ≤ most_of kind bytes
       → Fits kind bytes run
   pub needs : (run : List (ℤ × ℤ)) → Fits kind bytes run → All (λ p. IsOfBits bits p.0) run
+
+-- as many of the samples, from the first on, as are of that many bits
+pub record AreLeading (bits : ℕ) (samples : List ℤ) (count : ℕ) : Type 0 where
+  pub within : count ≤ length samples
+  pub all : All (IsOfBits bits) (take count samples)
+  pub no_more : count < length samples → IsOfBits bits (slice_index_or samples count (pos 0)) → ⊥
+
+-- the differences of the samples a to b-1 are narrow
+pub record AreNarrow (samples : List ℤ) (a b : ℕ) : Type 0 where
+  pub all : All (λ p. IsNarrow p.1) (run_points samples a b)
+
+-- and that of the sample b, if there is one
+abbrev pub AreNarrowThrough : List ℤ → ℕ → ℕ → Type 0
+AreNarrowThrough samples a b = AreNarrow samples a (min (b + 1) (length samples))

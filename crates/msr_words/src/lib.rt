@@ -25,6 +25,7 @@ pub use counts::{is_narrow, magnitude, wide_one};
 pub use division::{groups, one_division};
 pub use existence::{division_exists, fitting_is_decided};
 pub use first_group::sizes_of;
+pub use integers::leading_of_bits;
 pub use kinds::{
     Fitting, Run, difference, difference_after, first_kind, longest_group, longest_run, run_fits,
     steim2_dominates,
@@ -32,6 +33,6 @@ pub use kinds::{
 pub use msr_kinds::{Form, Kind, Kinds, Length};
 pub use msr_steim::fits_bits;
 pub use steim1::{begins_with_four, steim1_reach};
-pub use steim2::steim2_reach;
+pub use steim2::{Steim2Reach, steim2_reach};
 pub use widths::{are_narrow, count_wide};
 pub use window::{FourSizes, Window};

@@ -1,10 +1,9 @@
 //! How many bits the differences of a stretch of samples have, in loops that become vectors: differences that would not
 //! fit a Steim record need no walk over its words.
 
-ghost use Rattle.std.specs.Prelude.{◌≡◌, ◌<◌, ◌≤◌, ◌+◌, ◌-ℤ◌, All, IsTrue, cond, count_by, length, map};
-ghost use Rattle.msr_words.specs.Bounds.{is_wide};
+ghost use Rattle.std.specs.Prelude.{◌≡◌, ◌<◌, ◌≤◌, ◌+◌, ◌-ℤ◌, IsTrue, cond, count_by, length, map};
+ghost use Rattle.msr_words.specs.Bounds.{AreNarrow, is_wide};
 ghost use Rattle.msr_words.specs.Groups.{IsOneBelow};
-ghost use Rattle.msr_words.specs.Laws.{IsNarrow};
 ghost use Rattle.msr_words.specs.Segment.{run_points};
 
 use crate::counts::is_narrow;
@@ -44,7 +43,7 @@ pub fn count_wide(samples: &[i32], start: usize, end: usize) -> u32
 pub fn are_narrow(samples: &[i32], start: usize, end: usize) -> bool
     requires order { start < end }
     requires within { end ≤ length samples.now }
-    ensures { IsTrue result → All (λ p. IsNarrow p.1) (run_points samples.now start end) }
+    ensures { IsTrue result → AreNarrow samples.now start end }
 {
     let mut sizes = 0;
     for at in start + 1..end {

@@ -1,6 +1,7 @@
 use Rattle.std.proofs.Common.{arith, ◌<◌, IsTrue, nat_lt, refl, inl, inr, ◌-◌}
 use Rattle.std.proofs.lemmas.Bool.{cases_lt}
 use Rattle.std.proofs.lemmas.Bool.Decides.{nat_tests}
+use Rattle.msr_kinds.specs.declared.kinds.Kind.TheVariants.{Steim1}
 use Rattle.msr_words.specs.Fit.{records_of}
 use Rattle.msr_check.proofs.HoldsBoth.{none_apart, none_before, none_here, reaches_both}
 use Rattle.msr_check.proofs.steim1_holds_both.Goals as goal
@@ -9,7 +10,7 @@ use Rattle.msr_check.proofs.steim1_holds_both.Goals.{then-first-eq0-via-then-fir
 pub returns-then-second-steim1_reach : goal.returns-then-second-steim1_reach
 returns-then-second-steim1_reach c = (
   λ t. reaches_both (records_of c.args.form) c.args.samples.now c.args.first c.args.second c.requires.order
-      c.requires.within c.requires.chosen c.args.first c.steim1_reach.result (omega arith) c.steim1_reach.ensures
+      c.requires.within Steim1 c.requires.chosen c.args.first c.steim1_reach.result (omega arith) c.steim1_reach.ensures
       c.if-second-steim1_reach.true,
   λ holds. refl,
 )
@@ -41,7 +42,7 @@ returns c =
       λ t.
           let past : c.args.second < c.steim1_reach-2.result =
           (let h : IsTrue (nat_lt c.args.second c.steim1_reach-2.result) = t in grind (arith, nat_tests)) in
-          reaches_both (records_of form) samples first second c.requires.order c.requires.within c.requires.chosen (first - 1)
+          reaches_both (records_of form) samples first second c.requires.order c.requires.within Steim1 c.requires.chosen (first - 1)
           c.steim1_reach-2.result (omega arith) c.steim1_reach-2.ensures past,
       λ holds. elim (cases_lt second c.steim1_reach-2.result) [
         | inl past ↦ grind (arith, nat_tests)

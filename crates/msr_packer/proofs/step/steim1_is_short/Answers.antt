@@ -3,7 +3,7 @@ use Rattle.std.proofs.lemmas.Bool.Decides.{nat_tests}
 use Rattle.msr_kinds.specs.declared.kinds.Kind.TheVariants.{Steim1}
 use Rattle.msr_words.specs.Laws.{most_of}
 use Rattle.msr_packer.proofs.EndsByKind.{none_longer}
-use Rattle.msr_packer.proofs.Narrow.{no_further}
+use Rattle.msr_words.proofs.Stretches.{no_further}
 use Rattle.msr_packer.proofs.step.steim1_is_short.Goals as goal
 
 pub returns-then-not-contains-clause-short : goal.returns-then-not-contains-clause-short
@@ -15,9 +15,10 @@ returns-then-not-contains-clause-short c t s b le run =
 
 pub returns-then-reach-clause-short : goal.returns-then-reach-clause-short
 returns-then-reach-clause-short c t s b le run =
-    inl (no_further c.args.form.length.bytes c.args.samples.now c.args.frontier c.args.reach.end c.requires.reach.fits
-    (λ b two. c.requires.reach.furthest b (two.0, two.1, (c.requires.chosen c.if-reach.true, two.2)))
-    (c.requires.narrow c.if-reach.true) s b le (run.0, run.1, run.2.1))
+    inl (no_further c.args.form.length.bytes c.args.samples.now c.args.frontier c.args.reach.end (record {
+      fits = c.requires.reach.fits;
+      furthest = λ b two. c.requires.reach.furthest b (two.0, two.1, (c.requires.chosen c.if-reach.true, two.2));
+    }) (c.requires.narrow c.if-reach.true) s b le (run.0, run.1, run.2.1))
 
 pub returns-clause-short : goal.returns-clause-short
 returns-clause-short c t s b le run =

@@ -9,7 +9,7 @@ pub returns-then-contains-clause-end : goal.returns-then-contains-clause-end
 returns-then-contains-clause-end c =
     let chosen : IsChosen c.args.form.kinds Steim2 = cc (c.contains.ensures, c.if-contains.true) in
     end_if_chosen (records_of c.args.form) c.args.samples.now c.args.frontier Steim2 c.steim2_reach.result.end chosen
-    (record { fits = c.steim2_reach.ensures.fits; furthest = c.steim2_reach.ensures.furthest })
+    c.steim2_reach.ensures.end
 
 pub returns-then-contains-clause-chosen : goal.returns-then-contains-clause-chosen
 returns-then-contains-clause-chosen c t = cc (c.contains.ensures, c.if-contains.true)

@@ -1,4 +1,4 @@
--- The longest groups are taken until no group begins or no word is left.
+-- Word by word, until no group begins or no word is left.
 use Rattle.std.proofs.Common.{arith, ◌≡◌, ◌+◌, ◌-◌, suc, None, length, take, drop, refl, subst}
 use Rattle.std.proofs.lemmas.List.{length-take-le}
 use Rattle.msr_kinds.specs.declared.kinds.Kind.TheVariants.{Steim2}
@@ -8,7 +8,8 @@ use Rattle.msr_words.specs.Laws.{most_of}
 use Rattle.msr_words.specs.Segment.{differences}
 use Rattle.msr_words.proofs.GreedyReach.{none_reached}
 use Rattle.msr_words.proofs.Windows.{window_on}
-use Rattle.msr_words.proofs.Steim2Runs.{IsWalked, walk_begins, walk_more, walked_out}
+use Rattle.msr_words.proofs.Stretches.{none_narrow}
+use Rattle.msr_words.proofs.Steim2Runs.{IsWalked, group_narrow, walk_begins, walk_more, walked_out}
 use Rattle.msr_words.proofs.steim2.steim2_reach.Goals as goal
 
 pub loop-word-init : goal.loop-word-init
@@ -23,6 +24,7 @@ loop-word-init c =
           (take (c.args.start + c.min.result) c.args.samples.now) c.args.start c.args.start) all (walk_begins
           c.data_words-words.result seen c.args.start (omega arith));
       window = c.new-window.ensures seen c.args.start;
+      small = λ some. none_narrow seen c.args.start;
     }
 
 pub loop-word-preserved : goal.loop-word-preserved
@@ -38,6 +40,9 @@ loop-word-preserved c =
       window = window_on seen c.loop-word.at (c.loop-word.at
           + c.longest_steim2_group-size.result) c.longest_steim2_group-size.new.self (omega
           arith) c.longest_steim2_group-size.ensures.window;
+      small = λ some. group_narrow seen c.args.start c.loop-word.at c.longest_steim2_group-size.result walked.from
+          walked.within c.longest_steim2_group-size.ensures.longest
+          (omega (arith, c.min-least.ensures)) (c.loop-word.invariant.small (omega (arith, c.min-least.ensures)));
     }
 
 pub longest_steim2_group-size-requires-clause-within : goal.longest_steim2_group-size-requires-clause-within
@@ -56,11 +61,14 @@ returns-then-size-eq0 c =
     let xs = drop c.loop-word.at (differences None (take latest c.args.samples.now)) in
     let none : IsLongestGroup xs 0 =
     subst (IsLongestGroup xs) c.if-size-eq0.true c.longest_steim2_group-size.ensures.longest in
-    walked_out c.args.record_length.bytes words
+    let out = walked_out c.args.record_length.bytes words
     (words - c.loop-word._word) c.args.samples.now c.args.start latest c.loop-word.at c.requires
     c.steim2_greedy_reach.ensures
     c.data_words-words.ensures.same latest_is c.loop-word.invariant.walked
     (none_reached (words - c.loop-word._word) xs none)
+    c.reach_to.result.end c.reach_to.result.narrow c.reach_to.ensures.end
+    (λ t. c.loop-word.invariant.small (c.reach_to.ensures.groups t)) c.reach_to.ensures.behind in
+    record { end = out.end_is; narrow = out.narrow }
 
 pub returns : goal.returns
 returns c =
@@ -72,7 +80,10 @@ returns c =
     let over : 0 ≡ words - c.loop-word._word = omega arith in
     let xs = drop c.loop-word.at (differences None (take latest c.args.samples.now)) in
     let stuck : IsGreedyReach (words - c.loop-word._word) xs 0 = subst (λ n. IsGreedyReach n xs 0) over refl in
-    walked_out c.args.record_length.bytes words
+    let out = walked_out c.args.record_length.bytes words
     (words - c.loop-word._word) c.args.samples.now c.args.start latest c.loop-word.at c.requires
     c.steim2_greedy_reach.ensures
     c.data_words-words.ensures.same latest_is c.loop-word.invariant.walked stuck
+    c.reach_to-2.result.end c.reach_to-2.result.narrow c.reach_to-2.ensures.end
+    (λ t. c.loop-word.invariant.small (c.reach_to-2.ensures.groups t)) c.reach_to-2.ensures.behind in
+    record { end = out.end_is; narrow = out.narrow }

@@ -5,7 +5,8 @@ use Rattle.std.proofs.lemmas.Nat.{le_or_l, le_or_r}
 use Rattle.msr_words.specs.Laws.{IsNarrow}
 use Rattle.msr_words.specs.Segment.{difference_at}
 use Rattle.msr_words.specs.Window.{IsSize}
-use Rattle.msr_words.proofs.Stretches.{AreNarrow, difference_between, first_narrow, narrow_of_size, none_narrow, one_narrow}
+use Rattle.msr_words.specs.Bounds.{AreNarrow}
+use Rattle.msr_words.proofs.Stretches.{difference_between, first_narrow, narrow_of_size, none_narrow, one_narrow}
 use Rattle.msr_words.proofs.widths.are_narrow.Goals as goal
 
 pub loop-at-init : goal.loop-at-init
@@ -36,7 +37,6 @@ returns-then-is_narrow c t =
     let size : SFits w64 c.difference.result = search rules in
     let is = simp to_z-of_z at c.is_narrow.ensures in
     let first : IsNarrow c.difference.result = is.0 c.if-is_narrow.true in
-    let narrow = first_narrow c.args.samples.now c.args.start c.args.end (omega arith) (omega arith)
+    first_narrow c.args.samples.now c.args.start c.args.end (omega arith) (omega arith)
     (subst IsNarrow c.difference.ensures first)
-    (subst (AreNarrow c.args.samples.now (c.args.start + 1)) end (c.loop-at.invariant less)) in
-    narrow.all
+    (subst (AreNarrow c.args.samples.now (c.args.start + 1)) end (c.loop-at.invariant less))

@@ -1,5 +1,5 @@
 use Rattle.std.specs.Prelude.{◌+◌, ◌<◌}
-use Rattle.msr_words.proofs.Stretches.{AreNarrow}
+use Rattle.msr_words.specs.Bounds.{AreNarrow}
 use Rattle.msr_words.proofs.widths.are_narrow.Given as goal
 
 abbrev pub invariant-loop-at : goal.invariant-loop-at

@@ -1,4 +1,4 @@
-use Rattle.std.proofs.Common.{arith, subst, length, min, ◌≡◌, sym, ◌∙◌}
+use Rattle.std.proofs.Common.{arith, subst, min, ◌≡◌, sym, ◌∙◌}
 use Rattle.msr_kinds.specs.Lengths.{bytes_of}
 use Rattle.msr_kinds.specs.Storage.{storage_of}
 use Rattle.msr_kinds.specs.declared.storage.Storage.TheVariants.{Frames, Integers}
