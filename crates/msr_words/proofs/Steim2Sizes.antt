@@ -3,7 +3,7 @@ use Rattle.std.proofs.Common.{◌≡◌, ℕ, suc, ◌+◌, ◌-◌, ◌<◌, �
 use Rattle.std.specs.Prelude.{set, slice_set, slice_index, sum}
 use Rattle.std.proofs.Math.Seq.{take-suc-set}
 use Rattle.std.proofs.lemmas.Bool.{cases_lt}
-use Rattle.std.proofs.lemmas.List.{drop-map, drop-take, get_or-set_other, get_or-set_same, get_or-take, length-drop, length-take-le, take-map, take-set-le, take-take}
+use Rattle.std.proofs.lemmas.List.{drop-drop, drop-map, drop-take, get_or-set_other, get_or-set_same, get_or-take, length-drop, length-take-le, take-map, take-set-le, take-take}
 use Rattle.std.proofs.lemmas.List.Sums.{sum_by_more_le, sum_by_push}
 use Rattle.msr_words.specs.Groups.{AreGroupSizes, IsLongestGroup}
 use Rattle.msr_words.specs.Segment.{differences, points, run_points}
@@ -57,6 +57,20 @@ one_told ds reach number size sizes room longest some told = record {
         subst (λ k. 0 < get_or (set sizes number size) k 0) same here
   ];
 }
+
+pub walk_told : (samples : List ℤ) (start at number size : ℕ) (sizes : List ℕ) → start ≤ at → number < length sizes
+    → IsLongestGroup (drop at (differences None samples)) size → 0 < size
+    → AreTold (drop start (differences None samples)) (at - start) number sizes
+    → AreTold (drop start (differences None samples)) (at + size - start) (number + 1) (slice_set sizes number size)
+walk_told samples start at number size sizes order room longest some told =
+    let there : start + (at - start) ≡ at = omega arith in
+    let same : drop at (differences None samples) ≡ drop (at - start) (drop start (differences None samples)) =
+    ap (λ n. drop n (differences None samples)) (sym there)
+    ∙ sym (drop-drop (at - start) start (differences None samples)) in
+    let sum : at - start + size ≡ at + size - start = omega arith in
+    subst (λ n. AreTold (drop start (differences None samples)) n (number + 1) (slice_set sizes number size)) sum
+    (one_told (drop start (differences None samples)) (at - start) number size sizes room
+    (subst (λ xs. IsLongestGroup xs size) same longest) some told)
 
 -- a group that is the longest of some differences is the longest of as many of them as have it
 longest_in : (ds : List ℤ) (m count : ℕ) → count ≤ m → m ≤ length ds → IsLongestGroup ds count
