@@ -5,7 +5,7 @@ ghost use Rattle.msr_kinds.specs.declared.kinds.Kind.TheVariants.{Steim2 as Seco
 ghost use Rattle.msr_kinds.specs.Lengths.{bytes_of};
 ghost use Rattle.msr_kinds.specs.RecordLength.{words_of};
 ghost use Rattle.msr_words.specs.Bounds.{AreNarrowThrough, IsEnd};
-ghost use Rattle.msr_words.specs.Groups.{AreGroupSizes};
+ghost use Rattle.msr_words.specs.Groups.{AreGroupSizes, AreGroupSizesIfKnown};
 ghost use Rattle.msr_words.specs.Laws.{IsNarrow};
 ghost use Rattle.msr_words.specs.Segment.{difference_at, run_points};
 
@@ -102,8 +102,9 @@ pub fn steim2_reach(
     requires { start ≤ length samples.now }
     ensures end { IsEnd SecondSteim (bytes_of record_length) samples.now start result.end }
     ensures narrow { IsTrue result.narrow → AreNarrowThrough samples.now start result.end }
-    ensures room { result.groups ≤ length sizes.old }
-    ensures none { length sizes.old < words_of (bytes_of record_length) → result.groups ≡ 0 }
+    ensures room { result.groups ≤ length sizes.new }
+    ensures known { AreGroupSizesIfKnown
+        (map (λ p. p.1) (run_points samples.now start result.end)) (take result.groups sizes.new) }
     ensures sizes { words_of (bytes_of record_length) ≤ length sizes.old
         → AreGroupSizes (map (λ p. p.1) (run_points samples.now start result.end)) (take result.groups sizes.new) }
 {

@@ -30,6 +30,7 @@ returns-clause-taken c = λ records before runs separators p.
       current = room.current;
       from = room.from;
       to = room.to;
+      sizes = room.sizes;
     } in
     packs_more records before runs separators room new c.args.samples.now c.self.inside.ended
     (subst (λ r. 256 ≤ r.bytes) q.of_form room.form.length.least) refl refl refl
