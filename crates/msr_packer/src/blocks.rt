@@ -62,8 +62,8 @@ impl BlockPacker {
         ensures count { MatchResult result (λ _. pushed self.new ≡ pushed self.old + length samples.now)
             (λ _. pushed self.new ≡ pushed self.old) }
     {
-        self.held.take_places()?;
         self.held.make_room();
+        self.held.take_places()?;
         self.held.samples.extend_from_slice(samples)?;
         Ok(())
     }

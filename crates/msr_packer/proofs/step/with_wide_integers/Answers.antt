@@ -62,4 +62,6 @@ returns c =
           }) greatest (omega arith) c.requires.ends refl refl refl
           c.integers_end-int24.ensures.fits c.integers_end-int24.ensures.chosen c.integers_end-int24.ensures.past
           c.int32_end-int32.ensures;
+      steim2 = refl;
+      groups = refl;
     }

@@ -1,7 +1,7 @@
 use Rattle.std.proofs.Common.{◌≡◌, ◌<◌, ap, arith, refl}
 use Rattle.msr_packer.specs.HeldSamples.{frontier_of, start_of}
 use Rattle.msr_packer.proofs.Holding.{window_less}
-use Rattle.msr_packer.proofs.Sizes.{none_sized, sized_less}
+use Rattle.msr_packer.proofs.ToldSizes.{none_sized, sized_less}
 use Rattle.msr_words.specs.Fit.{records_of}
 use Rattle.msr_packer.proofs.held.HeldSamples.forget.Goals as goal
 

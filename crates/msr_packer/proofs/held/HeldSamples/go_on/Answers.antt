@@ -1,7 +1,7 @@
 use Rattle.std.proofs.Common.{◌≤◌, arith, length, refl}
 use Rattle.msr_packer.specs.HeldSamples.{frontier_of, start_of}
 use Rattle.msr_packer.proofs.Holding.{next_stepped, shows_next, start_before, window_next}
-use Rattle.msr_packer.proofs.Sizes.{sized_cut}
+use Rattle.msr_packer.proofs.ToldSizes.{sized_cut}
 use Rattle.msr_words.specs.Fit.{records_of}
 use Rattle.msr_packer.proofs.held.HeldSamples.go_on.Goals as goal
 

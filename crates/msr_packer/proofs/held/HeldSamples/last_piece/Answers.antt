@@ -1,7 +1,7 @@
 use Rattle.std.proofs.Common.{rules, ◌≡◌, arith, length, refl, subst}
 use Rattle.msr_packer.specs.HeldSamples.{frontier_of, start_of}
 use Rattle.msr_packer.specs.Steps.{HaveSizes}
-use Rattle.msr_packer.proofs.Sizes.{frontier_within, none_sized}
+use Rattle.msr_packer.proofs.ToldSizes.{frontier_within, none_sized}
 use Rattle.msr_packer.proofs.Holding.{ends_with, shows_next}
 use Rattle.msr_words.specs.Fit.{records_of}
 use Rattle.msr_packer.proofs.held.HeldSamples.last_piece.Goals as goal

@@ -1,4 +1,4 @@
-use Rattle.std.proofs.Common.{ap, arith, length}
+use Rattle.std.proofs.Common.{ap, arith, drop, length, take_at, vec_len, ◌≡◌, ◌∙◌}
 use Rattle.msr_packer.specs.HeldSamples.{frontier_of}
 use Rattle.msr_packer.proofs.Holding.{if_some, next_stepped, stays_at}
 use Rattle.msr_words.specs.Fit.{records_of}
@@ -40,5 +40,10 @@ returns-clause-fewer c =
     if_some c.go_on.result (frontier_of c.args.self.now.current) (frontier_of c.go_on.new.self.current) (omega arith)
 
 pub returns-clause-sizes : goal.returns-clause-sizes
-returns-clause-sizes c = λ knows. c.go_on.ensures.sizes (record { next = knows.next.next })
-    (rw c.as_slice.ensures.value at c.next-step.ensures.sizes)
+returns-clause-sizes c = λ knows.
+    let sizes = c.next-step.new.sizes in
+    let places = c.args.self.now.sizes.shown.places in
+    let long : length sizes ≡ vec_len places = c.next-step.auto.sizes ∙ c.as_mut_slice.ensures.len in
+    c.go_on.ensures.sizes (record { next = knows.next.next })
+    (rw (take_at sizes (drop (length sizes) places.items) (vec_len places) long)
+    (rw c.as_slice.ensures.value at c.next-step.ensures.sizes))

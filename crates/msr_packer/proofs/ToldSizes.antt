@@ -7,7 +7,7 @@ use Rattle.msr_words.specs.Fit.{Records}
 use Rattle.msr_words.specs.Groups.{AreGroupSizesIfKnown}
 use Rattle.msr_words.specs.Segment.{points, run_points}
 use Rattle.msr_words.proofs.Runs.{run_from, run_from_start, run_points_stay}
-use Rattle.msr_packer.specs.HeldSamples.{InsideIfAny, IsSound, KnowsSizes, Shows, ShowsRun, before_place, before_shown, frontier_of, shown_by, sizes_shown}
+use Rattle.msr_packer.specs.HeldSamples.{InsideIfAny, IsSound, KnowsSizes, Shows, ShowsRun, before_place, before_shown, frontier_of, shown_by, sizes_shown, start_of}
 use Rattle.msr_packer.specs.Steps.{HaveSizes}
 use Rattle.msr_packer.specs.declared.held.HeldSamples.{HeldSamples}
 use Rattle.msr_packer.specs.declared.held.Piece.{Piece}
@@ -57,6 +57,11 @@ pub frontier_within : (records : Records) (current : Option RunToCut) (number : 
     → InsideIfAny records number current → frontier_of current ≤ number
 frontier_within records None number inside = omega arith
 frontier_within records (Some c) number inside = inside.within
+
+pub start_within : (records : Records) (current : Option RunToCut) (number : ℕ)
+    → InsideIfAny records number current → start_of current ≤ frontier_of current
+start_within records None number inside = omega arith
+start_within records (Some c) number inside = let before = inside.before in let on = inside.on in omega arith
 
 -- the samples of a run with their differences are those of the segment at its place
 points_of_run : (samples : List ℤ) (a b : ℕ) → a ≤ length samples
