@@ -22,7 +22,7 @@ pub(crate) fn reach_of(samples: &[i32], record_length: Length, run: &Run) -> Opt
         return None;
     }
     let start = run.start as usize;
-    let to = steim2_reach(samples, record_length, start);
+    let to = steim2_reach(samples, record_length, start, &mut []);
     Some(Reach { start, to })
 }
 

@@ -72,6 +72,18 @@ module _ (records : Records) (samples : List ℤ) (runs : List Run) (separators 
         goes_on = p.goes_on;
       }
 
+  -- nothing else changed
+  pub packs_same : (ended : Bool) → new.form ≡ old.form → new.samples.items ≡ old.samples.items
+      → new.offset ≡ old.offset → new.current ≡ old.current
+      → Packs records samples runs separators (holding_of old ended)
+      → Packs records samples runs separators (holding_of new ended)
+  packs_same ended same items offset current p = record {
+    of_form = ap records_of same ∙ p.of_form;
+    holds = rw (items, offset, current) p.holds;
+    stays = rw (items, current) p.stays;
+    goes_on = p.goes_on;
+  }
+
   -- the samples after those that were held
   pub packs_more : (more : List ℤ) (ended : Bool) → 256 ≤ records.bytes → new.form ≡ old.form
       → new.offset ≡ old.offset → new.current ≡ old.current → new.samples.items ≡ old.samples.items ++ more

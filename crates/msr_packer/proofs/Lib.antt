@@ -7,5 +7,6 @@ pub mod InBlocks
 pub mod Least
 pub mod OfBits
 pub mod Search
+pub mod ToldSizes
 pub mod Streaming
 pub mod Windows

@@ -1,11 +1,13 @@
 -- What a packer holds of a segment: its last samples, and the step after the runs that were given.
-use Rattle.std.specs.Prelude.{◌≡◌, ℕ, zero, suc, ◌+◌, ◌-◌, ◌*◌, ◌<◌, ◌≤◌, ◌^◌, ◌⊎◌, ℤ, List, [], ◌∷◌, ◌++◌, length, drop, map, slice_get, slice_range, Option, Some, None, IfSome, if◌then◌else◌, ◌==◌, ⊤}
+use Rattle.std.specs.Prelude.{◌≡◌, ℕ, zero, suc, ◌+◌, ◌-◌, ◌*◌, ◌<◌, ◌≤◌, ◌^◌, ◌⊎◌, ℤ, List, [], ◌∷◌, ◌++◌, length, drop, take, map, slice_get, slice_range, Option, Some, None, IfSome, if◌then◌else◌, ◌==◌, ⊤}
 use Rattle.msr_words.specs.Fit.{Records, records_of, FitsAny, IsFirstKind}
 use Rattle.msr_words.specs.declared.kinds.Run.{Run}
 use Rattle.msr_words.specs.Laws.{most_any}
 use Rattle.msr_words.specs.Packing.{Joins, IsCanonical, IsStep}
-use Rattle.msr_words.specs.Segment.{run_points}
+use Rattle.msr_words.specs.Groups.{AreGroupSizesIfKnown}
+use Rattle.msr_words.specs.Segment.{differences, run_points}
 use Rattle.msr_packer.specs.SoFar.{IsSoFar}
+use Rattle.msr_packer.specs.Steps.{HaveSizes}
 use Rattle.msr_packer.specs.declared.held.RunToCut.{RunToCut}
 use Rattle.msr_packer.specs.declared.held.HeldSamples.{HeldSamples}
 use Rattle.msr_packer.specs.declared.held.Piece.{Piece}
@@ -121,9 +123,15 @@ before_place samples zero = None
 before_place samples (suc i) = slice_get samples i
 
 -- These are the samples of the piece, and the one before them.
-pub record Shows (samples shown : List ℤ) (before : Option ℤ) (piece : Piece) : Type 0 where
+pub record ShowsRun (samples shown : List ℤ) (before : Option ℤ) (piece : Piece) : Type 0 where
   pub run : shown ≡ slice_range samples piece.run.start piece.run.end
   pub before_run : before ≡ before_place samples piece.run.start
+
+-- They are, and the sizes are those of its groups of Steim-2, if these are known.
+pub record Shows (samples shown : List ℤ) (before : Option ℤ) (groups : List ℕ) (piece : Piece) : Type 0 where
+  pub run : shown ≡ slice_range samples piece.run.start piece.run.end
+  pub before_run : before ≡ before_place samples piece.run.start
+  pub sizes : AreGroupSizesIfKnown (differences before shown) groups
 
 -- the samples that are shown, and the one before them
 abbrev pub shown_by : HeldSamples → List ℤ
@@ -131,6 +139,19 @@ shown_by held = slice_range held.samples.items held.from held.to
 
 abbrev pub before_shown : HeldSamples → Option ℤ
 before_shown held = before_place held.samples.items held.from
+
+-- the sizes that are told of the groups of the next piece
+pub record KnowsNext (held : HeldSamples) : Type 0 where
+  pub next : HaveSizes held.samples.items (start_of held.current) (frontier_of held.current) held.sizes.next.count
+      held.sizes.next.places.items
+
+-- and of the piece that is shown
+pub record KnowsSizes (held : HeldSamples) : Type 0 where
+  pub next : KnowsNext held
+  pub shown : HaveSizes held.samples.items held.from held.to held.sizes.shown.count held.sizes.shown.places.items
+
+abbrev pub sizes_shown : HeldSamples → List ℕ
+sizes_shown held = take held.sizes.shown.count held.sizes.shown.places.items
 
 -- What giving a piece does: the piece, if there is one, was given and is shown, and the samples that are held are the
 -- same.
@@ -142,7 +163,7 @@ pub record GivesPiece (old new : HeldSamples) (piece : Option Piece) : Type 0 wh
   pub holds : (samples : List ℤ) (runs : List Run) (separators : List ℕ) → HoldsRest samples runs separators old
       → HoldsRest samples (runs ++ runs_of (pieces_of piece)) (separators ++ separators_of (pieces_of piece)) new
   pub shows : (samples : List ℤ) (runs : List Run) (separators : List ℕ) → HoldsRest samples runs separators old
-      → IfSome piece (Shows samples (shown_by new) (before_shown new))
+      → IfSome piece (ShowsRun samples (shown_by new) (before_shown new))
 
 -- These runs and separators are the first of the canonical packing of the samples with whatever follows.
 abbrev pub BeginsAll : Records → List ℤ → List Run → List ℕ → Type 0

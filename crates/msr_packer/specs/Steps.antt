@@ -1,9 +1,11 @@
 -- Steps from a frontier with records of some kinds.
-use Rattle.std.specs.Prelude.{◌≡◌, ℕ, ◌+◌, ◌<◌, ◌≤◌, ◌⊎◌, ℤ, List, [], ◌∷◌}
+use Rattle.std.specs.Prelude.{◌≡◌, ℕ, ◌+◌, ◌<◌, ◌≤◌, ◌⊎◌, ℤ, List, [], ◌∷◌, length, map, take}
 use Rattle.msr_words.specs.Fit.{Records, Fits, FitsIn, IsRun, rank}
 use Rattle.msr_kinds.specs.declared.kinds.Kind.{Kind}
 use Rattle.msr_kinds.specs.declared.kinds.Kind.TheVariants.{Int16, Int24, Int32, Steim1, Steim2}
 use Rattle.msr_kinds.specs.Kinds.{IsChosen}
+use Rattle.msr_words.specs.Groups.{AreGroupSizesIfKnown}
+use Rattle.msr_words.specs.Segment.{run_points}
 use Rattle.msr_packer.specs.declared.step.Ends.{Ends}
 use Rattle.msr_packer.specs.declared.step.StepRun.{StepRun}
 
@@ -72,3 +74,8 @@ every_kind = Int32 ∷ Int24 ∷ longer_kinds
 
 abbrev pub AreEnds : Records → List ℤ → ℕ → ℕ → Ends → Type 0
 AreEnds records samples g end ends = AreEndsAmong every_kind records samples g end ends
+
+-- the first `count` of these are the sizes of the groups of the samples a to b-1; they are not known if it is 0
+pub record HaveSizes (samples : List ℤ) (a b count : ℕ) (sizes : List ℕ) : Type 0 where
+  pub room : count ≤ length sizes
+  pub are : AreGroupSizesIfKnown (map (λ p. p.1) (run_points samples a b)) (take count sizes)

@@ -25,14 +25,13 @@ pub struct BlockPacker {
 }
 
 impl Model for BlockPacker {
-    ghost use Rattle.msr_packer.specs.Blocks.{Holding, holding_of};
-    ghost use Rattle.msr_packer.specs.HeldSamples.{IsSound};
+    ghost use Rattle.msr_packer.specs.Blocks.{Holding, IsKept, holding_of};
 
     ghost Value = { Holding };
 
     ghost view = { λ p. holding_of p.held p.ended };
 
-    ghost invariant = { λ p. IsSound p.held };
+    ghost invariant = { λ p. IsKept p.held };
 }
 
 impl BlockPacker {
@@ -64,6 +63,7 @@ impl BlockPacker {
             (λ _. pushed self.new ≡ pushed self.old) }
     {
         self.held.make_room();
+        self.held.take_places()?;
         self.held.samples.extend_from_slice(samples)?;
         Ok(())
     }
@@ -76,7 +76,7 @@ impl BlockPacker {
             (separators ++ separators_of (pieces_of result)) self.new }
         ensures shows { (records : Records) (samples : List ℤ) (runs : List Run) (separators : List ℕ)
             → Packs records samples runs separators self.old
-            → IfSome result (Shows samples self.new.shown self.new.before) }
+            → IfSome result (Shows samples self.new.shown self.new.before self.new.groups) }
         ensures few { IsNone result → HoldsFew self.new }
         ensures fewer { IfSome result (λ _. left_of self.new < left_of self.old) }
         ensures count { pushed self.new ≡ pushed self.old }
@@ -96,7 +96,7 @@ impl BlockPacker {
             → IsNone result → IsCanonical records samples runs separators }
         ensures shows { (records : Records) (samples : List ℤ) (runs : List Run) (separators : List ℕ)
             → PacksLast records samples runs separators self.old
-            → IfSome result (Shows samples self.new.shown self.new.before) }
+            → IfSome result (Shows samples self.new.shown self.new.before self.new.groups) }
         ensures fewer { IfSome result (λ _. left_of self.new < left_of self.old) }
         ensures count { pushed self.new ≡ pushed self.old }
     {
@@ -122,6 +122,14 @@ impl BlockPacker {
         ensures { result.now ≡ self.now.shown }
     {
         self.held.shown()
+    }
+
+    /// The sizes of the groups of Steim-2 in which the piece that was given last stands, one after another, if they are
+    /// known: none if it is of another kind, or if its run was cut.
+    pub fn group_sizes(&self) -> &[u8]
+        ensures { result.now ≡ self.now.groups }
+    {
+        self.held.group_sizes()
     }
 
     /// The sample before those of the piece that was given last, if there is one.

@@ -5,14 +5,15 @@ ghost use Rattle.msr_words.specs.declared.kinds.Run.{Run};
 ghost use Rattle.msr_words.specs.Fit.{FitsAny, FitsIn, IsRun, records_of};
 ghost use Rattle.msr_words.specs.Laws.{most_any};
 ghost use Rattle.msr_words.specs.Packing.{IsCanonical, IsStep};
-ghost use Rattle.msr_packer.specs.HeldSamples.{GivesPiece, HasPlaces, HoldsRest, IsNext, IsSound, Shows, Stays, before_shown, frontier_of, piece_of, pieces_of, runs_of, separators_of, shown_by, start_of};
-ghost use Rattle.msr_packer.specs.Steps.{AreEnds};
+ghost use Rattle.msr_packer.specs.HeldSamples.{GivesPiece, HasPlaces, HoldsRest, IsNext, IsSound, KnowsNext, KnowsSizes, ShowsRun, Stays, before_shown, frontier_of, piece_of, pieces_of, runs_of, separators_of, shown_by, sizes_shown, start_of};
+ghost use Rattle.msr_packer.specs.Steps.{AreEnds, HaveSizes};
 
 use crate::kind_of;
+use crate::sizes::StepSizes;
 use crate::step::{StepWithEnds, next_step};
 use msr_kinds::{Form, Kind};
 use msr_words::Run;
-use std::alloc::Global;
+use std::alloc::{AllocError, Global};
 
 /// A run of the packing, with the separator that goes with it.
 #[derive(Clone, Copy, Debug, PartialEq, Eq)]
@@ -44,6 +45,8 @@ pub(crate) struct RunToCut {
     pub end: usize,
     pub whole: Kind,
     pub short: Kind,
+    /// How many groups the whole run has, if it is of Steim-2 and their sizes were told, else 0.
+    pub groups: usize,
 }
 
 /// The frontier of the next step.
@@ -94,6 +97,18 @@ pub(crate) fn piece_of(offset: u64, current: Option<RunToCut>, next: usize) -> O
     })
 }
 
+/// How many groups the run of a step has, if it is the one of Steim-2 from the frontier and their sizes were told.
+fn groups_of(frontier: usize, found: StepWithEnds) -> usize
+    ensures { (samples : List ℤ) (sizes : List ℕ) → HaveSizes samples frontier found.ends.steim2 found.ends.groups sizes
+        → HaveSizes samples found.step.start found.step.end result sizes }
+{
+    if found.step.start == frontier && found.step.end == found.ends.steim2 {
+        found.ends.groups
+    } else {
+        0
+    }
+}
+
 impl RunToCut {
     /// The next step, as it was found, with the kinds of its run.
     pub(crate) fn of(
@@ -109,6 +124,9 @@ impl RunToCut {
         requires ends { AreEnds (records_of form) samples.now (frontier_of current) found.step.end found.ends }
         ensures next { IsNext (records_of form) samples.now current result }
         ensures end { result.end ≡ found.step.end }
+        ensures sizes { (sizes : List ℕ)
+            → HaveSizes samples.now (frontier_of current) found.ends.steim2 found.ends.groups sizes
+            → HaveSizes samples.now result.start result.end result.groups sizes }
     {
         let frontier = frontier_of(current);
         let end = found.step.end;
@@ -118,15 +136,22 @@ impl RunToCut {
             end,
             whole: kind_of(samples, form, frontier, found, end),
             short: kind_of(samples, form, frontier, found, end - 1),
+            groups: groups_of(frontier, found),
         }
     }
 
-    /// The next step.
-    pub(crate) fn next(samples: &[i32], form: Form, current: Option<RunToCut>) -> RunToCut
+    /// The next step. If it is of Steim-2, it tells the sizes of its groups, if there is room for them.
+    pub(crate) fn next(
+        samples: &[i32],
+        form: Form,
+        current: Option<RunToCut>,
+        sizes: &mut [u8],
+    ) -> RunToCut
         requires { frontier_of current < length samples.now }
-        ensures { IsNext (records_of form) samples.now current result }
+        ensures next { IsNext (records_of form) samples.now current result }
+        ensures sizes { HaveSizes samples.now result.start result.end result.groups sizes.new }
     {
-        let found = next_step(samples, form, frontier_of(current), likely_of(current));
+        let found = next_step(samples, form, frontier_of(current), likely_of(current), sizes);
         RunToCut::of(samples, form, current, found)
     }
 }
@@ -154,6 +179,7 @@ pub(crate) struct HeldSamples {
     pub from: usize,
     /// Where they end.
     pub to: usize,
+    pub sizes: StepSizes,
 }
 
 impl HeldSamples {
@@ -165,6 +191,7 @@ impl HeldSamples {
         ensures current { IsNone result.current }
         ensures samples { result.samples.items ≡ [] }
         ensures shown { shown_by result ≡ [] }
+        ensures sizes { KnowsSizes result }
     {
         HeldSamples {
             form,
@@ -173,6 +200,7 @@ impl HeldSamples {
             current: None,
             from: 0,
             to: 0,
+            sizes: StepSizes::none(alloc),
         }
     }
 
@@ -184,8 +212,12 @@ impl HeldSamples {
         ensures none { IsNone result → shown_by self.new ≡ [] }
         ensures current { self.new.current ≡ Some step }
         ensures first { IsNone result → IsNone self.old.current }
+        ensures sizes { KnowsNext self.old
+            → HaveSizes self.old.samples.items step.start step.end step.groups self.old.sizes.shown.places.items
+            → KnowsSizes self.new }
     {
         let piece = piece_of(self.offset, self.current, step.start);
+        self.sizes.go_on(step.groups, step.start == frontier_of(self.current));
         self.from = start_of(self.current);
         self.to = step.start;
         self.current = Some(step);
@@ -210,11 +242,17 @@ impl HeldSamples {
             → IsRun (FitsAny (records_of self.old.form)) self.old.samples.items start end
             → end ≤ frontier_of self.new.current }
         ensures fewer { IfSome result (λ _. frontier_of self.old.current < frontier_of self.new.current) }
+        ensures sizes { KnowsSizes self.old → KnowsSizes self.new }
     {
         if self.samples.len() - frontier_of(self.current) <= beyond {
             return None;
         }
-        let step = RunToCut::next(self.samples.as_slice(), self.form, self.current);
+        let step = RunToCut::next(
+            self.samples.as_slice(),
+            self.form,
+            self.current,
+            self.sizes.shown.places.as_mut_slice(),
+        );
         self.go_on(step)
     }
 
@@ -227,6 +265,7 @@ impl HeldSamples {
             self.old.samples.items) }
         ensures few { IsNone result → length self.old.samples.items ≤ frontier_of self.new.current + beyond }
         ensures fewer { IfSome result (λ _. frontier_of self.old.current < frontier_of self.new.current) }
+        ensures sizes { KnowsSizes self.old → KnowsSizes self.new }
     {
         if let Some(piece) = self.step_past(beyond) {
             return Some(piece);
@@ -250,9 +289,11 @@ impl HeldSamples {
             (separators ++ separators_of (pieces_of result)) }
         ensures shows { (samples : List ℤ) (runs : List Run) (separators : List ℕ)
             → HoldsRest samples runs separators self.old
-            → IfSome result (Shows samples (shown_by self.new) (before_shown self.new)) }
+            → IfSome result (ShowsRun samples (shown_by self.new) (before_shown self.new)) }
+        ensures sizes { KnowsSizes self.old → KnowsSizes self.new }
     {
         let end = self.samples.len();
+        self.sizes.go_on(0, true);
         self.from = start_of(self.current);
         self.to = end;
         piece_of(self.offset, self.current, end)
@@ -283,9 +324,11 @@ impl HeldSamples {
         ensures start { start_of self.new.current + (start_of self.old.current - 1) ≡ start_of self.old.current }
         ensures from { self.new.from ≡ 0 }
         ensures to { self.new.to ≡ 0 }
+        ensures sizes { KnowsSizes self.old → KnowsSizes self.new }
     {
         self.from = 0;
         self.to = 0;
+        self.sizes.shown.count = 0;
         let count = self.unneeded();
         let Some(current) = self.current else {
             return;
@@ -301,6 +344,7 @@ impl HeldSamples {
             end: current.end - count,
             whole: current.whole,
             short: current.short,
+            groups: current.groups,
         });
     }
 
@@ -319,11 +363,33 @@ impl HeldSamples {
             ≡ self.old.offset + length self.old.samples.items }
         ensures few { length self.old.samples.items ≤ frontier_of self.old.current + most_any
             (records_of self.old.form) → length self.new.samples.items ≤ 4 * most_any (records_of self.old.form) + 2 }
+        ensures sizes { KnowsSizes self.old → KnowsSizes self.new }
     {
         let unneeded = self.unneeded();
         if unneeded >= self.samples.len() - unneeded {
             self.forget();
         }
+    }
+
+    /// Takes places for the sizes of the groups of a record, if that was not done.
+    pub(crate) fn take_places(&mut self) -> Result<(), AllocError>
+        requires { IsSound self.old }
+        ensures sound { IsSound self.new }
+        ensures form { self.new.form ≡ self.old.form }
+        ensures held { self.new.samples.items ≡ self.old.samples.items }
+        ensures offset { self.new.offset ≡ self.old.offset }
+        ensures current { self.new.current ≡ self.old.current }
+        ensures sizes { KnowsSizes self.old → KnowsSizes self.new }
+    {
+        self.sizes.take_places(self.form.length.data_words() as usize)
+    }
+
+    /// The sizes of the groups of the piece that is shown, if they are known.
+    pub(crate) fn group_sizes(&self) -> &[u8]
+        requires { KnowsSizes self.now }
+        ensures { result.now ≡ sizes_shown self.now }
+    {
+        &self.sizes.shown.places.as_slice()[..self.sizes.shown.count]
     }
 
     /// The samples that are shown.

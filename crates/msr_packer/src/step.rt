@@ -8,7 +8,7 @@ ghost use Rattle.msr_kinds.specs.Lengths.{bytes_of};
 ghost use Rattle.msr_words.specs.Fit.{Fits, FitsAny, FitsIn, IsRun, records_of};
 ghost use Rattle.msr_words.specs.Packing.{IsStep};
 ghost use Rattle.msr_words.specs.Laws.{look_back_of};
-ghost use Rattle.msr_packer.specs.Steps.{AreEnds, AreEndsAmong, IsBetter, IsEndIn, IsStepAmong, NonePast, NotLess, longer_kinds};
+ghost use Rattle.msr_packer.specs.Steps.{AreEnds, AreEndsAmong, HaveSizes, IsBetter, IsEndIn, IsStepAmong, NonePast, NotLess, longer_kinds};
 
 use msr_kinds::{Form, Kind, Length};
 use msr_words::{
@@ -39,7 +39,8 @@ impl StepRun {
     }
 }
 
-/// Ends of runs from a frontier, by their kind. One that is not needed is the frontier itself.
+/// Ends of runs from a frontier, by their kind. One that is not needed is the frontier itself. The run of Steim-2 has so
+/// many `groups`, if their sizes were told, else 0.
 #[derive(Clone, Copy, Debug, PartialEq, Eq)]
 pub(crate) struct Ends {
     pub steim2: usize,
@@ -47,6 +48,7 @@ pub(crate) struct Ends {
     pub int16: usize,
     pub int24: usize,
     pub int32: usize,
+    pub groups: usize,
 }
 
 /// A step, with the ends that tell the kind of its run when that is cut.
@@ -58,17 +60,19 @@ pub(crate) struct StepWithEnds {
 
 /// The greatest end of a run of Steim-2 from the frontier on; the frontier, if the form has no such records.
 #[inline(always)]
-fn steim2_end(samples: &[i32], form: Form, frontier: usize) -> Steim2Reach
+fn steim2_end(samples: &[i32], form: Form, frontier: usize, sizes: &mut [u8]) -> Steim2Reach
     requires { frontier ≤ length samples.now }
     ensures end { IsEndIn SecondSteim (records_of form) samples.now frontier result.end }
     ensures chosen { IsTrue result.narrow → IsChosen form.kinds SecondSteim }
     ensures narrow { IsTrue result.narrow → AreNarrowThrough samples.now frontier result.end }
+    ensures sizes { HaveSizes samples.now frontier result.end result.groups sizes.new }
 {
     if form.kinds.contains(Kind::Steim2) {
-        return steim2_reach(samples, form.length, frontier);
+        return steim2_reach(samples, form.length, frontier, sizes);
     }
     Steim2Reach {
         end: frontier,
+        groups: 0,
         narrow: false,
     }
 }
@@ -204,6 +208,8 @@ fn with_wide_integers(
     ensures step { IsStep (FitsAny (records_of form)) samples.now frontier result.step.end result.step.start }
     ensures kind { IsRun (FitsIn result.step.kind (records_of form)) samples.now result.step.start result.step.end }
     ensures ends { AreEnds (records_of form) samples.now frontier result.step.end result.ends }
+    ensures steim2 { result.ends.steim2 ≡ ends.steim2 }
+    ensures groups { result.ends.groups ≡ ends.groups }
 {
     let reached = ends.steim2.max(ends.steim1).max(ends.int16);
     let int24 = integers_end(samples, form, frontier, reached, Kind::Int24, 24);
@@ -226,6 +232,7 @@ fn with_wide_integers(
             int16: ends.int16,
             int24,
             int32,
+            groups: ends.groups,
         },
     }
 }
@@ -240,6 +247,7 @@ fn integers_alone(samples: &[i32], form: Form, frontier: usize) -> Option<StepWi
         (FitsIn found.step.kind (records_of form)) samples.now found.step.start found.step.end) }
     ensures ends { IfSome result (λ found. AreEnds
         (records_of form) samples.now frontier found.step.end found.ends) }
+    ensures groups { IfSome result (λ found. found.ends.groups ≡ 0) }
 {
     if !form.kinds.contains(Kind::Int16) {
         return None;
@@ -263,17 +271,25 @@ fn integers_alone(samples: &[i32], form: Form, frontier: usize) -> Option<StepWi
         int16,
         int24: frontier,
         int32: frontier,
+        groups: 0,
     };
     Some(with_wide_integers(samples, form, frontier, by_int16, ends))
 }
 
 /// The step from a frontier. `likely` is the kind that is tried first if it is Int16; the step is the same whatever it
 /// is.
-pub(crate) fn next_step(samples: &[i32], form: Form, frontier: usize, likely: Kind) -> StepWithEnds
+pub(crate) fn next_step(
+    samples: &[i32],
+    form: Form,
+    frontier: usize,
+    likely: Kind,
+    sizes: &mut [u8],
+) -> StepWithEnds
     requires { frontier ≤ length samples.now }
     ensures step { IsStep (FitsAny (records_of form)) samples.now frontier result.step.end result.step.start }
     ensures kind { IsRun (FitsIn result.step.kind (records_of form)) samples.now result.step.start result.step.end }
     ensures ends { AreEnds (records_of form) samples.now frontier result.step.end result.ends }
+    ensures sizes { HaveSizes samples.now frontier result.ends.steim2 result.ends.groups sizes.new }
 {
     if likely == Kind::Int16 {
         match integers_alone(samples, form, frontier) {
@@ -281,7 +297,7 @@ pub(crate) fn next_step(samples: &[i32], form: Form, frontier: usize, likely: Ki
             None => {}
         }
     }
-    step_from(samples, form, frontier)
+    step_from(samples, form, frontier, sizes)
 }
 
 /// The kind of which a run is taken to be as long as nothing is known of its samples: Steim-2, if the form has it.
@@ -298,13 +314,19 @@ pub(crate) fn tried_first(form: Form) -> Kind
 }
 
 /// The step from a frontier, over all kinds.
-pub(crate) fn step_from(samples: &[i32], form: Form, frontier: usize) -> StepWithEnds
+pub(crate) fn step_from(
+    samples: &[i32],
+    form: Form,
+    frontier: usize,
+    sizes: &mut [u8],
+) -> StepWithEnds
     requires { frontier ≤ length samples.now }
     ensures step { IsStep (FitsAny (records_of form)) samples.now frontier result.step.end result.step.start }
     ensures kind { IsRun (FitsIn result.step.kind (records_of form)) samples.now result.step.start result.step.end }
     ensures ends { AreEnds (records_of form) samples.now frontier result.step.end result.ends }
+    ensures sizes { HaveSizes samples.now frontier result.ends.steim2 result.ends.groups sizes.new }
 {
-    let reach = steim2_end(samples, form, frontier);
+    let reach = steim2_end(samples, form, frontier, sizes);
     let int16 = integers_end(samples, form, frontier, reach.end, Kind::Int16, 16);
     let by_steim2 = StepRun {
         start: frontier,
@@ -323,6 +345,7 @@ pub(crate) fn step_from(samples: &[i32], form: Form, frontier: usize) -> StepWit
         int16,
         int24: frontier,
         int32: frontier,
+        groups: reach.groups,
     };
     if steim1_is_short(samples, form, frontier, reach, best.end) {
         return with_wide_integers(samples, form, frontier, best, ends);

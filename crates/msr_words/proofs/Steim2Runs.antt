@@ -81,15 +81,20 @@ group_narrow samples start at size le within longest some all =
     narrow_more samples start at size le (omega arith)
     (λ k less. narrow_in_group samples at size k longest some less) all
 
--- those of the first samples are those of all
+-- the run is the same in the first samples
+pub run_points_seen : (samples : List ℤ) (start at latest : ℕ) → start ≤ at → at ≤ latest → latest ≤ length samples
+    → run_points samples start at ≡ run_points (take latest samples) start at
+run_points_seen samples start at latest order within inside =
+    let long = length-take-le latest samples inside in
+    ap (λ xs. run_points xs start at) (sym (take-append-drop latest samples))
+    ∙ run_points_stay (take latest samples) (drop latest samples) start at order (omega arith)
+
 narrow_seen : (samples : List ℤ) (start at latest : ℕ) → start ≤ at → at ≤ latest → latest ≤ length samples
     → AreNarrow (take latest samples) start at → AreNarrow samples start at
-narrow_seen samples start at latest order within inside narrow =
-    let long = length-take-le latest samples inside in
-    let same : run_points samples start at ≡ run_points (take latest samples) start at =
-    ap (λ xs. run_points xs start at) (sym (take-append-drop latest samples))
-    ∙ run_points_stay (take latest samples) (drop latest samples) start at order (omega arith) in
-    record { all = subst (λ run. All (λ (p : ℤ × ℤ). IsNarrow p.1) run) (sym same) narrow.all }
+narrow_seen samples start at latest order within inside narrow = record {
+  all = subst (λ run. All (λ (p : ℤ × ℤ). IsNarrow p.1) run)
+      (sym (run_points_seen samples start at latest order within inside)) narrow.all;
+}
 
 narrow_through : (samples : List ℤ) (start at : ℕ) → start ≤ at → at ≤ length samples → AreNarrow samples start at
     → (at < length samples → IsNarrow (difference_at samples at)) → AreNarrowThrough samples start at

@@ -1,11 +1,13 @@
 //! How far a Steim-2 record reaches, group by group.
 
-ghost use Rattle.std.specs.Prelude.{◌≡◌, ◌<◌, ◌≤◌, IsTrue, ℤ, List, length};
+ghost use Rattle.std.specs.Prelude.{◌≡◌, ◌<◌, ◌≤◌, IsTrue, length, map, slice_set, take};
 ghost use Rattle.msr_kinds.specs.declared.kinds.Kind.TheVariants.{Steim2 as SecondSteim};
 ghost use Rattle.msr_kinds.specs.Lengths.{bytes_of};
+ghost use Rattle.msr_kinds.specs.RecordLength.{words_of};
 ghost use Rattle.msr_words.specs.Bounds.{AreNarrowThrough, IsEnd};
+ghost use Rattle.msr_words.specs.Groups.{AreGroupSizes, AreGroupSizesIfKnown};
 ghost use Rattle.msr_words.specs.Laws.{IsNarrow};
-ghost use Rattle.msr_words.specs.Segment.{difference_at};
+ghost use Rattle.msr_words.specs.Segment.{difference_at, run_points};
 
 use crate::bounds::steim2_greedy_reach;
 use crate::counts::is_narrow;
@@ -13,47 +15,107 @@ use crate::kinds::{Fitting, difference};
 use crate::window::Window;
 use msr_kinds::{Kind, Length};
 
-/// The greatest end of a run. If `narrow` is set, all differences of the run and the one after it are narrow.
+/// How far Steim-2 reaches from a sample on.
 #[derive(Clone, Copy, Debug)]
 pub struct Steim2Reach {
+    /// The greatest end of a run.
     pub end: usize,
+    /// How many groups that run has, if their sizes were told, else 0.
+    pub groups: usize,
+    /// If it is set, all differences of that run and the one after it are narrow.
     pub narrow: bool,
 }
 
 /// Gives what Steim-2 reaches, if the least of its groups has `least` differences: those of a group
 /// of two or more are narrow.
-fn reach_to(samples: &[i32], end: usize, least: usize) -> Steim2Reach
+fn reach_to(samples: &[i32], end: usize, groups: usize, least: usize) -> Steim2Reach
     ensures end { result.end ≡ end }
+    ensures number { result.groups ≡ groups }
     ensures groups { IsTrue result.narrow → 1 < least }
     ensures behind { IsTrue result.narrow → end < length samples.now → IsNarrow (difference_at samples.now end) }
 {
     Steim2Reach {
         end,
+        groups,
         narrow: least > 1 && (end >= samples.len() || is_narrow(difference(samples, end))),
     }
 }
 
-/// The greatest end of a run of Steim-2 from `start` on: as many of the longest groups as there are words, of no more
-/// samples than a record has.
-pub fn steim2_reach(samples: &[i32], record_length: Length, start: usize) -> Steim2Reach
-    requires { start ≤ length samples.now }
+/// Tells the size of that group, if there is room for it.
+#[inline(always)]
+fn tell(sizes: &mut [u8], room: usize, group: usize, size: usize)
+    requires room { room ≤ length sizes.old }
+    requires small { size < 256 }
+    ensures { group < room → sizes.new ≡ slice_set sizes.old group size }
+{
+    if group < room {
+        sizes[group] = size as u8;
+    }
+}
+
+/// As many of the longest groups as there are words, of no more samples than a record has. The sizes of all are told, if
+/// there is room for one of each word. The calls give a `room` of none or of as many, so that the compiler makes a walk
+/// for each, without a test for each group.
+#[inline(always)]
+fn walk(
+    samples: &[i32],
+    record_length: Length,
+    start: usize,
+    room: usize,
+    sizes: &mut [u8],
+) -> Steim2Reach
+    requires within { start ≤ length samples.now }
+    requires room { room ≤ length sizes.old }
     ensures end { IsEnd SecondSteim (bytes_of record_length) samples.now start result.end }
     ensures narrow { IsTrue result.narrow → AreNarrowThrough samples.now start result.end }
+    ensures few { result.groups ≤ words_of (bytes_of record_length) }
+    ensures sizes { words_of (bytes_of record_length) ≤ room
+        → AreGroupSizes (map (λ p. p.1) (run_points samples.now start result.end)) (take result.groups sizes.new) }
 {
     steim2_greedy_reach();
     let latest = start + Kind::Steim2.most(record_length).min(samples.len() - start);
     let seen = &samples[..latest];
-    let words = record_length.data_words();
+    let words = record_length.data_words() as usize;
     let mut window = Window::new();
     let mut at = start;
     let mut least = 7;
-    for _word in 0..words {
+    for word in 0..words {
         let size = window.longest_steim2_group(seen, at);
         if size == 0 {
-            return reach_to(samples, at, least);
+            return reach_to(samples, at, word, least);
         }
+        tell(sizes, room, word, size);
         least = least.min(size);
         at += size;
     }
-    reach_to(samples, at, least)
+    reach_to(samples, at, words, least)
+}
+
+/// How far Steim-2 reaches from `start` on. The sizes of the groups of that run are told, one after another, if there is
+/// room for as many as a record has data words.
+pub fn steim2_reach(
+    samples: &[i32],
+    record_length: Length,
+    start: usize,
+    sizes: &mut [u8],
+) -> Steim2Reach
+    requires { start ≤ length samples.now }
+    ensures end { IsEnd SecondSteim (bytes_of record_length) samples.now start result.end }
+    ensures narrow { IsTrue result.narrow → AreNarrowThrough samples.now start result.end }
+    ensures room { result.groups ≤ length sizes.new }
+    ensures known { AreGroupSizesIfKnown
+        (map (λ p. p.1) (run_points samples.now start result.end)) (take result.groups sizes.new) }
+    ensures sizes { words_of (bytes_of record_length) ≤ length sizes.old
+        → AreGroupSizes (map (λ p. p.1) (run_points samples.now start result.end)) (take result.groups sizes.new) }
+{
+    let words = record_length.data_words() as usize;
+    if sizes.len() >= words {
+        return walk(samples, record_length, start, words, sizes);
+    }
+    let reach = walk(samples, record_length, start, 0, sizes);
+    Steim2Reach {
+        end: reach.end,
+        groups: 0,
+        narrow: reach.narrow,
+    }
 }

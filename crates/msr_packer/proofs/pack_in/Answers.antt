@@ -8,7 +8,7 @@ use Rattle.msr_packer.proofs.pack_in.Goals as goal
 pub piece_of-requires : goal.piece_of-requires
 piece_of-requires c =
     let fits : length c.args.samples.now < 2 ^ 64 = search rules in
-    let next = c.next-next.ensures in
+    let next = c.next-next.ensures.next in
     let order = next.step.reached.0 in
     let within = next.step.reached.1 in
     record {
@@ -33,7 +33,7 @@ piece_of-requires-2 c =
 pub loop-form-smaller : goal.loop-form-smaller
 loop-form-smaller c =
     let samples = c.args.samples.now in
-    let next = c.next-next.ensures in
+    let next = c.next-next.ensures.next in
     let s = next_stepped (records_of c.args.form) c.args.form.length.least samples c.loop-form.current
     c.next-next.result next in
     let on = s.on in
@@ -47,7 +47,7 @@ loop-form-preserved c =
     let form = records_of c.args.form in
     let samples = c.args.samples.now in
     let current = c.loop-form.current in
-    let next = c.next-next.ensures in
+    let next = c.next-next.ensures.next in
     let s = next_stepped form c.args.form.length.least samples current c.next-next.result next in
     let frontier = next.frontier in
     let before = next.step.before in

@@ -1,7 +1,8 @@
-use Rattle.std.proofs.Common.{arith}
+use Rattle.std.proofs.Common.{arith, refl}
 use Rattle.msr_kinds.specs.Kinds.{IsChosen}
 use Rattle.msr_kinds.specs.declared.kinds.Kind.TheVariants.{Steim2}
 use Rattle.msr_packer.proofs.EndsByKind.{end_if_chosen, end_if_not}
+use Rattle.msr_packer.proofs.ToldSizes.{none_sized}
 use Rattle.msr_words.specs.Fit.{records_of}
 use Rattle.msr_packer.proofs.step.steim2_end.Goals as goal
 
@@ -19,3 +20,10 @@ returns-clause-end c =
     let least = c.args.form.length.least in
     end_if_not (records_of c.args.form) c.args.samples.now c.args.frontier Steim2 (omega arith)
     (λ has. let is = c.contains.ensures in let not = c.if-contains.false in cc) c.requires
+
+pub returns-then-contains-clause-sizes : goal.returns-then-contains-clause-sizes
+returns-then-contains-clause-sizes c =
+    record { room = c.steim2_reach.ensures.room; are = c.steim2_reach.ensures.known }
+
+pub returns-clause-sizes : goal.returns-clause-sizes
+returns-clause-sizes c = none_sized c.args.samples.now c.args.frontier c.args.frontier 0 c.args.sizes.now refl

@@ -83,3 +83,11 @@ with_wide_integers-requires-2-clause-ends c =
     (λ e near run. two.furthest e run)
     (λ e near run. inl (c.steim1_reach.ensures.furthest e (run.0, run.1, run.2.1)))
     (λ e near run. c.integers_end-int16.ensures.past c.args.frontier e (omega arith) run) _ refl refl refl
+
+pub returns-then-steim1_is_short-clause-sizes : goal.returns-then-steim1_is_short-clause-sizes
+returns-then-steim1_is_short-clause-sizes c =
+    rw (c.with_wide_integers.ensures.steim2, c.with_wide_integers.ensures.groups) c.steim2_end-reach.ensures.sizes
+
+pub returns-clause-sizes : goal.returns-clause-sizes
+returns-clause-sizes c =
+    rw (c.with_wide_integers-2.ensures.steim2, c.with_wide_integers-2.ensures.groups) c.steim2_end-reach.ensures.sizes

@@ -53,6 +53,7 @@ returns c =
       ends = all_ends form samples g c.args.step.end c.or-2.result.end c.max-reached.result c.args.ends
           (record {
             steim2 = c.args.ends.steim2;
+            groups = c.args.ends.groups;
             steim1 = c.args.ends.steim1;
             int16 = c.args.ends.int16;
             int24 = c.integers_end-int24.result;
@@ -61,4 +62,6 @@ returns c =
           }) greatest (omega arith) c.requires.ends refl refl refl
           c.integers_end-int24.ensures.fits c.integers_end-int24.ensures.chosen c.integers_end-int24.ensures.past
           c.int32_end-int32.ensures;
+      steim2 = refl;
+      groups = refl;
     }

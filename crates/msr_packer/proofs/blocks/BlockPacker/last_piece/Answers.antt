@@ -2,6 +2,7 @@ use Rattle.std.proofs.Common.{◌≡◌, false, Some, rules, subst}
 use Rattle.msr_packer.specs.Blocks.{PacksLast, holding_of}
 use Rattle.msr_packer.proofs.Holding.{holds_still}
 use Rattle.msr_packer.proofs.InBlocks.{all_given, holds_in, packs_all, packs_last_next}
+use Rattle.msr_packer.proofs.ToldSizes.{shows_sizes}
 use Rattle.msr_packer.proofs.blocks.BlockPacker.last_piece.Goals as goal
 
 pub returns-in-Some-clause-given : goal.returns-in-Some-clause-given
@@ -17,8 +18,9 @@ returns-in-Some-clause-shows c = λ records samples runs separators p.
     let open' : c.self.inside.ended ≡ false = search rules in
     let q = subst (λ e. PacksLast records samples runs separators (holding_of c.self.inside.held e)) open'
     (rw (← c.self.view_is) at p) in
-    c.in-Some.ensures.given.shows samples runs separators
-    (holds_in records samples runs separators c.self.inside.held q.of_form q.left)
+    shows_sizes c.next_piece.new.self samples (Some c.in-Some.piece) c.in-Some.ensures.given.sound
+    (c.in-Some.ensures.sizes c.self.invariant.sizes) (c.in-Some.ensures.given.shows samples runs separators
+    (holds_in records samples runs separators c.self.inside.held q.of_form q.left))
 
 pub returns-clause-given : goal.returns-clause-given
 returns-clause-given c = λ records samples runs separators p.
@@ -42,6 +44,8 @@ returns-clause-shows c = λ records samples runs separators p.
     let open' : c.self.inside.ended ≡ false = search rules in
     let q = subst (λ e. PacksLast records samples runs separators (holding_of c.self.inside.held e)) open'
     (rw (← c.self.view_is) at p) in
-    c.last_piece.ensures.shows samples runs separators
+    shows_sizes c.last_piece.new.self samples c.last_piece.result c.last_piece.ensures.sound
+    (c.last_piece.ensures.sizes (c.in_default.ensures.sizes c.self.invariant.sizes))
+    (c.last_piece.ensures.shows samples runs separators
     (holds_still c.self.inside.held c.next_piece.new.self samples runs separators c.in_default.ensures.given
-    (holds_in records samples runs separators c.self.inside.held q.of_form q.left))
+    (holds_in records samples runs separators c.self.inside.held q.of_form q.left)))

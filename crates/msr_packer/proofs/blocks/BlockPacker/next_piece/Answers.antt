@@ -1,5 +1,6 @@
 use Rattle.std.proofs.Common.{arith}
 use Rattle.msr_packer.proofs.InBlocks.{holds_in, packs_next}
+use Rattle.msr_packer.proofs.ToldSizes.{shows_sizes}
 use Rattle.msr_packer.proofs.blocks.BlockPacker.next_piece.Goals as goal
 
 pub returns-clause-given : goal.returns-clause-given
@@ -12,5 +13,7 @@ returns-clause-given c = λ records samples runs separators p.
 pub returns-clause-shows : goal.returns-clause-shows
 returns-clause-shows c = λ records samples runs separators p.
     let q = rw (← c.self.view_is) at p in
-    c.next_piece.ensures.given.shows samples runs separators
-    (holds_in records samples runs separators c.self.inside.held q.of_form q.holds)
+    shows_sizes c.next_piece.new.self samples c.next_piece.result c.next_piece.ensures.given.sound
+    (c.next_piece.ensures.sizes c.self.invariant.sizes)
+    (c.next_piece.ensures.given.shows samples runs separators
+    (holds_in records samples runs separators c.self.inside.held q.of_form q.holds))

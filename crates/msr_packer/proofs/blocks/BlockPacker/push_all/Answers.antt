@@ -1,28 +1,50 @@
 use Rattle.std.proofs.lemmas.Result.{err_from_is_err_and}
-use Rattle.std.proofs.Common.{refl, ◌≤◌, subst}
+use Rattle.std.proofs.Common.{refl, arith, ap, ◌∙◌, ◌≤◌, length, length-append, subst}
+use Rattle.msr_words.specs.Fit.{records_of}
+use Rattle.msr_packer.specs.HeldSamples.{frontier_of, start_of}
 use Rattle.msr_packer.specs.declared.held.HeldSamples.{HeldSamples}
-use Rattle.msr_packer.proofs.InBlocks.{packs_held, packs_more}
+use Rattle.msr_packer.proofs.Holding.{sound_more}
+use Rattle.msr_packer.proofs.InBlocks.{packs_held, packs_more, packs_same}
+use Rattle.msr_packer.proofs.ToldSizes.{frontier_within, sized_more, start_within}
 use Rattle.msr_packer.proofs.blocks.BlockPacker.push_all.Goals as goal
 
-pub returns-in_err-extend_from_slice-clause-taken : goal.returns-in_err-extend_from_slice-clause-taken
-returns-in_err-extend_from_slice-clause-taken c = λ records before runs separators p.
-    let e = err_from_is_err_and c.from_residual.result c.from_residual.ensures.1 in
+pub returns-in_err-take_places-clause-taken : goal.returns-in_err-take_places-clause-taken
+returns-in_err-take_places-clause-taken c = λ records before runs separators p.
+    let e = err_from_is_err_and c.from_residual.result
+    c.from_residual.ensures.1 in
+    let t = c.take_places.ensures in
     let q = packs_held records before runs separators c.self.inside.held c.make_room.new.self c.self.inside.ended
     c.make_room.ensures.form (c.make_room.ensures.holds before runs separators) c.make_room.ensures.stays
     (rw (← c.self.view_is) at p) in
+    rw e.1 (packs_same records before runs separators c.make_room.new.self c.take_places.new.self
+    c.self.inside.ended t.form t.held t.offset t.current q)
+
+pub returns-in_err-extend_from_slice-clause-taken : goal.returns-in_err-extend_from_slice-clause-taken
+returns-in_err-extend_from_slice-clause-taken c = λ records before runs separators p.
+    let e = err_from_is_err_and c.from_residual-in_err-extend_from_slice.result
+    c.from_residual-in_err-extend_from_slice.ensures.1 in
+    let t = c.take_places.ensures in
+    let q = packs_held records before runs separators c.self.inside.held c.make_room.new.self c.self.inside.ended
+    c.make_room.ensures.form (c.make_room.ensures.holds before runs separators) c.make_room.ensures.stays
+    (rw (← c.self.view_is) at p) in
+    let r = packs_same records before runs separators c.make_room.new.self c.take_places.new.self
+    c.self.inside.ended t.form t.held t.offset t.current q in
     rw e.1 (record {
-      of_form = q.of_form;
-      holds = rw c.in_err-extend_from_slice.ensures.items q.holds;
-      stays = rw c.in_err-extend_from_slice.ensures.items q.stays;
-      goes_on = q.goes_on;
+      of_form = r.of_form;
+      holds = rw c.in_err-extend_from_slice.ensures.items r.holds;
+      stays = rw c.in_err-extend_from_slice.ensures.items r.stays;
+      goes_on = r.goes_on;
     })
 
 pub returns-clause-taken : goal.returns-clause-taken
 returns-clause-taken c = λ records before runs separators p.
+    let t = c.take_places.ensures in
     let q = packs_held records before runs separators c.self.inside.held c.make_room.new.self c.self.inside.ended
     c.make_room.ensures.form (c.make_room.ensures.holds before runs separators) c.make_room.ensures.stays
     (rw (← c.self.view_is) at p) in
-    let room = c.make_room.new.self in
+    let room = c.take_places.new.self in
+    let r = packs_same records before runs separators c.make_room.new.self room
+    c.self.inside.ended t.form t.held t.offset t.current q in
     let new : HeldSamples = record {
       form = room.form;
       samples = c.extend_from_slice.new.self;
@@ -30,7 +52,43 @@ returns-clause-taken c = λ records before runs separators p.
       current = room.current;
       from = room.from;
       to = room.to;
+      sizes = room.sizes;
     } in
     packs_more records before runs separators room new c.args.samples.now c.self.inside.ended
-    (subst (λ r. 256 ≤ r.bytes) q.of_form room.form.length.least) refl refl refl
-    c.in_ok-extend_from_slice.ensures.items q
+    (subst (λ r. 256 ≤ r.bytes) r.of_form room.form.length.least) refl refl refl
+    c.in_ok-extend_from_slice.ensures.items r
+
+pub invariant_of-self-2 : goal.invariant_of-self-2
+invariant_of-self-2 c =
+    let room = c.take_places.new.self in
+    let t = c.take_places.ensures in
+    let s = t.sound in
+    let knows = t.sizes (c.make_room.ensures.sizes c.self.invariant.sizes) in
+    let items = c.in_ok-extend_from_slice.ensures.items in
+    let new : HeldSamples = record {
+      form = room.form;
+      samples = c.extend_from_slice.new.self;
+      offset = room.offset;
+      current = room.current;
+      from = room.from;
+      to = room.to;
+      sizes = room.sizes;
+    } in
+    let few = rw (← c.self.view_is) at c.requires in
+    let number = c.make_room.ensures.number in
+    let offset = t.offset in
+    let held = ap length t.held in
+    let long = ap length items ∙ length-append room.samples.items c.args.samples.now in
+    let more = sized_more room.samples.items c.args.samples.now in
+    record {
+      sound = sound_more room new c.args.samples.now s refl refl refl refl items (omega arith);
+      sizes = record {
+        next = record {
+          next = rw items (more (start_of room.current) (frontier_of room.current) _ _
+              (start_within (records_of room.form) room.current (length room.samples.items) s.inside)
+              (frontier_within (records_of room.form) room.current (length room.samples.items) s.inside)
+              knows.next.next);
+        };
+        shown = rw items (more room.from room.to _ _ s.order s.within knows.shown);
+      };
+    }

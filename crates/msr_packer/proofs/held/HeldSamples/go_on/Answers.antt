@@ -1,6 +1,7 @@
 use Rattle.std.proofs.Common.{◌≤◌, arith, length, refl}
-use Rattle.msr_packer.specs.HeldSamples.{start_of}
+use Rattle.msr_packer.specs.HeldSamples.{frontier_of, start_of}
 use Rattle.msr_packer.proofs.Holding.{next_stepped, shows_next, start_before, window_next}
+use Rattle.msr_packer.proofs.ToldSizes.{sized_cut}
 use Rattle.msr_words.specs.Fit.{records_of}
 use Rattle.msr_packer.proofs.held.HeldSamples.go_on.Goals as goal
 
@@ -54,4 +55,16 @@ returns-clause-given c =
           rw (c.piece_of-piece.ensures, from)
           (shows_next form samples runs separators held c.args.self.now.offset c.args.self.now.current
           step.start w);
+    }
+
+pub returns-clause-sizes : goal.returns-clause-sizes
+returns-clause-sizes c = λ next step.
+    let held = c.args.self.now in
+    let g = c.go_on.ensures in
+    record {
+      next = record { next = rw (g.next_places, g.next_count) step };
+      shown = rw (g.shown_places, c.start_of-self.ensures)
+          (sized_cut held.samples.items (start_of held.current) (frontier_of held.current) c.args.step.start
+          held.sizes.next.count _ held.sizes.next.places.items _ (rw c.frontier_of.ensures refl) g.whole g.cut
+          next.next);
     }

@@ -1,4 +1,7 @@
-use Rattle.std.proofs.Common.{rules, ◌≡◌, arith, length}
+use Rattle.std.proofs.Common.{rules, ◌≡◌, arith, length, refl, subst}
+use Rattle.msr_packer.specs.HeldSamples.{frontier_of, start_of}
+use Rattle.msr_packer.specs.Steps.{HaveSizes}
+use Rattle.msr_packer.proofs.ToldSizes.{frontier_within, none_sized}
 use Rattle.msr_packer.proofs.Holding.{ends_with, shows_next}
 use Rattle.msr_words.specs.Fit.{records_of}
 use Rattle.msr_packer.proofs.held.HeldSamples.last_piece.Goals as goal
@@ -26,3 +29,20 @@ returns-clause-shows c = λ samples runs separators w.
     rw (c.piece_of.ensures, c.start_of-self.ensures)
     (shows_next (records_of c.args.self.now.form) samples runs separators c.args.self.now.samples.items
     c.args.self.now.offset c.args.self.now.current c.len-end.result w)
+
+pub returns-clause-sizes : goal.returns-clause-sizes
+returns-clause-sizes c = λ knows.
+    let held = c.args.self.now in
+    let g = c.go_on.ensures in
+    let end : c.len-end.result ≡ length c.args.self.now.samples.items = search rules in
+    let last : frontier_of c.args.self.now.current ≡ c.len-end.result =
+    (let most = frontier_within (records_of held.form) held.current (length held.samples.items) c.requires.sound.inside in
+    let least = c.requires.end in omega arith) in
+    record {
+      next = record {
+        next = none_sized held.samples.items (start_of held.current) (frontier_of held.current) _ _ g.next_count;
+      };
+      shown = rw (g.shown_places, g.whole refl, c.start_of-self.ensures)
+          (subst (λ n. HaveSizes held.samples.items (start_of held.current) n held.sizes.next.count
+          held.sizes.next.places.items) last knows.next.next);
+    }

@@ -20,3 +20,7 @@ kind_of-requires-2-clause-fits c =
     prefix_run (FitsIn c.args.found.step.kind (records_of c.args.form))
     (prefix_in c.args.found.step.kind (records_of c.args.form)) c.args.samples.now c.args.found.step.start
     (c.args.found.step.end - 1) c.args.found.step.end (omega arith) (omega arith) c.requires.kind
+
+pub returns-clause-sizes : goal.returns-clause-sizes
+returns-clause-sizes c = λ sizes is.
+    c.groups_of.ensures c.args.samples.now sizes (rw c.frontier_of-frontier.ensures is)

@@ -49,6 +49,7 @@ returns-in_default-clause-given c = λ records before runs separators s.
       current = held.current;
       from = held.from;
       to = held.to;
+      sizes = held.sizes;
     } in
     let m = packs_pushed records before runs separators own held new (take c.min-count.result c.args.samples.now) false
     c.forget.ensures.form (c.forget.ensures.holds before runs separators) t.stays refl refl refl
@@ -146,6 +147,7 @@ returns-clause-given c = λ records before runs separators s.
       current = held.current;
       from = held.from;
       to = held.to;
+      sizes = held.sizes;
     } in
     let taken = take (found.step.end + 1 - c.len-from.result) c.args.samples.now in
     let m = packs_pushed records before runs separators own held mid taken false c.forget.ensures.form
@@ -197,6 +199,7 @@ returns-clause-shown c = λ records before runs separators s.
       current = held.current;
       from = held.from;
       to = held.to;
+      sizes = held.sizes;
     } in
     let taken = take (found.step.end + 1 - c.len-from.result) c.args.samples.now in
     let m = packs_pushed records before runs separators own held mid taken false c.forget.ensures.form

@@ -1,0 +1,136 @@
+-- Word by word, until no group begins or no word is left.
+use Rattle.std.proofs.Common.{arith, ◌≡◌, ◌+◌, ◌-◌, suc, None, length, take, drop, refl, subst}
+use Rattle.std.proofs.lemmas.List.{length-take-le}
+use Rattle.msr_kinds.specs.declared.kinds.Kind.TheVariants.{Steim2}
+use Rattle.msr_words.specs.Bounds.{IsGreedyReach, latest_end}
+use Rattle.msr_words.specs.Groups.{IsLongestGroup}
+use Rattle.msr_words.specs.Laws.{most_of}
+use Rattle.msr_words.specs.Segment.{differences}
+use Rattle.msr_words.proofs.GreedyReach.{none_reached}
+use Rattle.msr_words.proofs.Windows.{window_on}
+use Rattle.msr_words.proofs.Stretches.{none_narrow}
+use Rattle.msr_words.proofs.Steim2Runs.{IsWalked, group_narrow, walk_begins, walk_more, walked_out}
+use Rattle.msr_words.proofs.Steim2Sizes.{AreTold, none_told, size_few, walk_told, walked_sizes}
+use Rattle.msr_words.proofs.steim2.walk.Goals as goal
+
+pub loop-word-init : goal.loop-word-init
+loop-word-init c =
+    let all : c.data_words-words.result ≡ c.data_words-words.result - 0 = omega arith in
+    let latest = c.args.start + c.min.result in
+    let seen = take (c.args.start + c.min.result) c.args.samples.now in
+    let long : length (take (c.args.start + c.min.result) c.args.samples.now) ≡ c.args.start + c.min.result =
+    length-take-le latest c.args.samples.now (omega arith) in
+    record {
+      walked = subst (λ n. IsWalked c.data_words-words.result n
+          (take (c.args.start + c.min.result) c.args.samples.now) c.args.start c.args.start) all (walk_begins
+          c.data_words-words.result seen c.args.start (omega arith));
+      window = c.new-window.ensures seen c.args.start;
+      told = λ room. let none : 0 ≡ c.args.start - c.args.start = omega arith in
+          subst (λ n. AreTold (drop c.args.start (differences None
+          (take (c.args.start + c.min.result) c.args.samples.now))) n 0 c.args.sizes.now) none
+          (none_told (drop c.args.start (differences None seen)) c.args.sizes.now);
+      small = λ some. none_narrow seen c.args.start;
+    }
+
+pub loop-word-preserved : goal.loop-word-preserved
+loop-word-preserved c =
+    let words = c.data_words-words.result in
+    let seen = take (c.args.start + c.min.result) c.args.samples.now in
+    let left : words - c.loop-word.word ≡ suc (words - (c.loop-word.word + 1)) = omega arith in
+    let walked = c.loop-word.invariant.walked in
+    record {
+      walked = walk_more words (words - (c.loop-word.word + 1)) seen c.args.start c.loop-word.at
+          c.longest_steim2_group-size.result c.longest_steim2_group-size.ensures.longest
+          (subst (λ n. IsWalked words n seen c.args.start c.loop-word.at) left walked);
+      window = window_on seen c.loop-word.at (c.loop-word.at
+          + c.longest_steim2_group-size.result) c.longest_steim2_group-size.new.self (omega
+          arith) c.longest_steim2_group-size.ensures.window;
+      told = λ room.
+          let is = c.tell.ensures (omega arith) in
+          rw is (walk_told seen c.args.start c.loop-word.at c.loop-word.word c.longest_steim2_group-size.result
+          c.loop-word.sizes walked.from (omega arith) c.longest_steim2_group-size.ensures.longest
+          (let some = c.if-size-eq0.false in grind arith) (c.loop-word.invariant.told room));
+      small = λ some. group_narrow seen c.args.start c.loop-word.at c.longest_steim2_group-size.result walked.from
+          walked.within c.longest_steim2_group-size.ensures.longest
+          (omega (arith, c.min-least.ensures)) (c.loop-word.invariant.small (omega (arith, c.min-least.ensures)));
+    }
+
+pub longest_steim2_group-size-requires-clause-within : goal.longest_steim2_group-size-requires-clause-within
+longest_steim2_group-size-requires-clause-within c = c.loop-word.invariant.walked.within
+
+pub tell-requires-clause-small : goal.tell-requires-clause-small
+tell-requires-clause-small c =
+    let few = size_few (drop c.loop-word.at (differences None (take (c.args.start + c.min.result) c.args.samples.now)))
+    c.longest_steim2_group-size.result (let some = c.if-size-eq0.false in grind arith)
+    c.longest_steim2_group-size.ensures.longest in
+    omega arith
+
+pub longest_steim2_group-size-requires-clause-window : goal.longest_steim2_group-size-requires-clause-window
+longest_steim2_group-size-requires-clause-window c = c.loop-word.invariant.window
+
+pub returns-then-size-eq0 : goal.returns-then-size-eq0
+returns-then-size-eq0 c =
+    let words = c.data_words-words.result in
+    let latest = c.args.start + c.min.result in
+    let most : c.most.result ≡ most_of Steim2 c.args.record_length.bytes = c.most.ensures in
+    let latest_is : c.args.start + c.min.result
+    ≡ latest_end Steim2 c.args.record_length.bytes c.args.samples.now c.args.start = omega arith in
+    let xs = drop c.loop-word.at (differences None (take latest c.args.samples.now)) in
+    let none : IsLongestGroup xs 0 =
+    subst (IsLongestGroup xs) c.if-size-eq0.true c.longest_steim2_group-size.ensures.longest in
+    let out = walked_out c.args.record_length.bytes words
+    (words - c.loop-word.word) c.args.samples.now c.args.start latest c.loop-word.at c.requires.within
+    c.steim2_greedy_reach.ensures
+    c.data_words-words.ensures.same latest_is c.loop-word.invariant.walked
+    (none_reached (words - c.loop-word.word) xs none)
+    c.reach_to.result.end c.reach_to.result.narrow c.reach_to.ensures.end
+    (λ t. c.loop-word.invariant.small (c.reach_to.ensures.groups t)) c.reach_to.ensures.behind in
+    let same = c.data_words-words.ensures.same in
+    let number = c.reach_to.ensures.number in
+    let walked = c.loop-word.invariant.walked in
+    let seen = take (c.args.start + c.min.result) c.args.samples.now in
+    let long = length-take-le latest c.args.samples.now (omega arith) in
+    let within = walked.within in
+    record {
+      end = out.end_is;
+      narrow = out.narrow;
+      few = omega arith;
+      sizes = λ room. rw (c.reach_to.ensures.end, c.reach_to.ensures.number)
+          (walked_sizes c.args.samples.now c.args.start c.loop-word.at latest c.loop-word.word c.loop-word.sizes
+          walked.from (omega arith) (omega arith) (omega arith)
+          (c.loop-word.invariant.told (omega arith)));
+    }
+
+pub returns : goal.returns
+returns c =
+    let words = c.data_words-words.result in
+    let latest = c.args.start + c.min.result in
+    let most : c.most.result ≡ most_of Steim2 c.args.record_length.bytes = c.most.ensures in
+    let latest_is : c.args.start + c.min.result
+    ≡ latest_end Steim2 c.args.record_length.bytes c.args.samples.now c.args.start = omega arith in
+    let over : 0 ≡ words - c.loop-word.word = omega arith in
+    let xs = drop c.loop-word.at (differences None (take latest c.args.samples.now)) in
+    let stuck : IsGreedyReach (words - c.loop-word.word) xs 0 = subst (λ n. IsGreedyReach n xs 0) over refl in
+    let out = walked_out c.args.record_length.bytes words
+    (words - c.loop-word.word) c.args.samples.now c.args.start latest c.loop-word.at c.requires.within
+    c.steim2_greedy_reach.ensures
+    c.data_words-words.ensures.same latest_is c.loop-word.invariant.walked stuck
+    c.reach_to-2.result.end c.reach_to-2.result.narrow c.reach_to-2.ensures.end
+    (λ t. c.loop-word.invariant.small (c.reach_to-2.ensures.groups t)) c.reach_to-2.ensures.behind in
+    let same = c.data_words-words.ensures.same in
+    let number = c.reach_to-2.ensures.number in
+    let walked = c.loop-word.invariant.walked in
+    let seen = take (c.args.start + c.min.result) c.args.samples.now in
+    let long = length-take-le latest c.args.samples.now (omega arith) in
+    let within = walked.within in
+    let end : c.loop-word.word ≡ c.data_words-words.result = omega arith in
+    record {
+      end = out.end_is;
+      narrow = out.narrow;
+      few = omega arith;
+      sizes = λ room. rw (c.reach_to-2.ensures.end, c.reach_to-2.ensures.number)
+          (walked_sizes c.args.samples.now c.args.start c.loop-word.at latest c.data_words-words.result c.loop-word.sizes
+          walked.from (omega arith) (omega arith) (omega arith)
+          (subst (λ n. AreTold (drop c.args.start (differences None seen))
+          (c.loop-word.at - c.args.start) n c.loop-word.sizes) end (c.loop-word.invariant.told (omega arith))));
+    }
