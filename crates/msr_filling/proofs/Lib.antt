@@ -1,6 +1,7 @@
 pub mod Fill
 pub mod FillFields
 pub mod FilledAreas
+pub mod GroupsFilled
 pub mod NextGroups
 pub mod Offsets
 pub mod Steim1Next

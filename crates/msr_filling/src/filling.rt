@@ -26,10 +26,10 @@ pub(crate) struct NextWord {
 
 /// How a group of a given number of differences is written.
 #[derive(Clone, Copy, Debug)]
-struct Form {
-    code: u32,
-    top: u32,
-    width: u32,
+pub(crate) struct Form {
+    pub code: u32,
+    pub top: u32,
+    pub width: u32,
 }
 
 /// The field of `width` bits that a difference of that many bits is in two's complement.
@@ -68,7 +68,7 @@ pub(crate) fn fields_from(
 }
 
 /// Gives the form of a group of `size` differences.
-fn form_of(size: usize) -> Form
+pub(crate) fn form_of(size: usize) -> Form
     requires some { 1 ≤ size }
     requires most { size ≤ 7 }
     ensures width { group_width Two size ≡ Some result.width }

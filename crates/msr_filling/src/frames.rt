@@ -37,7 +37,7 @@ pub(crate) fn put_word(area: &mut [u8], number: usize, word: u32)
 }
 
 /// Writes the constants after the codes of the first frame, and gives how many words of this frame they take.
-fn put_constants(area: &mut [u8], frame: usize, first: u32, last: u32) -> usize
+pub(crate) fn put_constants(area: &mut [u8], frame: usize, first: u32, last: u32) -> usize
     requires { 64 * frame + 64 ≤ length area.old }
     ensures most { result ≤ 2 }
     ensures first { frame ≡ 0 → let one = take (4 * (16 * frame + 1)) area.old

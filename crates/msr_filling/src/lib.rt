@@ -3,7 +3,9 @@
 
 mod filling;
 mod frames;
+mod groups_filling;
 mod steim1_filling;
 
 pub use filling::fill_steim2;
+pub use groups_filling::fill_steim2_groups;
 pub use steim1_filling::fill_steim1;

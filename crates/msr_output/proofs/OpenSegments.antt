@@ -78,7 +78,7 @@ before_same samples (suc i) = refl
 pub can_encode : (whole : Bool) (opened : Opened) (piece : Piece) (separators : List ℕ) (packer : Holding)
     → (can : CanGoOn whole opened) → Gives whole opened.form can.segment.samples
     (can.runs ++ piece.run ∷ []) separators packer
-    → Shows can.segment.samples packer.shown packer.before piece
+    → Shows can.segment.samples packer.shown packer.before packer.groups piece
     → CanEncode (bytes_of opened.form.length) opened.key opened.start packer piece.run
 can_encode whole opened piece separators packer can gives shows =
     let samples = can.segment.samples in
@@ -104,6 +104,7 @@ can_encode whole opened piece separators packer can gives shows =
         points_of_run samples
             piece.run.start piece.run.end first,
       ) f.fits.2.1;
+      sizes = shows.sizes;
     }
 
 -- the runs that were given lie in the samples

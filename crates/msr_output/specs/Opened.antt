@@ -9,7 +9,8 @@ use Rattle.msr_kinds.specs.declared.forms.Form.{Form}
 use Rattle.msr_words.specs.Fit.{Fits, records_of}
 use Rattle.msr_kinds.specs.Lengths.{bytes_of}
 use Rattle.msr_words.specs.Packing.{IsCanonical}
-use Rattle.msr_words.specs.Segment.{points}
+use Rattle.msr_words.specs.Groups.{AreGroupSizesIfKnown}
+use Rattle.msr_words.specs.Segment.{differences, points}
 use Rattle.msr_packer.specs.Blocks.{Holding, Packs, PacksLast, pushed}
 use Rattle.msr_rows.specs.Correction.{is_pending}
 use Rattle.msr_record.specs.Written.{IsWritableKey}
@@ -80,6 +81,7 @@ pub record CanEncode (size : ℕ) (key : Key) (start : ℤ) (packer : Holding) (
   pub in_time : SpanIsInTime (span_of key start count)
   pub some : 1 ≤ length packer.shown
   pub fits : Fits run.kind size (points packer.before packer.shown)
+  pub sizes : AreGroupSizesIfKnown (differences packer.before packer.shown) packer.groups
 
 -- Records of further runs of the segment stand after the old bytes, from this sequence number on to before the next.
 pub record AppendsSome (whole : Bool) (segment : Segment) (runs : List Run) (opened : Opened) (number : ℕ)

@@ -20,7 +20,7 @@ ghost use Rattle.msr_output.specs.Writing.{AppendsRecordOfRun};
 
 use msr_kinds::Form;
 use msr_packer::{BlockPacker, Piece};
-use msr_record::{Key, encode_record};
+use msr_record::{Key, WrittenRun, encode_run};
 use msr_report::SegmentLine;
 use msr_words::Run;
 use std::alloc::{AllocError, Global};
@@ -76,7 +76,7 @@ fn next_piece(packer: &mut BlockPacker, whole: bool) -> Option<Piece>
         (separators ++ separators_of (pieces_of result)) packer.new }
     ensures shows { (form : Form) (samples : List ℤ) (runs : List Run) (separators : List ℕ)
         → Gives whole form samples runs separators packer.old
-        → IfSome result (Shows samples packer.new.shown packer.new.before) }
+        → IfSome result (Shows samples packer.new.shown packer.new.before packer.new.groups) }
     ensures all { (form : Form) (samples : List ℤ) (runs : List Run) (separators : List ℕ)
         → Gives whole form samples runs separators packer.old
         → whole ≡ true → IsNone result → IsCanonical (records_of form) samples runs separators }
@@ -142,23 +142,22 @@ impl OpenSegment {
         requires least { 1 ≤ number }
         requires most { number ≤ 999_999 }
         ensures { (segment : Segment) (separator : ℕ) → self.now.key ≡ segment.key → self.now.start ≡ segment.start
-            → Shows segment.samples self.now.packer.shown self.now.packer.before
+            → Shows segment.samples self.now.packer.shown self.now.packer.before self.now.packer.groups
             (record { run = run; separator = separator })
             → OnOk result (AppendsRecordOfRun (bytes_of self.now.form.length) number segment run
             out.old.items out.new.items) }
     {
         let first = self.key.rate.nominal(self.start, run.start).unwrap();
-        encode_record(
-            alloc,
-            &self.key,
-            first,
-            number,
-            self.packer.sample_before(),
-            self.packer.run_samples(),
-            run.kind,
-            self.form.length,
-            out,
-        )
+        let written = WrittenRun {
+            key: &self.key,
+            start: first,
+            sequence: number,
+            before: self.packer.sample_before(),
+            samples: self.packer.run_samples(),
+            kind: run.kind,
+            group_sizes: self.packer.group_sizes(),
+        };
+        encode_run(alloc, &written, self.form.length, out)
     }
 
     /// Appends the record of the next run, if there is one, and says whether there was.

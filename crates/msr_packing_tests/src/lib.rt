@@ -9,3 +9,5 @@ mod fitting;
 mod made;
 #[cfg(test)]
 mod packings;
+#[cfg(test)]
+mod sizes;

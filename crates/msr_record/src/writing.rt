@@ -4,11 +4,13 @@ ghost use Rattle.msr_time.specs.Instant.{IsInstant};
 ghost use Rattle.msr_header.specs.Reading.{is_quality};
 ghost use Rattle.msr_words.specs.Fit.{Fits};
 ghost use Rattle.msr_kinds.specs.Lengths.{bytes_of};
-ghost use Rattle.msr_words.specs.Segment.{points};
+ghost use Rattle.msr_words.specs.Groups.{AreGroupSizesIfKnown};
+ghost use Rattle.msr_words.specs.Segment.{differences, points};
 ghost use Rattle.msr_rows.specs.Correction.{is_pending};
 ghost use Rattle.msr_record.specs.Written.{sequence_digits, header_for, AppendsRecord};
 
 use crate::written_area::fill_area;
+use crate::written_run::WrittenRun;
 use msr_header::{Header, Order, Timing, write_header};
 use msr_kinds::{Kind, Length};
 use msr_rows::Key;
@@ -35,19 +37,6 @@ fn sequence_digits(sequence: u32) -> [u8; 6]
         digit_at(sequence, 10),
         digit_at(sequence, 1),
     ]
-}
-
-/// A run of samples as a record is to carry it.
-#[derive(Drop)]
-struct WrittenRun<'a> {
-    key: &'a Key,
-    /// The instant of the first sample, in microseconds.
-    start: i64,
-    sequence: u32,
-    /// The sample before the run.
-    before: Option<i32>,
-    samples: &'a [i32],
-    kind: Kind,
 }
 
 /// What a written header has beside what the run says: time, number of samples, length, frames.
@@ -118,20 +107,14 @@ fn fill_record(
     requires sequence { (1 ≤ run.now.sequence) × (run.now.sequence ≤ 999999) }
     requires some { 1 ≤ length run.now.samples.now }
     requires fits { Fits run.now.kind (bytes_of record_length) (points run.now.before run.now.samples.now) }
+    requires sizes { AreGroupSizesIfKnown (differences run.now.before run.now.samples.now) run.now.group_sizes.now }
     requires size { length bytes.old ≡ bytes_of record_length }
     ensures { OnOk result (AppendsRecord [] bytes.new run.now.key.now run.now.start run.now.sequence run.now.before
         run.now.samples.now run.now.kind (bytes_of record_length)) }
 {
     let (time, micros) = split(run.start).unwrap();
     let area = &mut bytes[64..];
-    let frames = fill_area(
-        alloc,
-        run.before,
-        run.samples,
-        run.kind.storage(),
-        record_length,
-        area,
-    )?;
+    let frames = fill_area(alloc, run, run.kind.storage(), record_length, area)?;
     let count = run.samples.len() as u16;
     let exponent = record_length.exponent();
     let header = header_for(
@@ -149,11 +132,37 @@ fn fill_record(
 }
 
 /// Appends one record of that length with the samples of the run, which fit it: the row of the new
-/// bytes, whatever follows them, is the one that is asked for.
-///
-/// `start` is the instant of the first sample in microseconds from 1970-01-01 00:00:00, `before` is
-/// the sample before the run, or none at the start of a segment. The layout is that of SEED 2.4, with
+/// bytes, whatever follows them, is the one that is asked for. The layout is that of SEED 2.4, with
 /// big-endian numbers, blockettes 1000 and 1001 and the data from byte 64 on.
+pub fn encode_run(
+    alloc: Global,
+    run: &WrittenRun<'_>,
+    record_length: Length,
+    out: &mut Vec<u8>,
+) -> Result<(), AllocError>
+    requires quality { IsTrue (is_quality run.now.key.now.quality) }
+    requires normal { is_pending run.now.key.now.activity run.now.key.now.correction ≡ false }
+    requires start { IsInstant run.now.start }
+    requires sequence { (1 ≤ run.now.sequence) × (run.now.sequence ≤ 999999) }
+    requires some { 1 ≤ length run.now.samples.now }
+    requires fits { Fits run.now.kind (bytes_of record_length) (points run.now.before run.now.samples.now) }
+    requires sizes { AreGroupSizesIfKnown (differences run.now.before run.now.samples.now) run.now.group_sizes.now }
+    ensures appended { OnOk result
+        (AppendsRecord out.old.items out.new.items run.now.key.now run.now.start run.now.sequence run.now.before
+        run.now.samples.now run.now.kind (bytes_of record_length)) }
+    ensures unchanged { OnErr result (out.new.items ≡ out.old.items) }
+{
+    let end = out.len();
+    out.resize(end + record_length.bytes() as usize, 0)?;
+    let filled = fill_record(alloc, run, record_length, &mut out[end..]);
+    if filled.is_err() {
+        out.truncate(end);
+    }
+    filled
+}
+
+/// As `encode_run`, if the sizes of groups are not known. `start` is the instant of the first sample in microseconds
+/// from 1970-01-01 00:00:00, `before` is the sample before the run, or none at the start of a segment.
 pub fn encode_record(
     alloc: Global,
     key: &Key,
@@ -176,8 +185,6 @@ pub fn encode_record(
         (bytes_of record_length)) }
     ensures unchanged { OnErr result (out.new.items ≡ out.old.items) }
 {
-    let end = out.len();
-    out.resize(end + record_length.bytes() as usize, 0)?;
     let written = WrittenRun {
         key,
         start,
@@ -185,10 +192,7 @@ pub fn encode_record(
         before,
         samples: run,
         kind,
+        group_sizes: &[],
     };
-    let filled = fill_record(alloc, &written, record_length, &mut out[end..]);
-    if filled.is_err() {
-        out.truncate(end);
-    }
-    filled
+    encode_run(alloc, &written, record_length, out)
 }

@@ -2,7 +2,9 @@
 ghost use Rattle.std.specs.Prelude.{◌≡◌, ◌-◌, ◌*◌, ◌/◌, ◌%◌, ◌^◌, ◌<◌, ◌≤◌, All, FitsSigned, IfOk, OnOk, length};
 ghost use Rattle.std.specs.Int.{w32};
 ghost use Rattle.msr_steim.specs.Area.{CarriesSteim, ReverseAgrees as FramesAgree};
+ghost use Rattle.msr_kinds.specs.declared.storage.Version.TheVariants.{Two};
 ghost use Rattle.msr_words.specs.Division.{CanDivide};
+ghost use Rattle.msr_words.specs.Groups.{AreGroupSizesIfKnown};
 ghost use Rattle.msr_filling.specs.Filled.{IsFilledArea};
 ghost use Rattle.msr_words.specs.Fit.{HasRoom};
 ghost use Rattle.msr_kinds.specs.RecordLength.{words_of};
@@ -11,7 +13,8 @@ ghost use Rattle.msr_words.specs.Segment.{differences, points};
 ghost use Rattle.msr_rows.specs.Area.{Carries, ReverseAgrees};
 ghost use Rattle.msr_record.specs.Written.{AreFrames, IsWrittenArea, frame_count};
 
-use msr_filling::{fill_steim1, fill_steim2};
+use crate::written_run::WrittenRun;
+use msr_filling::{fill_steim1, fill_steim2, fill_steim2_groups};
 use msr_header::Order;
 use msr_kinds::{Length, Storage, Version};
 use msr_plain::fill_plain;
@@ -35,22 +38,38 @@ fn frame_count(groups: usize) -> u8
     if frames <= 255 { frames as u8 } else { 0 }
 }
 
+/// Fills the area, of whole frames, with the Steim-2 words of the differences of the run, by the sizes of its groups if
+/// they are known, and gives the number of groups.
+fn fill_steim2_words(run: &WrittenRun<'_>, area: &mut [u8]) -> usize
+    requires some { 1 ≤ length run.now.samples.now }
+    requires frames { length area.old % 64 ≡ 0 }
+    requires fits { CanDivide Two (15 * (length area.old / 64) - 2) (differences run.now.before run.now.samples.now) }
+    requires sizes { AreGroupSizesIfKnown (differences run.now.before run.now.samples.now) run.now.group_sizes.now }
+    ensures { IsFilledArea Two run.now.before run.now.samples.now (length area.old / 64) area.new result }
+{
+    if run.group_sizes.is_empty() {
+        fill_steim2(run.before, run.samples, area)
+    } else {
+        fill_steim2_groups(run.before, run.samples, run.group_sizes, area)
+    }
+}
+
 /// Fills the area, of whole frames, with the words of the differences of the run, and gives the number of groups.
 fn fill_words(
     alloc: Global,
     version: Version,
-    before: Option<i32>,
-    run: &[i32],
+    run: &WrittenRun<'_>,
     area: &mut [u8],
 ) -> Result<usize, AllocError>
-    requires some { 1 ≤ length run.now }
+    requires some { 1 ≤ length run.now.samples.now }
     requires frames { length area.old % 64 ≡ 0 }
-    requires fits { CanDivide version (15 * (length area.old / 64) - 2) (differences before run.now) }
-    ensures { IfOk result (IsFilledArea version before run.now (length area.old / 64) area.new) }
+    requires fits { CanDivide version (15 * (length area.old / 64) - 2) (differences run.now.before run.now.samples.now) }
+    requires sizes { AreGroupSizesIfKnown (differences run.now.before run.now.samples.now) run.now.group_sizes.now }
+    ensures { IfOk result (IsFilledArea version run.now.before run.now.samples.now (length area.old / 64) area.new) }
 {
     match version {
-        Version::One => fill_steim1(alloc, before, run, area),
-        Version::Two => Ok(fill_steim2(before, run, area)),
+        Version::One => fill_steim1(alloc, run.before, run.samples, area),
+        Version::Two => Ok(fill_steim2_words(run, area)),
     }
 }
 
@@ -58,22 +77,22 @@ fn fill_words(
 fn fill_frames(
     alloc: Global,
     version: Version,
-    before: Option<i32>,
-    run: &[i32],
+    run: &WrittenRun<'_>,
     record_length: Length,
     area: &mut [u8],
 ) -> Result<u8, AllocError>
-    requires some { 1 ≤ length run.now }
-    requires range { All (FitsSigned w32) run.now }
-    requires fits { CanDivide version (words_of (bytes_of record_length)) (differences before run.now) }
+    requires some { 1 ≤ length run.now.samples.now }
+    requires range { All (FitsSigned w32) run.now.samples.now }
+    requires fits { CanDivide version (words_of (bytes_of record_length)) (differences run.now.before run.now.samples.now) }
+    requires sizes { AreGroupSizesIfKnown (differences run.now.before run.now.samples.now) run.now.group_sizes.now }
     requires size { length area.old ≡ bytes_of record_length - 64 }
-    ensures written { IfOk result (λ frames. AreFrames version before run.now
+    ensures written { IfOk result (λ frames. AreFrames version run.now.before run.now.samples.now
         (bytes_of record_length - 64) frames area.new) }
-    ensures carried { OnOk result (CarriesSteim version Order.Big area.new run.now) }
-    ensures reverse { OnOk result (FramesAgree Order.Big area.new run.now) }
+    ensures carried { OnOk result (CarriesSteim version Order.Big area.new run.now.samples.now) }
+    ensures reverse { OnOk result (FramesAgree Order.Big area.new run.now.samples.now) }
 {
     let _bytes = record_length.bytes();
-    let groups = fill_words(alloc, version, before, run, area)?;
+    let groups = fill_words(alloc, version, run, area)?;
     Ok(frame_count(groups))
 }
 
@@ -81,26 +100,26 @@ fn fill_frames(
 /// blockette 1001 has for it.
 pub(crate) fn fill_area(
     alloc: Global,
-    before: Option<i32>,
-    run: &[i32],
+    run: &WrittenRun<'_>,
     storage: Storage,
     record_length: Length,
     area: &mut [u8],
 ) -> Result<u8, AllocError>
-    requires some { 1 ≤ length run.now }
-    requires fits { HasRoom storage (bytes_of record_length) (points before run.now) }
+    requires some { 1 ≤ length run.now.samples.now }
+    requires fits { HasRoom storage (bytes_of record_length) (points run.now.before run.now.samples.now) }
+    requires sizes { AreGroupSizesIfKnown (differences run.now.before run.now.samples.now) run.now.group_sizes.now }
     requires size { length area.old ≡ bytes_of record_length - 64 }
-    ensures written { IfOk result (λ frames. IsWrittenArea storage before run.now
+    ensures written { IfOk result (λ frames. IsWrittenArea storage run.now.before run.now.samples.now
         (bytes_of record_length - 64) frames area.new) }
-    ensures carried { OnOk result (Carries storage Order.Big area.new run.now) }
-    ensures reverse { OnOk result (ReverseAgrees storage Order.Big area.new run.now) }
+    ensures carried { OnOk result (Carries storage Order.Big area.new run.now.samples.now) }
+    ensures reverse { OnOk result (ReverseAgrees storage Order.Big area.new run.now.samples.now) }
 {
-    samples_have_32_bits(run);
+    samples_have_32_bits(run.samples);
     match storage {
         Storage::Integers(width) => {
-            fill_plain(width, run, area);
+            fill_plain(width, run.samples, area);
             Ok(0)
         }
-        Storage::Frames(version) => fill_frames(alloc, version, before, run, record_length, area),
+        Storage::Frames(version) => fill_frames(alloc, version, run, record_length, area),
     }
 }

@@ -2,7 +2,7 @@ use Rattle.std.proofs.Common.{◌≡◌, rules, Some}
 use Rattle.std.proofs.lemmas.Result.{err_from_is_err_and}
 use Rattle.msr_tool.specs.declared.fault.ToolFault.TheVariants.{Memory}
 use Rattle.msr_tool.specs.Writing.{GoesOn}
-use Rattle.msr_tool.proofs.Lines.{last_of, line_proper, lines_more, more_at_last, stops_at_last, stops_pushing}
+use Rattle.msr_tool.proofs.Lines.{last_of, line_proper, lines_more, more_at_last, stops_lining, stops_at_last, stops_pushing}
 use Rattle.msr_tool.proofs.lined_writer.LinedWriter.end_last.Goals as goal
 
 pub returns-in_err-push-clause-written : goal.returns-in_err-push-clause-written
@@ -32,3 +32,13 @@ returns-clause-written g c = λ start packed current h.
     (lines_more start (g.W.Sink.device c.end.new.sink) c.end.new.self c.self.inside.lines.items
     c.push.new.self.items packed last.segment c.in_ok-line.line l.are_lines l.contents wrote is_content
     c.in_ok-push.ensures.items))
+
+pub returns-in_err-line-clause-written : goal.returns-in_err-line-clause-written
+returns-in_err-line-clause-written g c = λ start packed current h.
+    let p = err_from_is_err_and c.from_residual.result c.from_residual.ensures.1 in
+    let is : c.self.inside.last ≡ Some c.in-Some.segment = search rules in
+    let last = last_of start (g.W.Sink.device c.args.sink.now) _ packed current c.in-Some.segment is
+    (rw (← c.self.view_is) at h) in
+    let wrote = rw c.in_err-line.was at (c.end.ensures.written start packed last.segment last.begun) in
+    rw (p.1, p.2, ← c.self.view_is) (stops_at_last _ start (g.W.Sink.device c.end.new.sink) packed current last.segment
+    _ last.is (stops_lining _ start (g.W.Sink.device c.end.new.sink) _ c.in_err-line.field-0.0 wrote))
