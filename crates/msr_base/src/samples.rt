@@ -1,6 +1,6 @@
 //! The list of samples.
 
-ghost use Rattle.std.specs.Prelude.{◌≡◌, ◌↔◌, ◌++◌, ◌∷◌, [], length, IsTrue, OnErr, OnOk};
+ghost use Rattle.std.specs.Prelude.{◌≡◌, ◌↔◌, ◌++◌, ◌∷◌, [], length, IfOk, IsTrue, OnErr, OnOk};
 
 use std::alloc::{AllocError, Global};
 use std::marker::Model;
@@ -42,6 +42,17 @@ impl SampleVec {
     {
         let SampleVec { values } = self;
         values
+    }
+
+    /// A vector of that many places to be filled, in the memory of these samples: what stands in them does not matter.
+    /// Memory is taken only for more places than it has room for, and then for so many.
+    pub fn into_places(self, count: usize) -> Result<Vec<i32>, AllocError>
+        ensures { IfOk result (λ places. length places.items ≡ count) }
+    {
+        let mut places = self.into_vec();
+        places.reserve_exact(count.saturating_sub(places.len()))?;
+        places.resize(count, 0)?;
+        Ok(places)
     }
 
     /// A view of the samples.

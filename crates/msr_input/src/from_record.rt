@@ -7,8 +7,8 @@ ghost use Rattle.msr_input.specs.Outlines.{outline_of};
 ghost use Rattle.msr_input.specs.Steps.{CanJoin, IsJudged};
 
 use crate::outline::{Outline, RowOutline};
-use msr_rows::{FaultKind, Record, RecordView, Row, decode_record, view_record};
-use std::alloc::Global;
+use msr_base::SampleVec;
+use msr_rows::{FaultKind, Record, RecordView, Row, decode_record_in, view_record};
 
 /// What a reader makes of the bytes of a record.
 pub(crate) trait FromRecord: Drop {
@@ -18,8 +18,9 @@ pub(crate) trait FromRecord: Drop {
     /// Memory is taken for what is made of the record that these bytes begin with.
     ghost takes: { List ℕ → Type 0 };
 
-    /// What is made of the record that the bytes begin with, or why it is refused.
-    fn read(alloc: Global, bytes: &[u8]) -> Result<Self, FaultKind>
+    /// What is made of the record that the bytes begin with, or why it is refused. Its samples, if it has them, stand in
+    /// the memory of `spare`.
+    fn read(spare: SampleVec, bytes: &[u8]) -> Result<Self, FaultKind>
         ensures found { IfOk result (λ made. IsJudged (stands made) false bytes.now) }
         ensures refused { IfErr result (λ kind. kind ≢ FaultKind.Memory → IsRefused bytes.now kind) }
         ensures memory { IsErrOf result FaultKind.Memory → takes bytes.now };
@@ -35,8 +36,8 @@ impl FromRecord for Record {
     ghost takes = { TakesMemory };
 
     #[inline(always)]
-    fn read(alloc: Global, bytes: &[u8]) -> Result<Record, FaultKind> {
-        decode_record(alloc, bytes)
+    fn read(spare: SampleVec, bytes: &[u8]) -> Result<Record, FaultKind> {
+        decode_record_in(spare, bytes)
     }
 
     #[inline(always)]
@@ -51,7 +52,7 @@ impl FromRecord for Outline {
 
     ghost takes = { λ _. ⊥ };
 
-    fn read(_alloc: Global, bytes: &[u8]) -> Result<Outline, FaultKind> {
+    fn read(_spare: SampleVec, bytes: &[u8]) -> Result<Outline, FaultKind> {
         match view_record(bytes) {
             Ok(view) => Ok(outline_seen(&view)),
             Err(kind) => Err(kind),

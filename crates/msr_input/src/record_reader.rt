@@ -3,7 +3,7 @@ use crate::fault::ReadFault;
 use crate::from_record::FromRecord;
 use crate::outline::Outline;
 use crate::step::{counted, read_record};
-use msr_base::Counts;
+use msr_base::{Counts, SampleVec};
 use msr_devices::{ReadBuffer, Source};
 use msr_header::read_header;
 use std::alloc::Global;
@@ -14,6 +14,9 @@ use std::marker::Model;
 #[derive(Drop)]
 pub(crate) struct RecordReader {
     alloc: Global,
+    /// Samples of an earlier record, in whose memory those of the next one are to stand. There are never more than a
+    /// record has.
+    spare: SampleVec,
     buffer: ReadBuffer,
     /// Whether a record is refused whose reverse constant does not agree.
     strict: bool,
@@ -53,6 +56,7 @@ impl RecordReader {
     {
         RecordReader {
             alloc,
+            spare: SampleVec::new(alloc),
             buffer: ReadBuffer::new(alloc),
             strict,
             counts: Counts {
@@ -99,6 +103,7 @@ impl RecordReader {
     {
         read_record(
             self.alloc,
+            &mut self.spare,
             &mut self.buffer,
             source,
             self.strict,
@@ -127,6 +132,13 @@ impl RecordReader {
         self.buffer.consume(outline.length as usize);
         self.counts = counted(self.counts, outline);
         self.offset = self.offset.saturating_add(outline.length as u64);
+    }
+
+    /// Takes back samples that are done with, for their memory.
+    pub(crate) fn give_back(&mut self, samples: SampleVec)
+        ensures { self.new ≡ self.old }
+    {
+        self.spare = samples;
     }
 
     /// The counts of the records that were passed.

@@ -229,6 +229,15 @@ impl RowReader {
         Ok(step)
     }
 
+    /// Takes back a record that is done with, so that the samples of the next one stand in the memory of its own.
+    pub fn give_back(&mut self, done: NextRecord)
+        ensures { self.new ≡ self.old }
+    {
+        if let Some(next) = done.row {
+            self.records.give_back(next.row.samples);
+        }
+    }
+
     /// The counts of the records so far.
     pub fn counts(&self) -> Counts
         ensures { result ≡ self.now.position.counts }

@@ -15,11 +15,12 @@ use crate::fault::{Fault, ReadFault, fault_at};
 use crate::from_record::FromRecord;
 use crate::outline::{Outline, RowOutline};
 use crate::row_reader::{NextOutline, NextRow};
-use msr_base::Counts;
+use msr_base::{Counts, SampleVec};
 use msr_devices::{ReadBuffer, Source};
 use msr_rows::{FaultKind, Row, reverse_in};
 use msr_segments::{Follow, OutOfRange, Step};
 use std::alloc::Global;
+use std::mem;
 
 /// As many bytes as the longest record has.
 const LONGEST: usize = 1_048_576;
@@ -57,12 +58,12 @@ fn fault_of(kind: FaultKind, bytes: &[u8], strict: bool) -> FaultKind
 /// What is made of the record that the bytes begin with, or why it is refused. If reading is strict its reverse
 /// constant agrees.
 #[inline(always)]
-fn judge<F: FromRecord>(alloc: Global, bytes: &[u8], strict: bool) -> Result<F, FaultKind>
+fn judge<F: FromRecord>(spare: SampleVec, bytes: &[u8], strict: bool) -> Result<F, FaultKind>
     ensures found { IfOk result (λ made. IsJudged (F.stands made) strict bytes.now) }
     ensures refused { IfErr result (λ kind. kind ≢ FaultKind.Memory → IsRefusedAlone strict bytes.now kind) }
     ensures memory { IsErrOf result FaultKind.Memory → F.takes bytes.now }
 {
-    match F::read(alloc, bytes) {
+    match F::read(spare, bytes) {
         Ok(made) => {
             if strict && !made.reverse_agrees() {
                 return Err(FaultKind::ReverseMismatch);
@@ -78,6 +79,7 @@ fn judge<F: FromRecord>(alloc: Global, bytes: &[u8], strict: bool) -> Result<F, 
 #[inline(always)]
 pub(crate) fn read_record<R: Source, F: FromRecord>(
     alloc: Global,
+    spare: &mut SampleVec,
     buffer: &mut ReadBuffer,
     source: &mut R,
     strict: bool,
@@ -99,7 +101,8 @@ pub(crate) fn read_record<R: Source, F: FromRecord>(
         if bytes.is_empty() && buffer.has_ended() {
             return Ok(None);
         }
-        let kind = match judge::<F>(alloc, bytes, strict) {
+        let given = mem::replace(spare, SampleVec::new(alloc));
+        let kind = match judge::<F>(given, bytes, strict) {
             Ok(made) => return Ok(Some(made)),
             Err(kind) => kind,
         };

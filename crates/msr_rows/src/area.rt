@@ -7,13 +7,12 @@ ghost use Rattle.msr_rows.specs.Area.{Carries, AreaHasFault, IntegersHaveFault, 
 use crate::fault::FaultKind;
 use msr_header::Order;
 use msr_kinds::{Storage, Version, Width};
-use msr_plain::{PlainFault, decode_plain};
-use msr_steim::{Decoded, SteimFault, decode_steim};
-use std::alloc::Global;
+use msr_plain::{PlainFault, SampleVec, decode_plain_in};
+use msr_steim::{Decoded, SteimFault, decode_steim_in};
 
-/// The samples of an area of integers.
+/// The samples of an area of integers, in the memory of `spare`.
 fn decode_integers(
-    alloc: Global,
+    spare: SampleVec,
     width: Width,
     order: Order,
     area: &[u8],
@@ -24,7 +23,7 @@ fn decode_integers(
     ensures reverse { IfOk result (λ d. IsTrue d.reverse_agrees) }
     ensures fault { IfErr result (λ f. f ≢ FaultKind.Memory → IntegersHaveFault width area.now count f) }
 {
-    match decode_plain(alloc, width, order, area, count) {
+    match decode_plain_in(spare, width, order, area, count) {
         Ok(samples) => Ok(Decoded {
             samples,
             reverse_agrees: true,
@@ -34,9 +33,9 @@ fn decode_integers(
     }
 }
 
-/// The samples of an area of Steim frames.
+/// The samples of an area of Steim frames, in the memory of `spare`.
 fn decode_frames(
-    alloc: Global,
+    spare: SampleVec,
     version: Version,
     order: Order,
     area: &[u8],
@@ -49,7 +48,7 @@ fn decode_frames(
     ensures reverse { IfOk result (λ d. IsTrue d.reverse_agrees ↔ FramesAgree order area.now d.samples) }
     ensures fault { IfErr result (λ f. f ≢ FaultKind.Memory → FramesHaveFault version order area.now count f) }
 {
-    match decode_steim(alloc, version, order, area, count) {
+    match decode_steim_in(spare, version, order, area, count) {
         Ok(decoded) => Ok(decoded),
         Err(SteimFault::DataShort) => Err(FaultKind::DataShort),
         Err(SteimFault::BadCode(word)) => Err(FaultKind::BadCode(word)),
@@ -57,9 +56,9 @@ fn decode_frames(
     }
 }
 
-/// The samples of an area that stores them so.
+/// The samples of an area that stores them so, in the memory of `spare`.
 pub(crate) fn decode_area(
-    alloc: Global,
+    spare: SampleVec,
     storage: Storage,
     order: Order,
     area: &[u8],
@@ -73,7 +72,7 @@ pub(crate) fn decode_area(
     ensures fault { IfErr result (λ f. f ≢ FaultKind.Memory → AreaHasFault storage order area.now count f) }
 {
     match storage {
-        Storage::Integers(width) => decode_integers(alloc, width, order, area, count),
-        Storage::Frames(version) => decode_frames(alloc, version, order, area, count),
+        Storage::Integers(width) => decode_integers(spare, width, order, area, count),
+        Storage::Frames(version) => decode_frames(spare, version, order, area, count),
     }
 }

@@ -12,7 +12,7 @@ mod view;
 
 pub use fault::FaultKind;
 pub use laws::{one_answer, one_reverse, own_bytes_decide, rows_are_writable};
-pub use reading::decode_record;
+pub use reading::{decode_record, decode_record_in};
 pub use reverse::reverse_in;
 pub use row::{Key, Record, Row};
 pub use samples::Samples;

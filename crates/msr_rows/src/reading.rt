@@ -13,6 +13,7 @@ use crate::fault::FaultKind;
 use crate::row::{Key, Record, Row};
 use msr_header::{Header, Timing, read_header, record_length};
 use msr_kinds::Kind;
+use msr_plain::SampleVec;
 use msr_time::{Rate, is_instant};
 use std::alloc::Global;
 
@@ -205,8 +206,8 @@ pub(crate) fn place_in_time(header: &Header, rate: Rate) -> Result<(Key, i64), F
     Ok((key_of(header, rate), start))
 }
 
-/// The record that the bytes begin with.
-fn decode(alloc: Global, rest: &[u8]) -> Result<Record, FaultKind>
+/// The record that the bytes begin with, with its samples in the memory of `spare`.
+fn decode(spare: SampleVec, rest: &[u8]) -> Result<Record, FaultKind>
     ensures found { IfOk result (IsRecordOf rest.now) }
     ensures refused { IfErr result (λ fault. fault ≢ FaultKind.Memory → IsRefused rest.now fault) }
     ensures count { IfOk result (λ found. IfSome found.row (λ row. length row.samples ≤ 65_535)) }
@@ -225,7 +226,7 @@ fn decode(alloc: Global, rest: &[u8]) -> Result<Record, FaultKind>
     };
     let area = area_of(&opened, rest);
     let decoded = decode_area(
-        alloc,
+        spare,
         kind.storage(),
         header.data_order,
         area,
@@ -245,11 +246,25 @@ fn decode(alloc: Global, rest: &[u8]) -> Result<Record, FaultKind>
     })
 }
 
+/// The record that the bytes begin with, or why it is refused, by `decode_record_in` with samples in memory of their own.
+pub fn decode_record(alloc: Global, rest: &[u8]) -> Result<Record, FaultKind>
+    ensures found { IfOk result (IsRecordOf rest.now) }
+    ensures refused { IfErr result (λ fault. fault ≢ FaultKind.Memory → IsRefused rest.now fault) }
+    ensures count { IfOk result (λ found. IfSome found.row (λ row. length row.samples ≤ 65_535)) }
+    ensures memory { IsErrOf result FaultKind.Memory → TakesMemory rest.now }
+    ensures found_in_first { IfOk result (IsRecordOf (first_bytes rest.now)) }
+    ensures refused_in_first { IfErr result (λ fault. fault ≢ FaultKind.Memory
+        → IsRefused (first_bytes rest.now) fault) }
+{
+    decode_record_in(SampleVec::new(alloc), rest)
+}
+
 /// The record that the bytes begin with, or why it is refused.
 ///
 /// `rest` is all that is left of the input. A record with no samples is read by its header alone.
-/// No more than the first 1,048,576 bytes decide, as many as the longest record has.
-pub fn decode_record(alloc: Global, rest: &[u8]) -> Result<Record, FaultKind>
+/// No more than the first 1,048,576 bytes decide, as many as the longest record has. The samples stand in the memory
+/// of `spare`, whose own do not matter; if there are none, or the record is refused, it is given up.
+pub fn decode_record_in(spare: SampleVec, rest: &[u8]) -> Result<Record, FaultKind>
     ensures found { IfOk result (IsRecordOf rest.now) }
     ensures refused { IfErr result (λ fault. fault ≢ FaultKind.Memory → IsRefused rest.now fault) }
     ensures count { IfOk result (λ found. IfSome found.row (λ row. length row.samples ≤ 65_535)) }
@@ -262,5 +277,5 @@ pub fn decode_record(alloc: Global, rest: &[u8]) -> Result<Record, FaultKind>
     ensures refused_in_first { IfErr result (λ fault. fault ≢ FaultKind.Memory
         → IsRefused (first_bytes rest.now) fault) }
 {
-    decode(alloc, rest)
+    decode(spare, rest)
 }

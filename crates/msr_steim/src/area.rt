@@ -178,8 +178,7 @@ pub fn decode_steim_into(
     }
 }
 
-/// The first `count` samples that the area carries, by `decode_steim_into`. If memory is not refused,
-/// there is one outcome: `one_outcome`.
+/// The first `count` samples that the area carries, by `decode_steim_in` in memory of their own.
 pub fn decode_steim(
     alloc: Global,
     version: Version,
@@ -196,7 +195,28 @@ pub fn decode_steim(
     ensures bad { (number : ℕ) → IsErrOf result (SteimFault.BadCode number)
         → IsUndefinedBefore version order area.now count number }
 {
-    let mut values = vec![in alloc; 0; usize::from(count)]?;
+    decode_steim_in(SampleVec::new(alloc), version, order, area, count)
+}
+
+/// The first `count` samples that the area carries, by `decode_steim_into` in the memory of `spare`, whose own samples
+/// do not matter. If memory is not refused, there is one outcome: `one_outcome`.
+pub fn decode_steim_in(
+    spare: SampleVec,
+    version: Version,
+    order: Order,
+    area: &[u8],
+    count: u16,
+) -> Result<Decoded, SteimFault>
+    requires some { 1 ≤ count }
+    requires small { length area.now ≤ 1048576 }
+    ensures samples { IfOk result (λ d. CarriesSteim version order area.now d.samples) }
+    ensures count { IfOk result (λ d. length d.samples ≡ count) }
+    ensures reverse { IfOk result (λ d. IsTrue d.reverse_agrees ↔ ReverseAgrees order area.now d.samples) }
+    ensures short { IsErrOf result SteimFault.DataShort → EndsBefore version order area.now count }
+    ensures bad { (number : ℕ) → IsErrOf result (SteimFault.BadCode number)
+        → IsUndefinedBefore version order area.now count number }
+{
+    let mut values = spare.into_places(usize::from(count))?;
     let reverse_agrees = decode_steim_into(version, order, area, values.as_mut_slice())?;
     Ok(Decoded {
         samples: SampleVec::from_vec(values),

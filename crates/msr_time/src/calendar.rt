@@ -1,10 +1,11 @@
 //! Days of the calendar by their number from 1970-01-01, through `jiff`.
-ghost use Rattle.std.specs.Prelude.{◌≡◌, ◌≤◌, SomeIff, pos, neg_ℤ, ◌*ℤ◌};
+ghost use Rattle.std.specs.Prelude.{◌≡◌, ◌≤◌, ◌↔◌, IsTrue, pos, neg_ℤ, ◌*ℤ◌};
 ghost use Rattle.jiff.specs.Words.{IsBetween, days_in_year, epoch_day};
 ghost use Rattle.msr_time.specs.Instant.{day_number};
 
-use jiff::ToSpan;
 use jiff::civil::{Date, date};
+
+pub(crate) const MICROS_PER_DAY: i64 = 86_400_000_000;
 
 /// The day from which days are counted.
 fn epoch() -> Date
@@ -13,20 +14,34 @@ fn epoch() -> Date
     date(1970, 1, 1)
 }
 
-/// The instant at which that day of the year begins, of a year from 1900 to 2100.
-pub(crate) fn midnight(year: u16, day: u16) -> Option<i64>
-    ensures { SomeIff result
-        (((1900 ≤ year) × (year ≤ 2100)) × ((1 ≤ day) × (day ≤ days_in_year (pos year))))
-        (pos 86_400_000_000 *ℤ day_number year day) }
+/// 1 January of a year from 1900 to 2100.
+fn first_of_year(year: u16) -> Date
+    requires { (1900 ≤ year) × (year ≤ 2100) }
+    ensures year { result.year ≡ pos year }
+    ensures number { epoch_day result ≡ day_number year 1 }
 {
-    if year < 1900 || year > 2100 || day > 366 {
-        return None;
+    date(year as i16, 1, 1)
+}
+
+/// Whether it is a day of a year from 1900 to 2100.
+pub(crate) fn has_day(year: u16, day: u16) -> bool
+    ensures { IsTrue result ↔
+        (((1900 ≤ year) × (year ≤ 2100)) × ((1 ≤ day) × (day ≤ days_in_year (pos year)))) }
+{
+    if year < 1900 || year > 2100 || day < 1 {
+        return false;
     }
-    let place = Date::ZERO.with().year(year as i16).day_of_year(day as i16);
-    let Ok(date) = place.build() else {
-        return None;
-    };
-    Some(date.duration_since(epoch()).as_micros() as i64)
+    day <= first_of_year(year).days_in_year() as u16
+}
+
+/// The instant at which that day of the year begins.
+pub(crate) fn midnight(year: u16, day: u16) -> i64
+    requires year { (1900 ≤ year) × (year ≤ 2100) }
+    requires day { (1 ≤ day) × (day ≤ days_in_year (pos year)) }
+    ensures { result ≡ pos 86_400_000_000 *ℤ day_number year day }
+{
+    let first = first_of_year(year).to_plain().to_unix_epoch_day();
+    MICROS_PER_DAY * (first as i64 + (day as i64 - 1))
 }
 
 /// The date of that day number.
@@ -34,7 +49,7 @@ fn date_of(day: i64) -> Date
     requires { IsBetween (neg_ℤ (pos 25_567)) (pos 47_846) day }
     ensures { epoch_day result ≡ day }
 {
-    epoch().checked_add(day.days()).unwrap()
+    Date::from_plain(epoch().to_plain().checked_add(day).unwrap())
 }
 
 /// The year and the day of the year of that day number.

@@ -146,24 +146,24 @@ impl LinedWriter {
 
     /// Takes the next record. One whose row begins a segment ends the segment before it, whose line is kept.
     #[inline(always)]
-    pub(crate) fn take<W: Sink>(&mut self, sink: &mut W, next: NextRecord) -> Result<(), ToolFault>
+    pub(crate) fn take<W: Sink>(&mut self, sink: &mut W, next: &NextRecord) -> Result<(), ToolFault>
         requires count { CanCountCall (W.device sink.old) }
         requires last { IfSome self.old.last (GoesOn self.old.writing.form) }
-        requires row { IfSome next.row (CanTakeRow self.old.last) }
+        requires row { IfSome next.now.row (CanTakeRow self.old.last) }
         ensures written { (start : Device) (packed : List Packed) (current : Option Segment)
             → HasLined start (W.device sink.old) self.old packed current
             → MatchResult result
-            (λ _. LinesMore start (W.device sink.new) self.new packed (option_to_list (ended_with next.row current))
-            (current_with next.row current))
+            (λ _. LinesMore start (W.device sink.new) self.new packed (option_to_list (ended_with next.now.row current))
+            (current_with next.now.row current))
             (StopsLining self.old.writing.form start (W.device sink.new)
-            (map segment_of_packed packed ++ all_with next.row current)) }
+            (map segment_of_packed packed ++ all_with next.now.row current)) }
         ensures last { OnOk result (IfSome self.new.last (GoesOn self.new.writing.form)) }
         ensures encoded { IfSome self.old.last IsEncoded → OnOk result (IfSome self.new.last IsEncoded) }
         ensures form { self.new.writing.form ≡ self.old.writing.form }
         ensures few { CountsFew (W.device sink.old) (W.device sink.new) }
     {
-        match next.row {
-            Some(row) => self.take_row(sink, &row),
+        match &next.row {
+            Some(row) => self.take_row(sink, row),
             None => Ok(()),
         }
     }

@@ -88,7 +88,8 @@ fn repack_with<R: Source, W: Sink>(
     let form = options.form();
     let mut writer = LinedWriter::new(alloc, form);
     'records: while let Some(next) = reader.next_record(source)? {
-        writer.take(sink, next)?;
+        writer.take(sink, &next)?;
+        reader.give_back(next);
         if must_flush(flush, &reader) {
             writer.flush(sink)?;
         }

@@ -1,54 +1,37 @@
-use Rattle.std.proofs.Common.{◌≡◌, ◌≤◌, refl, sym, ◌∙◌, ap, arith, ℤ, pos, neg_ℤ, ◌-ℤ◌, ◌*ℤ◌, to_z, of_z, w64, FitsSigned, int_div}
-use Rattle.std.specs.Int.{w16, w128}
-use Rattle.std.proofs.lemmas.Int.{to_z_pos, ints}
-use Rattle.jiff_core.specs.Date.{ordinal, epoch_day}
-use Rattle.jiff_core.specs.Calendar.{IsBetween, days_in_year}
+use Rattle.std.proofs.Common.{◌≡◌, ◌≤◌, ◌∙◌, refl, ap, arith, to_z-of_z, ℕ, ℤ, pos, neg_ℤ, ◌+ℤ◌, ◌-ℤ◌, ◌*ℤ◌, to_z, of_z, w32, w64, FitsSigned}
+use Rattle.std.proofs.lemmas.Int.{to_z_pos}
+use Rattle.jiff_core.specs.declared.civil.date.Date.{Date}
+use Rattle.jiff_core.specs.Calendar.{IsBetween}
+use Rattle.jiff_core.proofs.CalendarLemmas.{days_in_year_bounds}
 use Rattle.jiff_core.proofs.SignedLemmas.{signed_arith}
+use Rattle.jiff.specs.Words.{epoch_day}
 use Rattle.msr_time.specs.Instant.{day_number}
-use Rattle.msr_time.proofs.CalendarLemmas.{day_number-ordinal, day_number_bounds}
+use Rattle.msr_time.proofs.CalendarLemmas.{day_number_bounds}
 use Rattle.msr_time.proofs.calendar.midnight.Goals as goal
 
--- the microseconds of the days since the epoch
-whole_days : (days start nanos micros : ℤ) → start ≡ pos 0 → nanos ≡ (days -ℤ start) *ℤ pos 86_400_000_000_000
-    → micros ≡ int_div nanos (pos 1_000) → micros ≡ pos 86_400_000_000 *ℤ days
-whole_days days start nanos micros s n m = rw (m, n, s) (omega (arith, signed_arith))
-
--- they fit the code's integers
-days_back : (days micros : ℤ) → IsBetween (neg_ℤ (pos 25_567)) (pos 47_846) days
-    → micros ≡ pos 86_400_000_000 *ℤ days → FitsSigned w64 (to_z w128 (of_z w128 micros))
-    × (to_z w64 (of_z w64 (to_z w128 (of_z w128 micros))) ≡ pos 86_400_000_000 *ℤ days)
-days_back days micros h e = rw e (omega (arith, ints), omega (arith, ints))
-
--- the date that the builder gave is the one asked for
-record Given (c : goal.After-as_micros) : Type 0 where
-  exists : (1 ≤ c.args.day) × (c.args.day ≤ days_in_year (pos c.args.year))
-  number : day_number c.args.year c.args.day ≡ epoch_day c.in-Ok.date
-  micros : c.as_micros.result ≡ pos 86_400_000_000 *ℤ epoch_day c.in-Ok.date
-
-given : (c : goal.After-as_micros) → Given c
-given c =
-    let year : to_z w16 c.args.year ≡ pos c.args.year = to_z_pos w16 c.args.year (omega arith) in
-    let day : to_z w16 c.args.day ≡ pos c.args.day = to_z_pos w16 c.args.day (omega arith) in
-    let built = rw (c.day_of_year-place.ensures, c.year.ensures, c.with.ensures) at c.in-Ok.ensures in
-    let date = rw (year, day) at built in
-    let place : ordinal c.in-Ok.date ≡ c.args.day = omega (arith, signed_arith, date.1.1) in
-    let range = (date.0.0 refl).1 in
-    record {
-      exists = (omega (arith, signed_arith, range.0), omega (arith, signed_arith, range.1));
-      number = ap (day_number c.args.year) (sym place) ∙ day_number-ordinal c.in-Ok.date c.args.year date.1.0;
-      micros = whole_days _ _ _ _ c.epoch.ensures c.duration_since.ensures c.as_micros.ensures;
-    }
-
-in_range : (c : goal.After-as_micros) → IsBetween (neg_ℤ (pos 25_567)) (pos 47_846) (epoch_day c.in-Ok.date)
-in_range c =
-    let g = given c in
-    rw (← g.number) (day_number_bounds c.args.year c.args.day (omega arith) (omega arith) g.exists.0 g.exists.1)
-
-pub overflow_cast-result : goal.overflow_cast-result
-overflow_cast-result c = (days_back _ _ (in_range c) (given c).micros).0
+-- the product as the code computes it
+micros_back : (first : ℤ) (day : ℕ) → IsBetween (neg_ℤ (pos 25_567)) (pos 47_846) first → 1 ≤ day → day ≤ 366
+    → to_z w64 (of_z w64 (pos 86_400_000_000 *ℤ to_z w64 (of_z w64
+    (to_z w64 (of_z w64 (to_z w32 (of_z w32 first))) +ℤ to_z w64 (of_z w64 (to_z w64 day -ℤ pos 1))))))
+    ≡ pos 86_400_000_000 *ℤ (first +ℤ (pos day -ℤ pos 1))
+micros_back first day h one last =
+    let narrow : FitsSigned w32 first = omega (arith, signed_arith) in
+    let wide : FitsSigned w64 first = omega (arith, signed_arith) in
+    let number : to_z w64 day ≡ pos day = to_z_pos w64 day (omega arith) in
+    let later : FitsSigned w64 (pos day -ℤ pos 1) = omega (arith, signed_arith) in
+    let sum : FitsSigned w64 (first +ℤ (pos day -ℤ pos 1)) = omega (arith, signed_arith) in
+    let product : FitsSigned w64 (pos 86_400_000_000 *ℤ (first +ℤ (pos day -ℤ pos 1))) = omega (arith, signed_arith) in
+    rw (to_z-of_z narrow, to_z-of_z wide, number, to_z-of_z later, to_z-of_z sum, to_z-of_z product) refl
 
 pub returns : goal.returns
 returns c =
-    let g = given c in
-    let back = (days_back _ _ (in_range c) g.micros).1 in
-    (((omega arith, omega arith), g.exists), back ∙ ap (λ (z : ℤ). pos 86_400_000_000 *ℤ z) (sym g.number))
+    let year = c.requires.year in
+    let day = c.requires.day in
+    let first = c.to_unix_epoch_day-first.ensures.value ∙ ap (λ (d : Date). epoch_day d) c.to_plain.ensures
+    ∙ c.first_of_year.ensures.number in
+    let most = days_in_year_bounds (pos c.args.year) in
+    let within : IsBetween (neg_ℤ (pos 25_567)) (pos 47_846) c.to_unix_epoch_day-first.result =
+    rw first (day_number_bounds c.args.year 1 year.0 year.1 (omega arith) (omega (arith, most.1))) in
+    let days : c.to_unix_epoch_day-first.result +ℤ (pos c.args.day -ℤ pos 1) ≡ day_number c.args.year c.args.day =
+    rw first (omega (arith, signed_arith)) in
+    micros_back _ c.args.day within day.0 (omega (arith, most.0)) ∙ ap (λ (d : ℤ). pos 86_400_000_000 *ℤ d) days

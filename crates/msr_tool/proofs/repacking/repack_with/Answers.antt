@@ -158,18 +158,19 @@ pub records-preserved-in-Continue-branch-4 : goal.records-preserved-in-Continue-
 records-preserved-in-Continue-branch-4 g c =
     let at = goal.at.records-preserved-in-Continue-branch-4 g c in
     let taken = one_taken g at.After-must_flush (one_read g at.After-take) in
-    record {
+    rw c.give_back.ensures (record {
       under = flushed _ _ _ _ _ _ _ _ _ taken
           (c.in_ok-flush.ensures.written _ taken.packed taken.joining.current taken.lined)
           c.flush.ensures.last c.flush.ensures.form;
       ready = λ is_before_reads. inr c.in_ok-flush.ensures.none_wait;
-    }
+    })
 
 pub records-preserved : goal.records-preserved
 records-preserved g c =
     let at = goal.at.records-preserved g c in
     let taken = one_taken g at.After-must_flush (one_read g at.After-take) in
-    record { under = taken; ready = λ is_before_reads. inl ((c.must_flush.ensures.before_reads is_before_reads).0 c.if-must_flush.false) }
+    let holds = rw c.give_back.ensures at c.must_flush.ensures.before_reads in
+    rw c.give_back.ensures (record { under = taken; ready = λ is_before_reads. inl ((holds is_before_reads).0 c.if-must_flush.false) })
 
 pub returns-in_err-segments-clause-does : goal.returns-in_err-segments-clause-does
 returns-in_err-segments-clause-does g c =

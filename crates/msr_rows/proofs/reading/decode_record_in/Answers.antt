@@ -1,7 +1,7 @@
 use Rattle.std.proofs.lemmas.Result.{IfOk-weaker}
 use Rattle.msr_rows.specs.Records.{IsRecordOf, first_bytes}
 use Rattle.msr_rows.proofs.FirstBytes.{first_same, record_same, refusal_same}
-use Rattle.msr_rows.proofs.reading.decode_record.Goals as goal
+use Rattle.msr_rows.proofs.reading.decode_record_in.Goals as goal
 
 pub returns-clause-found_in_first : goal.returns-clause-found_in_first
 returns-clause-found_in_first c =
