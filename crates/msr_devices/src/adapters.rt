@@ -7,6 +7,7 @@ ghost use Rattle.msr_devices.specs.Device.{unused};
 use crate::device::{Sink, Source};
 use std::io;
 use std::io::{ErrorKind, Read, Write};
+use std::marker::Model;
 
 /// Counts an interruption, or else a failure, which ends a row of interruptions.
 fn count_error(error: &io::Error, failures: &mut u64, interruptions: &mut u64)
@@ -26,11 +27,26 @@ fn count_error(error: &io::Error, failures: &mut u64, interruptions: &mut u64)
 
 /// A reader as a source. It gives no more than 2^64 - 1 bytes, and then fails.
 #[derive(Drop)]
-pub struct FromRead<R> {
+pub struct FromRead<R: Read> {
     inner: R,
     given: u64,
     failures: u64,
     interruptions: u64,
+}
+
+impl<R: Read> Model for FromRead<R> {
+    ghost use Rattle.std.specs.Prelude.{◌-◌, ◌^◌, take};
+    ghost use Rattle.std.specs.Option.{option_map};
+    ghost use Rattle.msr_devices.specs.Device.{Device};
+
+    ghost Value = { Device };
+
+    ghost view = { λ s. record {
+      bytes = option_map (λ xs. take (2 ^ 64 - 1 - s.given) xs) (R.remaining s.inner);
+      moved = s.given;
+      failures = s.failures;
+      interruptions = s.interruptions;
+    } };
 }
 
 impl<R: Read> FromRead<R> {
@@ -49,12 +65,7 @@ impl<R: Read> FromRead<R> {
 }
 
 impl<R: Read> Source for FromRead<R> {
-    ghost device = { λ s. record {
-      bytes = option_map (λ xs. take (2 ^ 64 - 1 - s.given) xs) (R.remaining s.inner);
-      moved = s.given;
-      failures = s.failures;
-      interruptions = s.interruptions;
-    } };
+    ghost device = { λ source. source };
 
     fn read(&mut self, buf: &mut [u8]) -> io::Result<usize> {
         let left = u64::MAX - self.given;
@@ -80,11 +91,24 @@ impl<R: Read> Source for FromRead<R> {
 
 /// A writer as a sink. It accepts no more than 2^64 - 1 bytes, and then fails.
 #[derive(Drop)]
-pub struct FromWrite<W> {
+pub struct FromWrite<W: Write> {
     inner: W,
     accepted: u64,
     failures: u64,
     interruptions: u64,
+}
+
+impl<W: Write> Model for FromWrite<W> {
+    ghost use Rattle.msr_devices.specs.Device.{Device};
+
+    ghost Value = { Device };
+
+    ghost view = { λ s. record {
+      bytes = W.contents s.inner;
+      moved = s.accepted;
+      failures = s.failures;
+      interruptions = s.interruptions;
+    } };
 }
 
 impl<W: Write> FromWrite<W> {
@@ -102,12 +126,7 @@ impl<W: Write> FromWrite<W> {
 }
 
 impl<W: Write> Sink for FromWrite<W> {
-    ghost device = { λ s. record {
-      bytes = W.contents s.inner;
-      moved = s.accepted;
-      failures = s.failures;
-      interruptions = s.interruptions;
-    } };
+    ghost device = { λ sink. sink };
 
     fn write(&mut self, buf: &[u8]) -> io::Result<usize> {
         let left = u64::MAX - self.accepted;

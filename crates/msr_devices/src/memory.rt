@@ -5,6 +5,7 @@ ghost use Rattle.msr_devices.specs.Device.{unused};
 use crate::device::{Sink, Source};
 use std::io;
 use std::io::ErrorKind;
+use std::marker::Model;
 
 /// How a test device behaves.
 #[derive(Clone, Copy, Debug, PartialEq, Eq)]
@@ -73,7 +74,22 @@ pub struct TestSource<'a> {
     failures: u64,
     interruptions: u64,
     script: Script,
-    ghost within: { at ≤ length bytes.now },
+}
+
+impl<'a> Model for TestSource<'a> {
+    ghost use Rattle.std.specs.Prelude.{◌≤◌, length, drop, Some};
+    ghost use Rattle.msr_devices.specs.Device.{Device};
+
+    ghost Value = { Device };
+
+    ghost view = { λ s. record {
+      bytes = Some (drop s.at s.bytes.now);
+      moved = s.at;
+      failures = s.failures;
+      interruptions = s.interruptions;
+    } };
+
+    ghost invariant = { λ s. s.at ≤ length s.bytes.now };
 }
 
 impl<'a> TestSource<'a> {
@@ -92,12 +108,7 @@ impl<'a> TestSource<'a> {
 }
 
 impl Source for TestSource<'_> {
-    ghost device = { λ s. record {
-      bytes = Some (drop s.at s.bytes.now);
-      moved = s.at;
-      failures = s.failures;
-      interruptions = s.interruptions;
-    } };
+    ghost device = { λ source. source };
 
     fn read(&mut self, buf: &mut [u8]) -> io::Result<usize> {
         match self.script.next_turn() {
@@ -132,7 +143,22 @@ pub struct TestSink {
     interruptions: u64,
     script: Script,
     accepts_nothing: bool,
-    ghost within: { begun ≤ length bytes.items },
+}
+
+impl Model for TestSink {
+    ghost use Rattle.std.specs.Prelude.{◌-◌, ◌≤◌, length, Some};
+    ghost use Rattle.msr_devices.specs.Device.{Device};
+
+    ghost Value = { Device };
+
+    ghost view = { λ s. record {
+      bytes = Some s.bytes.items;
+      moved = length s.bytes.items - s.begun;
+      failures = s.failures;
+      interruptions = s.interruptions;
+    } };
+
+    ghost invariant = { λ s. s.begun ≤ length s.bytes.items };
 }
 
 impl TestSink {
@@ -172,12 +198,7 @@ impl TestSink {
 }
 
 impl Sink for TestSink {
-    ghost device = { λ s. record {
-      bytes = Some s.bytes.items;
-      moved = length s.bytes.items - s.begun;
-      failures = s.failures;
-      interruptions = s.interruptions;
-    } };
+    ghost device = { λ sink. sink };
 
     fn write(&mut self, buf: &[u8]) -> io::Result<usize> {
         match self.script.next_turn() {

@@ -26,27 +26,64 @@ pub fn tells_none(kind: ErrorKind) -> bool {
     matches!(kind, ErrorKind::NotFound | ErrorKind::NotADirectory)
 }
 
-/// Whether both names lead to one file or folder, by whatever paths or links, or the system does not tell. If nothing
-/// stands under one of them they do not.
-pub fn may_be_one<R: Files>(rt: &R, a: &str, b: &str) -> bool {
-    let first = match fs::metadata(rt, a) {
-        Ok(metadata) => metadata,
-        Err(error) => return !tells_none(error.kind()),
-    };
-    match fs::metadata(rt, b) {
-        Ok(second) => FileId::of(&first) == FileId::of(&second),
-        Err(error) => !tells_none(error.kind()),
+/// What a look at a name tells, links followed.
+#[derive(Drop)]
+pub enum Look {
+    Found(Metadata),
+    /// Nothing stands there, or a link that leads nowhere.
+    Nothing,
+    /// The system does not tell.
+    Unknown,
+}
+
+impl Look {
+    pub fn at<R: Files>(rt: &R, path: &str) -> Look {
+        match fs::metadata(rt, path) {
+            Ok(metadata) => Look::Found(metadata),
+            Err(error) => {
+                if tells_none(error.kind()) {
+                    Look::Nothing
+                } else {
+                    Look::Unknown
+                }
+            }
+        }
+    }
+
+    /// What is told of a regular file.
+    pub fn regular(&self) -> Option<&Metadata> {
+        match self {
+            Look::Found(metadata) => metadata.is_file().then_some(metadata),
+            Look::Nothing | Look::Unknown => None,
+        }
+    }
+
+    /// Whether it is one file or folder with what the other look found, or the system does not tell. Nothing is none.
+    pub fn may_be(&self, other: &Look) -> bool {
+        match (self, other) {
+            (Look::Nothing, _) => false,
+            (Look::Unknown, _) => true,
+            (Look::Found(_), Look::Nothing) => false,
+            (Look::Found(_), Look::Unknown) => true,
+            (Look::Found(first), Look::Found(second)) => FileId::of(first) == FileId::of(second),
+        }
+    }
+
+    /// Opens what was found under that name to be read, if it is a regular file; `None` if that cannot be done. Nothing
+    /// else is opened, since opening a pipe waits for somebody who writes to it.
+    pub fn open<R: Files>(&self, rt: &R, path: &str) -> Option<R::File> {
+        self.regular()?;
+        File::open(rt, path).ok()
     }
 }
 
-/// Opens a regular file to be read; `None` if that cannot be done. Nothing else is opened, since opening a pipe waits
-/// for somebody who writes to it.
+/// Whether both names lead to one file or folder, by whatever paths or links, or the system does not tell. If nothing
+/// stands under one of them they do not.
+pub fn may_be_one<R: Files>(rt: &R, a: &str, b: &str) -> bool {
+    Look::at(rt, a).may_be(&Look::at(rt, b))
+}
+
+/// Opens a regular file to be read; `None` if that cannot be done.
 pub fn open_regular<R: Files>(rt: &R, path: &str) -> Option<R::File> {
-    let Ok(metadata) = fs::metadata(rt, path) else {
-        return None;
-    };
-    if !metadata.is_file() {
-        return None;
-    }
-    File::open(rt, path).ok()
+    Look::at(rt, path).open(rt, path)
 }

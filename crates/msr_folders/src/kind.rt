@@ -5,7 +5,7 @@ use std::rt::Files;
 
 /// What stands under the name of an entry.
 #[derive(Clone, Copy, PartialEq, Eq)]
-pub enum Kind {
+pub enum FileKind {
     Folder,
     Other,
     /// Nothing, though the folder had it when it was listed.
@@ -14,22 +14,22 @@ pub enum Kind {
 
 /// Links are followed, and one that leads nowhere is an entry. What the system does not tell of may be a folder: then
 /// it is refused if it has no list, and no part of the archive is taken for something else.
-pub fn kind_of<R: Files>(rt: &R, path: &str) -> Kind {
+pub fn kind_of<R: Files>(rt: &R, path: &str) -> FileKind {
     match fs::metadata(rt, path) {
         Ok(metadata) => {
             if metadata.is_dir() {
-                Kind::Folder
+                FileKind::Folder
             } else {
-                Kind::Other
+                FileKind::Other
             }
         }
         Err(error) => {
             if error.kind() != ErrorKind::NotFound {
-                Kind::Folder
+                FileKind::Folder
             } else if fs::symlink_metadata(rt, path).is_ok() {
-                Kind::Other
+                FileKind::Other
             } else {
-                Kind::Gone
+                FileKind::Gone
             }
         }
     }

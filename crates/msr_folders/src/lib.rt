@@ -8,8 +8,8 @@ mod listing;
 mod paths;
 mod places;
 
-pub use files::{FileId, may_be_one, open_regular, tells_none};
-pub use kind::{Kind, kind_of};
+pub use files::{FileId, Look, may_be_one, open_regular, tells_none};
+pub use kind::{FileKind, kind_of};
 pub use listing::{ListFault, names_in};
 pub use paths::{ended, entry_path, folder_of, join, shown_path};
 pub use places::{Place, folders_overlap, place_of};

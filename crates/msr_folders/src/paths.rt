@@ -1,6 +1,7 @@
 //! The paths of folders and files.
-ghost use Rattle.std.specs.Prelude.{◌≡◌, IfOk};
+ghost use Rattle.std.specs.Prelude.{◌≡◌, ◌++◌, ◌∷◌, IfOk, OnOk};
 ghost use Rattle.std.specs.String.{string_bytes};
+ghost use Rattle.msr_report.specs.Text.{hex_text};
 ghost use Rattle.msr_folders.specs.Paths.{below, ended, folder_of, joined, shown_letter, shown_path};
 
 use std::alloc::{AllocError, Global};
@@ -50,16 +51,22 @@ pub fn folder_of(path: &str) -> &str
     }
 }
 
-/// A character of a path as it is printed: a line feed in a name would begin another line.
+/// Appends a control character as it is printed: a line feed in a name would begin another line.
 #[tactic(auto, using(std::proofs::lemmas::Fmt::hex_byte))]
-fn shown_letter(alloc: Global, letter: char) -> Result<String, AllocError>
-    ensures { IfOk result (λ text. string_bytes text ≡ shown_letter letter) }
+fn push_control(text: &mut String, code: u8) -> Result<(), AllocError>
+    ensures { OnOk result (string_bytes text.new ≡ string_bytes text.old ++ 37 ∷ hex_text code) }
+{
+    write!(text, "%{code:02x}")
+}
+
+/// Appends a character of a path as it is printed.
+fn push_letter(text: &mut String, letter: char) -> Result<(), AllocError>
+    ensures { OnOk result (string_bytes text.new ≡ string_bytes text.old ++ shown_letter letter) }
 {
     if letter.is_ascii_control() {
-        let code = letter as u8;
-        format!(in alloc; "%{code:02x}")
+        push_control(text, letter as u8)
     } else {
-        letter.to_string(alloc)
+        text.push(letter)
     }
 }
 
@@ -69,7 +76,7 @@ pub fn shown_path(alloc: Global, path: &str) -> Result<String, AllocError>
 {
     let mut text = String::new(alloc);
     for letter in path.chars() {
-        text.push_str(shown_letter(alloc, letter)?.as_str())?;
+        push_letter(&mut text, letter)?;
     }
     Ok(text)
 }

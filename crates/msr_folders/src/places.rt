@@ -1,5 +1,5 @@
 //! Where folders stand: whether one is another or stands below it, by whatever links, mounts and names.
-use crate::files::{FileId, tells_none};
+use crate::files::{FileId, Look};
 use crate::paths::folder_of;
 use std::alloc::{AllocError, Global};
 use std::fs;
@@ -18,48 +18,55 @@ pub enum Place {
 /// How many folders one goes up from a folder at most: no path has more names.
 const MOST_LEVELS: u16 = 4096;
 
+/// A folder that is there.
+#[derive(Clone, Copy)]
+struct Folder<'a> {
+    path: &'a str,
+    id: FileId,
+}
+
 /// Goes up from a folder by `..`, to the top of all, which is its own parent.
 fn climb<R: Files>(
     rt: &R,
     alloc: Global,
-    folder: &str,
-    other: FileId,
+    folder: Folder<'_>,
+    others: &[FileId],
 ) -> Result<Place, AllocError> {
-    let mut place = String::from_str(alloc, folder)?;
-    let mut below = None;
+    let mut place = String::from_str(alloc, folder.path)?;
+    let mut id = folder.id;
     for _ in 0..MOST_LEVELS {
+        if others.contains(&id) {
+            return Ok(Place::Within);
+        }
+        place.push_str("/..")?;
         let Ok(metadata) = fs::metadata(rt, place.as_str()) else {
             return Ok(Place::Unknown);
         };
-        let id = FileId::of(&metadata);
-        if id == other {
-            return Ok(Place::Within);
-        }
-        if below == Some(id) {
+        let above = FileId::of(&metadata);
+        if above == id {
             return Ok(Place::Apart);
         }
-        below = Some(id);
-        place.push_str("/..")?;
+        id = above;
     }
     Ok(Place::Unknown)
 }
 
 /// The folder that is there in which a path stands, or will stand when its folders are made: itself if it is one.
 /// `None` if the system does not tell.
-fn nearest_folder<'a, R: Files>(rt: &R, path: &'a str) -> Option<&'a str> {
+fn nearest_folder<'a, R: Files>(rt: &R, path: &'a str) -> Option<Folder<'a>> {
     let mut place = path;
     for _ in 0..=path.len() {
-        match fs::metadata(rt, place) {
-            Ok(metadata) => {
+        match Look::at(rt, place) {
+            Look::Found(metadata) => {
                 if metadata.is_dir() {
-                    return Some(place);
+                    return Some(Folder {
+                        path: place,
+                        id: FileId::of(&metadata),
+                    });
                 }
             }
-            Err(error) => {
-                if !tells_none(error.kind()) {
-                    return None;
-                }
-            }
+            Look::Nothing => {}
+            Look::Unknown => return None,
         }
         place = above(place);
     }
@@ -78,15 +85,15 @@ fn above(path: &str) -> &str {
     }
 }
 
-/// Where a path stands, or will stand, seen from that folder.
+/// Where a path stands, or will stand, seen from these folders: within one of them, or apart from all.
 pub fn place_of<R: Files>(
     rt: &R,
     alloc: Global,
     path: &str,
-    other: FileId,
+    others: &[FileId],
 ) -> Result<Place, AllocError> {
     match nearest_folder(rt, path) {
-        Some(folder) => climb(rt, alloc, folder, other),
+        Some(folder) => climb(rt, alloc, folder, others),
         None => Ok(Place::Unknown),
     }
 }
@@ -101,7 +108,7 @@ fn is_within<R: Files>(
     let Ok(metadata) = fs::metadata(rt, other) else {
         return Ok(false);
     };
-    let place = place_of(rt, alloc, folder, FileId::of(&metadata))?;
+    let place = place_of(rt, alloc, folder, &[FileId::of(&metadata)])?;
     Ok(place == Place::Within)
 }
 

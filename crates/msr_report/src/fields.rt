@@ -1,5 +1,6 @@
 //! The texts of a segment's fields.
-ghost use Rattle.std.specs.Prelude.{◌≡◌, ◌++◌, ◌≤◌, ◌<◌, IfOk, OnOk, string_bytes};
+ghost use Rattle.std.specs.Prelude.{◌≡◌, ◌++◌, ◌≤◌, ◌<◌, IfOk, OnOk, codes, decimal, string_bytes};
+ghost use Rattle.std.specs.Fmt.{signed_decimal};
 ghost use Rattle.msr_time.specs.Instant.{IsInstant};
 ghost use Rattle.msr_report.specs.Text.{hex_text, byte_text, field_text, name_text, rate_text, flags_text, padded_decimal, date_text, clock_text, split_text, IsTimeText, settings_text};
 
@@ -7,16 +8,21 @@ use msr_rows::Key;
 use msr_time::{BTime, Rate, split};
 use std::alloc::{AllocError, Global};
 
-/// Two lower-case hexadecimal digits.
+/// For how many bytes memory is taken at first: a name of letters, digits and spaces, and a time.
+const NAME_ROOM: usize = 15;
+
+const TIME_ROOM: usize = 24;
+
+/// Appends two lower-case hexadecimal digits.
 #[tactic(auto, using(std::proofs::lemmas::Fmt::hex_byte))]
-fn hex_string(alloc: Global, n: u8) -> Result<String, AllocError>
-    ensures { IfOk result (λ text. string_bytes text ≡ hex_text n) }
+fn push_hex(text: &mut String, n: u8) -> Result<(), AllocError>
+    ensures { OnOk result (string_bytes text.new ≡ string_bytes text.old ++ hex_text n) }
 {
-    format!(in alloc; "{n:02x}")
+    write!(text, "{n:02x}")
 }
 
 /// Appends the text of a byte of a name.
-fn push_byte(alloc: Global, text: &mut String, byte: u8) -> Result<(), AllocError>
+fn push_byte(text: &mut String, byte: u8) -> Result<(), AllocError>
     ensures { OnOk result (string_bytes text.new ≡ string_bytes text.old ++ byte_text byte) }
 {
     if byte.is_ascii_alphanumeric() {
@@ -25,94 +31,75 @@ fn push_byte(alloc: Global, text: &mut String, byte: u8) -> Result<(), AllocErro
         text.push('_')
     } else {
         text.push('%')?;
-        text.push_str(hex_string(alloc, byte)?.as_str())
+        push_hex(text, byte)
     }
 }
 
-/// A field of a name in its full width.
-fn field_string(alloc: Global, field: &[u8]) -> Result<String, AllocError>
-    ensures { IfOk result (λ text. string_bytes text ≡ field_text field.now) }
+/// Appends a field of a name in its full width.
+fn push_field(text: &mut String, field: &[u8]) -> Result<(), AllocError>
+    ensures { OnOk result (string_bytes text.new ≡ string_bytes text.old ++ field_text field.now) }
 {
-    let mut text = String::new(alloc);
     for byte in field {
-        push_byte(alloc, &mut text, *byte)?;
+        push_byte(text, *byte)?;
     }
-    Ok(text)
+    Ok(())
 }
 
 /// Network, station, location and channel.
 pub(crate) fn name_string(alloc: Global, key: &Key) -> Result<String, AllocError>
     ensures { IfOk result (λ text. string_bytes text ≡ name_text key.now) }
 {
-    let network = field_string(alloc, &key.network)?;
-    let station = field_string(alloc, &key.station)?;
-    let location = field_string(alloc, &key.location)?;
-    let channel = field_string(alloc, &key.channel)?;
-    format!(in alloc; "{network}.{station}.{location}.{channel}")
+    let mut text = String::with_capacity(alloc, NAME_ROOM)?;
+    push_field(&mut text, &key.network)?;
+    text.push('.')?;
+    push_field(&mut text, &key.station)?;
+    text.push('.')?;
+    push_field(&mut text, &key.location)?;
+    text.push('.')?;
+    push_field(&mut text, &key.channel)?;
+    Ok(text)
 }
 
-/// The factor and the multiplier of a rate.
-fn rate_string(alloc: Global, rate: Rate) -> Result<String, AllocError>
-    ensures { IfOk result (λ text. string_bytes text ≡ rate_text rate) }
+/// Appends the factor and the multiplier of a rate, with the words around them.
+fn push_rate(text: &mut String, rate: Rate) -> Result<(), AllocError>
+    ensures { OnOk result (string_bytes text.new
+        ≡ string_bytes text.old ++ (codes "rate " ++ (rate_text rate ++ codes " flags "))) }
 {
     let factor = rate.factor();
     let multiplier = rate.multiplier();
-    format!(in alloc; "{factor} {multiplier}")
+    write!(text, "rate {factor} {multiplier} flags ")
 }
 
-/// The activity, clock and data quality flags.
-fn flags_string(alloc: Global, key: &Key) -> Result<String, AllocError>
-    ensures { IfOk result (λ text. string_bytes text ≡ flags_text key.now) }
+/// Appends the activity, clock and data quality flags.
+#[tactic(auto, using(std::proofs::lemmas::Fmt::hex_byte))]
+fn push_flags(text: &mut String, key: &Key) -> Result<(), AllocError>
+    ensures { OnOk result (string_bytes text.new ≡ string_bytes text.old ++ flags_text key.now) }
 {
-    let activity = hex_string(alloc, key.activity)?;
-    let clock = hex_string(alloc, key.clock)?;
-    let data = hex_string(alloc, key.data_quality)?;
-    format!(in alloc; "{activity} {clock} {data}")
-}
-
-#[tactic(auto, using(crate::proofs::Words::zeros_before))]
-fn two_digits(alloc: Global, n: u8) -> Result<String, AllocError>
-    ensures { IfOk result (λ text. string_bytes text ≡ padded_decimal 2 n) }
-{
-    format!(in alloc; "{n:02}")
+    let (activity, clock, data) = (key.activity, key.clock, key.data_quality);
+    write!(text, "{activity:02x} {clock:02x} {data:02x}")
 }
 
 #[tactic(auto, using(crate::proofs::Words::zeros_before))]
-fn three_digits(alloc: Global, n: u16) -> Result<String, AllocError>
-    ensures { IfOk result (λ text. string_bytes text ≡ padded_decimal 3 n) }
+fn push_date(text: &mut String, time: BTime) -> Result<(), AllocError>
+    ensures { OnOk result (string_bytes text.new ≡ string_bytes text.old ++ date_text time) }
 {
-    format!(in alloc; "{n:03}")
+    let (year, day) = (time.year, time.day);
+    write!(text, "{year:04},{day:03}")
 }
 
 #[tactic(auto, using(crate::proofs::Words::zeros_before))]
-fn four_digits(alloc: Global, n: u16) -> Result<String, AllocError>
-    ensures { IfOk result (λ text. string_bytes text ≡ padded_decimal 4 n) }
+fn push_clock(text: &mut String, time: BTime) -> Result<(), AllocError>
+    ensures { OnOk result (string_bytes text.new ≡ string_bytes text.old ++ clock_text time) }
 {
-    format!(in alloc; "{n:04}")
+    let (hour, minute, second) = (time.hour, time.minute, time.second);
+    write!(text, "{hour:02}:{minute:02}:{second:02}")
 }
 
 #[tactic(auto, using(crate::proofs::Words::zeros_before))]
-fn six_digits(alloc: Global, n: u32) -> Result<String, AllocError>
-    ensures { IfOk result (λ text. string_bytes text ≡ padded_decimal 6 n) }
+fn push_six_digits(text: &mut String, n: u32) -> Result<(), AllocError>
+    ensures { OnOk result (string_bytes text.new ≡ string_bytes text.old ++ padded_decimal 6 n) }
 {
-    format!(in alloc; "{n:06}")
-}
-
-fn date_string(alloc: Global, time: BTime) -> Result<String, AllocError>
-    ensures { IfOk result (λ text. string_bytes text ≡ date_text time) }
-{
-    let year = four_digits(alloc, time.year)?;
-    let day = three_digits(alloc, time.day)?;
-    format!(in alloc; "{year},{day}")
-}
-
-fn clock_string(alloc: Global, time: BTime) -> Result<String, AllocError>
-    ensures { IfOk result (λ text. string_bytes text ≡ clock_text time) }
-{
-    let hour = two_digits(alloc, time.hour)?;
-    let minute = two_digits(alloc, time.minute)?;
-    let second = two_digits(alloc, time.second)?;
-    format!(in alloc; "{hour}:{minute}:{second}")
+    write!(text, "{n:06}")
 }
 
 /// A time, and the microseconds below its fraction.
@@ -120,10 +107,13 @@ fn split_string(alloc: Global, time: BTime, micros: u8) -> Result<String, AllocE
     requires { time.fract ≤ 9999 }
     ensures { IfOk result (λ text. string_bytes text ≡ split_text time micros) }
 {
-    let date = date_string(alloc, time)?;
-    let clock = clock_string(alloc, time)?;
-    let fraction = six_digits(alloc, 100 * time.fract as u32 + micros as u32)?;
-    format!(in alloc; "{date},{clock}.{fraction}")
+    let mut text = String::with_capacity(alloc, TIME_ROOM)?;
+    push_date(&mut text, time)?;
+    text.push(',')?;
+    push_clock(&mut text, time)?;
+    text.push('.')?;
+    push_six_digits(&mut text, 100 * time.fract as u32 + micros as u32)?;
+    Ok(text)
 }
 
 /// The text of an instant.
@@ -137,13 +127,21 @@ pub(crate) fn time_string(alloc: Global, t: i64) -> Result<String, AllocError>
     split_string(alloc, time, micros)
 }
 
-/// The words from the rate to the timing quality.
-pub(crate) fn settings_string(alloc: Global, key: &Key) -> Result<String, AllocError>
-    ensures { IfOk result (λ text. string_bytes text ≡ settings_text key.now) }
+/// Appends the words of the time correction and of the timing quality.
+fn push_timing(text: &mut String, key: &Key) -> Result<(), AllocError>
+    ensures { OnOk result (string_bytes text.new ≡ string_bytes text.old ++ (codes " correction "
+        ++ (signed_decimal key.now.correction ++ (codes " timing " ++ decimal key.now.timing)))) }
 {
-    let rate = rate_string(alloc, key.rate)?;
-    let flags = flags_string(alloc, key)?;
-    let correction = key.correction;
-    let timing = key.timing;
-    format!(in alloc; "rate {rate} flags {flags} correction {correction} timing {timing}")
+    let (correction, timing) = (key.correction, key.timing);
+    write!(text, " correction {correction} timing {timing}")
+}
+
+/// Appends the words from the rate to the timing quality.
+pub(crate) fn push_settings(text: &mut String, key: &Key) -> Result<(), AllocError>
+    ensures { OnOk result (string_bytes text.new ≡ string_bytes text.old ++ settings_text key.now) }
+{
+    push_rate(text, key.rate)?;
+    push_flags(text, key)?;
+    push_timing(text, key)?;
+    Ok(())
 }

@@ -3,12 +3,17 @@ ghost use Rattle.std.specs.Prelude.{◌≡◌, ◌++◌, ◌∷◌, ◌<◌, ℕ
 ghost use Rattle.msr_time.specs.Instant.{IsInstant};
 ghost use Rattle.msr_report.specs.Text.{words_after_quality, segment_words, IsListLine, separators_line, IsSegmentText, kinds_line, counts_line, first_lines, end_line};
 
-use crate::fields::{name_string, settings_string, time_string};
+use crate::fields::{name_string, push_settings, time_string};
 use crate::report::{Report, SegmentLine};
 use msr_base::Counts;
 use msr_kinds::Kinds;
 use msr_rows::Key;
 use std::alloc::{AllocError, Global};
+
+/// For how many bytes memory is taken at first: the words after the quality, and a line.
+const WORDS_ROOM: usize = 160;
+
+const LINE_ROOM: usize = 192;
 
 /// The words after the quality, and then more text.
 fn words_string(
@@ -20,8 +25,11 @@ fn words_string(
 ) -> Result<String, AllocError>
     ensures { IfOk result (λ text. string_bytes text ≡ words_after_quality key.now start.now samples more.now) }
 {
-    let settings = settings_string(alloc, key)?;
-    format!(in alloc; " {settings} start {start} samples {samples}{more}")
+    let mut text = String::with_capacity(alloc, WORDS_ROOM)?;
+    text.push(' ')?;
+    push_settings(&mut text, key)?;
+    write!(text, " start {start} samples {samples}{more}")?;
+    Ok(text)
 }
 
 /// Appends the words of a segment, whose start has the given text, and then more text.
@@ -38,8 +46,10 @@ fn push_words(
 {
     let name = name_string(alloc, key)?;
     let words = words_string(alloc, key, start, samples, more)?;
-    let mut line = Vec::new(alloc);
-    line.extend_from_slice(format!(in alloc; "segment {name} ")?.as_bytes())?;
+    let mut line = Vec::with_capacity(alloc, LINE_ROOM)?;
+    line.extend_from_slice(b"segment ")?;
+    line.extend_from_slice(name.as_bytes())?;
+    line.push(b' ')?;
     line.push(key.quality)?;
     line.extend_from_slice(words.as_bytes())?;
     out.extend_from_slice(line.as_slice())

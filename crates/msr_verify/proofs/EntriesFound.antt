@@ -9,10 +9,10 @@ use Rattle.msr_report.specs.Writing.{TakesPrefix}
 use Rattle.msr_tool.specs.Writing.{StopsSink}
 use Rattle.msr_tool.specs.declared.fault.ToolFault.{ToolFault}
 use Rattle.msr_tool.specs.declared.fault.ToolFault.TheVariants.{Input, Report, Read, Write, Memory}
-use Rattle.msr_verify.specs.Entries.{Entry, IsEntry, IsOutcomeOf, IsLineOf, AreLines, IsTally, counted, is_unverified}
+use Rattle.msr_verify.specs.Entries.{Entry, IsEntry, IsJudgementOf, IsLineOf, AreLines, IsVerifyTally, counted, is_unverified}
 use Rattle.msr_verify.specs.Walk.{IsWalkInPart, StopsPrefix, StopsTelling, Tells, TellsInPart, TellsUnverified, Verifies, counts_line, summary}
-use Rattle.msr_verify.specs.declared.outcome.Outcome.{Outcome}
-use Rattle.msr_verify.specs.declared.tally.Tally.{Tally}
+use Rattle.msr_verify.specs.declared.judgement.Judgement.{Judgement}
+use Rattle.msr_verify.specs.declared.tally.VerifyTally.{VerifyTally}
 
 lines_append : (entries others : List Entry) (lines more : List ℕ) → AreLines entries lines
     → AreLines others more → AreLines (entries ++ others) (lines ++ more)
@@ -27,12 +27,12 @@ lines_append (entry ∷ entries) others lines more h k = (
       ∙ append_assoc h.0 h.1 more,
 )
 
-one_line : (entry : Entry) (line : List ℕ) → IsLineOf entry.path entry.outcome line
+one_line : (entry : Entry) (line : List ℕ) → IsLineOf entry.path entry.judgement line
     → AreLines (entry ∷ []) line
 one_line entry line h = (line, [], h, refl, sym (append-nil line))
 
 -- no entry more
-pub tells_none : (out : Device) (tally : Tally) → Tells out out tally tally
+pub tells_none : (out : Device) (tally : VerifyTally) → Tells out out tally tally
 tells_none out tally = record {
   entries = [];
   lines = [];
@@ -40,27 +40,27 @@ tells_none out tally = record {
   are_lines = refl;
   prints = takes_none out;
   calm = calm_same out;
-  counts = λ before h. let P : List Entry → Type 0 = λ es. IsTally es tally in subst P (sym (append-nil before)) h;
+  counts = λ before h. let P : List Entry → Type 0 = λ es. IsVerifyTally es tally in subst P (sym (append-nil before)) h;
 }
 
 -- one entry more
-pub tells_one : (out0 out : Device) (tally0 tally : Tally) (path line : List ℕ)
-    (outcome : Outcome) →
-    IsOutcomeOf path outcome → IsLineOf path outcome line → Takes out0 out line → IsCalm out0 out →
-    ((before : List Entry) → IsTally before tally0
-    → IsTally (before ++ record { path = path; outcome = outcome } ∷ []) tally) →
+pub tells_one : (out0 out : Device) (tally0 tally : VerifyTally) (path line : List ℕ)
+    (judgement : Judgement) →
+    IsJudgementOf path judgement → IsLineOf path judgement line → Takes out0 out line → IsCalm out0 out →
+    ((before : List Entry) → IsVerifyTally before tally0
+    → IsVerifyTally (before ++ record { path = path; judgement = judgement } ∷ []) tally) →
     Tells out0 out tally0 tally
-tells_one out0 out tally0 tally path line outcome is_outcome is_line prints calm counts = record {
-  entries = record { path = path; outcome = outcome } ∷ [];
+tells_one out0 out tally0 tally path line judgement is_judgement is_line prints calm counts = record {
+  entries = record { path = path; judgement = judgement } ∷ [];
   lines = line;
-  are_entries = (is_outcome, tt);
-  are_lines = one_line (record { path = path; outcome = outcome }) line is_line;
+  are_entries = (is_judgement, tt);
+  are_lines = one_line (record { path = path; judgement = judgement }) line is_line;
   prints = prints;
   calm = calm;
   counts = counts;
 }
 
-pub tells_more : (out0 out1 out : Device) (tally0 tally1 tally : Tally) →
+pub tells_more : (out0 out1 out : Device) (tally0 tally1 tally : VerifyTally) →
     Tells out0 out1 tally0 tally1 → Tells out1 out tally1 tally → Tells out0 out tally0 tally
 tells_more out0 out1 out tally0 tally1 tally first second = record {
   entries = first.entries ++ second.entries;
@@ -70,7 +70,7 @@ tells_more out0 out1 out tally0 tally1 tally first second = record {
   prints = takes_append out0 out1 out first.lines second.lines first.prints second.prints;
   calm = calm_calm out0 out1 out first.calm second.calm;
   counts = λ before h.
-      let P : List Entry → Type 0 = λ es. IsTally es tally in
+      let P : List Entry → Type 0 = λ es. IsVerifyTally es tally in
       subst P (append_assoc before first.entries second.entries)
       (second.counts (before ++ first.entries) (first.counts before h));
 }
@@ -87,20 +87,20 @@ part_none out = record {
 }
 
 -- a prefix of a line
-pub part_line : (out0 out : Device) (n : ℕ) (path line : List ℕ) (outcome : Outcome) →
-    IsOutcomeOf path outcome → IsLineOf path outcome line → Takes out0 out (take n line)
+pub part_line : (out0 out : Device) (n : ℕ) (path line : List ℕ) (judgement : Judgement) →
+    IsJudgementOf path judgement → IsLineOf path judgement line → Takes out0 out (take n line)
     → TellsInPart out0 out
-part_line out0 out n path line outcome is_outcome is_line prints = record {
-  entries = record { path = path; outcome = outcome } ∷ [];
+part_line out0 out n path line judgement is_judgement is_line prints = record {
+  entries = record { path = path; judgement = judgement } ∷ [];
   printed = take n line;
   rest = drop n line;
-  are_entries = (is_outcome, tt);
+  are_entries = (is_judgement, tt);
   are_lines = rw (take-append-drop n line) (one_line
-      (record { path = path; outcome = outcome }) line is_line);
+      (record { path = path; judgement = judgement }) line is_line);
   prints = prints;
 }
 
-pub part_more : (out0 out1 out : Device) (tally0 tally1 : Tally) →
+pub part_more : (out0 out1 out : Device) (tally0 tally1 : VerifyTally) →
     Tells out0 out1 tally0 tally1 → TellsInPart out1 out → TellsInPart out0 out
 part_more out0 out1 out tally0 tally1 first second = record {
   entries = first.entries ++ second.entries;
@@ -113,7 +113,7 @@ part_more out0 out1 out tally0 tally1 first second = record {
   prints = takes_append out0 out1 out first.lines second.printed first.prints second.prints;
 }
 
-pub part_all : (out0 out : Device) (tally0 tally : Tally) → Tells out0 out tally0 tally
+pub part_all : (out0 out : Device) (tally0 tally : VerifyTally) → Tells out0 out tally0 tally
     → TellsInPart out0 out
 part_all out0 out tally0 tally first =
     part_more out0 out out tally0 tally first (part_none out)
@@ -130,7 +130,7 @@ stops_within out0 out1 out Read calm whole h = absurd h
 stops_within out0 out1 out Write calm whole h = (whole h.0, calm_failed out0 out1 out calm h.1)
 stops_within out0 out1 out Memory calm whole h = (whole h.0, steady_steady out0 out1 out calm.steady h.1)
 
-pub stops_more : (out0 out1 out : Device) (tally0 tally1 : Tally) (fault : ToolFault) →
+pub stops_more : (out0 out1 out : Device) (tally0 tally1 : VerifyTally) (fault : ToolFault) →
     Tells out0 out1 tally0 tally1 → StopsTelling out1 out fault → StopsTelling out0 out fault
 stops_more out0 out1 out tally0 tally1 fault first second =
     stops_within out0 out1 out fault first.calm (part_more out0 out1 out tally0 tally1 first) second
@@ -159,7 +159,7 @@ entries_in_part out0 out told = record {
 }
 
 -- all entries, and a prefix of the last lines
-summary_in_part : (out0 out1 out : Device) (tally0 tally : Tally)
+summary_in_part : (out0 out1 out : Device) (tally0 tally : VerifyTally)
     (told : Tells out0 out1 tally0 tally) →
     TakesPrefix out1 out (summary told.entries) → WalksInPart out0 out
 summary_in_part out0 out1 out tally0 tally told front = record {
@@ -182,7 +182,7 @@ pub stops_entries : (out0 out : Device) (fault : ToolFault) → StopsTelling out
 stops_entries out0 out fault told = stops_within out0 out0 out fault (calm_same out0)
     (entries_in_part out0 out) told
 
-pub stops_summary : (out0 out1 out : Device) (tally0 tally : Tally) (fault : ToolFault) →
+pub stops_summary : (out0 out1 out : Device) (tally0 tally : VerifyTally) (fault : ToolFault) →
     (told : Tells out0 out1 tally0 tally) → StopsPrefix out1 out (summary told.entries) fault →
     StopsSink (WalksInPart out0 out) (WalksInPart out0 out) out0 out fault
 stops_summary out0 out1 out tally0 tally fault told front =
@@ -197,7 +197,7 @@ walk_stops out0 out Read h = absurd h
 walk_stops out0 out Write h = record { printed = h.0.printed; prints = h.0.prints; ends = h.0.walk }
 walk_stops out0 out Memory h = record { printed = h.0.printed; prints = h.0.prints; ends = h.0.walk }
 
-pub walk_ends : (out0 out1 out : Device) (tally0 tally : Tally) (unverified : Bool) →
+pub walk_ends : (out0 out1 out : Device) (tally0 tally : VerifyTally) (unverified : Bool) →
     (told : Tells out0 out1 tally0 tally) → Takes out1 out (summary told.entries)
     → TellsUnverified told.entries unverified →
     Verifies out0 out (Ok unverified)
@@ -222,7 +222,7 @@ pub unverified_told : (entries : List Entry) (n : ℕ) → n ≡ counted is_unve
 unverified_told entries n h = (λ yes. omega (arith, h, ltb-true 0 n yes), λ no. omega (arith, h, ltb-false 0 n no))
 
 -- the last line, from the counts of the entries
-pub summary_is : (entries : List Entry) (tally : Tally) → IsTally entries tally → counts_line tally ≡ summary entries
+pub summary_is : (entries : List Entry) (tally : VerifyTally) → IsVerifyTally entries tally → counts_line tally ≡ summary entries
 summary_is entries tally h =
     rw (h.verified, h.skipped, h.refused, h.missing, h.not_shown, h.differ, h.orphans) refl
 

@@ -13,8 +13,8 @@ use Rattle.msr_verdict.specs.declared.verdict.Verdict.TheVariants as verdict
 use Rattle.msr_verify.specs.Day.{ComparesDay, DataAnswers, DayAnswers, IsShownLeast, VerifiesDay, fault_of_report}
 use Rattle.msr_verify.specs.declared.judging.Finding.{Finding}
 use Rattle.msr_verify.specs.declared.judging.Finding.TheVariants.{Verified, NotShown, Differs}
-use Rattle.msr_verify.specs.declared.judging.DayFault.{DayFault}
-use Rattle.msr_verify.specs.declared.judging.DayFault.TheVariants.{File, Records, ReportLine, ReportRead, ReportMemory}
+use Rattle.msr_verify.specs.declared.judging.VerifyFault.{VerifyFault}
+use Rattle.msr_verify.specs.declared.judging.VerifyFault.TheVariants.{File, Records, ReportLine, ReportRead, ReportMemory}
 
 fault_said : (first second third text : List ℕ) (why : ReportFault) → ReadsReport text (Err why)
     → DayAnswers first second third text (Err (fault_of_report why))
@@ -86,7 +86,7 @@ records_unshown file records again report second text found left_records left re
       answers = record { report = found; read = reads; unshown = answers };
     }
 
-comparison_said : (first second third text : List ℕ) (found : Report) (result : Result Finding DayFault)
+comparison_said : (first second third text : List ℕ) (found : Report) (result : Result Finding VerifyFault)
     (shown : IsShownLeast second text) → shown.report ≡ found → DataAnswers (settings_by found) first third result
     → DayAnswers first second third text result
 comparison_said first second third text found (Ok Verified) shown is said =
@@ -108,7 +108,7 @@ comparison_said first second third text found (Err ReportMemory) shown is said =
 
 -- records that are shown, compared with the day's own file
 pub data_compared : (file records again report : Device) (second text : List ℕ) (found : Report)
-    (result : Result Finding DayFault) → HasLeft records second → HasLeft report text → ReadsReport text (Ok found)
+    (result : Result Finding VerifyFault) → HasLeft records second → HasLeft report text → ReadsReport text (Ok found)
     → VerifyAnswers found second (Ok verdict.Least) → ComparesDay (settings_by found) file again result
     → VerifiesDay file records again report result
 data_compared file records again report second text found result left_records left reads least compared = record {

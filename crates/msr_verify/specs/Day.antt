@@ -14,11 +14,11 @@ use Rattle.msr_compare.specs.Answers.{CompareAnswers, DifferFirst, HasFirstFault
 use Rattle.msr_compare.specs.declared.comparison.Difference.{Difference}
 use Rattle.msr_verify.specs.declared.judging.Finding.{Finding}
 use Rattle.msr_verify.specs.declared.judging.Finding.TheVariants.{Verified, NotShown, Differs}
-use Rattle.msr_verify.specs.declared.judging.DayFault.{DayFault}
-use Rattle.msr_verify.specs.declared.judging.DayFault.TheVariants.{File, Records, ReportLine, ReportRead, ReportMemory}
+use Rattle.msr_verify.specs.declared.judging.VerifyFault.{VerifyFault}
+use Rattle.msr_verify.specs.declared.judging.VerifyFault.TheVariants.{File, Records, ReportLine, ReportRead, ReportMemory}
 
 -- where the report is at fault
-abbrev pub fault_of_report : ReportFault → DayFault
+abbrev pub fault_of_report : ReportFault → VerifyFault
 fault_of_report (report_stop.Line line) = ReportLine line
 fault_of_report report_stop.Read = ReportRead
 fault_of_report report_stop.Memory = ReportMemory
@@ -28,7 +28,7 @@ abbrev pub HaveDifference : Settings → (file records : List ℕ) → Type 0
 HaveDifference settings file records = (difference : Difference) × DifferFirst settings file records difference
 
 -- what an answer says of the day's own file and of its records
-abbrev pub DataAnswers : Settings → (file records : List ℕ) → Result Finding DayFault → Type 0
+abbrev pub DataAnswers : Settings → (file records : List ℕ) → Result Finding VerifyFault → Type 0
 DataAnswers settings file records (Ok Verified) = HaveSameSegments settings file records
 DataAnswers settings file records (Ok NotShown) = ⊥
 DataAnswers settings file records (Ok Differs) = HaveDifference settings file records
@@ -43,7 +43,7 @@ DataAnswers settings file records (Err ReportRead) = ⊥
 DataAnswers settings file records (Err ReportMemory) = ⊥
 
 -- What comparing the day's own file with its records answers.
-pub record ComparesDay (settings : Settings) (file records : Device) (result : Result Finding DayFault) : Type 0 where
+pub record ComparesDay (settings : Settings) (file records : Device) (result : Result Finding VerifyFault) : Type 0 where
   pub first : List ℕ
   pub second : List ℕ
   pub left_file : HasLeft file first
@@ -92,7 +92,7 @@ pub record IsAgainRefused (file records again text : List ℕ) (found : Fault) :
 
 -- What an answer says of the bytes of the day's file, of the records, of the records as they are read again, and of the
 -- text. A source that failed, and memory that was refused, say nothing of them.
-abbrev pub DayAnswers : (file records again text : List ℕ) → Result Finding DayFault → Type 0
+abbrev pub DayAnswers : (file records again text : List ℕ) → Result Finding VerifyFault → Type 0
 DayAnswers file records again text (Ok Verified) = IsVerified file records again text
 DayAnswers file records again text (Ok NotShown) = IsUnshown records text
 DayAnswers file records again text (Ok Differs) = IsDifferent file records again text
@@ -108,7 +108,7 @@ DayAnswers file records again text (Err ReportRead) = Unit {0}
 DayAnswers file records again text (Err ReportMemory) = Unit {0}
 
 -- What verifying a day answers, for the bytes of its sources.
-pub record VerifiesDay (file records again report : Device) (result : Result Finding DayFault) : Type 0 where
+pub record VerifiesDay (file records again report : Device) (result : Result Finding VerifyFault) : Type 0 where
   pub first : List ℕ
   pub second : List ℕ
   pub third : List ℕ

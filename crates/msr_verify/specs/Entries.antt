@@ -9,76 +9,76 @@ use Rattle.msr_folders.specs.Paths.{shown_path}
 use Rattle.msr_verify.specs.Day.{DayAnswers}
 use Rattle.msr_verify.specs.declared.judging.Finding.{Finding}
 use Rattle.msr_verify.specs.declared.judging.Finding.TheVariants as finding
-use Rattle.msr_verify.specs.declared.judging.DayFault.{DayFault}
-use Rattle.msr_verify.specs.declared.outcome.Outcome.{Outcome}
-use Rattle.msr_verify.specs.declared.outcome.Outcome.TheVariants.{Verified, Missing, NotShown, Differs, Refused, Skipped, Orphan}
-use Rattle.msr_verify.specs.declared.outcome.Refusal.TheVariants.{FileUnopened, RecordsUnopened, ReportUnopened, SameFile, Listing, RecordsListing, Day}
-use Rattle.msr_verify.specs.declared.tally.Tally.{Tally}
+use Rattle.msr_verify.specs.declared.judging.VerifyFault.{VerifyFault}
+use Rattle.msr_verify.specs.declared.judgement.Judgement.{Judgement}
+use Rattle.msr_verify.specs.declared.judgement.Judgement.TheVariants.{Verified, Missing, NotShown, Differs, Refused, Skipped, Orphan}
+use Rattle.msr_verify.specs.declared.judgement.Refusal.TheVariants.{FileUnopened, RecordsUnopened, ReportUnopened, SameFile, Listing, RecordsListing, Day}
+use Rattle.msr_verify.specs.declared.tally.VerifyTally.{VerifyTally}
 
 -- an entry: its path from the archive's folder, and what was found of it
 pub record Entry : Type 0 where
   pub path : List ℕ
-  pub outcome : Outcome
+  pub judgement : Judgement
 
 -- what is told of a day with this answer
-abbrev pub outcome_of : Result Finding DayFault → Outcome
-outcome_of (Ok finding.Verified) = Verified
-outcome_of (Ok finding.NotShown) = NotShown
-outcome_of (Ok finding.Differs) = Differs
-outcome_of (Err fault) = Refused (Day fault)
+abbrev pub judgement_of : Result Finding VerifyFault → Judgement
+judgement_of (Ok finding.Verified) = Verified
+judgement_of (Ok finding.NotShown) = NotShown
+judgement_of (Ok finding.Differs) = Differs
+judgement_of (Err fault) = Refused (Day fault)
 
 -- Some files, the day's own, its records, twice, and its report, have this answer. Nothing is known of the files of the
 -- system but that they have some bytes.
-pub record HasAnswer (answer : Result Finding DayFault) : Type 0 where
+pub record HasAnswer (answer : Result Finding VerifyFault) : Type 0 where
   pub file : List ℕ
   pub records : List ℕ
   pub again : List ℕ
   pub text : List ℕ
   pub answers : DayAnswers file records again text answer
 
--- what an outcome says of a day
-abbrev pub IsOutcomeOfDay : Outcome → Type 0
-IsOutcomeOfDay Verified = HasAnswer (Ok finding.Verified)
-IsOutcomeOfDay Missing = ⊤
-IsOutcomeOfDay NotShown = HasAnswer (Ok finding.NotShown)
-IsOutcomeOfDay Differs = HasAnswer (Ok finding.Differs)
-IsOutcomeOfDay (Refused FileUnopened) = ⊤
-IsOutcomeOfDay (Refused RecordsUnopened) = ⊤
-IsOutcomeOfDay (Refused ReportUnopened) = ⊤
-IsOutcomeOfDay (Refused SameFile) = ⊤
-IsOutcomeOfDay (Refused Listing) = ⊥
-IsOutcomeOfDay (Refused RecordsListing) = ⊥
-IsOutcomeOfDay (Refused (Day fault)) = HasAnswer (Err fault)
-IsOutcomeOfDay (Skipped fault) = ⊥
-IsOutcomeOfDay Orphan = ⊤
+-- what a judgement says of a day
+abbrev pub IsJudgementOfDay : Judgement → Type 0
+IsJudgementOfDay Verified = HasAnswer (Ok finding.Verified)
+IsJudgementOfDay Missing = ⊤
+IsJudgementOfDay NotShown = HasAnswer (Ok finding.NotShown)
+IsJudgementOfDay Differs = HasAnswer (Ok finding.Differs)
+IsJudgementOfDay (Refused FileUnopened) = ⊤
+IsJudgementOfDay (Refused RecordsUnopened) = ⊤
+IsJudgementOfDay (Refused ReportUnopened) = ⊤
+IsJudgementOfDay (Refused SameFile) = ⊤
+IsJudgementOfDay (Refused Listing) = ⊥
+IsJudgementOfDay (Refused RecordsListing) = ⊥
+IsJudgementOfDay (Refused (Day fault)) = HasAnswer (Err fault)
+IsJudgementOfDay (Skipped fault) = ⊥
+IsJudgementOfDay Orphan = ⊤
 
 -- the path is that of a day of waveform data
 abbrev pub IsDay : List ℕ → Type 0
 IsDay path = (name : SdsPath) × ReadsAsDay path name
 
--- The entry is a day, with this outcome.
-pub record IsFoundOfDay (path : List ℕ) (outcome : Outcome) : Type 0 where
+-- The entry is a day, with this judgement.
+pub record IsFoundOfDay (path : List ℕ) (judgement : Judgement) : Type 0 where
   pub day : IsDay path
-  pub outcome_is : IsOutcomeOfDay outcome
+  pub judgement_is : IsJudgementOfDay judgement
 
--- what an outcome says of an entry
-abbrev pub IsOutcomeOf : List ℕ → Outcome → Type 0
-IsOutcomeOf path Verified = IsFoundOfDay path Verified
-IsOutcomeOf path Missing = IsDay path
-IsOutcomeOf path NotShown = IsFoundOfDay path NotShown
-IsOutcomeOf path Differs = IsFoundOfDay path Differs
-IsOutcomeOf path (Refused FileUnopened) = ⊤
-IsOutcomeOf path (Refused RecordsUnopened) = IsDay path
-IsOutcomeOf path (Refused ReportUnopened) = IsDay path
-IsOutcomeOf path (Refused SameFile) = IsDay path
-IsOutcomeOf path (Refused Listing) = ⊤
-IsOutcomeOf path (Refused RecordsListing) = ⊤
-IsOutcomeOf path (Refused (Day fault)) = IsFoundOfDay path (Refused (Day fault))
-IsOutcomeOf path (Skipped fault) = IsNoDay path fault
-IsOutcomeOf path Orphan = IsDay path
+-- what a judgement says of an entry
+abbrev pub IsJudgementOf : List ℕ → Judgement → Type 0
+IsJudgementOf path Verified = IsFoundOfDay path Verified
+IsJudgementOf path Missing = IsDay path
+IsJudgementOf path NotShown = IsFoundOfDay path NotShown
+IsJudgementOf path Differs = IsFoundOfDay path Differs
+IsJudgementOf path (Refused FileUnopened) = ⊤
+IsJudgementOf path (Refused RecordsUnopened) = IsDay path
+IsJudgementOf path (Refused ReportUnopened) = IsDay path
+IsJudgementOf path (Refused SameFile) = IsDay path
+IsJudgementOf path (Refused Listing) = ⊤
+IsJudgementOf path (Refused RecordsListing) = ⊤
+IsJudgementOf path (Refused (Day fault)) = IsFoundOfDay path (Refused (Day fault))
+IsJudgementOf path (Skipped fault) = IsNoDay path fault
+IsJudgementOf path Orphan = IsDay path
 
 abbrev pub IsEntry : Entry → Type 0
-IsEntry entry = IsOutcomeOf entry.path entry.outcome
+IsEntry entry = IsJudgementOf entry.path entry.judgement
 
 -- a line that says why
 abbrev pub IsLineWithReason : (word path line : List ℕ) → Type 0
@@ -86,7 +86,7 @@ IsLineWithReason word path line = (why : List ℕ)
     × (line ≡ word ++ (shown_path path ++ (codes ": " ++ (why ++ codes "\n"))))
 
 -- The line of an entry. The texts of faults are shown by tests.
-abbrev pub IsLineOf : List ℕ → Outcome → List ℕ → Type 0
+abbrev pub IsLineOf : List ℕ → Judgement → List ℕ → Type 0
 IsLineOf path Verified line = line ≡ codes "verified " ++ (shown_path path ++ codes "\n")
 IsLineOf path Missing line = line ≡ codes "missing " ++ (shown_path path ++ codes "\n")
 IsLineOf path NotShown line = line ≡ codes "notshown " ++ (shown_path path ++ codes "\n")
@@ -99,9 +99,9 @@ IsLineOf path (Refused refusal) line = IsLineWithReason (codes "refused ") path 
 abbrev pub AreLines : List Entry → List ℕ → Type 0
 AreLines [] lines = lines ≡ []
 AreLines (entry ∷ entries) lines = (line : List ℕ) × (rest : List ℕ)
-    × IsLineOf entry.path entry.outcome line × AreLines entries rest × (lines ≡ line ++ rest)
+    × IsLineOf entry.path entry.judgement line × AreLines entries rest × (lines ≡ line ++ rest)
 
-abbrev pub is_verified : Outcome → Bool
+abbrev pub is_verified : Judgement → Bool
 is_verified Verified = true
 is_verified Missing = false
 is_verified NotShown = false
@@ -110,7 +110,7 @@ is_verified (Refused refusal) = false
 is_verified (Skipped fault) = false
 is_verified Orphan = false
 
-abbrev pub is_missing : Outcome → Bool
+abbrev pub is_missing : Judgement → Bool
 is_missing Verified = false
 is_missing Missing = true
 is_missing NotShown = false
@@ -119,7 +119,7 @@ is_missing (Refused refusal) = false
 is_missing (Skipped fault) = false
 is_missing Orphan = false
 
-abbrev pub is_not_shown : Outcome → Bool
+abbrev pub is_not_shown : Judgement → Bool
 is_not_shown Verified = false
 is_not_shown Missing = false
 is_not_shown NotShown = true
@@ -128,7 +128,7 @@ is_not_shown (Refused refusal) = false
 is_not_shown (Skipped fault) = false
 is_not_shown Orphan = false
 
-abbrev pub is_different : Outcome → Bool
+abbrev pub is_different : Judgement → Bool
 is_different Verified = false
 is_different Missing = false
 is_different NotShown = false
@@ -137,7 +137,7 @@ is_different (Refused refusal) = false
 is_different (Skipped fault) = false
 is_different Orphan = false
 
-abbrev pub is_refused : Outcome → Bool
+abbrev pub is_refused : Judgement → Bool
 is_refused Verified = false
 is_refused Missing = false
 is_refused NotShown = false
@@ -146,7 +146,7 @@ is_refused (Refused refusal) = true
 is_refused (Skipped fault) = false
 is_refused Orphan = false
 
-abbrev pub is_skipped : Outcome → Bool
+abbrev pub is_skipped : Judgement → Bool
 is_skipped Verified = false
 is_skipped Missing = false
 is_skipped NotShown = false
@@ -155,7 +155,7 @@ is_skipped (Refused refusal) = false
 is_skipped (Skipped fault) = true
 is_skipped Orphan = false
 
-abbrev pub is_orphan : Outcome → Bool
+abbrev pub is_orphan : Judgement → Bool
 is_orphan Verified = false
 is_orphan Missing = false
 is_orphan NotShown = false
@@ -165,7 +165,7 @@ is_orphan (Skipped fault) = false
 is_orphan Orphan = true
 
 -- neither verified nor skipped
-abbrev pub is_unverified : Outcome → Bool
+abbrev pub is_unverified : Judgement → Bool
 is_unverified Verified = false
 is_unverified Missing = true
 is_unverified NotShown = true
@@ -174,12 +174,12 @@ is_unverified (Refused refusal) = true
 is_unverified (Skipped fault) = false
 is_unverified Orphan = true
 
--- how many entries have such an outcome, or 2^64 - 1 if they are more
-abbrev pub counted : (Outcome → Bool) → List Entry → ℕ
-counted of entries = saturated (count_by (λ entry. of entry.outcome) entries)
+-- how many entries have such a judgement, or 2^64 - 1 if they are more
+abbrev pub counted : (Judgement → Bool) → List Entry → ℕ
+counted of entries = saturated (count_by (λ entry. of entry.judgement) entries)
 
 -- the counts of the entries
-abbrev pub tally_of : List Entry → Tally
+abbrev pub tally_of : List Entry → VerifyTally
 tally_of entries = record {
   verified = counted is_verified entries;
   skipped = counted is_skipped entries;
@@ -192,7 +192,7 @@ tally_of entries = record {
 }
 
 -- These are the counts of the entries.
-pub record IsTally (entries : List Entry) (tally : Tally) : Type 0 where
+pub record IsVerifyTally (entries : List Entry) (tally : VerifyTally) : Type 0 where
   pub verified : tally.verified ≡ counted is_verified entries
   pub skipped : tally.skipped ≡ counted is_skipped entries
   pub refused : tally.refused ≡ counted is_refused entries

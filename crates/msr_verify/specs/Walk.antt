@@ -7,18 +7,18 @@ use Rattle.msr_report.specs.Writing.{TakesPrefix}
 use Rattle.msr_tool.specs.Writing.{StopsSink}
 use Rattle.msr_tool.specs.declared.fault.ToolFault.{ToolFault}
 use Rattle.msr_tool.specs.declared.fault.ToolFault.TheVariants.{Input, Report, Read, Write, Memory}
-use Rattle.msr_verify.specs.Entries.{Entry, IsEntry, AreLines, IsTally, counted, is_unverified, tally_of}
-use Rattle.msr_verify.specs.declared.tally.Tally.{Tally}
+use Rattle.msr_verify.specs.Entries.{Entry, IsEntry, AreLines, IsVerifyTally, counted, is_unverified, tally_of}
+use Rattle.msr_verify.specs.declared.tally.VerifyTally.{VerifyTally}
 
 -- the counts at the end of the last line
-abbrev pub others_told : Tally → List ℕ
+abbrev pub others_told : VerifyTally → List ℕ
 others_told tally =
     codes " missing " ++ (decimal tally.missing ++ (codes " notshown "
     ++ (decimal tally.not_shown ++ (codes " differs " ++ (decimal tally.differ
     ++ (codes " orphan " ++ decimal tally.orphans))))))
 
 -- the last line
-abbrev pub counts_line : Tally → List ℕ
+abbrev pub counts_line : VerifyTally → List ℕ
 counts_line tally =
     codes "files " ++ (decimal tally.verified ++ (codes " skipped "
     ++ (decimal tally.skipped ++ (codes " refused " ++ (decimal tally.refused
@@ -33,14 +33,14 @@ abbrev pub StopsPrefix : Device → Device → List ℕ → ToolFault → Type 0
 StopsPrefix out0 out text fault = StopsSink (TakesPrefix out0 out text) (TakesPrefix out0 out text) out0 out fault
 
 -- Some more entries were told: their lines were printed, and they are counted.
-pub record Tells (out0 out : Device) (tally0 tally : Tally) : Type 0 where
+pub record Tells (out0 out : Device) (tally0 tally : VerifyTally) : Type 0 where
   pub entries : List Entry
   pub lines : List ℕ
   pub are_entries : AllByRecursion IsEntry entries
   pub are_lines : AreLines entries lines
   pub prints : Takes out0 out lines
   pub calm : IsCalm out0 out
-  pub counts : (before : List Entry) → IsTally before tally0 → IsTally (before ++ entries) tally
+  pub counts : (before : List Entry) → IsVerifyTally before tally0 → IsVerifyTally (before ++ entries) tally
 
 -- A prefix of the lines of some more entries was printed.
 pub record TellsInPart (out0 out : Device) : Type 0 where

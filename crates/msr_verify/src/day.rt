@@ -1,10 +1,10 @@
 //! The three files of a day: which they are, and what they show.
 ghost use Rattle.std.specs.Prelude.{IfOk};
-ghost use Rattle.msr_verify.specs.Entries.{IsOutcomeOfDay};
+ghost use Rattle.msr_verify.specs.Entries.{IsJudgementOfDay};
 
 use crate::folders::RepackedArchive;
+use crate::judgement::{Judgement, Refusal, judgement_of};
 use crate::judging::verify_day;
-use crate::outcome::{Outcome, Refusal, outcome_of};
 use msr_folders::{ended, join, may_be_one, open_regular, tells_none};
 use msr_tool::FromRead;
 use std::alloc::{AllocError, Global};
@@ -20,28 +20,34 @@ pub(crate) fn is_gone<R: Files>(rt: &R, path: &str) -> bool {
 }
 
 /// What the files with these names show. All are opened before one is read, the records twice.
-fn judge_files<R: Files>(rt: &R, alloc: Global, file: &str, records: &str, report: &str) -> Outcome
-    ensures { IsOutcomeOfDay result }
+fn judge_files<R: Files>(
+    rt: &R,
+    alloc: Global,
+    file: &str,
+    records: &str,
+    report: &str,
+) -> Judgement
+    ensures { IsJudgementOfDay result }
 {
     if is_gone(rt, records) || is_gone(rt, report) {
-        return Outcome::Missing;
+        return Judgement::Missing;
     }
     let Some(text) = open_regular(rt, report) else {
-        return Outcome::Refused(Refusal::ReportUnopened);
+        return Judgement::Refused(Refusal::ReportUnopened);
     };
     let Some(packed) = open_regular(rt, records) else {
-        return Outcome::Refused(Refusal::RecordsUnopened);
+        return Judgement::Refused(Refusal::RecordsUnopened);
     };
     if may_be_one(rt, file, records) {
-        return Outcome::Refused(Refusal::SameFile);
+        return Judgement::Refused(Refusal::SameFile);
     }
     let Some(again) = open_regular(rt, records) else {
-        return Outcome::Refused(Refusal::RecordsUnopened);
+        return Judgement::Refused(Refusal::RecordsUnopened);
     };
     let Some(own) = open_regular(rt, file) else {
-        return Outcome::Refused(Refusal::FileUnopened);
+        return Judgement::Refused(Refusal::FileUnopened);
     };
-    outcome_of(verify_day(
+    judgement_of(verify_day(
         alloc,
         &mut FromRead::new(own),
         &mut FromRead::new(packed),
@@ -56,8 +62,8 @@ pub(crate) fn judge_day<R: Files>(
     alloc: Global,
     archive: &RepackedArchive<'_>,
     path: &str,
-) -> Result<Outcome, AllocError>
-    ensures { IfOk result IsOutcomeOfDay }
+) -> Result<Judgement, AllocError>
+    ensures { IfOk result IsJudgementOfDay }
 {
     let file = join(alloc, archive.root, path)?;
     let records = join(alloc, archive.out, path)?;

@@ -2,14 +2,14 @@
 ghost use Rattle.std.specs.Prelude.{◌↔◌, IfErr, IsErrOf, OnOk};
 ghost use Rattle.msr_devices.specs.Device.{CanCountCall, HasFailed};
 ghost use Rattle.msr_sds.specs.SdsPath.{ReadsAsDay, SdsPath};
-ghost use Rattle.msr_verify.specs.Entries.{IsOutcomeOf};
+ghost use Rattle.msr_verify.specs.Entries.{IsJudgementOf};
 ghost use Rattle.msr_verify.specs.Walk.{StopsTelling, Tells, Verifies};
 
 use crate::day::{is_gone, judge_day};
-use crate::outcome::{Outcome, Refusal};
-use crate::tally::Tally;
+use crate::judgement::{Judgement, Refusal};
+use crate::tally::VerifyTally;
 use msr_devices::write_all;
-use msr_folders::{Kind, ListFault, entry_path, join, kind_of, names_in};
+use msr_folders::{FileKind, ListFault, entry_path, join, kind_of, names_in};
 use msr_sds::{FOLDERS, SdsName, levels_below};
 use msr_tool::{Sink, ToolFault};
 use std::alloc::Global;
@@ -39,14 +39,14 @@ enum Tree {
 
 /// What the walk needs: the system's files, memory, the folders, and which of the two trees is walked.
 #[derive(Drop)]
-struct Walker<'a, R: Files> {
+struct Verifier<'a, R: Files> {
     rt: &'a R,
     alloc: Global,
     archive: &'a RepackedArchive<'a>,
     tree: Tree,
 }
 
-impl<'a, R: Files> Walker<'a, R> {
+impl<'a, R: Files> Verifier<'a, R> {
     /// The folder that is walked.
     fn place(&self) -> &'a str {
         match self.tree {
@@ -58,30 +58,30 @@ impl<'a, R: Files> Walker<'a, R> {
 
 /// Prints the line of an entry, and counts it.
 fn tell<R: Files, O: Sink>(
-    walker: &Walker<'_, R>,
+    verifier: &Verifier<'_, R>,
     path: &str,
-    outcome: Outcome,
+    judgement: Judgement,
     out: &mut O,
-    tally: &mut Tally,
+    tally: &mut VerifyTally,
 ) -> Result<(), ToolFault>
     requires { CanCountCall (O.device out.old) }
-    ensures told { IsOutcomeOf path.now outcome →
+    ensures told { IsJudgementOf path.now judgement →
         OnOk result (Tells (O.device out.old) (O.device out.new) tally.old tally.new) }
-    ensures stops { IsOutcomeOf path.now outcome →
+    ensures stops { IsJudgementOf path.now judgement →
         IfErr result (StopsTelling (O.device out.old) (O.device out.new)) }
 {
-    let line = outcome.line(walker.alloc, path)?;
+    let line = judgement.line(verifier.alloc, path)?;
     write_all(out, line.as_bytes())?;
-    tally.add(outcome);
+    tally.add(judgement);
     Ok(())
 }
 
 /// Tells of a day of the archive what its files show, and of a day of the records whether the archive does not have it.
 fn tell_day<R: Files, O: Sink>(
-    walker: &Walker<'_, R>,
+    verifier: &Verifier<'_, R>,
     path: &str,
     out: &mut O,
-    tally: &mut Tally,
+    tally: &mut VerifyTally,
 ) -> Result<(), ToolFault>
     requires count { CanCountCall (O.device out.old) }
     ensures told { (name : SdsPath) → ReadsAsDay path.now name →
@@ -89,99 +89,105 @@ fn tell_day<R: Files, O: Sink>(
     ensures stops { (name : SdsPath) → ReadsAsDay path.now name →
         IfErr result (StopsTelling (O.device out.old) (O.device out.new)) }
 {
-    if walker.tree == Tree::Root {
-        let outcome = judge_day(walker.rt, walker.alloc, walker.archive, path)?;
-        return tell(walker, path, outcome, out, tally);
+    if verifier.tree == Tree::Root {
+        let judgement = judge_day(verifier.rt, verifier.alloc, verifier.archive, path)?;
+        return tell(verifier, path, judgement, out, tally);
     }
-    let file = join(walker.alloc, walker.archive.root, path)?;
-    if is_gone(walker.rt, file.as_str()) {
-        return tell(walker, path, Outcome::Orphan, out, tally);
+    let file = join(verifier.alloc, verifier.archive.root, path)?;
+    if is_gone(verifier.rt, file.as_str()) {
+        return tell(verifier, path, Judgement::Orphan, out, tally);
     }
     Ok(())
 }
 
 /// Handles an entry that is no folder of the walk. What is no day among the records is not told.
 fn tell_entry<R: Files, O: Sink>(
-    walker: &Walker<'_, R>,
+    verifier: &Verifier<'_, R>,
     path: &str,
-    kind: Kind,
+    kind: FileKind,
     out: &mut O,
-    tally: &mut Tally,
+    tally: &mut VerifyTally,
 ) -> Result<(), ToolFault>
     requires { CanCountCall (O.device out.old) }
     ensures told { OnOk result (Tells (O.device out.old) (O.device out.new) tally.old tally.new) }
     ensures stops { IfErr result (StopsTelling (O.device out.old) (O.device out.new)) }
 {
     match SdsName::parse(path) {
-        Ok(_) => tell_day(walker, path, out, tally),
+        Ok(_) => tell_day(verifier, path, out, tally),
         Err(fault) => {
-            if walker.tree == Tree::Out {
+            if verifier.tree == Tree::Out {
                 return Ok(());
             }
-            if kind == Kind::Gone {
-                let refused = Outcome::Refused(Refusal::FileUnopened);
-                return tell(walker, path, refused, out, tally);
+            if kind == FileKind::Gone {
+                let refused = Judgement::Refused(Refusal::FileUnopened);
+                return tell(verifier, path, refused, out, tally);
             }
-            tell(walker, path, Outcome::Skipped(fault), out, tally)
+            tell(verifier, path, Judgement::Skipped(fault), out, tally)
         }
     }
 }
 
 /// Tells that a folder has no list. A folder of records that is not there has none to tell of.
 fn tell_unlisted<R: Files, O: Sink>(
-    walker: &Walker<'_, R>,
+    verifier: &Verifier<'_, R>,
     folder: &str,
     place: &str,
     out: &mut O,
-    tally: &mut Tally,
+    tally: &mut VerifyTally,
 ) -> Result<(), ToolFault>
     requires { CanCountCall (O.device out.old) }
     ensures told { OnOk result (Tells (O.device out.old) (O.device out.new) tally.old tally.new) }
     ensures stops { IfErr result (StopsTelling (O.device out.old) (O.device out.new)) }
 {
     let path = if folder.is_empty() { "." } else { folder };
-    if walker.tree == Tree::Root {
-        let refused = Outcome::Refused(Refusal::Listing);
-        return tell(walker, path, refused, out, tally);
+    if verifier.tree == Tree::Root {
+        let refused = Judgement::Refused(Refusal::Listing);
+        return tell(verifier, path, refused, out, tally);
     }
-    if is_gone(walker.rt, place) {
+    if is_gone(verifier.rt, place) {
         return Ok(());
     }
-    let refused = Outcome::Refused(Refusal::RecordsListing);
-    tell(walker, path, refused, out, tally)
+    let refused = Judgement::Refused(Refusal::RecordsListing);
+    tell(verifier, path, refused, out, tally)
 }
 
 /// Tells of the entries of the folder with that path from the one that is walked, and of folders up to `levels` below it.
 fn walk_folder<R: Files, O: Sink>(
-    walker: &Walker<'_, R>,
+    verifier: &Verifier<'_, R>,
     folder: &str,
     levels: u8,
     out: &mut O,
-    tally: &mut Tally,
+    tally: &mut VerifyTally,
 ) -> Result<(), ToolFault>
     requires { CanCountCall (O.device out.old) }
     ensures told { OnOk result (Tells (O.device out.old) (O.device out.new) tally.old tally.new) }
     ensures stops { IfErr result (StopsTelling (O.device out.old) (O.device out.new)) }
 {
-    let alloc = walker.alloc;
-    let place = join(alloc, walker.place(), folder)?;
-    let names = match names_in(walker.rt, alloc, place.as_str()) {
+    let alloc = verifier.alloc;
+    let place = join(alloc, verifier.place(), folder)?;
+    let names = match names_in(verifier.rt, alloc, place.as_str()) {
         Ok(names) => names,
         Err(ListFault::Memory) => return Err(ToolFault::Memory),
-        Err(ListFault::Listing) => return tell_unlisted(walker, folder, place.as_str(), out, tally),
+        Err(ListFault::Listing) => return tell_unlisted(
+            verifier,
+            folder,
+            place.as_str(),
+            out,
+            tally,
+        ),
     };
     for name in &names {
         let path = entry_path(alloc, folder, name.as_str())?;
-        let place = join(alloc, walker.place(), path.as_str())?;
+        let place = join(alloc, verifier.place(), path.as_str())?;
         let kind = if levels == 0 {
-            Kind::Other
+            FileKind::Other
         } else {
-            kind_of(walker.rt, place.as_str())
+            kind_of(verifier.rt, place.as_str())
         };
-        if 0 < levels && kind == Kind::Folder {
-            walk_folder(walker, path.as_str(), levels - 1, out, tally)?;
+        if 0 < levels && kind == FileKind::Folder {
+            walk_folder(verifier, path.as_str(), levels - 1, out, tally)?;
         } else {
-            tell_entry(walker, path.as_str(), kind, out, tally)?;
+            tell_entry(verifier, path.as_str(), kind, out, tally)?;
         }
     }
     Ok(())
@@ -189,20 +195,20 @@ fn walk_folder<R: Files, O: Sink>(
 
 /// Walks the whole tree, or the folders that are asked for, one after another.
 fn walk_folders<R: Files, O: Sink>(
-    walker: &Walker<'_, R>,
+    verifier: &Verifier<'_, R>,
     out: &mut O,
-    tally: &mut Tally,
+    tally: &mut VerifyTally,
 ) -> Result<(), ToolFault>
     requires { CanCountCall (O.device out.old) }
     ensures told { OnOk result (Tells (O.device out.old) (O.device out.new) tally.old tally.new) }
     ensures stops { IfErr result (StopsTelling (O.device out.old) (O.device out.new)) }
 {
-    if walker.archive.below.is_empty() {
-        return walk_folder(walker, "", FOLDERS, out, tally);
+    if verifier.archive.below.is_empty() {
+        return walk_folder(verifier, "", FOLDERS, out, tally);
     }
-    for folder in walker.archive.below {
+    for folder in verifier.archive.below {
         let levels = levels_below(folder).unwrap_or(0);
-        walk_folder(walker, folder, levels, out, tally)?;
+        walk_folder(verifier, folder, levels, out, tally)?;
     }
     Ok(())
 }
@@ -221,15 +227,15 @@ pub fn verify<R: Files, O: Sink>(
     // A failure of the sink is answered as such, and nothing else is.
     ensures write { IsErrOf result ToolFault.Write ↔ HasFailed (O.device out.old) (O.device out.new) }
 {
-    let mut tally = Tally::new();
-    let root = Walker {
+    let mut tally = VerifyTally::new();
+    let root = Verifier {
         rt,
         alloc,
         archive,
         tree: Tree::Root,
     };
     walk_folders(&root, out, &mut tally)?;
-    let records = Walker {
+    let records = Verifier {
         rt,
         alloc,
         archive,

@@ -27,7 +27,7 @@ pub enum Finding {
 
 /// Which of the three files is at fault, and its fault.
 #[derive(Clone, Copy, Debug, PartialEq, Eq, Error)]
-pub enum DayFault {
+pub enum VerifyFault {
     /// The day's own file.
     #[error("file: {0}")]
     File(ReadFault),
@@ -45,13 +45,13 @@ pub enum DayFault {
     ReportMemory,
 }
 
-fn report_fault(fault: ReportFault) -> DayFault
+fn report_fault(fault: ReportFault) -> VerifyFault
     ensures { result ≡ fault_of_report fault }
 {
     match fault {
-        ReportFault::Line(line) => DayFault::ReportLine(line),
-        ReportFault::Read => DayFault::ReportRead,
-        ReportFault::Memory => DayFault::ReportMemory,
+        ReportFault::Line(line) => VerifyFault::ReportLine(line),
+        ReportFault::Read => VerifyFault::ReportRead,
+        ReportFault::Memory => VerifyFault::ReportMemory,
     }
 }
 
@@ -61,14 +61,14 @@ fn compare_day<F: Source, P: Source>(
     file: &mut F,
     records: &mut P,
     report: &Report,
-) -> Result<Finding, DayFault>
+) -> Result<Finding, VerifyFault>
     requires file { CanCountCall (F.device file.old) }
     requires records { CanCountCall (P.device records.old) }
     requires report { IsProper report.now }
     ensures answer { ComparesDay (settings_by report.now) (F.device file.old) (P.device records.old) result }
-    ensures read_file { IsErrOf result (DayFault.File ReadFault.Read)
+    ensures read_file { IsErrOf result (VerifyFault.File ReadFault.Read)
         ↔ HasFailed (F.device file.old) (F.device file.new) }
-    ensures read_records { IsErrOf result (DayFault.Records ReadFault.Read)
+    ensures read_records { IsErrOf result (VerifyFault.Records ReadFault.Read)
         ↔ HasFailed (P.device records.old) (P.device records.new) }
     ensures few_file { CountsFew (F.device file.old) (F.device file.new) }
     ensures few_records { CountsFew (P.device records.old) (P.device records.new) }
@@ -80,8 +80,8 @@ fn compare_day<F: Source, P: Source>(
     match compare(alloc, file, records, settings) {
         Ok(Comparison::Same(_)) => Ok(Finding::Verified),
         Ok(Comparison::Differ(_)) => Ok(Finding::Differs),
-        Err(CompareFault::One(fault)) => Err(DayFault::File(fault)),
-        Err(CompareFault::Other(fault)) => Err(DayFault::Records(fault)),
+        Err(CompareFault::One(fault)) => Err(VerifyFault::File(fault)),
+        Err(CompareFault::Other(fault)) => Err(VerifyFault::Records(fault)),
     }
 }
 
@@ -93,7 +93,7 @@ pub fn verify_day<F: Source, P: Source, A: Source, Q: Source>(
     records: &mut P,
     again: &mut A,
     report: &mut Q,
-) -> Result<Finding, DayFault>
+) -> Result<Finding, VerifyFault>
     requires file { CanCountCall (F.device file.old) }
     requires records { CanCountCall (P.device records.old) }
     requires again { CanCountCall (A.device again.old) }
@@ -104,12 +104,12 @@ pub fn verify_day<F: Source, P: Source, A: Source, Q: Source>(
         (Q.device report.old) result }
 
     // A failure of a source is answered as such, and nothing else is.
-    ensures read_file { IsErrOf result (DayFault.File ReadFault.Read)
+    ensures read_file { IsErrOf result (VerifyFault.File ReadFault.Read)
         ↔ HasFailed (F.device file.old) (F.device file.new) }
-    ensures read_records { IsErrOf result (DayFault.Records ReadFault.Read)
+    ensures read_records { IsErrOf result (VerifyFault.Records ReadFault.Read)
         ↔ (HasFailed (P.device records.old) (P.device records.new)
         ⊎ HasFailed (A.device again.old) (A.device again.new)) }
-    ensures read_report { IsErrOf result DayFault.ReportRead
+    ensures read_report { IsErrOf result VerifyFault.ReportRead
         ↔ HasFailed (Q.device report.old) (Q.device report.new) }
 {
     let report = match read_report(alloc, report) {
@@ -119,6 +119,6 @@ pub fn verify_day<F: Source, P: Source, A: Source, Q: Source>(
     match verify_packed(alloc, records, &report) {
         Ok(Verdict::Least) => compare_day(alloc, file, again, &report),
         Ok(Verdict::NotShown) => Ok(Finding::NotShown),
-        Err(fault) => Err(DayFault::Records(fault)),
+        Err(fault) => Err(VerifyFault::Records(fault)),
     }
 }

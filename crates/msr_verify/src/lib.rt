@@ -4,9 +4,9 @@
 
 mod day;
 mod folders;
+mod judgement;
 mod judging;
-mod outcome;
 mod tally;
 
 pub use folders::{RepackedArchive, verify};
-pub use judging::{DayFault, Finding, verify_day};
+pub use judging::{Finding, VerifyFault, verify_day};

@@ -2,17 +2,17 @@
 ghost use Rattle.std.specs.Prelude.{◌≡◌, ◌++◌, ◌∷◌, [], List, IfErr, IfOk, OnOk};
 ghost use Rattle.std.specs.String.{string_bytes};
 ghost use Rattle.msr_devices.specs.Device.{CanCountCall, IsCalm, Takes};
-ghost use Rattle.msr_verify.specs.Entries.{Entry, IsTally};
+ghost use Rattle.msr_verify.specs.Entries.{Entry, IsVerifyTally};
 ghost use Rattle.msr_verify.specs.Walk.{StopsPrefix, counts_line, others_told};
 
-use crate::outcome::Outcome;
+use crate::judgement::Judgement;
 use msr_devices::write_all;
 use msr_tool::{Sink, ToolFault};
 use std::alloc::{AllocError, Global};
 
-/// How many entries had each outcome, and how many were neither verified nor skipped.
+/// How many entries had each judgement, and how many were neither verified nor skipped.
 #[derive(Clone, Copy)]
-pub(crate) struct Tally {
+pub(crate) struct VerifyTally {
     pub verified: u64,
     pub skipped: u64,
     pub refused: u64,
@@ -23,12 +23,12 @@ pub(crate) struct Tally {
     pub unverified: u64,
 }
 
-impl Tally {
+impl VerifyTally {
     /// The tally before anything was told.
-    pub(crate) fn new() -> Tally
-        ensures { IsTally [] result }
+    pub(crate) fn new() -> VerifyTally
+        ensures { IsVerifyTally [] result }
     {
-        Tally {
+        VerifyTally {
             verified: 0,
             skipped: 0,
             refused: 0,
@@ -41,24 +41,24 @@ impl Tally {
     }
 
     /// Counts one entry more.
-    pub(crate) fn add(&mut self, outcome: Outcome)
-        ensures { (before : List Entry) (entry : Entry) → IsTally before self.old → entry.outcome ≡ outcome
-            → IsTally (before ++ entry ∷ []) self.new }
+    pub(crate) fn add(&mut self, judgement: Judgement)
+        ensures { (before : List Entry) (entry : Entry) → IsVerifyTally before self.old → entry.judgement ≡ judgement
+            → IsVerifyTally (before ++ entry ∷ []) self.new }
     {
-        match outcome {
-            Outcome::Verified => {
+        match judgement {
+            Judgement::Verified => {
                 self.verified = self.verified.saturating_add(1);
                 return;
             }
-            Outcome::Skipped(_) => {
+            Judgement::Skipped(_) => {
                 self.skipped = self.skipped.saturating_add(1);
                 return;
             }
-            Outcome::Missing => self.missing = self.missing.saturating_add(1),
-            Outcome::NotShown => self.not_shown = self.not_shown.saturating_add(1),
-            Outcome::Differs => self.differ = self.differ.saturating_add(1),
-            Outcome::Refused(_) => self.refused = self.refused.saturating_add(1),
-            Outcome::Orphan => self.orphans = self.orphans.saturating_add(1),
+            Judgement::Missing => self.missing = self.missing.saturating_add(1),
+            Judgement::NotShown => self.not_shown = self.not_shown.saturating_add(1),
+            Judgement::Differs => self.differ = self.differ.saturating_add(1),
+            Judgement::Refused(_) => self.refused = self.refused.saturating_add(1),
+            Judgement::Orphan => self.orphans = self.orphans.saturating_add(1),
         }
         self.unverified = self.unverified.saturating_add(1);
     }

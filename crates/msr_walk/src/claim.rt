@@ -1,6 +1,6 @@
 //! Days that are claimed: at any time one walk alone makes, renames or removes the files of a day.
 use crate::day::Day;
-use crate::files::{create_new, make_folder};
+use crate::files::create_new;
 use msr_folders::FileId;
 use std::alloc::{AllocError, Global};
 use std::fs;
@@ -112,9 +112,6 @@ pub(crate) fn claim_day<R: Files>(
 where
     R::File: LockFile,
 {
-    if make_folder(rt, day.claim()).is_err() {
-        return Err(ClaimFault::CannotOpen);
-    }
     for _ in 0..TRIES {
         if let Some(claim) = claim_anew(rt, day.claim())? {
             return Ok(claim);

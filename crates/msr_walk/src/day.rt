@@ -4,7 +4,7 @@ ghost use Rattle.msr_walk.specs.Day.{IsComparedIfAsked, IsDayOutcome, IsKept, Is
 ghost use Rattle.msr_walk.specs.Files.{day_files, day_names};
 
 use crate::claim::{Claim, ClaimFault, LockFile, claim_day};
-use crate::files::{NewFile, open_regular, settle};
+use crate::files::{NewFile, open_found, open_regular, settle_regular};
 use crate::folders::Archive;
 use crate::outcome::{DayFault, Outcome, Repacked};
 use crate::repacking::{
@@ -12,7 +12,7 @@ use crate::repacking::{
 };
 use crate::stamp::Stamp;
 use msr_days::DayOptions;
-use msr_folders::{ended, join, may_be_one};
+use msr_folders::{Look, ended, join};
 use msr_tool::{FromRead, FromWrite, Length};
 use std::alloc::{AllocError, Global};
 use std::fs;
@@ -107,14 +107,48 @@ impl DayFiles {
     }
 
     /// Stamps the day, if its input is as it was; without a stamp the next walk repacks it again.
-    fn put_stamp<R: Files>(&self, rt: &R, alloc: Global, before: Option<Stamp>, input: &str) {
-        let Some(stamp) = Stamp::of(rt, input) else {
+    fn put_stamp<R: Files>(&self, rt: &R, alloc: Global, before: &Look, input: &str) {
+        let Some(stamp) = Stamp::of(&Look::at(rt, input)) else {
             return;
         };
-        if before == Some(stamp) && stamp.put(rt, alloc, &self.stamp).is_err() {
+        if Stamp::of(before) == Some(stamp) && stamp.put(rt, alloc, &self.stamp).is_err() {
             self.stamp.sweep(rt);
         }
     }
+}
+
+/// What stands under the names of the day's own file, and of those that are made of it.
+#[derive(Drop)]
+struct DayLook {
+    input: Look,
+    records: Look,
+    report: Look,
+    stamp: Look,
+}
+
+impl DayLook {
+    /// Whether the day's own file may be one of those that are made of it.
+    fn may_be_output(&self) -> bool {
+        self.input.may_be(&self.records)
+            || self.input.may_be(&self.report)
+            || self.input.may_be(&self.stamp)
+    }
+
+    /// Whether the file of the records has so many bytes.
+    fn has_records(&self, bytes: u64) -> bool {
+        match self.records.regular() {
+            Some(metadata) => metadata.len() == bytes,
+            None => false,
+        }
+    }
+}
+
+/// A day that this walk has: what stood under the name of its own file, the files that are made, and the claim.
+#[derive(Drop)]
+struct ClaimedDay<'a, F> {
+    input: &'a Look,
+    files: DayFiles,
+    claim: &'a Claim<F>,
 }
 
 impl Day {
@@ -186,12 +220,12 @@ impl Day {
         rt: &R,
         alloc: Global,
         asked: &DayOptions,
-        files: &DayFiles,
-        claim: &Claim<R::File>,
+        claimed: &ClaimedDay<'_, R::File>,
     ) -> Result<Repacked, DayFault>
         ensures { IsRepackedDay asked.now result }
     {
-        let input = open_regular(rt, self.input.as_str())?;
+        let files = &claimed.files;
+        let input = open_found(rt, self.input.as_str(), claimed.input)?;
         let mut records = files.records.create(rt)?;
         let mut report = files.report.create(rt)?;
         let repacked = repack_day_of(
@@ -204,11 +238,11 @@ impl Day {
         if asked.only_smaller && repacked.bytes_read <= repacked.bytes_written {
             return Err(DayFault::Larger(repacked));
         }
-        settle(&records)?;
-        settle(&report)?;
+        settle_regular(&records)?;
+        settle_regular(&report)?;
         files.hold(rt, alloc, asked.check)?;
         self.compare(rt, alloc, asked, files)?;
-        if !claim.is_ours(rt, self.claim()) {
+        if !claimed.claim.is_ours(rt, self.claim()) {
             return Err(DayFault::ClaimedByAnother);
         }
         files.keep(rt)?;
@@ -221,17 +255,17 @@ impl Day {
         rt: &R,
         alloc: Global,
         asked: &DayOptions,
-        files: &DayFiles,
-        claim: &Claim<R::File>,
+        claimed: &ClaimedDay<'_, R::File>,
     ) -> Result<Repacked, DayFault>
         ensures { IsRepackedDay asked.now result }
     {
-        let before = Stamp::of(rt, self.input.as_str());
-        let result = self.write(rt, alloc, asked, files, claim);
+        let result = self.write(rt, alloc, asked, claimed);
         if result.is_err() {
-            files.sweep(rt);
+            claimed.files.sweep(rt);
         } else if asked.resume {
-            files.put_stamp(rt, alloc, before, self.input.as_str());
+            claimed
+                .files
+                .put_stamp(rt, alloc, claimed.input, self.input.as_str());
         }
         result
     }
@@ -245,42 +279,48 @@ impl Day {
 
     /// What an earlier walk left of the day, if it is whole, was made with these options, and from the input as it is,
     /// and is to be kept.
-    fn kept<R: Files>(&self, rt: &R, alloc: Global, asked: &DayOptions) -> Option<Repacked>
+    fn kept<R: Files>(
+        &self,
+        rt: &R,
+        alloc: Global,
+        asked: &DayOptions,
+        look: &DayLook,
+    ) -> Option<Repacked>
         ensures { IfSome result (IsKept asked.now) }
     {
-        let stamp = Stamp::of(rt, self.input.as_str())?;
-        let Ok(true) = stamp.stands_in(rt, alloc, self.stamp.as_str()) else {
+        let stamp = Stamp::of(&look.input)?;
+        let Ok(true) = stamp.stands_in(rt, alloc, self.stamp.as_str(), &look.stamp) else {
             return None;
         };
-        let Ok(report) = open_regular(rt, self.report.as_str()) else {
-            return None;
-        };
+        let report = look.report.open(rt, self.report.as_str())?;
         let size = stamp.bytes();
         let repacked = counts_kept(alloc, &mut FromRead::new(report), asked.options, size)?;
         if asked.only_smaller && repacked.bytes_read <= repacked.bytes_written {
             return None;
         }
-        if self.has_records(rt, repacked.bytes_written) {
+        if look.has_records(repacked.bytes_written) {
             Some(repacked)
         } else {
             None
         }
     }
 
-    /// Whether the file of the records has so many bytes.
-    fn has_records<R: Files>(&self, rt: &R, bytes: u64) -> bool {
-        match fs::metadata(rt, self.records.as_str()) {
-            Ok(metadata) => metadata.is_file() && metadata.len() == bytes,
-            Err(_) => false,
+    /// Looks at the day's own file, and at those that are made of it.
+    fn look<R: Files>(&self, rt: &R) -> DayLook {
+        DayLook {
+            input: Look::at(rt, self.input.as_str()),
+            records: Look::at(rt, self.records.as_str()),
+            report: Look::at(rt, self.report.as_str()),
+            stamp: Look::at(rt, self.stamp.as_str()),
         }
     }
 
-    /// Whether the day's own file may be one of those that are made of it.
-    fn may_be_output<R: Files>(&self, rt: &R) -> bool {
-        let input = self.input.as_str();
-        may_be_one(rt, input, self.records.as_str())
-            || may_be_one(rt, input, self.report.as_str())
-            || may_be_one(rt, input, self.stamp.as_str())
+    /// Whether the day may have a stamp.
+    fn may_be_stamped<R: Files>(&self, rt: &R) -> bool {
+        match Look::at(rt, self.stamp.as_str()) {
+            Look::Nothing => false,
+            Look::Found(_) | Look::Unknown => true,
+        }
     }
 
     /// Whether there is a claim: a walk is at work, or was killed and left something.
@@ -294,17 +334,22 @@ impl Day {
         rt: &R,
         alloc: Global,
         asked: &DayOptions,
+        input: &Look,
         claim: &Claim<R::File>,
     ) -> Result<Outcome, AllocError>
         ensures { IfOk result (IsDayOutcome asked.now) }
     {
-        if asked.resume {
-            if let Some(repacked) = self.kept(rt, alloc, asked) {
+        if asked.resume && self.may_be_stamped(rt) {
+            if let Some(repacked) = self.kept(rt, alloc, asked, &self.look(rt)) {
                 return Ok(Outcome::Same(repacked));
             }
         }
-        let files = self.files(alloc, claim.number())?;
-        match self.repack(rt, alloc, asked, &files, claim) {
+        let claimed = ClaimedDay {
+            input,
+            files: self.files(alloc, claim.number())?,
+            claim,
+        };
+        match self.repack(rt, alloc, asked, &claimed) {
             Ok(repacked) => Ok(Outcome::Done(repacked)),
             Err(refusal) => {
                 if claim.is_ours(rt, self.claim()) {
@@ -321,6 +366,7 @@ impl Day {
         rt: &R,
         alloc: Global,
         asked: &DayOptions,
+        input: &Look,
     ) -> Result<Outcome, AllocError>
     where
         R::File: LockFile,
@@ -334,7 +380,7 @@ impl Day {
             )),
             Err(ClaimFault::Memory) => return Err(AllocError),
         };
-        let outcome = self.do_claimed(rt, alloc, asked, &claim);
+        let outcome = self.do_claimed(rt, alloc, asked, input, &claim);
         claim.release(rt, self.claim());
         outcome
     }
@@ -352,15 +398,16 @@ impl Day {
         R::File: LockFile,
         ensures { IfOk result (IsDayOutcome asked.now) }
     {
-        if self.may_be_output(rt) {
+        let look = self.look(rt);
+        if look.may_be_output() {
             return Ok(Outcome::Refused(DayFault::CannotOpen));
         }
         if asked.resume && !self.is_claimed(rt) {
-            if let Some(repacked) = self.kept(rt, alloc, asked) {
+            if let Some(repacked) = self.kept(rt, alloc, asked, &look) {
                 return Ok(Outcome::Same(repacked));
             }
         }
-        self.claim_and_do(rt, alloc, asked)
+        self.claim_and_do(rt, alloc, asked, &look.input)
     }
 
     /// The length of this day's records: if each day's own is asked for, that of its first record, if that

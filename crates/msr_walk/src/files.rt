@@ -3,7 +3,7 @@ ghost use Rattle.std.specs.Prelude.{◌≡◌, IfErr, IfOk};
 ghost use Rattle.msr_walk.specs.Files.{new_file};
 
 use crate::outcome::DayFault;
-use msr_folders::{ended, folder_of, tells_none};
+use msr_folders::{Look, ended, folder_of, tells_none};
 use msr_tool::ToolFault;
 use std::alloc::{AllocError, Global};
 use std::fs::{OpenFile, OpenOptions};
@@ -17,12 +17,22 @@ use std::{fs, io};
 pub fn settle<F: OpenFile>(file: &F) -> Result<(), ToolFault>
     ensures { IfErr result (λ fault. fault ≡ ToolFault.Write) }
 {
-    let Ok(metadata) = file.metadata() else {
-        return Err(ToolFault::Write);
-    };
-    if !metadata.is_file() {
-        return Ok(());
+    match file.metadata() {
+        Ok(metadata) => {
+            if metadata.is_file() {
+                settle_regular(file)
+            } else {
+                Ok(())
+            }
+        }
+        Err(_) => Err(ToolFault::Write),
     }
+}
+
+/// The same of what is a regular file, since this walk made it.
+pub(crate) fn settle_regular<F: OpenFile>(file: &F) -> Result<(), ToolFault>
+    ensures { IfErr result (λ fault. fault ≡ ToolFault.Write) }
+{
     match file.sync_data() {
         Ok(()) => Ok(()),
         Err(error) => match error.kind() {
@@ -36,23 +46,41 @@ pub fn settle<F: OpenFile>(file: &F) -> Result<(), ToolFault>
 pub(crate) fn open_regular<R: Files>(rt: &R, path: &str) -> Result<R::File, DayFault>
     ensures { IfErr result (λ why. why ≡ DayFault.CannotOpen) }
 {
-    match msr_folders::open_regular(rt, path) {
+    open_found(rt, path, &Look::at(rt, path))
+}
+
+/// Opens what was found under that name to be read, if it is a regular file.
+pub(crate) fn open_found<R: Files>(rt: &R, path: &str, look: &Look) -> Result<R::File, DayFault>
+    ensures { IfErr result (λ why. why ≡ DayFault.CannotOpen) }
+{
+    match look.open(rt, path) {
         Some(file) => Ok(file),
         None => Err(DayFault::CannotOpen),
     }
 }
 
-/// Makes the folder of a file that is to be made.
-pub(crate) fn make_folder<R: Files>(rt: &R, path: &str) -> io::Result<()> {
-    fs::create_dir_all(rt, folder_of(path))
-}
-
-/// Makes a file, if nothing has its name, not even a link.
-pub(crate) fn create_new<R: Files>(rt: &R, path: &str) -> io::Result<R::File> {
+/// Makes a file in a folder that is there, if nothing has its name, not even a link.
+fn create_in_folder<R: Files>(rt: &R, path: &str) -> io::Result<R::File> {
     OpenOptions::new()
         .write(true)
         .create_new(true)
         .open(rt, path)
+}
+
+/// Makes a file, if nothing has its name, not even a link, and before that its folder if it is missing.
+pub(crate) fn create_new<R: Files>(rt: &R, path: &str) -> io::Result<R::File> {
+    match create_in_folder(rt, path) {
+        Ok(file) => return Ok(file),
+        Err(error) => {
+            if error.kind() != ErrorKind::NotFound {
+                return Err(error);
+            }
+        }
+    }
+    if fs::create_dir_all(rt, folder_of(path)).is_err() {
+        return Err(ErrorKind::NotFound.into());
+    }
+    create_in_folder(rt, path)
 }
 
 /// A file to be made in a folder that may be missing. It is written beside its name, and gets the name once it is
@@ -92,14 +120,11 @@ impl NewFile {
         self.part.as_str()
     }
 
-    /// Makes the folder, and the file beside its name. What stands there was left by a walk that was killed and had
-    /// the same number, and is removed: no file that is there is written to.
+    /// Makes the file beside its name. What stands there was left by a walk that was killed and had the same number,
+    /// and is removed: no file that is there is written to.
     pub(crate) fn create<R: Files>(&self, rt: &R) -> Result<R::File, DayFault>
         ensures { IfErr result (λ why. why ≡ DayFault.CannotOpen) }
     {
-        if make_folder(rt, self.part()).is_err() {
-            return Err(DayFault::CannotOpen);
-        }
         if let Ok(file) = create_new(rt, self.part()) {
             return Ok(file);
         }

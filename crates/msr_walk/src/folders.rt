@@ -15,7 +15,7 @@ use crate::summary::write_summary;
 use crate::tally::Tally;
 use msr_days::DayOptions;
 use msr_devices::write_all;
-use msr_folders::{Kind, ListFault, entry_path, join, kind_of, names_in};
+use msr_folders::{FileKind, ListFault, entry_path, join, kind_of, names_in};
 use msr_sds::{FOLDERS, SdsName, levels_below};
 use msr_tool::{Sink, ToolFault};
 use std::alloc::{AllocError, Global};
@@ -131,7 +131,7 @@ where
 fn tell_entry<R: Files, O: Sink>(
     walker: &Walker<'_, R>,
     path: &str,
-    kind: Kind,
+    kind: FileKind,
     apart: bool,
     out: &mut O,
     tally: &mut Tally,
@@ -144,7 +144,7 @@ where
     ensures stops { IfErr result (StopsTelling walker.now.archive.now.days (O.device out.old)
         (O.device out.new)) }
 {
-    if kind == Kind::Gone {
+    if kind == FileKind::Gone {
         let refused = Outcome::Refused(DayFault::Gone);
         return tell(walker, path, "", refused, out, tally);
     }
@@ -198,11 +198,11 @@ where
         let path = entry_path(alloc, folder, name.as_str())?;
         let place = join(alloc, walker.archive.root, path.as_str())?;
         let kind = if levels == 0 {
-            Kind::Other
+            FileKind::Other
         } else {
             kind_of(walker.rt, place.as_str())
         };
-        if 0 < levels && kind == Kind::Folder {
+        if 0 < levels && kind == FileKind::Folder {
             walk_folder(walker, path.as_str(), levels - 1, out, tally)?;
         } else {
             tell_entry(walker, path.as_str(), kind, apart, out, tally)?;

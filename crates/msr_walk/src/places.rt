@@ -5,28 +5,8 @@ use std::alloc::{AllocError, Global};
 use std::fs;
 use std::rt::Files;
 
-/// Whether what is made of the days of a folder, with that path from the archive's own, certainly stands outside a
-/// folder of the archive: its own, or that of the days, which may be a link that leads out of it.
-fn stands_outside<R: Files>(
-    rt: &R,
-    alloc: Global,
-    archive: &Archive<'_>,
-    folder: &str,
-    of_archive: &str,
-) -> Result<bool, AllocError> {
-    let Ok(metadata) = fs::metadata(rt, of_archive) else {
-        return Ok(false);
-    };
-    let other = FileId::of(&metadata);
-    let records = join(alloc, archive.out, folder)?;
-    let reports = join(alloc, archive.reports, folder)?;
-    Ok(
-        place_of(rt, alloc, records.as_str(), other)? == Place::Apart
-            && place_of(rt, alloc, reports.as_str(), other)? == Place::Apart,
-    )
-}
-
-/// Whether what is made of the days of that folder certainly stands outside the archive.
+/// Whether what is made of the days of a folder, with that path from the archive's own, certainly stands outside the
+/// archive: outside its own folder, and outside that of the days, which may be a link that leads out of it.
 pub(crate) fn stands_apart<R: Files>(
     rt: &R,
     alloc: Global,
@@ -34,8 +14,17 @@ pub(crate) fn stands_apart<R: Files>(
     folder: &str,
 ) -> Result<bool, AllocError> {
     let days = join(alloc, archive.root, folder)?;
+    let Ok(root) = fs::metadata(rt, archive.root) else {
+        return Ok(false);
+    };
+    let Ok(days) = fs::metadata(rt, days.as_str()) else {
+        return Ok(false);
+    };
+    let of_archive = [FileId::of(&root), FileId::of(&days)];
+    let records = join(alloc, archive.out, folder)?;
+    let reports = join(alloc, archive.reports, folder)?;
     Ok(
-        stands_outside(rt, alloc, archive, folder, archive.root)?
-            && stands_outside(rt, alloc, archive, folder, days.as_str())?,
+        place_of(rt, alloc, records.as_str(), &of_archive)? == Place::Apart
+            && place_of(rt, alloc, reports.as_str(), &of_archive)? == Place::Apart,
     )
 }

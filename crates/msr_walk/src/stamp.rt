@@ -5,9 +5,10 @@ ghost use Rattle.msr_devices.specs.Device.{CanCountCall, Takes};
 ghost use Rattle.msr_walk.specs.Stamp.{IsNotPut, stamp_text};
 ghost use Rattle.msr_walk.specs.Walk.{StopsPrefix};
 
-use crate::files::{NewFile, settle};
+use crate::files::{NewFile, settle_regular};
 use crate::outcome::DayFault;
 use msr_devices::write_all;
+use msr_folders::Look;
 use msr_tool::{FromWrite, Sink, ToolFault};
 use std::alloc::{AllocError, Global};
 use std::fs;
@@ -23,14 +24,9 @@ pub(crate) struct Stamp {
 }
 
 impl Stamp {
-    /// `None` if the system does not tell it of the file with this name, or it is no regular file.
-    pub(crate) fn of<R: Files>(rt: &R, path: &str) -> Option<Stamp> {
-        let Ok(metadata) = fs::metadata(rt, path) else {
-            return None;
-        };
-        if !metadata.is_file() {
-            return None;
-        }
+    /// That of what was found; `None` if it is no regular file.
+    pub(crate) fn of(look: &Look) -> Option<Stamp> {
+        let metadata = look.regular()?;
         Some(Stamp {
             bytes: metadata.len(),
             seconds: metadata.mtime(),
@@ -63,22 +59,20 @@ impl Stamp {
         Ok(())
     }
 
-    /// Whether that file has this stamp, and nothing else.
+    /// Whether the file that was found under that name has this stamp, and nothing else.
     pub(crate) fn stands_in<R: Files>(
         self,
         rt: &R,
         alloc: Global,
         path: &str,
+        look: &Look,
     ) -> Result<bool, AllocError> {
+        let Some(metadata) = look.regular() else {
+            return Ok(false);
+        };
         let text = self.text(alloc)?;
-        let size = text.len() as u64;
-        match fs::metadata(rt, path) {
-            Ok(metadata) => {
-                if metadata.len() != size {
-                    return Ok(false);
-                }
-            }
-            Err(_) => return Ok(false),
+        if metadata.len() != text.len() as u64 {
+            return Ok(false);
         }
         match fs::read(&(rt, alloc), path) {
             Ok(bytes) => Ok(bytes.as_slice() == text.as_bytes()),
@@ -92,7 +86,7 @@ impl Stamp {
     {
         let mut open = file.create(rt)?;
         self.write(alloc, &mut FromWrite::new(&mut open))?;
-        settle(&open)?;
+        settle_regular(&open)?;
         file.keep(rt)
     }
 }

@@ -17,7 +17,7 @@ returns-in_err-write_all-clause-stops g c =
     λ is. rw (p.1, p.2) (
       part_line (g.O.Sink.device c.args.out.now)
           (g.O.Sink.device c.write_all.new.sink) part.0 c.args.path.now c.as_bytes.result.now
-          c.args.outcome is (rw c.as_bytes.ensures.value c.in_ok-line.ensures) part.1,
+          c.args.judgement is (rw c.as_bytes.ensures.value c.in_ok-line.ensures) part.1,
       c.in_err-write_all.ensures.failed,
     )
 
@@ -25,7 +25,7 @@ pub returns-clause-told : goal.returns-clause-told
 returns-clause-told g c =
     λ is. tells_one (g.O.Sink.device c.args.out.now)
     (g.O.Sink.device c.write_all.new.sink) c.args.tally.now c.add.new.self c.args.path.now
-    c.as_bytes.result.now c.args.outcome is
+    c.as_bytes.result.now c.args.judgement is
     (rw c.as_bytes.ensures.value c.in_ok-line.ensures) c.in_ok-write_all.ensures.all c.in_ok-write_all.ensures.calm
     (λ before h. c.add.ensures before (record
-    { path = c.args.path.now; outcome = c.args.outcome }) h refl)
+    { path = c.args.path.now; judgement = c.args.judgement }) h refl)

@@ -3,8 +3,8 @@ use Rattle.msr_devices.proofs.Chaining.{calm_same}
 use Rattle.msr_verify.proofs.EntriesFound.{part_none, tells_none}
 use Rattle.msr_verify.proofs.folders.tell_day.Goals as goal
 
-pub returns-in_err-outcome-clause-stops : goal.returns-in_err-outcome-clause-stops
-returns-in_err-outcome-clause-stops g c =
+pub returns-in_err-judgement-clause-stops : goal.returns-in_err-judgement-clause-stops
+returns-in_err-judgement-clause-stops g c =
     let p = err_from_is_err_and c.from_residual.result c.from_residual.ensures.1 in
     let out = g.O.Sink.device c.args.out.now in
     λ name day. rw (p.1, p.2) (part_none out, (calm_same out).steady)

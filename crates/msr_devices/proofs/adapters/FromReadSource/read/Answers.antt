@@ -5,9 +5,9 @@ use Rattle.msr_devices.proofs.adapters.FromReadSource.read.Goals.{else-left-eq0-
 
 pub returns-in-Ok-clause-reads : goal.returns-in-Ok-clause-reads
 returns-in-Ok-clause-reads g c =
-    reads_limited (g.R.Read.remaining c.args.self.now.inner)
-    (g.R.Read.remaining c.read.new.self) c.args.self.now.given c.args.self.now.failures
-    c.args.self.now.interruptions c.in-Ok.n c.read.new.buf (drop c.min-most.result c.args.buf.now)
+    rw (← c.self.view_is) (reads_limited (g.R.Read.remaining c.self.inside.inner)
+    (g.R.Read.remaining c.read.new.self) c.self.inside.given c.self.inside.failures
+    c.self.inside.interruptions c.in-Ok.n c.read.new.buf (drop c.min-most.result c.args.buf.now)
     c.in-Ok.ensures.bound.0 c.in-Ok.ensures.bytes.0 c.in-Ok.ensures.bytes.1
     (omega (
       arith,
@@ -38,4 +38,4 @@ returns-in-Ok-clause-reads g c =
         length-take
             c.min-most.result c.args.buf.now,
       )
-    ])
+    ]))

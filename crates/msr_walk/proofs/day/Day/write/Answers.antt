@@ -24,15 +24,15 @@ returns-in_err-repacked g c =
     let p = err_from_is_err_and c.from_residual-in_err-repacked.result c.from_residual-in_err-repacked.ensures.1 in
     rw (p.1, p.2) (day_answer _ _ _ _ _ _ _ c.in_err-repacked.ensures)
 
-pub returns-in_err-settle : goal.returns-in_err-settle
-returns-in_err-settle g c =
-    let p = err_from_is_err_and c.from_residual-in_err-settle.result c.from_residual-in_err-settle.ensures.1 in
-    rw (p.1, p.2, c.in_err-settle.ensures) (day_unsettled _ _ _ _ _ _ _ c.in_ok-repacked.ensures)
+pub returns-in_err-settle_regular : goal.returns-in_err-settle_regular
+returns-in_err-settle_regular g c =
+    let p = err_from_is_err_and c.from_residual-in_err-settle_regular.result c.from_residual-in_err-settle_regular.ensures.1 in
+    rw (p.1, p.2, c.in_err-settle_regular.ensures) (day_unsettled _ _ _ _ _ _ _ c.in_ok-repacked.ensures)
 
-pub returns-in_err-settle-2 : goal.returns-in_err-settle-2
-returns-in_err-settle-2 g c =
-    let p = err_from_is_err_and c.from_residual-in_err-settle-2.result c.from_residual-in_err-settle-2.ensures.1 in
-    rw (p.1, p.2, c.in_err-settle-2.ensures) (day_unsettled _ _ _ _ _ _ _ c.in_ok-repacked.ensures)
+pub returns-in_err-settle_regular-2 : goal.returns-in_err-settle_regular-2
+returns-in_err-settle_regular-2 g c =
+    let p = err_from_is_err_and c.from_residual-in_err-settle_regular-2.result c.from_residual-in_err-settle_regular-2.ensures.1 in
+    rw (p.1, p.2, c.in_err-settle_regular-2.ensures) (day_unsettled _ _ _ _ _ _ _ c.in_ok-repacked.ensures)
 
 pub returns-in_err-hold : goal.returns-in_err-hold
 returns-in_err-hold g c =

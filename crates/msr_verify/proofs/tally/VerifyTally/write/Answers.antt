@@ -3,7 +3,7 @@ use Rattle.std.proofs.lemmas.Result.{err_from_is_err_and}
 use Rattle.msr_devices.proofs.Chaining.{calm_same, takes_none}
 use Rattle.msr_verify.specs.Walk.{counts_line}
 use Rattle.msr_verify.proofs.EntriesFound.{front_piece}
-use Rattle.msr_verify.proofs.tally.Tally.write.Goals as goal
+use Rattle.msr_verify.proofs.tally.VerifyTally.write.Goals as goal
 
 pub returns-in_err-line-clause-stops : goal.returns-in_err-line-clause-stops
 returns-in_err-line-clause-stops g c =

@@ -1,9 +1,9 @@
 //! What is found of an entry of a folder, and its line.
 ghost use Rattle.std.specs.Prelude.{◌≡◌, IfOk};
 ghost use Rattle.std.specs.String.{string_bytes};
-ghost use Rattle.msr_verify.specs.Entries.{IsLineOf, outcome_of};
+ghost use Rattle.msr_verify.specs.Entries.{IsLineOf, judgement_of};
 
-use crate::judging::{DayFault, Finding};
+use crate::judging::{Finding, VerifyFault};
 use msr_folders::shown_path;
 use msr_sds::SdsFault;
 use std::alloc::{AllocError, Global};
@@ -32,12 +32,12 @@ pub(crate) enum Refusal {
     RecordsListing,
     /// One of the files of the day is at fault.
     #[error("{0}")]
-    Day(DayFault),
+    Day(VerifyFault),
 }
 
 /// What was found of an entry.
 #[derive(Clone, Copy)]
-pub(crate) enum Outcome {
+pub(crate) enum Judgement {
     /// Records and report of the day are there, and show what they have to.
     Verified,
     /// There are no records of the day, or no report.
@@ -53,34 +53,34 @@ pub(crate) enum Outcome {
 }
 
 /// What is told of a day with this answer.
-pub(crate) fn outcome_of(answer: Result<Finding, DayFault>) -> Outcome
-    ensures { result ≡ outcome_of answer }
+pub(crate) fn judgement_of(answer: Result<Finding, VerifyFault>) -> Judgement
+    ensures { result ≡ judgement_of answer }
 {
     match answer {
-        Ok(Finding::Verified) => Outcome::Verified,
-        Ok(Finding::NotShown) => Outcome::NotShown,
-        Ok(Finding::Differs) => Outcome::Differs,
-        Err(fault) => Outcome::Refused(Refusal::Day(fault)),
+        Ok(Finding::Verified) => Judgement::Verified,
+        Ok(Finding::NotShown) => Judgement::NotShown,
+        Ok(Finding::Differs) => Judgement::Differs,
+        Err(fault) => Judgement::Refused(Refusal::Day(fault)),
     }
 }
 
-impl Outcome {
+impl Judgement {
     /// The line that tells it of the entry with this path.
     pub(crate) fn line(self, alloc: Global, path: &str) -> Result<String, AllocError>
         ensures { IfOk result (λ line. IsLineOf path.now self (string_bytes line)) }
     {
         let path = shown_path(alloc, path)?;
         match self {
-            Outcome::Verified => format!(in alloc; "verified {path}\n"),
-            Outcome::Missing => format!(in alloc; "missing {path}\n"),
-            Outcome::NotShown => format!(in alloc; "notshown {path}\n"),
-            Outcome::Differs => format!(in alloc; "differs {path}\n"),
-            Outcome::Orphan => format!(in alloc; "orphan {path}\n"),
-            Outcome::Skipped(fault) => {
+            Judgement::Verified => format!(in alloc; "verified {path}\n"),
+            Judgement::Missing => format!(in alloc; "missing {path}\n"),
+            Judgement::NotShown => format!(in alloc; "notshown {path}\n"),
+            Judgement::Differs => format!(in alloc; "differs {path}\n"),
+            Judgement::Orphan => format!(in alloc; "orphan {path}\n"),
+            Judgement::Skipped(fault) => {
                 let why = fault.to_string(alloc)?;
                 format!(in alloc; "skipped {path}: {why}\n")
             }
-            Outcome::Refused(refusal) => {
+            Judgement::Refused(refusal) => {
                 let why = refusal.to_string(alloc)?;
                 format!(in alloc; "refused {path}: {why}\n")
             }
