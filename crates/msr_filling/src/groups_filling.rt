@@ -127,12 +127,7 @@ fn group_at(before: Option<i32>, run: &[i32], at: usize, size: usize) -> Word
 
 /// Fills the area as `fill_steim2` does, by the sizes of the groups.
 #[inline(never)]
-pub fn fill_steim2_groups(
-    before: Option<i32>,
-    run: &[i32],
-    sizes: &[u8],
-    area: &mut [u8],
-) -> usize
+pub fn fill_steim2_groups(before: Option<i32>, run: &[i32], sizes: &[u8], area: &mut [u8]) -> usize
     requires some { 1 ≤ length run.now }
     requires frames { length area.old % 64 ≡ 0 }
     requires sizes { AreGroupSizes (differences before run.now) sizes.now }

@@ -504,11 +504,20 @@ fn sizes_of_groups_of_zeros(rt: HostRuntime) -> Result<(), Fail> {
     packer.push_all(&zeros)?;
     let full = [7u8; 43];
     let first = packer.next_piece();
-    expect(first.is_some() && packer.group_sizes() == &full[..], "the first record")?;
+    expect(
+        first.is_some() && packer.group_sizes() == &full[..],
+        "the first record",
+    )?;
     let second = packer.last_piece();
-    expect(second.is_some() && packer.group_sizes() == &full[..], "the second record")?;
+    expect(
+        second.is_some() && packer.group_sizes() == &full[..],
+        "the second record",
+    )?;
     let third = packer.last_piece();
-    expect(third.is_some() && packer.group_sizes() == &[1u8][..], "one sample")
+    expect(
+        third.is_some() && packer.group_sizes() == &[1u8][..],
+        "one sample",
+    )
 }
 
 /// What a stream packer kept back while it was pushed samples.

@@ -7,7 +7,6 @@ use Rattle.msr_words.proofs.Plain.{length-differences}
 use Rattle.msr_filling.proofs.FillFields.{added_word_is, group_bits}
 use Rattle.msr_filling.proofs.groups_filling.word_apart.Goals as goal
 
-
 pub fields_from-fields-requires-clause-fit : goal.fields_from-fields-requires-clause-fit
 fields_from-fields-requires-clause-fit c =
     let whole = length-differences c.args.before c.args.run.now in
