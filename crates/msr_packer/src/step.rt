@@ -276,8 +276,8 @@ fn integers_alone(samples: &[i32], form: Form, frontier: usize) -> Option<StepWi
     Some(with_wide_integers(samples, form, frontier, by_int16, ends))
 }
 
-/// The step from a frontier. `likely` is the kind that is tried first if it is Int16; the step is the same whatever it
-/// is.
+/// The step from a frontier, which is the same whatever `likely` is: the kind that is tried first if it is Int16. Sizes
+/// are told if it is Steim2; else they would mostly be those of a run that is written as another kind.
 pub(crate) fn next_step(
     samples: &[i32],
     form: Form,
@@ -296,6 +296,9 @@ pub(crate) fn next_step(
             Some(found) => return found,
             None => {}
         }
+    }
+    if likely != Kind::Steim2 {
+        return step_from(samples, form, frontier, &mut []);
     }
     step_from(samples, form, frontier, sizes)
 }
