@@ -23,6 +23,7 @@ use Rattle.msr_words.proofs.Greedy.{IsFull, IsGreedy, full_first, greedy_last, g
 use Rattle.msr_words.proofs.Parts.{division_rest}
 use Rattle.msr_words.proofs.Plain.{next_of, none_fits}
 use Rattle.msr_words.proofs.Steim2Groups.{IsSteim2Group, capacity_is, division_from, division_to, group_from, group_to, steim2_parts}
+use Rattle.msr_filling.proofs.NextGroups.{next_none}
 
 -- ---- there is a division that is written
 
@@ -210,7 +211,7 @@ put_back ps rs v w n tail area new number same put =
     ∙ sym (ap (λ x. x ++ tail) (flat_map-append (big_bytes 4) ps (w ∷ rs))
     ∙ append_assoc g (big_bytes 4 w ++ f) tail ∙ ap (λ x. g ++ x) (append_assoc (big_bytes 4 w) f tail))
 
-range_join : (f : ℕ → ℕ) (a n m : ℕ) → map f (range_with_len a (n + m)) ≡ map f (range_with_len a n)
+pub range_join : (f : ℕ → ℕ) (a n m : ℕ) → map f (range_with_len a (n + m)) ≡ map f (range_with_len a n)
     ++ map f (range_with_len (a + n) m)
 range_join f a n zero =
     let none : n + 0 ≡ n = omega arith in
@@ -250,15 +251,19 @@ frame_start gs frame =
     either true = refl
     either false = refl
 
-no_code : (version : Version) → 0 ≡ group_code version 0
+pub no_code : (version : Version) → 0 ≡ group_code version 0
 no_code One = refl
 no_code Two = refl
+
+pub no_word : (version : Version) → 0 ≡ group_word version []
+no_word One = refl
+no_word Two = refl
 
 code_of_none : (version : Version) (gs : List (List ℤ)) (number : ℕ) → group_in gs number ≡ []
     → 0 ≡ code_in version gs number
 code_of_none version gs number none = no_code version ∙ sym (ap (λ (g : List ℤ). group_code version (length g)) none)
 
-word_at_start : (version : Version) (first last : ℤ) (gs : List (List ℤ)) (frame : ℕ)
+pub word_at_start : (version : Version) (first last : ℤ) (gs : List (List ℤ)) (frame : ℕ)
     → frame_word version first last gs (16 * frame)
     ≡ number_from_digits 4 (map (code_in version gs) (range_with_len (16 * frame) 16))
 unfolding frame_word codes_word
@@ -276,7 +281,7 @@ word_two : (version : Version) (first last : ℤ) (gs : List (List ℤ))
 unfolding frame_word
 word_two version first last gs = refl
 
-word_data : (version : Version) (first last : ℤ) (gs : List (List ℤ)) (number : ℕ) → 3 ≤ number
+pub word_data : (version : Version) (first last : ℤ) (gs : List (List ℤ)) (number : ℕ) → 3 ≤ number
     → (number % 16 ≡ 0 → ⊥) → frame_word version first last gs number ≡ group_word version (group_in gs number)
 unfolding frame_word
 word_data version first last gs number high inside =
@@ -428,7 +433,7 @@ module _ (version : Version) (gs : List (List ℤ)) (ds : List ℤ) (first last 
           bytes = words_more w w_is put;
         }
 
-    -- a group, or nothing after the last
+    -- a group
     pub group_more : (w code size used' : ℕ) → 3 ≤ 16 * frame + slot + 1
         → (IsCanonicalDivision version (drop (15 * frame + slot - 2) gs) (drop at ds)
         → IsNext version (drop (15 * frame + slot - 2) gs)
@@ -471,6 +476,20 @@ module _ (version : Version) (gs : List (List ℤ)) (ds : List ℤ) (first last 
           codes_are = codes_and code code';
           bytes = words_more w word put;
         }
+
+    -- a word of no group after the last
+    pub none_more : 2 ≤ 16 * frame + slot → length (drop at ds) ≡ 0
+        → new ≡ take (4 * (16 * frame + slot + 1)) area
+        ++ (big_bytes 4 0 ++ drop (4 * (16 * frame + slot + 1) + 4) area)
+        → IsFilled version gs ds first last frame (slot + 1) at used (codes * 4) old new
+    none_more high end put =
+        let same : at + 0 ≡ at = omega arith in
+        let codes_same : codes * 4 + 0 ≡ codes * 4 = omega arith in
+        let all = group_more 0 0 0 used (omega arith)
+        (λ left. next_none version (drop (15 * frame + slot - 2) gs) (drop at ds) end left)
+        (omega arith) (no_code version) (no_word version) (λ s. absurd (omega arith)) (λ none. refl) put in
+        subst (λ n. IsFilled version gs ds first last frame (slot + 1) n used (codes * 4) old new) same
+        (subst (λ n. IsFilled version gs ds first last frame (slot + 1) (at + 0) used n old new) codes_same all)
 
 -- both constants, after the codes of the first frame
 pub constants_more : (version : Version) (gs : List (List ℤ)) (ds : List ℤ) (first last : ℤ) (frame at used : ℕ)

@@ -1,5 +1,5 @@
 -- The words of groups whose sizes are told.
-use Rattle.std.proofs.Common.{◌≡◌, ◌<◌, ◌≤◌, min, ℕ, ◌+◌, ◌-◌, ◌*◌, ℤ, pos, ◌-ℤ◌, get_or, take, drop, List, [], ◌++◌, Option, length, refl, sym, ap, ◌∙◌, subst, arith, inl, inr, w32, sum}
+use Rattle.std.proofs.Common.{◌≡◌, ◌<◌, ◌≤◌, min, ℕ, ◌+◌, ◌-◌, ◌*◌, ℤ, pos, ◌-ℤ◌, get_or, take, drop, List, ◌++◌, Option, length, refl, sym, ap, ◌∙◌, subst, arith, inl, inr, w32, sum}
 use Rattle.std.specs.Int.{cast_unsigned}
 use Rattle.std.proofs.lemmas.Bool.{cases_lt}
 use Rattle.std.proofs.lemmas.List.{length-drop, length-take-le, take_all}
@@ -8,7 +8,6 @@ use Rattle.byteorder.specs.Endian.{big_bytes}
 use Rattle.msr_kinds.specs.declared.storage.Version.{Version}
 use Rattle.msr_kinds.specs.declared.storage.Version.TheVariants.{Two}
 use Rattle.msr_steim.specs.Word.{IsGroup, group_code, group_word}
-use Rattle.msr_words.specs.Canonical.{IsCanonicalDivision}
 use Rattle.msr_words.specs.Groups.{AreGroupSizes, IsLongestGroup}
 use Rattle.msr_words.specs.Segment.{differences}
 use Rattle.msr_words.proofs.FillSizes.{from_inside}
@@ -84,16 +83,11 @@ module _ (before : Option ℤ) (run : List ℤ) (sizes : List ℕ) (number at : 
       record { few = omega arith; at_is = omega (arith, is.at_is) }
 
   -- after all of them no difference is left
-  pub after_all : number ≡ length sizes → IsLongestGroup (drop at (differences before run)) 0
+  pub after_all : number ≡ length sizes → length (drop at (differences before run)) ≡ 0
   after_all all =
       let whole : sum (take number sizes) ≡ sum sizes = ap sum (take_all number sizes (omega arith)) in
       let left = length-drop at (differences before run) in
-      let none : length (drop at (differences before run)) ≡ 0 = omega (arith, are.all, is.at_is) in
-      record {
-        within = omega arith;
-        group = λ some. absurd (omega arith);
-        no_more = λ some group. absurd (omega arith);
-      }
+      omega (arith, are.all, is.at_is)
 
 -- as many words as are left of a frame, or of the groups
 pub words_here : (from left number : ℕ) → number ≡ min (15 - from) left → from ≤ 2
@@ -118,22 +112,6 @@ module _ (gs : List (List ℤ)) (before : Option ℤ) (run : List ℤ) (first la
       w code size (number + 1) (omega arith)
       (λ left. next_is (drop (15 * frame + slot - 2) gs) (drop at (differences before run)) size left there.longest)
       there.longest.within code_is w_is (λ s. refl) (λ none. absurd (omega arith)) put
-
-  pub none_put : IsLongestGroup (drop at (differences before run)) 0
-      → new ≡ take (4 * (16 * frame + slot + 1)) area
-      ++ (big_bytes 4 0 ++ drop (4 * (16 * frame + slot + 1) + 4) area)
-      → IsFilled Two gs (differences before run) first last frame (slot + 1) at number (codes * 4) old new
-  none_put end put =
-      let same : at + 0 ≡ at = omega arith in
-      let codes_same : codes * 4 + 0 ≡ codes * 4 = omega arith in
-      let all = group_more Two gs (differences before run) first last frame at number old area new slot codes is inside
-      0 0 0 number (omega arith)
-      (λ left. next_is (drop (15 * frame + slot - 2) gs) (drop at (differences before run)) 0 left end)
-      end.within refl refl (λ s. absurd (omega arith)) (λ none. refl) put in
-      subst (λ n. IsFilled Two gs (differences before run) first last frame (slot + 1) n number (codes * 4) old new)
-      same
-      (subst (λ n. IsFilled Two gs (differences before run) first last frame (slot + 1) (at + 0) number n old new)
-      codes_same all)
 
 -- after the codes of a frame and, in the first frame, the constants
 pub started : (version : Version) (gs : List (List ℤ)) (ds : List ℤ) (first last : ℤ) (frame at used : ℕ)

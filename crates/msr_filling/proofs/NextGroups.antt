@@ -1,6 +1,7 @@
 -- The first Steim-1 group of a division, and what is left after it.
 use Rattle.std.proofs.Common.{◌≡◌, ◌≤◌, ℕ, ℤ, List, [], ◌∷◌, ◌++◌, length, take, drop, refl, sym, ap, ◌∙◌, subst, arith}
 use Rattle.std.proofs.lemmas.List.{nil_from_length, take-append-drop, take_at, drop_at, length-take-le}
+use Rattle.msr_kinds.specs.declared.storage.Version.{Version}
 use Rattle.msr_kinds.specs.declared.storage.Version.TheVariants.{One}
 use Rattle.msr_steim.specs.Area.{differences}
 use Rattle.msr_steim.specs.Word.{AreGroups}
@@ -42,13 +43,13 @@ next_first ds size after first (g ∷ gs) chosen =
       some = λ s. omega arith;
     }
 
-pub next_none : (gs : List (List ℤ)) (ds : List ℤ) (size : ℕ) → length ds ≡ 0 → size ≡ 0
-    → IsCanonicalDivision One gs ds → IsNext One gs ds size
-next_none gs ds size end none chosen =
-    let no : gs ≡ [] = no_groups One gs chosen.are_groups (ap length chosen.join ∙ end) in
+-- if no difference is left
+pub next_none : (version : Version) (gs : List (List ℤ)) (ds : List ℤ) → length ds ≡ 0
+    → IsCanonicalDivision version gs ds → IsNext version gs ds 0
+next_none version gs ds end chosen =
+    let no : gs ≡ [] = no_groups version gs chosen.are_groups (ap length chosen.join ∙ end) in
     let nil : ds ≡ [] = nil_from_length ds end in
-    let empty : IsCanonicalDivision One [] [] = subst (λ hs. IsCanonicalDivision One hs []) no
-    (subst (IsCanonicalDivision One gs) nil chosen) in
-    subst (λ hs. IsNext One hs ds size) (sym no)
-    (subst (λ xs. IsNext One [] xs size) (sym nil) (subst (IsNext One [] []) (sym none)
-    (record { group = refl; rest = empty; none = λ e. refl; some = λ s. absurd (omega arith) })))
+    let empty : IsCanonicalDivision version [] [] = subst (λ hs. IsCanonicalDivision version hs []) no
+    (subst (IsCanonicalDivision version gs) nil chosen) in
+    subst (λ hs. IsNext version hs ds 0) (sym no) (subst (λ xs. IsNext version [] xs 0) (sym nil)
+    (record { group = refl; rest = empty; none = λ e. refl; some = λ s. absurd (omega arith) }))

@@ -1,5 +1,5 @@
 -- The next Steim-1 word, if the size of its group is known.
-use Rattle.std.proofs.Common.{◌≡◌, ◌<◌, ◌≤◌, ◌+◌, ℕ, ℤ, List, Option, drop, take, length, refl, sym, subst, arith}
+use Rattle.std.proofs.Common.{◌≡◌, ◌<◌, ◌≤◌, ◌+◌, ℕ, ℤ, List, Option, drop, take, length, sym, subst, arith}
 use Rattle.std.proofs.lemmas.List.{length-drop}
 use Rattle.msr_kinds.specs.declared.storage.Version.TheVariants.{One}
 use Rattle.msr_steim.specs.Word.{IsGroup, group_code, group_word}
@@ -9,7 +9,7 @@ use Rattle.msr_filling.specs.NextWord.{IsNextWord}
 use Rattle.msr_words.specs.Segment.{differences}
 use Rattle.msr_words.proofs.FirstGroups.{first_few, first_is_group, first_some}
 use Rattle.msr_words.proofs.Plain.{length-differences}
-use Rattle.msr_filling.proofs.NextGroups.{next_first, next_none}
+use Rattle.msr_filling.proofs.NextGroups.{next_first}
 
 -- what is known of the size of the group that begins with a difference
 pub record IsSizeThere (before : Option ℤ) (run : List ℤ) (at size : ℕ) : Type 0 where
@@ -37,11 +37,11 @@ size_there before run at size less first =
 
 -- the word of that group
 pub word_there : (before : Option ℤ) (run : List ℤ) (at size : ℕ) (next : NextWord) → at < length run
-    → IsSizeThere before run at size → next.size ≡ size → next.empty ≡ 0
+    → IsSizeThere before run at size → next.size ≡ size
     → next.code ≡ group_code One size → next.code < 4
     → next.word ≡ group_word One (take size (drop at (differences before run)))
     → IsNextWord One (drop at (differences before run)) next
-word_there before run at size next less is size_is empty code_is small word_is =
+word_there before run at size next less is size_is code_is small word_is =
     let ds = drop at (differences before run) in
     let m = length-differences before run in
     let l = length-drop at (differences before run) in
@@ -53,24 +53,4 @@ word_there before run at size next less is size_is empty code_is small word_is =
       code_is = rw size_is code_is;
       small = small;
       word_is = rw size_is word_is;
-      full = λ some. empty;
-      empty_is = λ none. absurd (omega arith);
-    }
-
--- if no difference is left
-pub word_none : (before : Option ℤ) (run : List ℤ) (at : ℕ) → at ≡ length run
-    → IsNextWord One (drop at (differences before run)) (record { size = 0; code = 0; word = 0; empty = 1 })
-word_none before run at end =
-    let ds = drop at (differences before run) in
-    let m = length-differences before run in
-    let l = length-drop at (differences before run) in
-    let none : length (drop at (differences before run)) ≡ 0 = omega arith in
-    record {
-      within = omega arith;
-      follows = λ gs chosen. next_none gs ds 0 none refl chosen;
-      code_is = refl;
-      small = omega arith;
-      word_is = refl;
-      full = λ some. absurd (omega arith);
-      empty_is = λ none'. refl;
     }

@@ -19,5 +19,3 @@ pub record IsNextWord (version : Version) (ds : List ℤ) (next : NextWord) : Ty
   pub code_is : next.code ≡ group_code version next.size
   pub small : next.code < 4
   pub word_is : next.word ≡ group_word version (take next.size ds)
-  pub full : 0 < length ds → next.empty ≡ 0
-  pub empty_is : length ds ≡ 0 → next.empty ≡ 1

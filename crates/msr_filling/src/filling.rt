@@ -20,8 +20,6 @@ pub(crate) struct NextWord {
     pub size: usize,
     pub code: u32,
     pub word: u32,
-    /// 1 if no difference is left, else 0.
-    pub empty: usize,
 }
 
 /// How a group of a given number of differences is written.
@@ -128,7 +126,6 @@ fn formed(window: &Window, place: usize, size: usize, form: Form) -> NextWord
     requires top { form.top ≡ group_top Two size }
     requires space { form.top * 2 ^ 30 + 2 ^ (size * form.width) ≤ 2 ^ 32 }
     ensures size { result.size ≡ size }
-    ensures some { result.empty ≡ 0 }
     ensures code { result.code ≡ group_code Two result.size }
     ensures small { result.code < 4 }
     ensures word { (ds : List ℤ) → Shows window.now ds place
@@ -139,7 +136,6 @@ fn formed(window: &Window, place: usize, size: usize, form: Form) -> NextWord
         size,
         code: form.code,
         word: (form.top << 30).wrapping_add(fields),
-        empty: 0,
     }
 }
 
@@ -149,7 +145,6 @@ fn word_seen(window: &Window, place: usize) -> NextWord
     requires { place + 7 ≤ 64 }
     ensures longest { (ds : List ℤ) → Shows window.now ds place
         → IsLongestGroup ds result.size }
-    ensures some { result.empty ≡ 0 }
     ensures code { result.code ≡ group_code Two result.size }
     ensures small { result.code < 4 }
     ensures word { (ds : List ℤ) → Shows window.now ds place
@@ -167,7 +162,6 @@ fn word_seen(window: &Window, place: usize) -> NextWord
             size: 0,
             code: 0,
             word: 0,
-            empty: 0,
         },
     }
 }
@@ -178,8 +172,6 @@ fn word_seen(window: &Window, place: usize) -> NextWord
 fn word_outside(before: Option<i32>, run: &[i32], at: usize) -> NextWord
     requires { at ≤ length run.now }
     ensures longest { IsLongestGroup (drop at (differences before run.now)) result.size }
-    ensures some { at < length run.now → result.empty ≡ 0 }
-    ensures none { at ≡ length run.now → result.empty ≡ 1 }
     ensures code { result.code ≡ group_code Two result.size }
     ensures small { result.code < 4 }
     ensures word { result.word ≡ group_word Two (take result.size (drop at (differences before run.now))) }
@@ -190,7 +182,6 @@ fn word_outside(before: Option<i32>, run: &[i32], at: usize) -> NextWord
             size: 0,
             code: 0,
             word: 0,
-            empty: usize::from(at == run.len()),
         };
     }
     let form = form_of(size);
@@ -199,7 +190,6 @@ fn word_outside(before: Option<i32>, run: &[i32], at: usize) -> NextWord
         size,
         code: form.code,
         word: (form.top << 30) + fields,
-        empty: 0,
     }
 }
 

@@ -64,7 +64,7 @@ fn next_word(
     window: &mut Window,
     at: usize,
 ) -> Option<NextWord>
-    requires within { at ≤ length run.now }
+    requires within { at < length run.now }
     requires window { IsWindow run.now at window.old }
     requires sizes { sizing ≡ Sizing.Given → AreSizes (differences before run.now) 0 sizes.now }
     requires fits { sizing ≡ Sizing.Ahead → AllByRecursion (FitsBits 32) (differences before run.now) }
@@ -108,22 +108,29 @@ pub(crate) fn fill_frames(
     let mut window = Window::new();
     let mut at = 0;
     let mut used = 0;
-    for frame in 0..area.len() / 64 {
+    let mut frame = 0;
+    while frame < area.len() / 64 && at < run.len() {
         let mut codes: u32 = 0;
         put_word(area, 16 * frame, 0);
         let from = put_constants(area, frame, first, last);
-        // As many words as the frame has room for; those that turn out to be empty are taken off.
-        used += 15 - from;
-        for slot in from..15 {
+        let mut slot = from;
+        while slot < 15 && at < run.len() {
             let Some(next) = next_word(sizing, before, run, sizes, &mut window, at) else {
                 return None;
             };
             put_word(area, 16 * frame + slot + 1, next.word);
             codes = codes * 4 + next.code;
             at += next.size;
-            used -= next.empty;
+            used += 1;
+            slot += 1;
+        }
+        for spare in slot..15 {
+            put_word(area, 16 * frame + spare + 1, 0);
+            codes *= 4;
         }
         put_word(area, 16 * frame, codes);
+        frame += 1;
     }
+    area[64 * frame..].fill(0);
     Some(used)
 }

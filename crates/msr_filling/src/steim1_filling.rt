@@ -59,7 +59,6 @@ fn formed(window: &Window, place: usize, size: usize, form: Form) -> NextWord
     requires left { form.left ≡ padding_of One size * form.width }
     requires within { size * form.width + form.left ≤ 32 }
     ensures size { result.size ≡ size }
-    ensures some { result.empty ≡ 0 }
     ensures code { result.code ≡ group_code One size }
     ensures small { result.code < 4 }
     ensures word { (ds : List ℤ) → Shows window.now ds place → IsGroup One (take size ds)
@@ -70,7 +69,6 @@ fn formed(window: &Window, place: usize, size: usize, form: Form) -> NextWord
         size,
         code: form.code,
         word: fields << form.left,
-        empty: 0,
     }
 }
 
@@ -81,7 +79,6 @@ fn word_seen(window: &Window, place: usize, size: usize) -> NextWord
     requires full { 1 ≤ size }
     requires most { size ≤ 4 }
     ensures size { result.size ≡ size }
-    ensures some { result.empty ≡ 0 }
     ensures code { result.code ≡ group_code One size }
     ensures small { result.code < 4 }
     ensures word { (ds : List ℤ) → Shows window.now ds place → IsGroup One (take size ds)
@@ -102,7 +99,6 @@ fn word_outside(before: Option<i32>, run: &[i32], at: usize, size: usize) -> Nex
     requires room { at + size ≤ length run.now }
     requires group { IsGroup One (take size (drop at (differences before run.now))) }
     ensures size { result.size ≡ size }
-    ensures some { result.empty ≡ 0 }
     ensures code { result.code ≡ group_code One size }
     ensures small { result.code < 4 }
     ensures word { result.word ≡ group_word One (take size (drop at (differences before run.now))) }
@@ -113,11 +109,10 @@ fn word_outside(before: Option<i32>, run: &[i32], at: usize, size: usize) -> Nex
         size,
         code: form.code,
         word: fields << form.left,
-        empty: 0,
     }
 }
 
-/// The word of the group that begins with that difference, or 0 if none is left.
+/// The word of the group that begins with that difference.
 #[inline(always)]
 pub(crate) fn steim1_word(
     before: Option<i32>,
@@ -126,7 +121,7 @@ pub(crate) fn steim1_word(
     window: &mut Window,
     at: usize,
 ) -> NextWord
-    requires within { at ≤ length run.now }
+    requires within { at < length run.now }
     requires window { IsWindow run.now at window.old }
     requires sizes { AreSizes (differences before run.now) 0 sizes.now }
     ensures window { IsWindow run.now at window.new }
@@ -134,14 +129,6 @@ pub(crate) fn steim1_word(
 {
     if let Some(place) = window.place_of(run, at) {
         return word_seen(window, place, usize::from(sizes[at]));
-    }
-    if at == run.len() {
-        return NextWord {
-            size: 0,
-            code: 0,
-            word: 0,
-            empty: 1,
-        };
     }
     word_outside(before, run, at, usize::from(sizes[at]))
 }
@@ -207,8 +194,7 @@ fn word_outside_ahead(before: Option<i32>, run: &[i32], at: usize) -> Option<Nex
     Some(word_outside(before, run, at, size))
 }
 
-/// The word of the group that begins with that difference, or an empty word if no difference is left; `None` if the
-/// next differences do not tell its size.
+/// The word of the group that begins with that difference; `None` if the next differences do not tell its size.
 #[inline(always)]
 pub(crate) fn steim1_word_ahead(
     before: Option<i32>,
@@ -216,7 +202,7 @@ pub(crate) fn steim1_word_ahead(
     window: &mut Window,
     at: usize,
 ) -> Option<NextWord>
-    requires within { at ≤ length run.now }
+    requires within { at < length run.now }
     requires window { IsWindow run.now at window.old }
     requires fits { AllByRecursion (FitsBits 32) (differences before run.now) }
     ensures window { IsWindow run.now at window.new }
@@ -226,14 +212,6 @@ pub(crate) fn steim1_word_ahead(
     if let Some(place) = window.place_of(run, at) {
         let size = window.first_steim1_group(place)?;
         return Some(word_seen(window, place, size));
-    }
-    if at == run.len() {
-        return Some(NextWord {
-            size: 0,
-            code: 0,
-            word: 0,
-            empty: 1,
-        });
     }
     word_outside_ahead(before, run, at)
 }

@@ -1,5 +1,5 @@
 -- The window has the differences from there on.
-use Rattle.std.proofs.Common.{arith, drop}
+use Rattle.std.proofs.Common.{drop}
 use Rattle.std.proofs.lemmas.List.{length-drop}
 use Rattle.msr_words.specs.Segment.{differences}
 use Rattle.msr_filling.proofs.Fill.{next_is}
@@ -17,8 +17,6 @@ returns-in-Some-clause-next c =
       code_is = c.word_seen.ensures.code;
       small = c.word_seen.ensures.small;
       word_is = c.word_seen.ensures.word ds is longest;
-      full = λ some. c.word_seen.ensures.some;
-      empty_is = λ none. absurd (omega (arith, is.long));
     }
 
 pub returns-clause-next : goal.returns-clause-next
@@ -34,6 +32,4 @@ returns-clause-next c =
       code_is = c.word_outside.ensures.code;
       small = c.word_outside.ensures.small;
       word_is = c.word_outside.ensures.word;
-      full = λ some. c.word_outside.ensures.some (omega arith);
-      empty_is = λ none. c.word_outside.ensures.none (omega arith);
     }

@@ -10,10 +10,3 @@ fields_from-fields-requires-clause-room c =
     let l = length-drop c.args.at (differences c.args.before c.args.run.now) in
     let w = c.longest_group-size.ensures.within in
     omega (arith, c.requires)
-
-pub returns-clause-none : goal.returns-clause-none
-returns-clause-none c none =
-    let long = length-differences c.args.before c.args.run.now in
-    let l = length-drop c.args.at (differences c.args.before c.args.run.now) in
-    let w = c.longest_group-size.ensures.within in
-    absurd (omega arith)

@@ -1,14 +1,14 @@
 -- Word by word, and frame by frame.
-use Rattle.std.proofs.Common.{rules, arith, ◌≡◌, ◌<◌, ◌≤◌, ◌+◌, ◌-◌, ◌*◌, ◌/◌, length, pos, slice_index_or, refl, lit≤, lit<}
+use Rattle.std.proofs.Common.{rules, arith, ◌≡◌, ◌<◌, ◌≤◌, ◌+◌, ◌-◌, ◌*◌, ◌/◌, length, pos, slice_index_or, refl, lit<}
 use Rattle.std.proofs.lemmas.Bool.{cases_lt}
 use Rattle.std.proofs.lemmas.Int.{to_z-of_z}
 use Rattle.std.proofs.Common.{inl, inr, w32, SFits}
 use Rattle.msr_kinds.specs.declared.storage.Version.TheVariants.{Two}
 use Rattle.msr_steim.proofs.Filling.{codes_fit}
 use Rattle.msr_words.specs.Segment.{differences}
-use Rattle.msr_filling.proofs.Fill.{codes_below_more, frame_ends, framed_all, some_codes}
+use Rattle.msr_filling.proofs.Fill.{codes_below_more, frame_ends, framed_all, none_more, some_codes}
 use Rattle.msr_filling.proofs.FilledAreas.{area_filled}
-use Rattle.msr_filling.proofs.GroupsFilled.{IsGroupThere, after_all, after_more, after_none, group_put, group_there, none_put, started, words_here}
+use Rattle.msr_filling.proofs.GroupsFilled.{IsGroupThere, after_all, after_more, after_none, group_put, group_there, started, words_here}
 use Rattle.msr_filling.proofs.groups_filling.fill_steim2_groups.Goals as goal
 
 there : (c : goal.After-from-size) → IsGroupThere c.args.before c.args.run.now c.loop-slot.at c.from-size.result
@@ -146,10 +146,10 @@ loop-spare-preserved c =
       small = codes_below_more c.loop-spare.codes 0 (c.loop-spare.spare + 1) inv.small (lit< tt) (omega arith);
       high = omega (arith, inv.high);
       filled = λ gs chosen.
-          none_put gs c.args.before c.args.run.now (slice_index_or c.args.run.now 0 (pos 0))
-          (slice_index_or c.args.run.now (length c.args.run.now - 1) (pos 0)) c.loop-frame.frame c.loop-spare.spare
-          c.loop-slot.at c.loop-slot.number c.loop-spare.codes c.args.area.now c.loop-spare.area
-          c.put_word-in-loop-spare.new.area (inv.filled gs chosen) c.loop-spare-test.true inv.high none
+          none_more Two gs (differences c.args.before c.args.run.now) (slice_index_or c.args.run.now 0 (pos 0))
+          (slice_index_or c.args.run.now (length c.args.run.now - 1) (pos 0)) c.loop-frame.frame c.loop-slot.at
+          c.loop-slot.number c.args.area.now c.loop-spare.area c.put_word-in-loop-spare.new.area c.loop-spare.spare
+          c.loop-spare.codes (inv.filled gs chosen) c.loop-spare-test.true inv.high none
           c.put_word-in-loop-spare.ensures;
     }
 

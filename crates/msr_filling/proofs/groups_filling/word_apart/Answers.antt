@@ -1,5 +1,5 @@
 -- The top bits and the fields are added without a carry.
-use Rattle.std.proofs.Common.{arith, ◌≡◌, ◌≤◌, drop, length, take}
+use Rattle.std.proofs.Common.{arith, drop, take}
 use Rattle.std.proofs.lemmas.List.{length-drop, length-take-le}
 use Rattle.msr_kinds.specs.declared.storage.Version.TheVariants.{Two}
 use Rattle.msr_words.specs.Segment.{differences}

@@ -4,7 +4,7 @@ use Rattle.std.proofs.lemmas.List.{length-drop}
 use Rattle.msr_words.specs.FirstGroup.{AreSizes, IsCanonicalFirst}
 use Rattle.msr_words.specs.Segment.{differences}
 use Rattle.msr_words.proofs.Plain.{length-differences}
-use Rattle.msr_filling.proofs.Steim1Next.{IsSizeThere, size_there, word_none, word_there}
+use Rattle.msr_filling.proofs.Steim1Next.{IsSizeThere, size_there, word_there}
 use Rattle.msr_filling.proofs.steim1_filling.steim1_word.Goals as goal
 
 given : (before : Option ℤ) (run : List ℤ) (at size : ℕ) (sizes : List ℕ)
@@ -26,7 +26,7 @@ here c = given c.args.before c.args.run.now c.args.at c.from.result c.args.sizes
     (less_seen c) c.from.ensures
 
 less_outside : (c : goal.After-from-2) → c.args.at < length c.args.run.now
-less_outside c = omega (arith, c.requires.within, c.if-at-run.false)
+less_outside c = c.requires.within
 
 there : (c : goal.After-from-2) → IsSizeThere c.args.before c.args.run.now c.args.at c.from-2.result
 there c = given c.args.before c.args.run.now c.args.at c.from-2.result c.args.sizes.now c.requires.sizes
@@ -44,7 +44,7 @@ pub bounds-sizes-at-2 : goal.bounds-sizes-at-2
 bounds-sizes-at-2 c =
     let long = c.requires.sizes.long in
     let m = length-differences c.args.before c.args.run.now in
-    let less : c.args.at < length c.args.sizes.now = omega (arith, c.requires.within, c.if-at-run.false) in
+    let less : c.args.at < length c.args.sizes.now = omega (arith, c.requires.within) in
     search (rules, less)
 
 pub word_seen-requires-clause-full : goal.word_seen-requires-clause-full
@@ -75,17 +75,14 @@ returns-in-Some-clause-next c =
     let is = given c.args.before c.args.run.now c.args.at c.from.result c.args.sizes.now c.requires.sizes less
     c.from.ensures in
     let word = c.word_seen.ensures in
-    word_there c.args.before c.args.run.now c.args.at c.from.result c.word_seen.result less is word.size word.some
+    word_there c.args.before c.args.run.now c.args.at c.from.result c.word_seen.result less is word.size
     word.code word.small (word.word ds seen is.group)
-
-pub returns-then-at-run-clause-next : goal.returns-then-at-run-clause-next
-returns-then-at-run-clause-next c = word_none c.args.before c.args.run.now c.args.at c.if-at-run.true
 
 pub returns-clause-next : goal.returns-clause-next
 returns-clause-next c =
-    let less : c.args.at < length c.args.run.now = omega (arith, c.requires.within, c.if-at-run.false) in
+    let less : c.args.at < length c.args.run.now = c.requires.within in
     let is = given c.args.before c.args.run.now c.args.at c.from-2.result c.args.sizes.now c.requires.sizes less
     c.from-2.ensures in
     let word = c.word_outside.ensures in
     word_there c.args.before c.args.run.now c.args.at c.from-2.result c.word_outside.result less is word.size
-    word.some word.code word.small word.word
+    word.code word.small word.word

@@ -3,7 +3,7 @@ use Rattle.std.proofs.Common.{arith, ◌<◌, drop, length, refl}
 use Rattle.std.proofs.lemmas.List.{length-drop}
 use Rattle.msr_words.specs.Segment.{differences}
 use Rattle.msr_words.proofs.Steim1Ahead.{fits_from}
-use Rattle.msr_filling.proofs.Steim1Next.{IsSizeThere, size_there, word_none, word_there}
+use Rattle.msr_filling.proofs.Steim1Next.{IsSizeThere, size_there, word_there}
 use Rattle.msr_words.proofs.Plain.{length-differences}
 use Rattle.msr_filling.proofs.steim1_filling.steim1_word_ahead.Goals as goal
 
@@ -43,7 +43,4 @@ returns-in-Some-clause-next c =
     (differences c.args.before c.args.run.now) c.requires.fits)) in
     let word = c.word_seen.ensures in
     word_there c.args.before c.args.run.now c.args.at c.in_ok-size.size c.word_seen.result less is word.size
-    word.some word.code word.small (word.word ds seen is.group)
-
-pub returns-then-at-run-clause-next : goal.returns-then-at-run-clause-next
-returns-then-at-run-clause-next c = word_none c.args.before c.args.run.now c.args.at c.if-at-run.true
+    word.code word.small (word.word ds seen is.group)
