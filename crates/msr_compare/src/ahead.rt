@@ -4,6 +4,7 @@ ghost use Rattle.std.specs.Prelude.{◌≡◌, drop};
 use msr_rows::{Key, Row};
 use msr_segments::Step;
 use std::marker::Model;
+use std::mem;
 
 /// What comes next.
 #[derive(Clone, Copy, Debug)]
@@ -26,12 +27,13 @@ fn rest_of(samples: &[i32], at: usize) -> &[i32]
     }
 }
 
-/// The row at hand, as far as it was not compared. It is let go when all of it was.
+/// The row at hand, as far as it was not compared. When all of it was, it is spent: its memory can be used again.
 #[derive(Debug, Drop)]
 pub(crate) struct Ahead {
     row: Option<Row>,
     begins: bool,
     passed: usize,
+    spent: Option<Row>,
 }
 
 impl Model for Ahead {
@@ -56,6 +58,7 @@ impl Ahead {
             row: None,
             begins: false,
             passed: 0,
+            spent: None,
         }
     }
 
@@ -71,6 +74,7 @@ impl Ahead {
             row: Some(row),
             begins,
             passed: 0,
+            spent: None,
         }
     }
 
@@ -130,7 +134,14 @@ impl Ahead {
             self.passed = passed;
             self.begins = false;
         } else {
-            drop(self.row.take());
+            drop(mem::replace(&mut self.spent, self.row.take()));
         }
+    }
+
+    /// Gives the row that was compared last, if it was not given yet.
+    pub(crate) fn take_spent(&mut self) -> Option<Row>
+        ensures { self.new ≡ self.old }
+    {
+        self.spent.take()
     }
 }

@@ -2,7 +2,8 @@
 use crate::ahead::{Ahead, Next};
 use crate::tally::Tally;
 use msr_devices::Source;
-use msr_input::{NextRow, ReadFault, RowReader, Settings};
+use msr_input::{NextRecord, NextRow, ReadFault, RowReader, Settings};
+use msr_segments::Step;
 use std::alloc::Global;
 use std::marker::Model;
 
@@ -56,6 +57,21 @@ impl Side {
         self.ahead = Ahead::of_row(next.step, next.row);
     }
 
+    /// Gives the row that was compared last back to the reader, whose next row then stands in its memory.
+    fn give_back(&mut self)
+        ensures { self.new ≡ self.old }
+    {
+        if let Some(row) = self.ahead.take_spent() {
+            self.reader.give_back(NextRecord {
+                length: 0,
+                row: Some(NextRow {
+                    step: Step::Joins,
+                    row,
+                }),
+            });
+        }
+    }
+
     /// Reads on if nothing is ahead, until something is, or the input has ended.
     pub(crate) fn fetch<R: Source>(&mut self, source: &mut R) -> Result<(), ReadFault>
         requires { CanCountCall (R.device source.old) }
@@ -72,6 +88,7 @@ impl Side {
         if self.ended {
             return Ok(());
         }
+        self.give_back();
         'records: while self.ahead.is_empty() {
             let Some(next) = self.reader.next_record(source)? else {
                 self.ended = true;
