@@ -1,19 +1,9 @@
--- How the words of a line are written: padded numbers, instants and the two lines of a segment.
-use Rattle.std.proofs.Common.{◌≡◌, ℕ, ◌-◌, ◌++◌, ◌∷◌, ◌∙◌, [], List, false, arith, ap, append_assoc, length, decimal, refl, ◌^◌, codes, ℤ, w64, to_z, of_z}
+-- How the words of a line are written: instants and the two lines of a segment.
+use Rattle.std.proofs.Common.{◌≡◌, ℕ, ◌++◌, ◌∷◌, ◌∙◌, [], List, arith, ap, append_assoc, decimal, refl, codes, ℤ, w64, to_z, of_z}
 use Rattle.std.proofs.lemmas.Int.{ints}
 use Rattle.msr_time.specs.Instant.{IsInstant}
-use Rattle.std.specs.Fmt.{padded_integral, format_spec, char_count}
-use Rattle.std.proofs.lemmas.List.{append-nil}
-use Rattle.msr_report.specs.Text.{padded_decimal, IsTimeText, segment_words, segment_line, separators_line, IsSegmentText}
+use Rattle.msr_report.specs.Text.{IsTimeText, segment_words, segment_line, separators_line, IsSegmentText}
 use Rattle.msr_report.specs.declared.report.SegmentLine.{SegmentLine}
-
--- what `{:04}` and its like write
-pub zeros_before : (width n : ℕ) → padded_integral (format_spec 32 0 4 width (2 ^ 64 - 1)) false [] (decimal n)
-    ≡ padded_decimal width n
-unfolding padded_integral char_count
-zeros_before width n =
-    let short : width - length (decimal n) - 0 - char_count [] ≡ width - length (decimal n) = omega arith in
-    rw (short, append-nil (decimal n)) refl
 
 -- an instant fits 64 bits
 pub instant_back : (t : ℤ) → IsInstant t → to_z w64 (of_z w64 t) ≡ t

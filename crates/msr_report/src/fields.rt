@@ -1,9 +1,10 @@
 //! The texts of a segment's fields.
-ghost use Rattle.std.specs.Prelude.{◌≡◌, ◌++◌, ◌≤◌, ◌<◌, IfOk, OnOk, codes, decimal, string_bytes};
-ghost use Rattle.std.specs.Fmt.{signed_decimal};
+ghost use Rattle.std.specs.Prelude.{◌≡◌, ◌++◌, ◌≤◌, ◌<◌, IfOk, OnOk, codes, decimal, false, string_bytes};
+ghost use Rattle.std.specs.Fmt.{digit_glyph, signed_decimal};
 ghost use Rattle.msr_time.specs.Instant.{IsInstant};
 ghost use Rattle.msr_report.specs.Text.{hex_text, byte_text, field_text, name_text, rate_text, flags_text, padded_decimal, date_text, clock_text, split_text, IsTimeText, settings_text};
 
+use itoa::Buffer;
 use msr_rows::Key;
 use msr_time::{BTime, Rate, split};
 use std::alloc::{AllocError, Global};
@@ -13,12 +14,54 @@ const NAME_ROOM: usize = 15;
 
 const TIME_ROOM: usize = 24;
 
+/// The lower-case hexadecimal digit of a number.
+fn hex_digit(n: u8) -> char
+    requires { n < 16 }
+    ensures glyph { result ≡ digit_glyph false n }
+    ensures ascii { result < 128 }
+{
+    if n < 10 {
+        (b'0' + n) as char
+    } else {
+        (b'a' + (n - 10)) as char
+    }
+}
+
 /// Appends two lower-case hexadecimal digits.
-#[tactic(auto, using(std::proofs::lemmas::Fmt::hex_byte))]
 fn push_hex(text: &mut String, n: u8) -> Result<(), AllocError>
     ensures { OnOk result (string_bytes text.new ≡ string_bytes text.old ++ hex_text n) }
 {
-    write!(text, "{n:02x}")
+    text.push(hex_digit(n / 16))?;
+    text.push(hex_digit(n % 16))
+}
+
+/// Appends a number in decimal.
+pub(crate) fn push_decimal(text: &mut String, n: u64) -> Result<(), AllocError>
+    ensures { OnOk result (string_bytes text.new ≡ string_bytes text.old ++ decimal n) }
+{
+    let mut digits = Buffer::new();
+    text.push_str(digits.format(n))
+}
+
+/// Appends a number in decimal, with its sign if it is negative.
+fn push_signed(text: &mut String, n: i32) -> Result<(), AllocError>
+    ensures { OnOk result (string_bytes text.new ≡ string_bytes text.old ++ signed_decimal n) }
+{
+    let mut digits = Buffer::new();
+    text.push_str(digits.format(n))
+}
+
+/// Appends a number in so many digits, or more if it needs them.
+fn push_padded(text: &mut String, n: u32, width: usize) -> Result<(), AllocError>
+    ensures { OnOk result (string_bytes text.new ≡ string_bytes text.old ++ padded_decimal width n) }
+{
+    let mut buffer = Buffer::new();
+    let digits = buffer.format(n);
+    for place in digits.len()..width {
+        text.push('0')?;
+    }
+    text.push_str(digits)?;
+    Ok(())
 }
 
 /// Appends the text of a byte of a name.
@@ -65,41 +108,40 @@ fn push_rate(text: &mut String, rate: Rate) -> Result<(), AllocError>
     ensures { OnOk result (string_bytes text.new
         ≡ string_bytes text.old ++ (codes "rate " ++ (rate_text rate ++ codes " flags "))) }
 {
-    let factor = rate.factor();
-    let multiplier = rate.multiplier();
-    write!(text, "rate {factor} {multiplier} flags ")
+    text.push_str("rate ")?;
+    push_signed(text, i32::from(rate.factor()))?;
+    text.push(' ')?;
+    push_signed(text, i32::from(rate.multiplier()))?;
+    text.push_str(" flags ")
 }
 
 /// Appends the activity, clock and data quality flags.
-#[tactic(auto, using(std::proofs::lemmas::Fmt::hex_byte))]
 fn push_flags(text: &mut String, key: &Key) -> Result<(), AllocError>
     ensures { OnOk result (string_bytes text.new ≡ string_bytes text.old ++ flags_text key.now) }
 {
-    let (activity, clock, data) = (key.activity, key.clock, key.data_quality);
-    write!(text, "{activity:02x} {clock:02x} {data:02x}")
+    push_hex(text, key.activity)?;
+    text.push(' ')?;
+    push_hex(text, key.clock)?;
+    text.push(' ')?;
+    push_hex(text, key.data_quality)
 }
 
-#[tactic(auto, using(crate::proofs::Words::zeros_before))]
 fn push_date(text: &mut String, time: BTime) -> Result<(), AllocError>
     ensures { OnOk result (string_bytes text.new ≡ string_bytes text.old ++ date_text time) }
 {
-    let (year, day) = (time.year, time.day);
-    write!(text, "{year:04},{day:03}")
+    push_padded(text, u32::from(time.year), 4)?;
+    text.push(',')?;
+    push_padded(text, u32::from(time.day), 3)
 }
 
-#[tactic(auto, using(crate::proofs::Words::zeros_before))]
 fn push_clock(text: &mut String, time: BTime) -> Result<(), AllocError>
     ensures { OnOk result (string_bytes text.new ≡ string_bytes text.old ++ clock_text time) }
 {
-    let (hour, minute, second) = (time.hour, time.minute, time.second);
-    write!(text, "{hour:02}:{minute:02}:{second:02}")
-}
-
-#[tactic(auto, using(crate::proofs::Words::zeros_before))]
-fn push_six_digits(text: &mut String, n: u32) -> Result<(), AllocError>
-    ensures { OnOk result (string_bytes text.new ≡ string_bytes text.old ++ padded_decimal 6 n) }
-{
-    write!(text, "{n:06}")
+    push_padded(text, u32::from(time.hour), 2)?;
+    text.push(':')?;
+    push_padded(text, u32::from(time.minute), 2)?;
+    text.push(':')?;
+    push_padded(text, u32::from(time.second), 2)
 }
 
 /// A time, and the microseconds below its fraction.
@@ -112,7 +154,7 @@ fn split_string(alloc: Global, time: BTime, micros: u8) -> Result<String, AllocE
     text.push(',')?;
     push_clock(&mut text, time)?;
     text.push('.')?;
-    push_six_digits(&mut text, 100 * time.fract as u32 + micros as u32)?;
+    push_padded(&mut text, 100 * time.fract as u32 + micros as u32, 6)?;
     Ok(text)
 }
 
@@ -132,8 +174,10 @@ fn push_timing(text: &mut String, key: &Key) -> Result<(), AllocError>
     ensures { OnOk result (string_bytes text.new ≡ string_bytes text.old ++ (codes " correction "
         ++ (signed_decimal key.now.correction ++ (codes " timing " ++ decimal key.now.timing)))) }
 {
-    let (correction, timing) = (key.correction, key.timing);
-    write!(text, " correction {correction} timing {timing}")
+    text.push_str(" correction ")?;
+    push_signed(text, key.correction)?;
+    text.push_str(" timing ")?;
+    push_decimal(text, key.timing as u64)
 }
 
 /// Appends the words from the rate to the timing quality.

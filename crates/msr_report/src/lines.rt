@@ -3,8 +3,9 @@ ghost use Rattle.std.specs.Prelude.{◌≡◌, ◌++◌, ◌∷◌, ◌<◌, ℕ
 ghost use Rattle.msr_time.specs.Instant.{IsInstant};
 ghost use Rattle.msr_report.specs.Text.{words_after_quality, segment_words, IsListLine, separators_line, IsSegmentText, kinds_line, counts_line, first_lines, end_line};
 
-use crate::fields::{name_string, push_settings, time_string};
+use crate::fields::{name_string, push_decimal, push_settings, time_string};
 use crate::report::{Report, SegmentLine};
+use itoa::Buffer;
 use msr_base::Counts;
 use msr_kinds::Kinds;
 use msr_rows::Key;
@@ -28,7 +29,11 @@ fn words_string(
     let mut text = String::with_capacity(alloc, WORDS_ROOM)?;
     text.push(' ')?;
     push_settings(&mut text, key)?;
-    write!(text, " start {start} samples {samples}{more}")?;
+    text.push_str(" start ")?;
+    text.push_str(start)?;
+    text.push_str(" samples ")?;
+    push_decimal(&mut text, samples)?;
+    text.push_str(more)?;
     Ok(text)
 }
 
@@ -94,20 +99,21 @@ pub fn push_counts(alloc: Global, out: &mut Vec<u8>, counts: &Counts) -> Result<
 }
 
 /// Appends a number after a space.
-fn push_number(alloc: Global, out: &mut Vec<u8>, n: u64) -> Result<(), AllocError>
+fn push_number(out: &mut Vec<u8>, n: u64) -> Result<(), AllocError>
     ensures { OnOk result (out.new.items ≡ out.old.items ++ (32 ∷ decimal n)) }
 {
-    let word = format!(in alloc; " {n}")?;
-    out.extend_from_slice(word.as_bytes())
+    let mut digits = Buffer::new();
+    out.push(b' ')?;
+    out.extend_from_slice(digits.format(n).as_bytes())
 }
 
 /// Appends the line of the separators.
-fn push_separators(alloc: Global, out: &mut Vec<u8>, separators: &[u64]) -> Result<(), AllocError>
+fn push_separators(out: &mut Vec<u8>, separators: &[u64]) -> Result<(), AllocError>
     ensures { OnOk result (out.new.items ≡ out.old.items ++ separators_line separators.now) }
 {
     out.extend_from_slice(b"separators")?;
     for separator in separators {
-        push_number(alloc, out, *separator)?;
+        push_number(out, *separator)?;
     }
     out.push(b'\n')?;
     Ok(())
@@ -133,7 +139,7 @@ pub(crate) fn push_segment(
         line.samples,
         more.as_str(),
     )?;
-    push_separators(alloc, out, &line.separators)
+    push_separators(out, &line.separators)
 }
 
 /// The line of the kinds of which records may be, each by its name. A report of all five has none.
