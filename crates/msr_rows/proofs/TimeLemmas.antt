@@ -1,7 +1,6 @@
 -- By how much a correction moves a start, and the one rounded instant of the last sample.
-use Rattle.std.proofs.Common.{◌≡◌, ℕ, refl, arith, ℤ, pos, neg_ℤ, ◌*ℤ◌, FitsSigned, w32, cond, true, false, ◌-◌, Option, Some, None}
-use Rattle.std.specs.Prelude.{is_some, SomeIff}
-use Rattle.std.specs.Prelude.{◌≤ℤ◌}
+use Rattle.std.proofs.Common.{ℕ, arith, ℤ, pos, neg_ℤ, ◌*ℤ◌, FitsSigned, w32, cond, true, false, ◌-◌, Bool}
+use Rattle.std.specs.Prelude.{◌≤ℤ◌, ◌↔◌, IsTrue}
 use Rattle.msr_time.specs.Instant.{IsInstant}
 use Rattle.msr_time.specs.SampleRate.{SampleRate, IsRoundedNominal}
 use Rattle.msr_time.proofs.SignedFacts.{signed_arith}
@@ -19,10 +18,11 @@ moved_near activity z f = elim (is_pending activity z) as (λ b. IsMove (cond b 
 ]
 
 -- the time of a record, by the test for its last sample
-pub in_time_from : (rate : SampleRate) (start : ℤ) (count : ℕ) (found : Option ℤ) → IsInstant start
-    → ((r : ℤ) × IsRoundedNominal rate start (count - 1) r × SomeIff found (IsInstant r) r)
-    → ((r : ℤ) → IsRoundedNominal rate start (count - 1) r → SomeIff found (IsInstant r) r)
-    → (is_some found ≡ true → IsInTime rate start count) × (IsInTime rate start count → is_some found ≡ true)
-in_time_from rate start count (Some x) first last only =
-    (λ e. record { last = last.0; nominal = last.1; first_in = first; last_in = last.2.0 }, λ h. refl)
-in_time_from rate start count None first last only = (λ e. cc, λ h. absurd (only h.last h.nominal h.last_in))
+pub in_time_from : (rate : SampleRate) (start : ℤ) (count : ℕ) (reached : Bool) → IsInstant start
+    → ((r : ℤ) × IsRoundedNominal rate start (count - 1) r × (IsTrue reached ↔ IsInstant r))
+    → ((r : ℤ) → IsRoundedNominal rate start (count - 1) r → (IsTrue reached ↔ IsInstant r))
+    → IsTrue reached ↔ IsInTime rate start count
+in_time_from rate start count reached first last only = (
+  λ e. record { last = last.0; nominal = last.1; first_in = first; last_in = last.2.0 e },
+  λ h. (only h.last h.nominal).1 h.last_in,
+)

@@ -74,7 +74,7 @@ fn start_of(header: &Header) -> i64
     requires { IsTime header.now.time }
     ensures { result ≡ start_of header.now }
 {
-    let time = header.time.micros().unwrap();
+    let time = header.time.instant();
     let micros = timing_micros(header.timing);
     time + micros as i64 + correction_micros(header.activity, header.correction)
 }
@@ -139,8 +139,7 @@ fn is_in_time(rate: &Rate, start: i64, count: u16) -> bool
     if !is_instant(start) {
         return false;
     }
-    let last = rate.nominal(start, count as u64 - 1);
-    last.is_some()
+    rate.reaches(start, count as u64 - 1)
 }
 
 /// A record whose header and fields have no fault.

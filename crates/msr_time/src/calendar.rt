@@ -31,7 +31,8 @@ pub(crate) fn has_day(year: u16, day: u16) -> bool
     if year < 1900 || year > 2100 || day < 1 {
         return false;
     }
-    day <= first_of_year(year).days_in_year() as u16
+    // Only a day 366 needs the calendar.
+    day <= 365 || day <= first_of_year(year).days_in_year() as u16
 }
 
 /// The instant at which that day of the year begins.

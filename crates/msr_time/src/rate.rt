@@ -62,12 +62,17 @@ impl Rate {
     {
         let factor = self.factor.unsigned_abs() as u64;
         let multiplier = self.multiplier.unsigned_abs() as u64;
-        match (self.factor > 0, self.multiplier > 0) {
-            (true, true) => (1_000_000, factor * multiplier),
-            (true, false) => (1_000_000 * multiplier, factor),
-            (false, true) => (1_000_000 * factor, multiplier),
-            (false, false) => (1_000_000 * factor * multiplier, 1),
-        }
+        let (longer, shorter) = if self.factor > 0 {
+            (1, factor)
+        } else {
+            (factor, 1)
+        };
+        let (times, parts) = if self.multiplier > 0 {
+            (1, multiplier)
+        } else {
+            (multiplier, 1)
+        };
+        (1_000_000 * longer * times, shorter * parts)
     }
 
     /// The nominal instant of sample `n` counted from `t0`, rounded, in range or not.
@@ -94,6 +99,21 @@ impl Rate {
             return None;
         }
         Some(instant as i64)
+    }
+
+    /// Whether the nominal instant of sample `n` counted from `t0`, rounded as by `nominal`, is in the years 1900 to
+    /// 2100. It costs less than the instant, which takes a division.
+    pub fn reaches(&self, t0: i64, n: u64) -> bool
+        requires { IsInstant t0 }
+        ensures found { (r : ℤ) × IsRoundedNominal self.now t0 n r × (IsTrue result ↔ IsInstant r) }
+        ensures only { (r : ℤ) → IsRoundedNominal self.now t0 n r → IsTrue result ↔ IsInstant r }
+        ensures few { IsTrue result → n < 2 ^ 63 }
+    {
+        let (numerator, denominator) = self.period();
+
+        // Half a microsecond after the last instant would be rounded to the next.
+        let halves = 2 * (LAST_INSTANT - t0) as u64 + 1;
+        2 * (n as u128 * numerator as u128) < halves as u128 * denominator as u128
     }
 
     /// Whether `t` lies at most `tolerance` microseconds from the nominal instant of sample `n`

@@ -7,31 +7,28 @@ use Rattle.msr_rows.proofs.reading.start_of.Goals as goal
 
 pub overflow_add-result : goal.overflow_add-result
 overflow_add-result c =
-    let time = rw c.unwrap-time.ensures at c.micros.ensures in
     let micros_fit : FitsSigned w8 c.timing_micros-micros.result = search rules in
-    (start_first c.args.header.now.time _ _ time.0 time.1 micros_fit).0
+    (start_first c.args.header.now.time _ _ c.requires c.instant-time.ensures micros_fit).0
 
 pub overflow_add-result-2 : goal.overflow_add-result-2
 overflow_add-result-2 c =
-    let time = rw c.unwrap-time.ensures at c.micros.ensures in
     let micros_fit : FitsSigned w8 c.timing_micros-micros.result = search rules in
     let correction_fit : FitsSigned w32 c.args.header.now.correction = search rules in
     let moved = rw (to_z-of_z correction_fit) at c.correction_micros.ensures in
     let near : IsMove c.correction_micros.result =
     rw moved (moved_near c.args.header.now.activity c.args.header.now.correction correction_fit) in
-    let first = start_first c.args.header.now.time _ _ time.0 time.1 micros_fit in
-    (moved_sum c.args.header.now.time _ _ _ time.0 first.1 micros_fit near).0
+    let first = start_first c.args.header.now.time _ _ c.requires c.instant-time.ensures micros_fit in
+    (moved_sum c.args.header.now.time _ _ _ c.requires first.1 micros_fit near).0
 
 pub returns : goal.returns
 returns c =
-    let time = rw c.unwrap-time.ensures at c.micros.ensures in
     let micros_fit : FitsSigned w8 c.timing_micros-micros.result = search rules in
     let correction_fit : FitsSigned w32 c.args.header.now.correction = search rules in
     let moved = rw (to_z-of_z correction_fit) at c.correction_micros.ensures in
     let near : IsMove c.correction_micros.result =
     rw moved (moved_near c.args.header.now.activity c.args.header.now.correction correction_fit) in
-    let first = start_first c.args.header.now.time _ _ time.0 time.1 micros_fit in
-    (moved_sum c.args.header.now.time _ _ _ time.0 first.1 micros_fit near).1
+    let first = start_first c.args.header.now.time _ _ c.requires c.instant-time.ensures micros_fit in
+    (moved_sum c.args.header.now.time _ _ _ c.requires first.1 micros_fit near).1
     ∙ ap (λ (m : ℤ). (instant_of c.args.header.now.time +ℤ c.timing_micros-micros.result) +ℤ m) moved
     ∙ ap (λ (m : ℤ). (instant_of c.args.header.now.time +ℤ m) +ℤ correction_micros c.args.header.now.activity
     c.args.header.now.correction) c.timing_micros-micros.ensures
