@@ -1,32 +1,28 @@
 -- Facts about spans, followers and joiners over plain variables.
-use Rattle.std.proofs.Common.{◌≡◌, ℕ, ◌+◌, ◌-◌, List, ◌++◌, length, length-append, refl, sym, ap, subst, ◌∙◌, ℤ, Option, Some, None}
-use Rattle.std.specs.Prelude.{option_map, SomeIff}
-use Rattle.msr_time.specs.Instant.{IsInstant}
-use Rattle.msr_time.specs.SampleRate.{IsRoundedNominal}
+use Rattle.std.proofs.Common.{◌≡◌, ℕ, ◌+◌, List, ◌++◌, length, length-append, refl, sym, ap, subst, ◌∙◌, ℤ, Option, Some, None}
+use Rattle.std.specs.Prelude.{option_map}
 use Rattle.msr_rows.specs.declared.row.Row.{Row}
 use Rattle.msr_segments.specs.declared.span.Span.{Span}
 use Rattle.msr_segments.specs.declared.joiner.Segment.{Segment}
-use Rattle.msr_segments.specs.Spans.{Continues, EndsOutOfRange, SpanIsInTime, longer, Following, BeginsSegment, JoinsSegment}
+use Rattle.msr_segments.specs.Spans.{Continues, SpanIsInTime, longer, Following, BeginsSegment, JoinsSegment}
 use Rattle.msr_segments.specs.Segments.{row_span, segment_span}
 use Rattle.msr_segments.specs.Joining.{segment_at, joining_of, following_of, IsCounted, JoinsRow, BeginsRow}
 use Rattle.msr_segments.proofs.Divisions.{span_with_row}
 
--- if the rounded instant of the last sample was found, that sample is not out of range
-pub not_out : (span : Span) (found : Option ℤ) (v : ℤ)
-    → ((r : ℤ) → IsRoundedNominal span.key.rate span.start (span.count - 1) r → SomeIff found (IsInstant r) r)
-    → found ≡ Some v → EndsOutOfRange span → ⊥
-not_out span found v only e out =
-    let some = subst (λ (o : Option ℤ). SomeIff o (IsInstant out.instant) out.instant) e
-    (only out.instant out.nominal) in
-    out.out some.0
-
--- if it was found, and the first sample is of the supported years, the span lies in them
-pub found_in_time : (span : Span) (found : Option ℤ) (v : ℤ)
-    → ((r : ℤ) × IsRoundedNominal span.key.rate span.start (span.count - 1) r × SomeIff found (IsInstant r) r)
-    → found ≡ Some v → IsInstant span.start → SpanIsInTime span
-found_in_time span found v h e first =
-    let some = subst (λ (o : Option ℤ). SomeIff o (IsInstant h.0) h.0) e h.2 in
-    record { last = h.0; nominal = h.1; first_in = first; last_in = some.0 }
+-- a row that continues a segment, and with which it stays in time, joins it
+pub joins_longer : (old : Following) (segment row : Span) (longest : ℕ) → old.current ≡ Some segment
+    → Continues old.tolerance segment row → longest ≡ segment.count + row.count → SpanIsInTime (longer segment row)
+    → JoinsSegment old row (record {
+      tolerance = old.tolerance;
+      current = Some (record { key = segment.key; start = segment.start; count = longest });
+    })
+joins_longer old segment row longest current continues e in_time = record {
+  segment = segment;
+  current = current;
+  continues = continues;
+  in_time = in_time;
+  after = rw e refl;
+}
 
 pub breaks_some : (tolerance : ℕ) (row : Span) (current : Option Span) (at : Span) → current ≡ Some at
     → (Continues tolerance at row → ⊥) → (segment : Span) → current ≡ Some segment → Continues tolerance segment row → ⊥
@@ -40,6 +36,15 @@ pub breaks_none : (tolerance : ℕ) (row : Span) (current : Option Span) → cur
 breaks_none tolerance row current e segment f k =
     let none : ◌≡◌ {A = Option Span} None (Some segment) = sym e ∙ f in
     absurd cc
+
+-- a row that does not continue the segment that was begun last begins one
+pub begins_after : (old : Following) (row : Span) (tolerance : ℕ) → tolerance ≡ old.tolerance
+    → ((segment : Span) → old.current ≡ Some segment → Continues old.tolerance segment row → ⊥)
+    → BeginsSegment old row (record { tolerance = tolerance; current = Some row })
+begins_after old row tolerance e breaks = record {
+  breaks = breaks;
+  after = rw e refl;
+}
 
 -- the span of a segment of these samples
 span_at : (samples : List ℤ) (span : Span) → span.count ≡ length samples → segment_span (segment_at samples span) ≡ span

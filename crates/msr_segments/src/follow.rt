@@ -78,19 +78,20 @@ impl Follow {
             → HasFollowed self.old rows answers
             → IfOk result (λ answer. HasFollowed self.new (rows ++ row ∷ []) (answers ++ answer ∷ [])) }
     {
-        let row = Span {
-            key: *key,
-            start,
-            count: count as u64,
-        };
-        let current = self.current;
-        match current {
-            Some(segment) if segment.is_continued_by(&row, self.tolerance) => {
-                self.current = Some(segment.longer_by(&row).ok_or(OutOfRange)?);
+        match &mut self.current {
+            Some(segment) if segment.is_continued_by(key, start, self.tolerance) => {
+                let Some(longer) = segment.count_with(count) else {
+                    return Err(OutOfRange);
+                };
+                segment.count = longer;
                 Ok(Step::Joins)
             }
             _ => {
-                self.current = Some(row);
+                self.current = Some(Span {
+                    key: *key,
+                    start,
+                    count: count as u64,
+                });
                 Ok(Step::Begins)
             }
         }

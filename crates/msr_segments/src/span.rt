@@ -1,9 +1,27 @@
 //! Where samples lie in time, and what continues them.
-ghost use Rattle.std.specs.Prelude.{◌≡◌, ◌↔◌, ◌≤◌, ◌^◌, IsTrue, IsNone, IfSome};
+ghost use Rattle.std.specs.Prelude.{◌≡◌, ◌↔◌, ℕ, ◌+◌, ◌≤◌, ◌^◌, IsTrue, IsNone, IfSome, OnSome};
 ghost use Rattle.msr_time.specs.Instant.{IsInstant};
-ghost use Rattle.msr_segments.specs.Spans.{Continues, EndsOutOfRange, SpanIsInTime, longer};
+ghost use Rattle.msr_segments.specs.Spans.{Continues, EndsOutOfRange, SpanIsInTime, span_of};
 
 use msr_rows::Key;
+
+/// Whether the keys are equal. No field is tested before another, which costs less than `==`: nearly all keys are.
+fn is_same(a: &Key, b: &Key) -> bool
+    ensures { IsTrue result ↔ (a.now ≡ b.now) }
+{
+    let texts = (a.network == b.network)
+        & (a.station == b.station)
+        & (a.location == b.location)
+        & (a.channel == b.channel);
+    let numbers = (a.quality == b.quality)
+        & (a.rate == b.rate)
+        & (a.activity == b.activity)
+        & (a.clock == b.clock)
+        & (a.data_quality == b.data_quality)
+        & (a.correction == b.correction)
+        & (a.timing == b.timing);
+    texts & numbers
+}
 
 /// Where the samples of a row or of a segment lie.
 #[derive(Clone, Copy, Debug)]
@@ -17,33 +35,28 @@ pub(crate) struct Span {
 }
 
 impl Span {
-    /// Whether a row whose samples lie at `row` continues a segment whose samples lie at this span.
-    pub(crate) fn is_continued_by(&self, row: &Span, tolerance: u32) -> bool
-        ensures { IsTrue result ↔ Continues tolerance self.now row.now }
+    /// Whether samples of that key, the first of them at `start`, continue a segment whose samples lie at this span.
+    pub(crate) fn is_continued_by(&self, key: &Key, start: i64, tolerance: u32) -> bool
+        ensures { (count : ℕ) → IsTrue result ↔ Continues tolerance self.now (span_of key.now start count) }
     {
-        row.key == self.key
-            && self
-                .key
-                .rate
-                .near(self.start, self.count, row.start, tolerance)
+        is_same(key, &self.key) && self.key.rate.near(self.start, self.count, start, tolerance)
     }
 
-    /// The span with the samples of `row` after its own, unless the last of them is out of range.
-    pub(crate) fn longer_by(&self, row: &Span) -> Option<Span>
-        requires row { (1 ≤ row.now.count) × (row.now.count ≤ 65_535) }
+    /// How many samples there are with that many more, unless the last of them is out of range.
+    pub(crate) fn count_with(&self, more: u16) -> Option<u64>
+        requires more { 1 ≤ more }
         requires count { self.now.count ≤ 2 ^ 63 }
         requires start { IsInstant self.now.start }
-        ensures none { IsNone result ↔ EndsOutOfRange (longer self.now row.now) }
-        ensures some { IfSome result (λ span. span ≡ longer self.now row.now) }
-        ensures in_time { IfSome result SpanIsInTime }
-        ensures count { IfSome result (λ span. span.count ≤ 2 ^ 63) }
+        ensures none { IsNone result
+            ↔ EndsOutOfRange (span_of self.now.key self.now.start (self.now.count + more)) }
+        ensures some { IfSome result (λ count. count ≡ self.now.count + more) }
+        ensures in_time { OnSome result (SpanIsInTime (span_of self.now.key self.now.start (self.now.count + more))) }
+        ensures few { IfSome result (λ count. count ≤ 2 ^ 63) }
     {
-        let count = self.count + row.count;
-        self.key.rate.nominal(self.start, count - 1)?;
-        Some(Span {
-            key: self.key,
-            start: self.start,
-            count,
-        })
+        let count = self.count + more as u64;
+        if !self.key.rate.reaches(self.start, count - 1) {
+            return None;
+        }
+        Some(count)
     }
 }
