@@ -1,3 +1,4 @@
 pub mod HoldsBoth
 pub mod Known
 pub mod Next
+pub mod Judged

@@ -1,4 +1,4 @@
--- A separator beside the one before it.
+-- Separators beside those before them.
 use Rattle.std.specs.Prelude.{ℕ, ◌-◌, ◌<◌, ℤ, List, length, slice_index}
 use Rattle.msr_words.specs.Fit.{Records}
 use Rattle.msr_words.specs.Packing.{NoneHolds}
@@ -8,3 +8,10 @@ pub record IsNext (records : Records) (samples : List ℤ) (separators : List �
   pub within : slice_index separators i < length samples
   pub apart : 0 < i → (slice_index separators (i - 1) < slice_index separators i)
       × NoneHolds records samples (slice_index separators (i - 1)) (slice_index separators i)
+
+-- the first `count` of the list are separating
+pub record SeparatingTo (records : Records) (samples : List ℤ) (separators : List ℕ) (count : ℕ) : Type 0 where
+  pub rising : (i j : ℕ) → i < j → j < count → slice_index separators i < slice_index separators j
+  pub within : (i : ℕ) → i < count → slice_index separators i < length samples
+  pub apart : (i j : ℕ) → i < j → j < count
+      → NoneHolds records samples (slice_index separators i) (slice_index separators j)

@@ -1,6 +1,7 @@
 //! Whether a packing and its separators show that the packing is least.
 #![tactic(auto)]
 
+mod judge;
 mod reach;
 
 ghost use Rattle.std.specs.Prelude.{◌≡◌, ◌<◌, ◌≤◌, ◌↔◌, length, IsTrue, IsFalse};
@@ -17,6 +18,7 @@ ghost use Rattle.msr_check.specs.Next.{IsNext};
 ghost use Rattle.msr_words.specs.Packing.{NoneHolds, IsPacking, IsSeparating, IsLeast};
 
 use crate::reach::{Reach, meets_narrow, reach_of};
+pub use judge::Judge;
 use msr_kinds::{Form, Kind, Length};
 use msr_words::{Fitting, Run, are_narrow, begins_with_four, count_wide, run_fits, steim1_reach};
 

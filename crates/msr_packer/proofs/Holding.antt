@@ -18,7 +18,8 @@ use Rattle.msr_packer.specs.declared.held.HeldSamples.{HeldSamples}
 use Rattle.msr_packer.specs.declared.held.Piece.{Piece}
 use Rattle.msr_packer.proofs.PackingsExist.{HasRest, has_packing, rest_of}
 use Rattle.msr_packer.proofs.Least.{forth, goes_on, last_one, one_more}
-use Rattle.msr_packer.proofs.Windows.{front_of_all, near_by_one, run_of_window, run_points_window, so_far_stays, step_of_window}
+use Rattle.msr_words.proofs.LastSamples.{run_of_window, run_points_window}
+use Rattle.msr_packer.proofs.Windows.{front_of_all, near_by_one, so_far_stays, step_of_window}
 
 -- no run has more samples than a record of some kind
 pub run_size : (records : Records) (samples : List ℤ) (a b : ℕ) (kind : Kind) → IsRun (FitsIn kind records) samples a b

@@ -17,7 +17,8 @@ use Rattle.msr_packer.specs.declared.growing.GrowingRun.{GrowingRun}
 use Rattle.msr_packer.specs.declared.held.RunToCut.{RunToCut}
 use Rattle.msr_packer.specs.declared.step.StepWithEnds.{StepWithEnds}
 use Rattle.msr_packer.proofs.Holding.{run_size}
-use Rattle.msr_packer.proofs.Windows.{near_by_one, run_points_window, run_stays, run_was}
+use Rattle.msr_words.proofs.LastSamples.{run_points_window, run_stays, run_was}
+use Rattle.msr_packer.proofs.Windows.{near_by_one}
 
 -- ---- the run that takes the samples after the frontier
 

@@ -12,7 +12,7 @@ use Rattle.msr_packer.specs.Steps.{HaveSizes}
 use Rattle.msr_packer.specs.declared.held.HeldSamples.{HeldSamples}
 use Rattle.msr_packer.specs.declared.held.Piece.{Piece}
 use Rattle.msr_packer.specs.declared.held.RunToCut.{RunToCut}
-use Rattle.msr_packer.proofs.Windows.{run_points_window}
+use Rattle.msr_words.proofs.LastSamples.{run_points_window}
 
 pub none_sized : (samples : List ℤ) (a b count : ℕ) (sizes : List ℕ) → count ≡ 0 → HaveSizes samples a b count sizes
 none_sized samples a b count sizes is = subst (λ n. HaveSizes samples a b n sizes) (sym is)

@@ -1,4 +1,4 @@
--- Runs and steps of samples that more follow, and of the last samples of a segment.
+-- Steps of samples that more follow, and of the last samples of a segment.
 use Rattle.std.proofs.Common.{◌≡◌, ℕ, zero, suc, ◌+◌, ◌-◌, ◌<◌, ◌≤◌, ◌⊎◌, ℤ, pos, List, [], ◌∷◌, ◌++◌, length, take, drop, None, refl, sym, ap, ◌∙◌, subst, arith, inl, inr, length-append, length-drop}
 use Rattle.std.specs.Prelude.{get_or}
 use Rattle.std.proofs.lemmas.Bool.{cases_lt}
@@ -10,6 +10,7 @@ use Rattle.msr_words.specs.Fit.{Records, FitsIn, FitsAny, IsRun, IsFirstKind}
 use Rattle.msr_words.specs.Laws.{PrefixLaw, BackStepLaw}
 use Rattle.msr_words.specs.Lemmas.KindLaws.{prefix_any, back_step_any}
 use Rattle.msr_words.specs.Packing.{Joins, IsStep, CanonicalTo}
+use Rattle.msr_words.proofs.LastSamples.{run_in_window, run_of_window, run_stays, run_was}
 use Rattle.msr_words.proofs.Runs.{back_step_run, points_drop, prefix_run, run_points_stay}
 use Rattle.msr_packer.proofs.PackingsExist.{HasRest, rest_of}
 use Rattle.msr_packer.specs.SoFar.{IsSoFar}
@@ -18,30 +19,19 @@ use Rattle.msr_packer.proofs.Least.{goes_on}
 -- ---- samples that more follow
 
 module _ (fits : List (ℤ × ℤ) → Type 0) (samples more : List ℤ) where
-  pub run_stays : (a b : ℕ) → IsRun fits samples a b → IsRun fits (samples ++ more) a b
-  run_stays a b run = (
-    run.0,
-    omega (arith, run.1, length-append samples more),
-    subst fits
-        (sym (run_points_stay samples more a b run.0 run.1)) run.2,
-  )
-
-  pub run_was : (a b : ℕ) → b ≤ length samples → IsRun fits (samples ++ more) a b → IsRun fits samples a b
-  run_was a b within run = (run.0, within, subst fits (run_points_stay samples more a b run.0 within) run.2)
-
   -- a step that ends before the last sample stays, whatever follows
   pub step_stays : PrefixLaw fits → (g h a : ℕ) → g ≤ h → h < length samples → IsStep fits samples g h a
       → IsStep fits (samples ++ more) g h a
   step_stays law g h a order decided step = record {
     before = step.before;
-    reached = run_stays a h step.reached;
+    reached = run_stays fits samples more a h step.reached;
     furthest = λ s b le r. elim (cases_lt h b) [
-      | inl past ↦ let short = run_was s (suc h) decided
+      | inl past ↦ let short = run_was fits samples more s (suc h) decided
           (prefix_run fits law (samples ++ more) s (suc h) b (omega arith) past r) in
           let far = step.furthest s (suc h) le short in absurd (omega arith)
       | inr not ↦ not
     ];
-    last = λ s le r. step.last s le (run_was s h (omega arith) r);
+    last = λ s le r. step.last s le (run_was fits samples more s h (omega arith) r);
   }
 
 -- the runs and separators up to a frontier before the last sample stay
@@ -144,45 +134,6 @@ front_of_all records enough samples runs separators g h a kind decided so_far mo
     (so_far_stays records enough samples more runs separators g h a kind decided so_far) (omega arith)
 
 -- ---- the last samples of a segment
-
-pub run_points_window : (samples : List ℤ) (o a b : ℕ) → (o ≡ 0) ⊎ (1 ≤ a)
-    → run_points (drop o samples) a b ≡ run_points samples (o + a) (o + b)
-run_points_window samples o a b (inl e) =
-    let x : o + a ≡ a = omega arith in
-    let y : o + b ≡ b = omega arith in
-    rw (x, y) (subst (λ k. run_points (drop k samples) a b ≡ run_points samples a b) (sym e) refl)
-run_points_window samples o zero b (inr h) = absurd (omega arith)
-run_points_window samples o (suc a) b (inr h) =
-    let width : (o + b) - (o + suc a) ≡ b - suc a = omega arith in
-    let place : o + suc a ≡ suc (o + a) = omega arith in
-    let back : a + o ≡ o + a = omega arith in
-    let first : get_or (drop o samples) a (pos 0) ≡ get_or samples (o + a) (pos 0) = get_or-drop o samples a (pos 0) in
-    let rest : drop (suc a) (drop o samples) ≡ drop (suc (o + a)) samples = drop-drop (suc a) o samples
-    ∙ ap (λ n. drop n samples) place in
-    let same : drop (suc a) (points None (drop o samples)) ≡ drop (o + suc a) (points None samples) =
-    points_drop (drop o samples) a ∙ ap (λ x. points_after x (drop (suc a) (drop o samples))) first
-    ∙ ap (points_after (get_or samples (o + a) (pos 0))) rest ∙ sym (points_drop samples (o + a))
-    ∙ ap (λ n. drop n (points None samples)) (sym place) in
-    ap (take (b - suc a)) same ∙ ap (λ n. take n (drop (o + suc a) (points None samples))) (sym width)
-
-module _ (fits : List (ℤ × ℤ) → Type 0) (samples : List ℤ) (o : ℕ) (within : o ≤ length samples) where
-  pub run_of_window : (a b : ℕ) → (o ≡ 0) ⊎ (1 ≤ a) → IsRun fits (drop o samples) a b
-      → IsRun fits samples (o + a) (o + b)
-  run_of_window a b at run = (
-    omega (arith, run.0),
-    omega (arith, run.1, length-drop o samples),
-    subst fits
-        (run_points_window samples o a b at) run.2,
-  )
-
-  pub run_in_window : (a b : ℕ) → (o ≡ 0) ⊎ (1 ≤ a) → IsRun fits samples (o + a) (o + b)
-      → IsRun fits (drop o samples) a b
-  run_in_window a b at run = (
-    omega (arith, run.0),
-    omega (arith, run.1, length-drop o samples),
-    subst fits
-        (sym (run_points_window samples o a b at)) run.2,
-  )
 
 -- the step from a frontier in the last samples is the step of the segment, if two samples stand before the frontier, or
 -- all do

@@ -1,32 +1,35 @@
 -- What is known of the comparing so far, and how a record more changes it.
-use Rattle.std.proofs.Common.{◌≡◌, inl, inr, ℕ, zero, suc, true, false, List, [], ◌∷◌, ◌++◌, length, refl, sym, ap, subst, ◌∙◌, arith, append_assoc, length-append, Option, Some, None, All}
+use Rattle.std.proofs.Common.{◌≡◌, ◌↔◌, ℤ, inl, inr, ℕ, zero, suc, true, false, List, [], ◌∷◌, ◌++◌, length, refl, sym, ap, subst, ◌∙◌, arith, append_assoc, length-append, Option, Some, None, All}
 use Rattle.std.specs.Prelude.{slice_get, option_map, IsSome, MatchOption}
 use Rattle.std.specs.Option.{option_to_list}
 use Rattle.std.proofs.lemmas.Bool.{both_ways, cases_Bool}
 use Rattle.std.proofs.lemmas.List.{append-nil}
 use Rattle.msr_kinds.specs.declared.forms.Form.{Form}
 use Rattle.msr_kinds.specs.Lengths.{bytes_of}
+use Rattle.msr_words.specs.Fit.{Records, records_of}
 use Rattle.msr_words.specs.declared.kinds.Run.{Run}
+use Rattle.msr_check.specs.Judged.{Judges}
 use Rattle.msr_rows.specs.declared.row.Row.{Row}
 use Rattle.msr_rows.specs.declared.row.Record.{Record}
 use Rattle.msr_segments.specs.declared.follow.Step.{Step}
 use Rattle.msr_segments.specs.declared.follow.Step.TheVariants.{Begins, Joins}
 use Rattle.msr_segments.specs.declared.joiner.Segment.{Segment}
 use Rattle.msr_segments.specs.Spans.{Following}
-use Rattle.msr_segments.specs.Segments.{Part, segment_of}
+use Rattle.msr_segments.specs.Segments.{Part, rows_of, segment_of}
 use Rattle.msr_report.specs.declared.report.SegmentLine.{SegmentLine}
 use Rattle.msr_input.specs.Input.{rows_of_records}
 use Rattle.msr_input.specs.Rows.{StepsTo, row_told}
 use Rattle.msr_input.specs.declared.row_reader.NextRecord.{NextRecord}
 use Rattle.msr_input.specs.declared.row_reader.NextRow.{NextRow}
 use Rattle.msr_input.proofs.Records.{rows_snoc}
-use Rattle.msr_verdict.specs.Packed.{IsFull, IsShownAs, IsShownBy, AreShownBy, runs_of_rows}
-use Rattle.msr_verdict.specs.Compared.{Compared, HasFullRow, IsShownAt, ComparesSegment, ComparesEnded, EndsBy, AddsRow, TakesRow, count_in, grown}
+use Rattle.msr_verdict.specs.Packed.{IsFull, AreShownBy, runs_of_part, runs_of_rows}
+use Rattle.msr_verdict.specs.Compared.{Compared, HasFullRow, IsShownAt, ComparesSegment, ComparesEnded, EndsBy, AddsRow, TakesRow, opened, separators_at}
+use Rattle.msr_verdict.specs.declared.comparing.Opening.{Opening}
 use Rattle.msr_verdict.proofs.Lines.{shown_snoc, shown_next, get_after, after_get}
-use Rattle.msr_verdict.proofs.Runs.{grown_part, runs_grown}
+use Rattle.msr_verdict.proofs.Runs.{opened_part, opening_of, runs_grown, same_segment, samples_grown, samples_of}
 use Rattle.msr_verdict.proofs.Parts.{HasParts, open_rows, part_with, parts_after, last_before, parts_with, last_with, parts_none, parts_more}
 
--- All records so far are full, the ended parts are shown by the first lines, and the open one is at hand with its runs.
+-- All records so far are full, the ended parts are shown by the first lines, and the runs of the open one were judged.
 pub record Agreeing (form : Form) (lines : List SegmentLine) (records : List Record) (parts : List Part)
     (last : Option Part) (c : Compared) : Type 0 where
   pub full : All (IsFull (bytes_of form.length)) records
@@ -35,8 +38,9 @@ pub record Agreeing (form : Form) (lines : List SegmentLine) (records : List Rec
   pub whole : lines ≡ done ++ left
   pub place : c.place ≡ length done
   pub shown : AreShownBy form parts done
-  pub current : c.current ≡ option_map segment_of last
-  pub runs : c.runs ≡ runs_of_rows 0 (open_rows last)
+  pub current : c.current ≡ option_map opening_of last
+  pub judged : Judges (records_of form) (samples_of (open_rows last)) (runs_of_rows 0 (open_rows last))
+      (separators_at lines c.place) c.judged
 
 -- Whatever follows, the records and parts so far are not shown by these lines.
 pub record Disagreeing (form : Form) (lines : List SegmentLine) (records : List Record)
@@ -49,35 +53,40 @@ pub record IsCompared (form : Form) (lines : List SegmentLine) (records : List R
   pub agrees : c.agrees ≡ true → Agreeing form lines records parts last c
   pub differs : c.agrees ≡ false → Disagreeing form lines records parts
 
-pub compared_none : (form : Form) (lines : List SegmentLine)
-    → IsCompared form lines [] [] None (record { place = 0; current = None; runs = []; agrees = true })
-compared_none form lines = record {
+-- before the first record
+pub record IsNew (c : Compared) : Type 0 where
+  pub place : c.place ≡ 0
+  pub current : c.current ≡ None
+  pub judged : (records : Records) (separators : List ℕ) → Judges records [] [] separators c.judged
+  pub agrees : c.agrees ≡ true
+
+pub compared_none : (form : Form) (lines : List SegmentLine) (c : Compared) → IsNew c
+    → IsCompared form lines [] [] None c
+compared_none form lines c is = record {
   agrees = λ t. record {
     full = λ k d h. absurd (omega arith);
     done = [];
     left = lines;
     whole = refl;
-    place = refl;
+    place = is.place;
     shown = tt;
-    current = refl;
-    runs = refl;
+    current = is.current;
+    judged = is.judged (records_of form) (separators_at lines c.place);
   };
-  differs = λ f. absurd cc;
+  differs = λ f. absurd (both_ways c.agrees f is.agrees);
 }
 
 -- the open segment agrees with its line
 segment_agrees : (form : Form) (lines : List SegmentLine) (records : List Record) (parts : List Part) (part : Part)
     (old new : Compared) → Agreeing form lines records parts (Some part) old
-    → ComparesSegment form lines old (segment_of part) new
-    → IsShownAt form lines old.place (segment_of part) old.runs → new.agrees ≡ true
+    → ComparesSegment form lines old (opening_of part) new
+    → IsShownAt form lines old.place (segment_of part) (runs_of_part part) → new.agrees ≡ true
     → Agreeing form lines records (parts ++ part ∷ []) None new
 segment_agrees form lines records parts part old new a k at t =
     let found : slice_get (a.done ++ a.left) (length a.done) ≡ Some at.line =
     subst (λ (n : ℕ). slice_get (a.done ++ a.left) n ≡ Some at.line) a.place
     (subst (λ (l : List SegmentLine). slice_get l old.place ≡ Some at.line) a.whole at.at_place) in
     let later = after_get a.done a.left at.line found in
-    let shown : IsShownBy form part at.line = subst
-    (λ (runs : List Run). IsShownAs form (segment_of part) runs at.line) a.runs at.shown in
     record {
       full = a.full;
       done = a.done ++ at.line ∷ [];
@@ -85,30 +94,30 @@ segment_agrees form lines records parts part old new a k at t =
       whole = a.whole ∙ ap (λ (l : List SegmentLine). a.done ++ l) later.1
           ∙ sym (append_assoc a.done (at.line ∷ []) later.0);
       place = omega (arith, k.place t, a.place, length-append a.done (at.line ∷ []));
-      shown = shown_snoc form parts a.done part at.line a.shown shown;
+      shown = shown_snoc form parts a.done part at.line a.shown at.shown;
       current = k.current;
-      runs = k.runs;
+      judged = k.judged (separators_at lines new.place);
     }
 
 -- or else the parts so far are not shown
 segment_differs : (form : Form) (lines : List SegmentLine) (records : List Record) (parts : List Part) (part : Part)
     (old new : Compared) → Agreeing form lines records parts (Some part) old
-    → ComparesSegment form lines old (segment_of part) new → old.agrees ≡ true → new.agrees ≡ false
+    → (new.agrees ≡ true) ↔ IsShownAt form lines old.place (segment_of part) (runs_of_part part) → new.agrees ≡ false
     → Disagreeing form lines records (parts ++ part ∷ [])
-segment_differs form lines records parts part old new a k t f = record {
+segment_differs form lines records parts part old new a exact f = record {
   none = λ more rest all are.
       let are' : AreShownBy form (parts ++ part ∷ rest) (a.done ++ a.left) =
       subst (λ (l : List SegmentLine). AreShownBy form (parts ++ part ∷ rest) l) a.whole
       (subst (λ (ps : List Part). AreShownBy form ps lines) (append_assoc parts (part ∷ []) rest) are) in
       let next = shown_next form parts rest a.done a.left part a.shown are' in
       let whole : lines ≡ a.done ++ next.0 ∷ next.1 = a.whole ∙ ap (λ (l : List SegmentLine). a.done ++ l) next.2 in
-      let at : IsShownAt form lines old.place (segment_of part) old.runs = record {
+      let at : IsShownAt form lines old.place (segment_of part) (runs_of_part part) = record {
         line = next.0;
         at_place = ap (λ (l : List SegmentLine). slice_get l old.place) whole
             ∙ ap (λ (n : ℕ). slice_get (a.done ++ next.0 ∷ next.1) n) a.place ∙ get_after a.done next.1 next.0;
-        shown = subst (λ (runs : List Run). IsShownAs form (segment_of part) runs next.0) (sym a.runs) next.3;
+        shown = next.3;
       } in
-      both_ways new.agrees f ((k.agrees t).1 at);
+      both_ways new.agrees f (exact.1 at);
 }
 
 still_differs : (form : Form) (lines : List SegmentLine) (records : List Record) (parts more : List Part)
@@ -120,17 +129,21 @@ still_differs form lines records parts more d = record {
 
 segment_compared : (form : Form) (lines : List SegmentLine) (records : List Record) (parts : List Part) (part : Part)
     (old new : Compared) → Agreeing form lines records parts (Some part) old → old.agrees ≡ true
-    → ComparesSegment form lines old (segment_of part) new
+    → ComparesSegment form lines old (opening_of part) new
     → IsCompared form lines records (parts ++ part ∷ []) None new
-segment_compared form lines records parts part old new a was k = record {
-  agrees = λ t. segment_agrees form lines records parts part old new a k ((k.agrees was).0 t) t;
-  differs = λ f. segment_differs form lines records parts part old new a k was f;
-}
+segment_compared form lines records parts part old new a was k =
+    let exact : (new.agrees ≡ true) ↔ IsShownAt form lines old.place (segment_of part) (runs_of_part part) =
+    subst (λ (segment : Segment). (new.agrees ≡ true) ↔ IsShownAt form lines old.place segment (runs_of_part part))
+    (same_segment part) (k.agrees was (samples_of (rows_of part)) (runs_of_part part) a.judged) in
+    record {
+      agrees = λ t. segment_agrees form lines records parts part old new a k (exact.0 t) t;
+      differs = λ f. segment_differs form lines records parts part old new a exact f;
+    }
 
 -- the open part, if there is one, ends while all agree
 last_compared : (form : Form) (lines : List SegmentLine) (records : List Record) (parts : List Part)
     (last : Option Part) (old new : Compared) → Agreeing form lines records parts last old → old.agrees ≡ true
-    → IsCompared form lines records parts last old → ComparesEnded form lines old (option_map segment_of last) new
+    → IsCompared form lines records parts last old → ComparesEnded form lines old (option_map opening_of last) new
     → IsCompared form lines records (parts ++ option_to_list last) None new
 last_compared form lines records parts None old new a was h k =
     subst (λ (ps : List Part). IsCompared form lines records ps None new) (sym (append-nil parts))
@@ -138,10 +151,10 @@ last_compared form lines records parts None old new a was h k =
 last_compared form lines records parts (Some part) old new a was h k =
     segment_compared form lines records parts part old new a was k
 
-ended_differs : (form : Form) (lines : List SegmentLine) (current : Option Segment) (old new : Compared)
+ended_differs : (form : Form) (lines : List SegmentLine) (current : Option Opening) (old new : Compared)
     → ComparesEnded form lines old current new → old.agrees ≡ false → new.agrees ≡ false
 ended_differs form lines None old new k f = ap (λ (c : Compared). c.agrees) k ∙ f
-ended_differs form lines (Some segment) old new k f = k.differs f
+ended_differs form lines (Some opening) old new k f = k.differs f
 
 pub compare_last : (form : Form) (lines : List SegmentLine) (records : List Record) (parts : List Part)
     (last : Option Part) (old new : Compared) → IsCompared form lines records parts last old
@@ -151,7 +164,7 @@ compare_last form lines records parts last old new h k = elim (cases_Bool old.ag
   | inl was ↦
       let a = h.agrees was in
       last_compared form lines records parts last old new a was h
-      (subst (λ (current : Option Segment). ComparesEnded form lines old current new) a.current k)
+      (subst (λ (current : Option Opening). ComparesEnded form lines old current new) a.current k)
   | inr was ↦
       let differs = ended_differs form lines old.current old new k was in
       record {
@@ -183,17 +196,13 @@ all_within P (y ∷ xs) ys x all = all_within P xs ys x (λ i e g. all (suc i) e
 -- the row of a full record is added
 add_row : (form : Form) (lines : List SegmentLine) (records : List Record) (parts : List Part) (last : Option Part)
     (found : Record) (row : Row) (old new : Compared) → IsCompared form lines records parts last old
-    → IsFull (bytes_of form.length) found → AddsRow old row new
+    → IsFull (bytes_of form.length) found → AddsRow form lines old row new
     → IsCompared form lines (records ++ found ∷ []) parts (Some (part_with last row)) new
 add_row form lines records parts last found row old new h full k = record {
   agrees = λ t.
       let was : old.agrees ≡ true = sym k.agrees ∙ t in
       let a = h.agrees was in
-      let runs = subst (λ (current : Option Segment). new.runs ≡ old.runs ++ (record {
-        start = count_in current;
-        end = length (grown current row).samples;
-        kind = row.kind;
-      }) ∷ []) a.current (k.runs was) in
+      let judged = k.judged was (samples_of (open_rows last)) (runs_of_rows 0 (open_rows last)) a.judged in
       record {
         full = all_snoc (IsFull (bytes_of form.length)) records found a.full full;
         done = a.done;
@@ -201,9 +210,14 @@ add_row form lines records parts last found row old new h full k = record {
         whole = a.whole;
         place = k.place ∙ a.place;
         shown = a.shown;
-        current = k.current was ∙ ap (λ (current : Option Segment). Some (grown current row)) a.current
-            ∙ ap (λ (segment : Segment). Some segment) (grown_part last row);
-        runs = runs ∙ runs_grown last row old.runs a.runs;
+        current = k.current was ∙ ap (λ (current : Option Opening). Some (opened current row)) a.current
+            ∙ ap (λ (opening : Opening). Some opening) (opened_part last row);
+        judged = subst (λ (n : ℕ). Judges (records_of form) (samples_of (rows_of (part_with last row)))
+            (runs_of_rows 0 (rows_of (part_with last row))) (separators_at lines n) new.judged) (sym k.place)
+            (subst (λ (xs : List ℤ). Judges (records_of form) xs (runs_of_rows 0 (rows_of (part_with last row)))
+            (separators_at lines old.place) new.judged) (samples_grown last row)
+            (subst (λ (rs : List Run). Judges (records_of form) (samples_of (open_rows last) ++ row.samples) rs
+            (separators_at lines old.place) new.judged) (runs_grown last row) judged));
       };
   differs = λ f.
       let d = h.differs (sym k.agrees ∙ f) in
@@ -255,13 +269,12 @@ pub record Follows (form : Form) (lines : List SegmentLine) (following : Followi
   pub compared : IsCompared form lines records parts last c
 
 pub follows_none : (form : Form) (lines : List SegmentLine) (following : Following) (c : Compared)
-    → following.current ≡ None → c ≡ record { place = 0; current = None; runs = []; agrees = true }
-    → Follows form lines following [] c
-follows_none form lines following c current none = record {
+    → following.current ≡ None → IsNew c → Follows form lines following [] c
+follows_none form lines following c current is = record {
   parts = [];
   last = None;
   has_parts = parts_none following current;
-  compared = rw none (compared_none form lines);
+  compared = compared_none form lines c is;
 }
 
 -- how far they were compared with a record more

@@ -1,23 +1,23 @@
 -- Parts of the rows beside lines of a report.
-use Rattle.std.proofs.Common.{◌≡◌, ◌↔◌, ℕ, suc, Bool, List, [], ◌∷◌, ◌++◌, length, refl, ap, subst, Some}
+use Rattle.std.proofs.Common.{◌≡◌, ◌↔◌, ℕ, suc, Bool, ℤ, sym, ◌∙◌, List, [], ◌∷◌, ◌++◌, length, refl, ap, subst, Some}
 use Rattle.std.specs.Prelude.{IsTrue, slice_get}
 use Rattle.msr_rows.proofs.OneAnswer.{some_same}
 use Rattle.msr_kinds.specs.declared.forms.Form.{Form}
 use Rattle.msr_words.specs.Fit.{records_of}
 use Rattle.msr_words.specs.declared.kinds.Run.{Run}
-use Rattle.msr_words.specs.Packing.{IsPacking, IsSeparating}
+use Rattle.msr_check.specs.Judged.{AreShown}
 use Rattle.msr_segments.specs.Segments.{Part}
 use Rattle.msr_segments.specs.declared.joiner.Segment.{Segment}
 use Rattle.msr_report.specs.declared.report.SegmentLine.{SegmentLine}
 use Rattle.msr_verdict.specs.Packed.{IsShownAs, IsShownBy, AreShownBy}
-use Rattle.msr_verdict.specs.Compared.{IsShownAt}
+use Rattle.msr_verdict.specs.Compared.{IsShownAt, opened_segment}
+use Rattle.msr_verdict.specs.declared.comparing.Opening.{Opening}
 
--- the numbers of a line are those of a segment in these runs
-pub record IsLineOf (segment : Segment) (runs : List Run) (line : SegmentLine) : Type 0 where
-  pub key : line.key ≡ segment.key
-  pub start : line.start ≡ segment.start
-  pub samples : line.samples ≡ length segment.samples
-  pub records : line.records ≡ length runs
+-- the line is of a segment that begins so, and has as many records as separators
+pub record IsLineOf (opening : Opening) (line : SegmentLine) : Type 0 where
+  pub key : line.key ≡ opening.key
+  pub start : line.start ≡ opening.start
+  pub records : line.records ≡ length line.separators.items
 
 pub line_at : (form : Form) (place : ℕ) (lines : List SegmentLine) (segment : Segment) (runs : List Run)
     (line : SegmentLine) → slice_get lines place ≡ Some line → IsShownAt form lines place segment runs
@@ -27,40 +27,44 @@ line_at form place lines segment runs line e at =
     (some_same (slice_get lines place) at.line line at.at_place e) at.shown
 
 -- such a line shows the segment where its separators do
-pub shown_at : (form : Form) (place : ℕ) (lines : List SegmentLine) (segment : Segment) (runs : List Run)
-    (line : SegmentLine) (test : Bool) → slice_get lines place ≡ Some line → IsLineOf segment runs line
-    → IsTrue test ↔ IsPacking (records_of form) segment.samples runs
-    × IsSeparating (records_of form) segment.samples line.separators.items
-    × (length runs ≡ length line.separators.items)
-    → IsTrue test ↔ IsShownAt form lines place segment runs
-shown_at form place lines segment runs line test e is exact = (
+pub shown_at : (form : Form) (place : ℕ) (lines : List SegmentLine) (opening : Opening) (samples : List ℤ) (runs : List Run)
+    (line : SegmentLine) (test : Bool) → slice_get lines place ≡ Some line → IsLineOf opening line
+    → IsTrue test ↔ AreShown (records_of form) samples runs line.separators.items line.samples
+    → IsTrue test ↔ IsShownAt form lines place (opened_segment opening samples) runs
+shown_at form place lines opening samples runs line test e is exact = (
   λ t.
-      let three = exact.0 t in
+      let all = exact.0 t in
       record {
         line = line;
         at_place = e;
         shown = record {
           key = is.key;
           start = is.start;
-          samples = is.samples;
-          records = is.records;
-          packing = three.0;
-          separating = three.1;
-          as_many = three.2;
+          samples = sym all.number_is;
+          records = is.records ∙ sym all.as_many;
+          packing = all.packing;
+          separating = all.separating;
+          as_many = all.as_many;
         };
       },
-  λ at. (let shown = line_at form place lines segment runs line e at in
-      exact.1 (shown.packing, shown.separating, shown.as_many)),
+  λ at. (let shown = line_at form place lines (opened_segment opening samples) runs line e at in
+      exact.1 (record {
+        packing = shown.packing;
+        separating = shown.separating;
+        as_many = shown.as_many;
+        number_is = sym shown.samples;
+      })),
 )
 
 -- each line but the segment's shows nothing
-pub other_line : (form : Form) (place : ℕ) (lines : List SegmentLine) (segment : Segment) (runs : List Run)
-    (line : SegmentLine) (test : Bool) → slice_get lines place ≡ Some line → (IsLineOf segment runs line → ⊥)
-    → (IsTrue test → ⊥) → IsTrue test ↔ IsShownAt form lines place segment runs
-other_line form place lines segment runs line test e other wrong = (
+pub other_line : (form : Form) (place : ℕ) (lines : List SegmentLine) (opening : Opening) (samples : List ℤ)
+    (runs : List Run) (line : SegmentLine) (test : Bool) → slice_get lines place ≡ Some line
+    → (IsLineOf opening line → ⊥) → (IsTrue test → ⊥)
+    → IsTrue test ↔ IsShownAt form lines place (opened_segment opening samples) runs
+other_line form place lines opening samples runs line test e other wrong = (
   λ t. absurd (wrong t),
-  λ at. absurd (let shown = line_at form place lines segment runs line e at in
-      other (record { key = shown.key; start = shown.start; samples = shown.samples; records = shown.records })),
+  λ at. absurd (let shown = line_at form place lines (opened_segment opening samples) runs line e at in
+      other (record { key = shown.key; start = shown.start; records = shown.records ∙ shown.as_many })),
 )
 
 -- one part more, with its line

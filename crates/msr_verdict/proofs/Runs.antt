@@ -7,10 +7,10 @@ use Rattle.std.proofs.lemmas.Grind.{flat_map-append}
 use Rattle.msr_words.specs.declared.kinds.Run.{Run}
 use Rattle.msr_rows.specs.declared.row.Row.{Row}
 use Rattle.msr_segments.specs.Segments.{Part, rows_of, segment_of}
-use Rattle.msr_segments.specs.declared.joiner.Segment.{Segment}
-use Rattle.msr_segments.proofs.Divisions.{segment_of_longer, segment_of_alone}
 use Rattle.msr_verdict.specs.Packed.{runs_of_rows}
-use Rattle.msr_verdict.specs.Compared.{count_in, grown}
+use Rattle.msr_verdict.specs.Compared.{opened, opened_segment}
+use Rattle.msr_verdict.specs.declared.comparing.Opening.{Opening}
+use Rattle.msr_check.specs.Judged.{next_run}
 use Rattle.msr_verdict.proofs.Parts.{open_rows, part_with}
 
 -- the samples of rows, one after another
@@ -48,46 +48,48 @@ pub runs_length : (at : ℕ) (rows : List Row) → length (runs_of_rows at rows)
 runs_length at [] = refl
 runs_length at (one ∷ rows) = ap (λ n. suc n) (runs_length (at + length one.samples) rows)
 
--- the open part with a row more, as a segment and as runs
-pub grown_part : (last : Option Part) (row : Row)
-    → grown (option_map segment_of last) row ≡ segment_of (part_with last row)
-grown_part None row = sym (segment_of_alone row)
-grown_part (Some part) row = sym (segment_of_longer part row)
+-- where a part begins
+abbrev pub opening_of : Part → Opening
+opening_of part = record { key = (segment_of part).key; start = (segment_of part).start }
+
+pub same_segment : (part : Part) → opened_segment (opening_of part) (samples_of (rows_of part)) ≡ segment_of part
+unfolding segment_of
+same_segment part = refl
+
+-- the open part with a row more begins where it did
+pub opened_part : (last : Option Part) (row : Row)
+    → opened (option_map opening_of last) row ≡ opening_of (part_with last row)
+unfolding segment_of
+opened_part None row = refl
+opened_part (Some part) row = refl
 
 grown_rows : (last : Option Part) (row : Row) → rows_of (part_with last row) ≡ open_rows last ++ row ∷ []
 grown_rows None row = refl
 grown_rows (Some part) row = refl
 
-count_is : (last : Option Part) → count_in (option_map segment_of last) ≡ 0 + length (samples_of (open_rows last))
-count_is None = omega arith
-count_is (Some part) = ap length (segment_samples part) ∙ omega arith
+-- it has the row's samples after its own
+pub samples_grown : (last : Option Part) (row : Row)
+    → samples_of (open_rows last) ++ row.samples ≡ samples_of (rows_of (part_with last row))
+samples_grown last row =
+    sym (ap (λ (rows : List Row). samples_of rows) (grown_rows last row)
+    ∙ flat_map-append (λ (r : Row). r.samples) (open_rows last) (row ∷ [])
+    ∙ ap (λ (xs : List ℤ). samples_of (open_rows last) ++ xs) (append-nil row.samples))
 
-grown_count : (last : Option Part) (row : Row) → length (segment_of (part_with last row)).samples
-    ≡ (0 + length (samples_of (open_rows last))) + length row.samples
-grown_count last row =
-    ap length (segment_samples (part_with last row)) ∙ ap (λ (rows : List Row). length (samples_of rows))
-    (grown_rows last row) ∙ total_snoc (open_rows last) row ∙ omega arith
-
-pub runs_grown : (last : Option Part) (row : Row) (runs : List Run) → runs ≡ runs_of_rows 0 (open_rows last)
-    → runs ++ (record {
-      start = count_in (option_map segment_of last);
-      end = length (grown (option_map segment_of last) row).samples;
-      kind = row.kind;
-    }) ∷ [] ≡ runs_of_rows 0 (rows_of (part_with last row))
-runs_grown last row runs e =
-    let total = 0 + length (samples_of (open_rows last)) in
-    let end : length (grown (option_map segment_of last) row).samples ≡ total + length row.samples =
-    ap (λ (segment : Segment). length segment.samples) (grown_part last row) ∙ grown_count last row in
-    ap (λ (before : List Run). before ++ (record {
-      start = count_in (option_map segment_of last);
-      end = length (grown (option_map segment_of last) row).samples;
-      kind = row.kind;
-    }) ∷ []) e
-    ∙ ap (λ n. runs_of_rows 0 (open_rows last) ++ (record {
+-- and its run after its runs
+pub runs_grown : (last : Option Part) (row : Row)
+    → runs_of_rows 0 (open_rows last) ++ next_run (samples_of (open_rows last)) row.samples row.kind ∷ []
+    ≡ runs_of_rows 0 (rows_of (part_with last row))
+runs_grown last row =
+    let rows = open_rows last in
+    let total = 0 + length (samples_of rows) in
+    let start : length (samples_of rows) ≡ total = omega arith in
+    let end : length (samples_of rows ++ row.samples) ≡ total + length row.samples =
+    omega (arith, length-append (samples_of rows) row.samples) in
+    ap (λ n. runs_of_rows 0 rows ++ (record {
       start = n;
-      end = length (grown (option_map segment_of last) row).samples;
+      end = length (samples_of rows ++ row.samples);
       kind = row.kind;
-    }) ∷ []) (count_is last)
-    ∙ ap (λ n. runs_of_rows 0 (open_rows last) ++ (record { start = total; end = n; kind = row.kind }) ∷ []) end
-    ∙ sym (runs_snoc 0 (open_rows last) row)
-    ∙ ap (λ (rows : List Row). runs_of_rows 0 rows) (sym (grown_rows last row))
+    }) ∷ []) start
+    ∙ ap (λ n. runs_of_rows 0 rows ++ (record { start = total; end = n; kind = row.kind }) ∷ []) end
+    ∙ sym (runs_snoc 0 rows row)
+    ∙ ap (λ (rs : List Row). runs_of_rows 0 rs) (sym (grown_rows last row))

@@ -1,55 +1,53 @@
 //! Comparing segments with the lines of a report, one after another.
-ghost use Rattle.std.specs.Prelude.{◌≡◌, ◌↔◌, IsTrue, IfErr, IfOk};
-ghost use Rattle.msr_verdict.specs.Compared.{count_in, grown};
+ghost use Rattle.std.specs.Prelude.{◌≡◌, ◌↔◌, IsTrue};
+ghost use Rattle.msr_verdict.specs.Compared.{opened, separators_at};
 ghost use Rattle.msr_verdict.specs.Packed.{form_by};
 
 use crate::verdict::Verdict;
-use msr_check::shows_least_in;
+use msr_check::Judge;
 use msr_input::{NextRow, ReadFault};
 use msr_kinds::Form;
 use msr_report::{Report, SegmentLine};
-use msr_rows::Row;
-use msr_segments::{Segment, Step};
-use msr_words::Run;
+use msr_rows::{Key, Row};
+use msr_segments::Step;
 use std::alloc::Global;
 use std::marker::Model;
 
-/// Whether the line has the segment's key and start, `samples` samples and `records` records.
-fn is_line_of(line: &SegmentLine, segment: &Segment, samples: u64, records: usize) -> bool
-    ensures { IsTrue result ↔ (line.now.key ≡ segment.now.key) × (line.now.start ≡ segment.now.start)
-        × (line.now.samples ≡ samples) × (line.now.records ≡ records) }
-{
-    line.key == segment.key
-        && line.start == segment.start
-        && line.samples == samples
-        && line.records == records as u64
+/// Where the open segment begins.
+#[derive(Clone, Copy, Debug)]
+pub(crate) struct Opening {
+    pub key: Key,
+    pub start: i64,
 }
 
-/// The open segment with the row's samples after its own, or the row as a segment.
-fn grown(current: Option<Segment>, row: Row) -> Result<Segment, ReadFault>
-    ensures grown { IfOk result (λ segment. segment ≡ grown current row) }
-    ensures memory { IfErr result (λ fault. fault ≡ ReadFault.Memory) }
+/// Whether the line has the segment's key and start, and as many records as separators.
+fn is_line_of(line: &SegmentLine, opening: &Opening, separators: usize) -> bool
+    ensures { IsTrue result ↔ (line.now.key ≡ opening.now.key) × (line.now.start ≡ opening.now.start)
+        × (line.now.records ≡ separators) }
 {
-    let Some(mut segment) = current else {
-        return Ok(Segment {
-            key: row.key,
-            start: row.start,
-            samples: row.samples,
-        });
-    };
-    let Ok(()) = segment.samples.extend_from_slice(row.samples.as_slice()) else {
-        return Err(ReadFault::Memory);
-    };
-    Ok(segment)
+    line.key == opening.key && line.start == opening.start && line.records == separators as u64
 }
 
-/// How many samples the open segment has.
-fn count_in(current: &Option<Segment>) -> u64
-    ensures { result ≡ count_in current.now }
+/// Where the open segment begins, when it has that row.
+fn opened(current: Option<Opening>, row: &Row) -> Opening
+    ensures { result ≡ opened current row.now }
 {
     match current {
-        Some(segment) => segment.samples.len() as u64,
-        None => 0,
+        Some(opening) => opening,
+        None => Opening {
+            key: row.key,
+            start: row.start,
+        },
+    }
+}
+
+/// The separators of the line at that place, none if there is no line.
+fn separators_at(report: &Report, place: usize) -> &[u64]
+    ensures { result.now ≡ separators_at report.now.segments.items place }
+{
+    match report.segments.get(place) {
+        Some(line) => line.separators.as_slice(),
+        None => &[],
     }
 }
 
@@ -63,13 +61,13 @@ fn form_by(report: &Report) -> Form
     }
 }
 
-/// How far the segments agree with the lines of one report. It keeps the open segment and its runs, and neither once a
-/// segment or a record disagreed.
+/// How far the segments agree with the lines of one report. Of the open segment it keeps what a judge of its runs does,
+/// and nothing once a segment or a record disagreed.
 #[derive(Drop)]
 pub(crate) struct Comparing {
     place: usize,
-    current: Option<Segment>,
-    runs: Vec<Run>,
+    current: Option<Opening>,
+    judge: Judge,
     agrees: bool,
 }
 
@@ -78,42 +76,47 @@ impl Model for Comparing {
 
     ghost Value = { Compared };
 
-    ghost view = { λ c. record { place = c.place; current = c.current; runs = c.runs.items; agrees = c.agrees } };
+    ghost view = { λ c. record { place = c.place; current = c.current; judged = c.judge; agrees = c.agrees } };
 }
 
 impl Comparing {
-    ghost use Rattle.std.specs.Prelude.{◌≡◌, ◌↔◌, [], length, true, None, OnOk, IfErr, IsTrue};
-    ghost use Rattle.msr_verdict.specs.Compared.{AddsRow, ComparesEnded, EndsBy, IsShownAt, TakesRow};
+    ghost use Rattle.std.specs.Prelude.{◌≡◌, ◌↔◌, ℕ, ℤ, List, [], length, true, None, OnOk, IfErr, IsTrue, ◌+◌, ◌<◌, ◌^◌};
+    ghost use Rattle.msr_words.specs.Fit.{Records, records_of};
+    ghost use Rattle.msr_words.specs.declared.kinds.Run.{Run as WordRun};
+    ghost use Rattle.msr_check.specs.Judged.{Judges};
+    ghost use Rattle.msr_verdict.specs.Compared.{AddsRow, ComparesEnded, EndsBy, IsShownAt, TakesRow, opened_segment};
 
     /// The state before the first record.
     pub(crate) fn new(alloc: Global) -> Comparing
-        ensures { result ≡ record { place = 0; current = None; runs = []; agrees = true } }
+        ensures place { result.place ≡ 0 }
+        ensures current { result.current ≡ None }
+        ensures judged { (records : Records) (separators : List ℕ) → Judges records [] [] separators result.judged }
+        ensures agrees { result.agrees ≡ true }
     {
         Comparing {
             place: 0,
             current: None,
-            runs: Vec::new(alloc),
+            judge: Judge::new(alloc),
             agrees: true,
         }
     }
 
-    /// Whether the segment, in the runs so far, is shown by the line at its place.
-    fn is_shown(&self, report: &Report, segment: &Segment) -> bool
-        ensures { IsTrue result
-            ↔ IsShownAt (form_by report.now) report.now.segments.items self.now.place
-            segment.now self.now.runs }
+    /// Whether the segment that begins so is shown by the line at its place, if no row follows.
+    fn is_shown(&self, report: &Report, opening: &Opening) -> bool
+        ensures shown { (samples : List ℤ) (runs : List WordRun)
+            → Judges (records_of (form_by report.now)) samples runs
+            (separators_at report.now.segments.items self.now.place) self.now.judged
+            → IsTrue result ↔ IsShownAt (form_by report.now) report.now.segments.items self.now.place
+            (opened_segment opening.now samples) runs }
+        ensures counted { IsTrue result → self.now.place + 1 < 2 ^ 64 }
     {
-        let samples = segment.samples.len() as u64;
         let Some(line) = report.segments.get(self.place) else {
             return false;
         };
-        is_line_of(line, segment, samples, self.runs.len())
-            && shows_least_in(
-                segment.samples.as_slice(),
-                form_by(report),
-                self.runs.as_slice(),
-                line.separators.as_slice(),
-            )
+        is_line_of(line, opening, line.separators.len())
+            && self
+                .judge
+                .shows_least(form_by(report), line.separators.as_slice(), line.samples)
     }
 
     /// Compares the open segment, if there is one, with its line: it has ended.
@@ -121,12 +124,13 @@ impl Comparing {
         ensures { ComparesEnded
             (form_by report.now) report.now.segments.items self.old self.old.current self.new }
     {
-        let Some(segment) = self.current.take() else {
+        let Some(opening) = self.current else {
             return;
         };
-        self.agrees = self.is_shown(report, &segment) && self.agrees;
+        self.agrees = self.is_shown(report, &opening) && self.agrees;
         self.place = self.place.saturating_add(1);
-        self.runs.clear();
+        self.current = None;
+        self.judge.begin();
     }
 
     /// Compares the open segment if a row that does so ends it.
@@ -140,23 +144,22 @@ impl Comparing {
     }
 
     /// Adds a row to the open segment, or opens one with it.
-    fn add(&mut self, row: Row) -> Result<(), ReadFault>
-        ensures added { OnOk result (AddsRow self.old row self.new) }
+    fn add(&mut self, report: &Report, row: Row) -> Result<(), ReadFault>
+        ensures added { OnOk result (AddsRow
+            (form_by report.now) report.now.segments.items self.old row self.new) }
         ensures memory { IfErr result (λ fault. fault ≡ ReadFault.Memory) }
     {
         if !self.agrees {
             return Ok(());
         }
-        let start = count_in(&self.current);
-        let kind = row.kind;
-        let segment = grown(self.current.take(), row)?;
-        let run = Run {
-            start,
-            end: segment.samples.len() as u64,
-            kind,
-        };
-        self.current = Some(segment);
-        let Ok(()) = self.runs.push(run) else {
+        self.current = Some(opened(self.current, &row));
+        let Ok(()) = self.judge.push(
+            row.samples.as_slice(),
+            row.kind,
+            form_by(report),
+            separators_at(report, self.place),
+        )
+        else {
             return Err(ReadFault::Memory);
         };
         Ok(())
@@ -171,11 +174,11 @@ impl Comparing {
         let Some(next) = row else {
             self.agrees = false;
             self.current = None;
-            self.runs.clear();
+            self.judge.begin();
             return Ok(());
         };
         self.end_by(report, next.step);
-        self.add(next.row)
+        self.add(report, next.row)
     }
 
     /// The verdict, when the last segment was compared.

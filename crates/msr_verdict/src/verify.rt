@@ -12,7 +12,7 @@ use msr_report::Report;
 use std::alloc::Global;
 
 /// Reads all records of the source, and says whether the report shows that each of their segments stands in the
-/// fewest records of its form. Of the input it keeps one segment and that segment's runs.
+/// fewest records of its form. Of the input it keeps the samples of a few records.
 ///
 /// A reverse constant that does not agree refuses no record: strict reading is asked for when an input is repacked.
 /// The counts of the report are of another input, the one that was packed, and are not looked at.

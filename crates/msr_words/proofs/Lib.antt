@@ -26,3 +26,4 @@ pub mod Steim2Sizes
 pub mod Stretches
 pub mod WordRoom
 pub mod Windows
+pub mod LastSamples

@@ -2,7 +2,7 @@ use Rattle.msr_kinds.specs.Lengths.{bytes_of}
 use Rattle.msr_words.specs.Fit.{records_of}
 use Rattle.msr_check.specs.Known.{IsKnown}
 use Rattle.msr_check.proofs.Packed.{PackedTo}
-use Rattle.msr_check.proofs.Rising.{SeparatingTo}
+use Rattle.msr_check.specs.Next.{SeparatingTo}
 use Rattle.msr_check.proofs.is_shown.Given as goal
 
 abbrev pub invariant-loop-i : goal.invariant-loop-i

@@ -1,5 +1,5 @@
 use Rattle.msr_words.specs.Fit.{records_of}
-use Rattle.msr_check.proofs.Rising.{SeparatingTo}
+use Rattle.msr_check.specs.Next.{SeparatingTo}
 use Rattle.msr_check.proofs.separates_in.Given as goal
 
 abbrev pub invariant-loop-i : goal.invariant-loop-i

@@ -16,7 +16,12 @@ records-init g c = record {
       c.new-reader.ensures.strict;
   follows = follows_none (form_by c.args.report.now) c.args.report.now.segments.items
       c.new-reader.result.following c.new-comparing.result
-      (ap (λ (f : Following). f.current) c.new-reader.ensures.following) c.new-comparing.ensures;
+      (ap (λ (f : Following). f.current) c.new-reader.ensures.following) (record {
+        place = c.new-comparing.ensures.place;
+        current = c.new-comparing.ensures.current;
+        judged = c.new-comparing.ensures.judged;
+        agrees = c.new-comparing.ensures.agrees;
+      });
 }
 
 pub returns-in_err-next-clause-answer : goal.returns-in_err-next-clause-answer
