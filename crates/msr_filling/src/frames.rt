@@ -124,6 +124,7 @@ pub(crate) fn fill_frames(
             used += 1;
             slot += 1;
         }
+        // Once the run has ended, no next word is asked for.
         for spare in slot..15 {
             put_word(area, 16 * frame + spare + 1, 0);
             codes *= 4;
