@@ -10,22 +10,10 @@ use Rattle.msr_words.specs.Fit.{Records, FitsIn, IsRun}
 use Rattle.msr_words.specs.Packing.{IsPacking, IsSeparating, Joins, NoneHolds}
 use Rattle.msr_words.proofs.Certificate.{all_split, in_its_run, joins_more}
 use Rattle.msr_words.proofs.LastSamples.{apart_in_window, apart_of_window, apart_stays, apart_was, run_in_window, run_of_window, run_stays, run_was}
-use Rattle.msr_check.proofs.Rising.{none_separating, separating_all, separating_more}
+use Rattle.msr_check.proofs.Rising.{separating_all, separating_more}
 use Rattle.msr_check.specs.Judged.{Follows, HasLast, AreShown, Ends, IsFollowed, IsSoundLast, Judged, Judges, StandsAt, TakesRun, becomes_last, last_run, next_run, number_after}
 use Rattle.msr_check.specs.Next.{IsNext, SeparatingTo}
 use Rattle.msr_check.specs.declared.judge.LastRun.{LastRun}
-
--- before the first run
-pub none_judged : (records : Records) (separators : List ℕ) (judged : Judged) → judged.held ≡ [] → judged.last ≡ None
-    → judged.count ≡ 0 → judged.holds ≡ true → Judges records [] [] separators judged
-none_judged records separators judged held last count holds = record {
-  holds = λ t. record {
-    count_is = count;
-    separating = none_separating records [] separators;
-    at = rw last (refl, refl, held);
-  };
-  fails = λ f. absurd cc;
-}
 
 -- samples that follow change nothing of the separators
 separating_stays : (records : Records) (samples more : List ℤ) (separators : List ℕ) (count : ℕ)

@@ -21,13 +21,6 @@ pub segment_samples : (part : Part) → (segment_of part).samples ≡ samples_of
 unfolding segment_of
 segment_samples part = refl
 
-pub total_snoc : (rows : List Row) (row : Row)
-    → length (samples_of (rows ++ row ∷ [])) ≡ length (samples_of rows) + length row.samples
-total_snoc rows row =
-    ap length (flat_map-append (λ (r : Row). r.samples) rows (row ∷ [])
-    ∙ ap (λ (xs : List ℤ). samples_of rows ++ xs)
-    (append-nil row.samples)) ∙ length-append (samples_of rows) row.samples
-
 -- the run that a row is, after `at` samples
 abbrev pub run_behind : ℕ → Row → Run
 run_behind at row = record { start = at; end = at + length row.samples; kind = row.kind }
