@@ -9,6 +9,7 @@ ghost use Rattle.msr_kinds.specs.declared.kinds.Kind.TheVariants.{Steim1, Steim2
 ghost use Rattle.msr_kinds.specs.Forms.{all_kinds};
 ghost use Rattle.msr_kinds.specs.Kinds.{IsChosen};
 ghost use Rattle.msr_words.specs.Fit.{FitsIn, IsRun, records_of};
+ghost use Rattle.msr_words.specs.Bounds.{IsEnd};
 ghost use Rattle.msr_words.specs.Laws.{look_back_of};
 ghost use Rattle.msr_words.specs.Segment.{run_points};
 ghost use Rattle.msr_kinds.specs.Lengths.{bytes_of};
@@ -17,7 +18,7 @@ ghost use Rattle.msr_check.specs.Known.{IsKnown};
 ghost use Rattle.msr_check.specs.Next.{IsNext};
 ghost use Rattle.msr_words.specs.Packing.{NoneHolds, IsPacking, IsSeparating, IsLeast};
 
-use crate::reach::{Reach, meets_narrow, reach_of};
+use crate::reach::{Reach, is_of_steim2, known_end, meets_narrow, reach_of};
 pub use judge::Judge;
 use msr_kinds::{Form, Kind, Length};
 use msr_words::{Fitting, Run, are_narrow, begins_with_four, count_wide, run_fits, steim1_reach};
@@ -41,15 +42,34 @@ fn holds_both(
     fits(kind, samples, first, second + 1, form, known)
 }
 
+/// The greatest end of a run of Steim-1 from `start` on.
+fn steim1_end(samples: &[i32], record_length: Length, start: usize, known: Option<Reach>) -> usize
+    requires within { start ≤ length samples.now }
+    requires known { IsKnown (bytes_of record_length) samples.now known }
+    ensures { IsEnd Steim1 (bytes_of record_length) samples.now start result }
+{
+    match known_end(samples, record_length, Kind::Steim1, start, known) {
+        Some(end) => end,
+        None => steim1_reach(samples, record_length, start),
+    }
+}
+
 /// Whether some run of Steim-1 holds both samples. One that starts before the first of them has to be tried only if its
 /// first difference shares a word with three others.
-fn steim1_holds_both(samples: &[i32], form: Form, first: usize, second: usize) -> bool
+fn steim1_holds_both(
+    samples: &[i32],
+    form: Form,
+    first: usize,
+    second: usize,
+    known: Option<Reach>,
+) -> bool
+    requires known { IsKnown (bytes_of form.length) samples.now known }
     requires chosen { IsChosen form.kinds Steim1 }
     requires order { first < second }
     requires within { second < length samples.now }
     ensures { IsTrue result ↔ HoldsBoth Steim1 (records_of form) samples.now first second }
 {
-    if second < steim1_reach(samples, form.length, first) {
+    if second < steim1_end(samples, form.length, first, known) {
         return true;
     }
     if first == 0 || !begins_with_four(samples, first - 1) {
@@ -114,7 +134,7 @@ fn steim_holds_both(
     requires within { second < length samples.now }
     ensures { IsTrue result ↔ SteimHolds (records_of form) samples.now first second }
 {
-    if known.is_none() && steim_has_no_room(samples, form.length, first, second) {
+    if !is_of_steim2(known) && steim_has_no_room(samples, form.length, first, second) {
         return false;
     }
     if holds_both(Kind::Steim2, samples, form, first, second, known) {
@@ -123,7 +143,7 @@ fn steim_holds_both(
     if steim1_is_short(samples, form, first, second, known) {
         return false;
     }
-    steim1_holds_both(samples, form, first, second)
+    steim1_holds_both(samples, form, first, second, known)
 }
 
 /// Whether some run of some kind that fits holds both samples.
@@ -196,13 +216,10 @@ fn steim2_fits(samples: &[i32], start: usize, end: usize, form: Form, known: Opt
     requires known { IsKnown (bytes_of form.length) samples.now known }
     ensures { IsTrue result ↔ FitsIn Steim2 (records_of form) (run_points samples.now start end) }
 {
-    let Some(reach) = known else {
-        return run_fits(Kind::Steim2, samples, start, end, form);
-    };
-    if reach.start != start {
-        return run_fits(Kind::Steim2, samples, start, end, form);
+    match known_end(samples, form.length, Kind::Steim2, start, known) {
+        Some(farthest) => form.kinds.contains(Kind::Steim2) && end <= farthest,
+        None => run_fits(Kind::Steim2, samples, start, end, form),
     }
-    form.kinds.contains(Kind::Steim2) && end <= reach.to.end
 }
 
 /// Whether the samples `start` to `end - 1` fit one record of that kind, which the form has; Steim-1 word by word.
@@ -221,7 +238,7 @@ fn fits(
 {
     match kind {
         Kind::Steim1 => {
-            form.kinds.contains(kind) && end <= steim1_reach(samples, form.length, start)
+            form.kinds.contains(kind) && end <= steim1_end(samples, form.length, start, known)
         }
         Kind::Steim2 => steim2_fits(samples, start, end, form, known),
         Kind::Int16 | Kind::Int24 | Kind::Int32 => run_fits(kind, samples, start, end, form),
@@ -247,7 +264,7 @@ fn is_run(samples: &[i32], form: Form, run: &Run, known: Option<Reach>) -> bool
 }
 
 /// Whether the runs are a packing and the list is separating, one run and one separator after another: where a run of
-/// Steim-2 starts at a separator, one walk tells of both how far it reaches.
+/// Steim-1 or Steim-2 starts at a separator, one walk tells of both how far it reaches.
 fn is_shown(samples: &[i32], form: Form, runs: &[Run], separators: &[u64]) -> bool
     requires { length runs.now ≡ length separators.now }
     ensures { IsTrue result ↔ IsPacking (records_of form) samples.now runs.now × IsSeparating (records_of form) samples.now separators.now }

@@ -7,11 +7,11 @@ use Rattle.msr_check.proofs.HoldsBoth.{none_apart, none_before, none_here, reach
 use Rattle.msr_check.proofs.steim1_holds_both.Goals as goal
 use Rattle.msr_check.proofs.steim1_holds_both.Goals.{then-first-eq0-via-then-first-eq0, then-first-eq0-via-else-first-eq0+then-not-begins_with_four}
 
-pub returns-then-second-steim1_reach : goal.returns-then-second-steim1_reach
-returns-then-second-steim1_reach c = (
+pub returns-then-second-steim1_end : goal.returns-then-second-steim1_end
+returns-then-second-steim1_end c = (
   λ t. reaches_both (records_of c.args.form) c.args.samples.now c.args.first c.args.second c.requires.order
-      c.requires.within Steim1 c.requires.chosen c.args.first c.steim1_reach.result (omega arith) c.steim1_reach.ensures
-      c.if-second-steim1_reach.true,
+      c.requires.within Steim1 c.requires.chosen c.args.first c.steim1_end.result (omega arith) c.steim1_end.ensures
+      c.if-second-steim1_end.true,
   λ holds. refl,
 )
 
@@ -24,11 +24,11 @@ returns-then-first-eq0 c =
       λ t. absurd cc,
       λ holds. elim c.then-first-eq0.branch [
         | then-first-eq0-via-then-first-eq0 w ↦
-            absurd (none_here (records_of form) samples first second c.requires.order c.requires.within c.steim1_reach.result
-            c.steim1_reach.ensures c.if-second-steim1_reach.false (omega (arith, w.if-first-eq0.true)) holds)
+            absurd (none_here (records_of form) samples first second c.requires.order c.requires.within c.steim1_end.result
+            c.steim1_end.ensures c.if-second-steim1_end.false (omega (arith, w.if-first-eq0.true)) holds)
         | then-first-eq0-via-else-first-eq0+then-not-begins_with_four w ↦
-            absurd (none_apart (records_of form) samples first second c.requires.order c.requires.within c.steim1_reach.result
-            c.steim1_reach.ensures c.if-second-steim1_reach.false
+            absurd (none_apart (records_of form) samples first second c.requires.order c.requires.within c.steim1_end.result
+            c.steim1_end.ensures c.if-second-steim1_end.false
             (w.begins_with_four.ensures w.if-not-begins_with_four.true) holds)
       ],
     )
@@ -40,14 +40,14 @@ returns c =
     let first = c.args.first in
     let second = c.args.second in (
       λ t.
-          let past : c.args.second < c.steim1_reach-2.result =
-          (let h : IsTrue (nat_lt c.args.second c.steim1_reach-2.result) = t in grind (arith, nat_tests)) in
+          let past : c.args.second < c.steim1_reach.result =
+          (let h : IsTrue (nat_lt c.args.second c.steim1_reach.result) = t in grind (arith, nat_tests)) in
           reaches_both (records_of form) samples first second c.requires.order c.requires.within Steim1 c.requires.chosen (first - 1)
-          c.steim1_reach-2.result (omega arith) c.steim1_reach-2.ensures past,
-      λ holds. elim (cases_lt second c.steim1_reach-2.result) [
+          c.steim1_reach.result (omega arith) c.steim1_reach.ensures past,
+      λ holds. elim (cases_lt second c.steim1_reach.result) [
         | inl past ↦ grind (arith, nat_tests)
         | inr not ↦ absurd (none_before (records_of form) samples first second c.requires.order c.requires.within
-            c.steim1_reach.result c.steim1_reach.ensures c.if-second-steim1_reach.false c.steim1_reach-2.result
-            c.steim1_reach-2.ensures not holds)
+            c.steim1_end.result c.steim1_end.ensures c.if-second-steim1_end.false c.steim1_reach.result
+            c.steim1_reach.ensures not holds)
       ],
     )
