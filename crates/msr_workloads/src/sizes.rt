@@ -102,7 +102,7 @@ impl Workload {
         }
     }
 
-    /// A day of white noise, 20 samples a second.
+    /// White noise, of as many samples as a day of 20 a second has.
     fn noise() -> Workload {
         Workload {
             station: Station::full(WHITE, DAY / 5, Kind::Int32, 4096, 1008),
