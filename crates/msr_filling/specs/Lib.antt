@@ -1,3 +1,4 @@
 pub mod Filled
+pub mod GroupWords
 pub mod NextWord
 pub mod Sizing

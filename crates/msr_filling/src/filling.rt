@@ -205,6 +205,7 @@ pub(crate) fn steim2_word(
     requires window { IsWindow run.now at window.old }
     ensures window { IsWindow run.now at window.new }
     ensures next { IsNextWord Two (drop at (differences before run.now)) result }
+    ensures longest { IsLongestGroup (drop at (differences before run.now)) result.size }
 {
     if let Some(place) = window.place_of(run, at) {
         return word_seen(window, place);

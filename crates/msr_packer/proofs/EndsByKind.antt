@@ -1,17 +1,14 @@
 -- The ends of runs from a frontier, by kind.
-use Rattle.std.proofs.Common.{◌≡◌, ℕ, ◌+◌, ◌-◌, ◌*◌, ◌<◌, ◌≤◌, ◌⊎◌, max, min, ℤ, pos, List, [], ◌∷◌, ◌++◌, length, map, arith, refl, sym, ap, ◌∙◌, subst, inl, inr}
-use Rattle.std.specs.Prelude.{slice_index_or, cond, count_by}
+use Rattle.std.proofs.Common.{◌≡◌, ℕ, ◌+◌, ◌-◌, ◌<◌, ◌≤◌, ◌⊎◌, max, min, ℤ, pos, List, [], ◌∷◌, ◌++◌, length, map, arith, refl, sym, ap, ◌∙◌, subst, inl, inr}
+use Rattle.std.specs.Prelude.{slice_index_or}
 use Rattle.std.proofs.lemmas.Bool.{cases_lt}
-use Rattle.std.proofs.lemmas.List.{map-append}
-use Rattle.std.proofs.lemmas.List.Sums.{sum_by-append, sum_by_push}
 use Rattle.msr_words.specs.Fit.{Records, Fits, FitsIn, IsRun, IsFirstKind, rank}
 use Rattle.msr_kinds.specs.declared.kinds.Kind.{Kind}
 use Rattle.msr_kinds.specs.declared.kinds.Kind.TheVariants.{Int16, Int24, Int32, Steim1, Steim2}
-use Rattle.msr_words.specs.Bounds.{BeginsWithFour, IsEnd, is_wide}
+use Rattle.msr_words.specs.Bounds.{BeginsWithFour, IsEnd}
 use Rattle.msr_kinds.specs.Kinds.{IsChosen}
 use Rattle.msr_kinds.proofs.KindLemmas.{int32_is_chosen}
 use Rattle.msr_words.specs.Laws.{BackStepLaw, look_back_of, most_of}
-use Rattle.msr_kinds.specs.RecordLength.{words_of}
 use Rattle.msr_words.specs.Segment.{difference_at, run_points}
 use Rattle.msr_words.specs.Lemmas.KindLaws.{back_step_in, back_step_kind, empty_kind, prefix_kind, size_kind}
 use Rattle.msr_words.proofs.Runs.{back_step_run, length-run_points, prefix_run, run_points_cut, run_points_more, run_points_none}

@@ -1,17 +1,14 @@
 -- Steps of samples that more follow, and of the last samples of a segment.
-use Rattle.std.proofs.Common.{◌≡◌, ℕ, zero, suc, ◌+◌, ◌-◌, ◌<◌, ◌≤◌, ◌⊎◌, ℤ, pos, List, [], ◌∷◌, ◌++◌, length, take, drop, None, refl, sym, ap, ◌∙◌, subst, arith, inl, inr, length-append, length-drop}
-use Rattle.std.specs.Prelude.{get_or}
+use Rattle.std.proofs.Common.{◌≡◌, ℕ, suc, ◌+◌, ◌-◌, ◌<◌, ◌≤◌, ◌⊎◌, ℤ, List, [], ◌∷◌, ◌++◌, length, drop, sym, subst, arith, inl, inr, length-append, length-drop}
 use Rattle.std.proofs.lemmas.Bool.{cases_lt}
-use Rattle.std.proofs.lemmas.List.{drop-drop, get_or-drop}
 use Rattle.msr_kinds.specs.declared.kinds.Kind.{Kind}
 use Rattle.msr_words.specs.declared.kinds.Run.{Run}
-use Rattle.msr_words.specs.Segment.{points, points_after, run_points}
-use Rattle.msr_words.specs.Fit.{Records, FitsIn, FitsAny, IsRun, IsFirstKind}
+use Rattle.msr_words.specs.Fit.{Records, FitsIn, FitsAny, IsFirstKind}
 use Rattle.msr_words.specs.Laws.{PrefixLaw, BackStepLaw}
 use Rattle.msr_words.specs.Lemmas.KindLaws.{prefix_any, back_step_any}
 use Rattle.msr_words.specs.Packing.{Joins, IsStep, CanonicalTo}
 use Rattle.msr_words.proofs.LastSamples.{run_in_window, run_of_window, run_stays, run_was}
-use Rattle.msr_words.proofs.Runs.{back_step_run, points_drop, prefix_run, run_points_stay}
+use Rattle.msr_words.proofs.Runs.{back_step_run, prefix_run, run_points_stay}
 use Rattle.msr_packer.proofs.PackingsExist.{HasRest, rest_of}
 use Rattle.msr_packer.specs.SoFar.{IsSoFar}
 use Rattle.msr_packer.proofs.Least.{goes_on}

@@ -140,18 +140,22 @@ shown_by held = slice_range held.samples.items held.from held.to
 abbrev pub before_shown : HeldSamples → Option ℤ
 before_shown held = before_place held.samples.items held.from
 
--- the sizes that are told of the groups of the next piece
+-- the sizes and words that are told of the groups of the next piece
 pub record KnowsNext (held : HeldSamples) : Type 0 where
   pub next : HaveSizes held.samples.items (start_of held.current) (frontier_of held.current) held.sizes.next.count
-      held.sizes.next.places.items
+      held.sizes.next.places.items held.sizes.next.words.items
 
 -- and of the piece that is shown
 pub record KnowsSizes (held : HeldSamples) : Type 0 where
   pub next : KnowsNext held
   pub shown : HaveSizes held.samples.items held.from held.to held.sizes.shown.count held.sizes.shown.places.items
+      held.sizes.shown.words.items
 
 abbrev pub sizes_shown : HeldSamples → List ℕ
 sizes_shown held = take held.sizes.shown.count held.sizes.shown.places.items
+
+abbrev pub words_shown : HeldSamples → List ℕ
+words_shown held = take held.sizes.shown.count held.sizes.shown.words.items
 
 -- What giving a piece does: the piece, if there is one, was given and is shown, and the samples that are held are the
 -- same.

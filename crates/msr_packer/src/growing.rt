@@ -176,7 +176,7 @@ impl GrowingRun {
             self.tracker = tracker;
             return None;
         }
-        let found = next_step(samples, form, frontier, likely, &mut []);
+        let found = next_step(samples, form, frontier, likely, &mut [], &mut []);
         if found.step.end < samples.len() {
             return Some(found);
         }

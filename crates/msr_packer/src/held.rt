@@ -5,7 +5,7 @@ ghost use Rattle.msr_words.specs.declared.kinds.Run.{Run};
 ghost use Rattle.msr_words.specs.Fit.{FitsAny, FitsIn, IsRun, records_of};
 ghost use Rattle.msr_words.specs.Laws.{most_any};
 ghost use Rattle.msr_words.specs.Packing.{IsCanonical, IsStep};
-ghost use Rattle.msr_packer.specs.HeldSamples.{GivesPiece, HasPlaces, HoldsRest, IsNext, IsSound, KnowsNext, KnowsSizes, ShowsRun, Stays, before_shown, frontier_of, piece_of, pieces_of, runs_of, separators_of, shown_by, sizes_shown, start_of};
+ghost use Rattle.msr_packer.specs.HeldSamples.{GivesPiece, HasPlaces, HoldsRest, IsNext, IsSound, KnowsNext, KnowsSizes, ShowsRun, Stays, before_shown, frontier_of, piece_of, pieces_of, runs_of, separators_of, shown_by, sizes_shown, start_of, words_shown};
 ghost use Rattle.msr_packer.specs.Steps.{AreEnds, HaveSizes};
 
 use crate::kind_of;
@@ -45,7 +45,7 @@ pub(crate) struct RunToCut {
     pub end: usize,
     pub whole: Kind,
     pub short: Kind,
-    /// How many groups the whole run has, if it is of Steim-2 and their sizes were told, else 0.
+    /// How many groups the whole run has, if it is of Steim-2 and their sizes and words were told, else 0.
     pub groups: usize,
 }
 
@@ -97,10 +97,12 @@ pub(crate) fn piece_of(offset: u64, current: Option<RunToCut>, next: usize) -> O
     })
 }
 
-/// How many groups the run of a step has, if it is the one of Steim-2 from the frontier and their sizes were told.
+/// How many groups the run of a step has, if it is the one of Steim-2 from the frontier and their sizes and words were
+/// told.
 fn groups_of(frontier: usize, found: StepWithEnds) -> usize
-    ensures { (samples : List ℤ) (sizes : List ℕ) → HaveSizes samples frontier found.ends.steim2 found.ends.groups sizes
-        → HaveSizes samples found.step.start found.step.end result sizes }
+    ensures { (samples : List ℤ) (sizes words : List ℕ)
+        → HaveSizes samples frontier found.ends.steim2 found.ends.groups sizes words
+        → HaveSizes samples found.step.start found.step.end result sizes words }
 {
     if found.step.start == frontier && found.step.end == found.ends.steim2 {
         found.ends.groups
@@ -124,9 +126,9 @@ impl RunToCut {
         requires ends { AreEnds (records_of form) samples.now (frontier_of current) found.step.end found.ends }
         ensures next { IsNext (records_of form) samples.now current result }
         ensures end { result.end ≡ found.step.end }
-        ensures sizes { (sizes : List ℕ)
-            → HaveSizes samples.now (frontier_of current) found.ends.steim2 found.ends.groups sizes
-            → HaveSizes samples.now result.start result.end result.groups sizes }
+        ensures sizes { (sizes words : List ℕ)
+            → HaveSizes samples.now (frontier_of current) found.ends.steim2 found.ends.groups sizes words
+            → HaveSizes samples.now result.start result.end result.groups sizes words }
     {
         let frontier = frontier_of(current);
         let end = found.step.end;
@@ -140,16 +142,17 @@ impl RunToCut {
         }
     }
 
-    /// The next step. If it is of Steim-2, it tells the sizes of its groups, if there is room for them.
+    /// The next step. If it is of Steim-2, it tells the sizes and words of its groups, if there is room for them.
     pub(crate) fn next(
         samples: &[i32],
         form: Form,
         current: Option<RunToCut>,
         sizes: &mut [u8],
+        words: &mut [u32],
     ) -> RunToCut
         requires { frontier_of current < length samples.now }
         ensures next { IsNext (records_of form) samples.now current result }
-        ensures sizes { HaveSizes samples.now result.start result.end result.groups sizes.new }
+        ensures sizes { HaveSizes samples.now result.start result.end result.groups sizes.new words.new }
     {
         let found = next_step(
             samples,
@@ -157,6 +160,7 @@ impl RunToCut {
             frontier_of(current),
             likely_of(current),
             sizes,
+            words,
         );
         RunToCut::of(samples, form, current, found)
     }
@@ -220,6 +224,7 @@ impl HeldSamples {
         ensures first { IsNone result → IsNone self.old.current }
         ensures sizes { KnowsNext self.old
             → HaveSizes self.old.samples.items step.start step.end step.groups self.old.sizes.shown.places.items
+            self.old.sizes.shown.words.items
             → KnowsSizes self.new }
     {
         let piece = piece_of(self.offset, self.current, step.start);
@@ -259,6 +264,7 @@ impl HeldSamples {
             self.form,
             self.current,
             self.sizes.shown.places.as_mut_slice(),
+            self.sizes.shown.words.as_mut_slice(),
         );
         self.go_on(step)
     }
@@ -378,7 +384,7 @@ impl HeldSamples {
         }
     }
 
-    /// Takes places for the sizes of the groups of a record, if that was not done.
+    /// Takes places for the sizes and words of the groups of a record, if that was not done.
     pub(crate) fn take_places(&mut self) -> Result<(), AllocError>
         requires { IsSound self.old }
         ensures sound { IsSound self.new }
@@ -398,6 +404,14 @@ impl HeldSamples {
         ensures { result.now ≡ sizes_shown self.now }
     {
         &self.sizes.shown.places.as_slice()[..self.sizes.shown.count]
+    }
+
+    /// The words of these groups, as many as their sizes.
+    pub(crate) fn group_words(&self) -> &[u32]
+        requires { KnowsSizes self.now }
+        ensures { result.now ≡ words_shown self.now }
+    {
+        &self.sizes.shown.words.as_slice()[..self.sizes.shown.count]
     }
 
     /// The samples that are shown.

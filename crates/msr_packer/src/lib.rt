@@ -117,7 +117,7 @@ pub fn pack_in(alloc: Global, samples: &[i32], form: Form) -> Result<Packing, Al
     };
     let mut current = None;
     while frontier_of(current) < samples.len() {
-        let next = RunToCut::next(samples, form, current, &mut []);
+        let next = RunToCut::next(samples, form, current, &mut [], &mut []);
         packing.add(piece_of(0, current, next.start))?;
         current = Some(next);
     }

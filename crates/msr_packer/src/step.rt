@@ -10,10 +10,11 @@ ghost use Rattle.msr_words.specs.Packing.{IsStep};
 ghost use Rattle.msr_words.specs.Laws.{look_back_of};
 ghost use Rattle.msr_packer.specs.Steps.{AreEnds, AreEndsAmong, HaveSizes, IsBetter, IsEndIn, IsStepAmong, NonePast, NotLess, longer_kinds};
 
+use msr_filling::steim2_words;
 use msr_kinds::{Form, Kind, Length};
 use msr_words::{
     Fitting, Int32, Steim2Reach, Tracker, begins_with_four, count_wide, leading_of_bits,
-    steim1_reach, steim2_reach,
+    steim1_reach,
 };
 
 /// One record more: it starts at `start`, reaches to `end`, and is of that kind.
@@ -40,7 +41,7 @@ impl StepRun {
 }
 
 /// Ends of runs from a frontier, by their kind. One that is not needed is the frontier itself. The run of Steim-2 has so
-/// many `groups`, if their sizes were told, else 0.
+/// many `groups`, if their sizes and words were told, else 0.
 #[derive(Clone, Copy, Debug, PartialEq, Eq)]
 pub(crate) struct Ends {
     pub steim2: usize,
@@ -60,15 +61,21 @@ pub(crate) struct StepWithEnds {
 
 /// The greatest end of a run of Steim-2 from the frontier on; the frontier, if the form has no such records.
 #[inline(always)]
-fn steim2_end(samples: &[i32], form: Form, frontier: usize, sizes: &mut [u8]) -> Steim2Reach
+fn steim2_end(
+    samples: &[i32],
+    form: Form,
+    frontier: usize,
+    sizes: &mut [u8],
+    words: &mut [u32],
+) -> Steim2Reach
     requires { frontier ≤ length samples.now }
     ensures end { IsEndIn SecondSteim (records_of form) samples.now frontier result.end }
     ensures chosen { IsTrue result.narrow → IsChosen form.kinds SecondSteim }
     ensures narrow { IsTrue result.narrow → AreNarrowThrough samples.now frontier result.end }
-    ensures sizes { HaveSizes samples.now frontier result.end result.groups sizes.new }
+    ensures sizes { HaveSizes samples.now frontier result.end result.groups sizes.new words.new }
 {
     if form.kinds.contains(Kind::Steim2) {
-        return steim2_reach(samples, form.length, frontier, sizes);
+        return steim2_words(samples, form.length, frontier, sizes, words);
     }
     Steim2Reach {
         end: frontier,
@@ -277,19 +284,20 @@ fn integers_alone(samples: &[i32], form: Form, frontier: usize) -> Option<StepWi
 }
 
 /// The step from a frontier, which is the same whatever `likely` is: the kind that is tried first if it is Int16. Sizes
-/// are told if it is Steim2; else they would mostly be those of a run that is written as another kind.
+/// and words are told if it is Steim2; else they would mostly be those of a run that is written as another kind.
 pub(crate) fn next_step(
     samples: &[i32],
     form: Form,
     frontier: usize,
     likely: Kind,
     sizes: &mut [u8],
+    words: &mut [u32],
 ) -> StepWithEnds
     requires { frontier ≤ length samples.now }
     ensures step { IsStep (FitsAny (records_of form)) samples.now frontier result.step.end result.step.start }
     ensures kind { IsRun (FitsIn result.step.kind (records_of form)) samples.now result.step.start result.step.end }
     ensures ends { AreEnds (records_of form) samples.now frontier result.step.end result.ends }
-    ensures sizes { HaveSizes samples.now frontier result.ends.steim2 result.ends.groups sizes.new }
+    ensures sizes { HaveSizes samples.now frontier result.ends.steim2 result.ends.groups sizes.new words.new }
 {
     if likely == Kind::Int16 {
         match integers_alone(samples, form, frontier) {
@@ -298,9 +306,9 @@ pub(crate) fn next_step(
         }
     }
     if likely != Kind::Steim2 {
-        return step_from(samples, form, frontier, &mut []);
+        return step_from(samples, form, frontier, &mut [], &mut []);
     }
-    step_from(samples, form, frontier, sizes)
+    step_from(samples, form, frontier, sizes, words)
 }
 
 /// The kind of which a run is taken to be as long as nothing is known of its samples: Steim-2, if the form has it.
@@ -322,14 +330,15 @@ pub(crate) fn step_from(
     form: Form,
     frontier: usize,
     sizes: &mut [u8],
+    words: &mut [u32],
 ) -> StepWithEnds
     requires { frontier ≤ length samples.now }
     ensures step { IsStep (FitsAny (records_of form)) samples.now frontier result.step.end result.step.start }
     ensures kind { IsRun (FitsIn result.step.kind (records_of form)) samples.now result.step.start result.step.end }
     ensures ends { AreEnds (records_of form) samples.now frontier result.step.end result.ends }
-    ensures sizes { HaveSizes samples.now frontier result.ends.steim2 result.ends.groups sizes.new }
+    ensures sizes { HaveSizes samples.now frontier result.ends.steim2 result.ends.groups sizes.new words.new }
 {
-    let reach = steim2_end(samples, form, frontier, sizes);
+    let reach = steim2_end(samples, form, frontier, sizes, words);
     let int16 = integers_end(samples, form, frontier, reach.end, Kind::Int16, 16);
     let by_steim2 = StepRun {
         start: frontier,

@@ -1,1 +1,2 @@
+pub mod KnownWords
 pub mod Written

@@ -7,6 +7,8 @@ ghost use Rattle.msr_kinds.specs.Lengths.{bytes_of};
 ghost use Rattle.msr_words.specs.Groups.{AreGroupSizesIfKnown};
 ghost use Rattle.msr_words.specs.Segment.{differences, points};
 ghost use Rattle.msr_rows.specs.Correction.{is_pending};
+ghost use Rattle.msr_filling.specs.GroupWords.{AreGroupWords};
+ghost use Rattle.msr_record.specs.KnownWords.{AreGroupWordsIfKnown};
 ghost use Rattle.msr_record.specs.Written.{sequence_digits, header_for, AppendsRecord};
 
 use crate::written_area::fill_area;
@@ -98,6 +100,7 @@ fn put_header(bytes: &mut [u8], header: &[u8; 64])
 fn fill_record(
     alloc: Global,
     run: &WrittenRun<'_>,
+    words: &[u32],
     record_length: Length,
     bytes: &mut [u8],
 ) -> Result<(), AllocError>
@@ -108,13 +111,15 @@ fn fill_record(
     requires some { 1 ≤ length run.now.samples.now }
     requires fits { Fits run.now.kind (bytes_of record_length) (points run.now.before run.now.samples.now) }
     requires sizes { AreGroupSizesIfKnown (differences run.now.before run.now.samples.now) run.now.group_sizes.now }
+    requires words { AreGroupWordsIfKnown (differences run.now.before run.now.samples.now) run.now.group_sizes.now
+        words.now }
     requires size { length bytes.old ≡ bytes_of record_length }
     ensures { OnOk result (AppendsRecord [] bytes.new run.now.key.now run.now.start run.now.sequence run.now.before
         run.now.samples.now run.now.kind (bytes_of record_length)) }
 {
     let (time, micros) = split(run.start).unwrap();
     let area = &mut bytes[64..];
-    let frames = fill_area(alloc, run, run.kind.storage(), record_length, area)?;
+    let frames = fill_area(alloc, run, words, run.kind.storage(), record_length, area)?;
     let count = run.samples.len() as u16;
     let exponent = record_length.exponent();
     let header = header_for(
@@ -129,6 +134,37 @@ fn fill_record(
     );
     put_header(bytes, &write_header(&header));
     Ok(())
+}
+
+/// As `encode_run`. The words are those of the run's groups, or none if they are not known.
+fn append_run(
+    alloc: Global,
+    run: &WrittenRun<'_>,
+    words: &[u32],
+    record_length: Length,
+    out: &mut Vec<u8>,
+) -> Result<(), AllocError>
+    requires quality { IsTrue (is_quality run.now.key.now.quality) }
+    requires normal { is_pending run.now.key.now.activity run.now.key.now.correction ≡ false }
+    requires start { IsInstant run.now.start }
+    requires sequence { (1 ≤ run.now.sequence) × (run.now.sequence ≤ 999999) }
+    requires some { 1 ≤ length run.now.samples.now }
+    requires fits { Fits run.now.kind (bytes_of record_length) (points run.now.before run.now.samples.now) }
+    requires sizes { AreGroupSizesIfKnown (differences run.now.before run.now.samples.now) run.now.group_sizes.now }
+    requires words { AreGroupWordsIfKnown (differences run.now.before run.now.samples.now) run.now.group_sizes.now
+        words.now }
+    ensures appended { OnOk result
+        (AppendsRecord out.old.items out.new.items run.now.key.now run.now.start run.now.sequence run.now.before
+        run.now.samples.now run.now.kind (bytes_of record_length)) }
+    ensures unchanged { OnErr result (out.new.items ≡ out.old.items) }
+{
+    let end = out.len();
+    out.resize(end + record_length.bytes() as usize, 0)?;
+    let filled = fill_record(alloc, run, words, record_length, &mut out[end..]);
+    if filled.is_err() {
+        out.truncate(end);
+    }
+    filled
 }
 
 /// Appends one record of that length with the samples of the run, which fit it: the row of the new
@@ -152,13 +188,32 @@ pub fn encode_run(
         run.now.samples.now run.now.kind (bytes_of record_length)) }
     ensures unchanged { OnErr result (out.new.items ≡ out.old.items) }
 {
-    let end = out.len();
-    out.resize(end + record_length.bytes() as usize, 0)?;
-    let filled = fill_record(alloc, run, record_length, &mut out[end..]);
-    if filled.is_err() {
-        out.truncate(end);
-    }
-    filled
+    append_run(alloc, run, &[], record_length, out)
+}
+
+/// As `encode_run`, if the words of the groups are known too, of which `run.group_sizes` has the sizes: as many, or
+/// none of both.
+pub fn encode_words(
+    alloc: Global,
+    run: &WrittenRun<'_>,
+    words: &[u32],
+    record_length: Length,
+    out: &mut Vec<u8>,
+) -> Result<(), AllocError>
+    requires quality { IsTrue (is_quality run.now.key.now.quality) }
+    requires normal { is_pending run.now.key.now.activity run.now.key.now.correction ≡ false }
+    requires start { IsInstant run.now.start }
+    requires sequence { (1 ≤ run.now.sequence) × (run.now.sequence ≤ 999999) }
+    requires some { 1 ≤ length run.now.samples.now }
+    requires fits { Fits run.now.kind (bytes_of record_length) (points run.now.before run.now.samples.now) }
+    requires sizes { AreGroupSizesIfKnown (differences run.now.before run.now.samples.now) run.now.group_sizes.now }
+    requires words { AreGroupWords (differences run.now.before run.now.samples.now) run.now.group_sizes.now words.now }
+    ensures appended { OnOk result
+        (AppendsRecord out.old.items out.new.items run.now.key.now run.now.start run.now.sequence run.now.before
+        run.now.samples.now run.now.kind (bytes_of record_length)) }
+    ensures unchanged { OnErr result (out.new.items ≡ out.old.items) }
+{
+    append_run(alloc, run, words, record_length, out)
 }
 
 /// As `encode_run`, if the sizes of groups are not known. `start` is the instant of the first sample in microseconds

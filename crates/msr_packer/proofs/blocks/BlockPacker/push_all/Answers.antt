@@ -84,11 +84,11 @@ invariant_of-self-2 c =
       sound = sound_more room new c.args.samples.now s refl refl refl refl items (omega arith);
       sizes = record {
         next = record {
-          next = rw items (more (start_of room.current) (frontier_of room.current) _ _
+          next = rw items (more (start_of room.current) (frontier_of room.current) _ _ _
               (start_within (records_of room.form) room.current (length room.samples.items) s.inside)
               (frontier_within (records_of room.form) room.current (length room.samples.items) s.inside)
               knows.next.next);
         };
-        shown = rw items (more room.from room.to _ _ s.order s.within knows.shown);
+        shown = rw items (more room.from room.to _ _ _ s.order s.within knows.shown);
       };
     }

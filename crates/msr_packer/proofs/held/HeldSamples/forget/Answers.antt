@@ -33,13 +33,13 @@ returns-clause-sizes c = λ knows.
       next = record {
         next = rw c.remove_front.ensures (sized_less held.samples.items c.unneeded-count.result
             (start_of held.current) (frontier_of held.current) _ _ held.sizes.next.count held.sizes.next.places.items
-            (omega arith) (omega arith) (omega arith) knows.next.next);
+            held.sizes.next.words.items (omega arith) (omega arith) (omega arith) knows.next.next);
       };
-      shown = none_sized _ 0 0 0 held.sizes.shown.places.items refl;
+      shown = none_sized _ 0 0 0 held.sizes.shown.places.items held.sizes.shown.words.items refl;
     }
 
 pub returns-then-count-eq0-clause-sizes : goal.returns-then-count-eq0-clause-sizes
 returns-then-count-eq0-clause-sizes c = λ knows. record {
   next = record { next = knows.next.next };
-  shown = none_sized _ 0 0 0 c.args.self.now.sizes.shown.places.items refl;
+  shown = none_sized _ 0 0 0 c.args.self.now.sizes.shown.places.items c.args.self.now.sizes.shown.words.items refl;
 }

@@ -62,9 +62,9 @@ returns-clause-sizes c = λ next step.
     let held = c.args.self.now in
     let g = c.go_on.ensures in
     record {
-      next = record { next = rw (g.next_places, g.next_count) step };
-      shown = rw (g.shown_places, c.start_of-self.ensures)
+      next = record { next = rw (g.next_places, g.next_words, g.next_count) step };
+      shown = rw (g.shown_places, g.shown_words, c.start_of-self.ensures)
           (sized_cut held.samples.items (start_of held.current) (frontier_of held.current) c.args.step.start
-          held.sizes.next.count _ held.sizes.next.places.items _ (rw c.frontier_of.ensures refl) g.whole g.cut
-          next.next);
+          held.sizes.next.count _ held.sizes.next.places.items held.sizes.next.words.items _
+          (rw c.frontier_of.ensures refl) g.whole g.cut next.next);
     }

@@ -40,9 +40,9 @@ returns-clause-sizes c = λ knows.
     let least = c.requires.end in omega arith) in
     record {
       next = record {
-        next = none_sized held.samples.items (start_of held.current) (frontier_of held.current) _ _ g.next_count;
+        next = none_sized held.samples.items (start_of held.current) (frontier_of held.current) _ _ _ g.next_count;
       };
-      shown = rw (g.shown_places, g.whole refl, c.start_of-self.ensures)
+      shown = rw (g.shown_places, g.shown_words, g.whole refl, c.start_of-self.ensures)
           (subst (λ n. HaveSizes held.samples.items (start_of held.current) n held.sizes.next.count
-          held.sizes.next.places.items) last knows.next.next);
+          held.sizes.next.places.items held.sizes.next.words.items) last knows.next.next);
     }

@@ -43,7 +43,13 @@ pub returns-clause-sizes : goal.returns-clause-sizes
 returns-clause-sizes c = λ knows.
     let sizes = c.next-step.new.sizes in
     let places = c.args.self.now.sizes.shown.places in
+    let words = c.next-step.new.words in
+    let word_places = c.args.self.now.sizes.shown.words in
     let long : length sizes ≡ vec_len places = c.next-step.auto.sizes ∙ c.as_mut_slice.ensures.len in
+    let wide : length words ≡ vec_len word_places = c.next-step.auto.words ∙ c.as_mut_slice-2.ensures.len in
     c.go_on.ensures.sizes (record { next = knows.next.next })
-    (rw (take_at sizes (drop (length sizes) places.items) (vec_len places) long)
+    (rw (
+      take_at sizes (drop (length sizes) places.items) (vec_len places) long,
+      take_at words (drop (length words) word_places.items) (vec_len word_places) wide,
+    )
     (rw c.as_slice.ensures.value at c.next-step.ensures.sizes))

@@ -22,5 +22,5 @@ kind_of-requires-2-clause-fits c =
     (c.args.found.step.end - 1) c.args.found.step.end (omega arith) (omega arith) c.requires.kind
 
 pub returns-clause-sizes : goal.returns-clause-sizes
-returns-clause-sizes c = λ sizes is.
-    c.groups_of.ensures c.args.samples.now sizes (rw c.frontier_of-frontier.ensures is)
+returns-clause-sizes c = λ sizes words is.
+    c.groups_of.ensures c.args.samples.now sizes words (rw c.frontier_of-frontier.ensures is)

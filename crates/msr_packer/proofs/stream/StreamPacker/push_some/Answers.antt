@@ -1,8 +1,8 @@
-use Rattle.std.proofs.Common.{rules, ◌≡◌, ◌+◌, ◌-◌, ◌++◌, ◌∙◌, length, take, arith, refl, ap, append-nil, inl, length-append, length-take, false}
+use Rattle.std.proofs.Common.{rules, ◌≡◌, ◌+◌, ◌-◌, ◌++◌, ◌∙◌, length, take, arith, refl, ap, append-nil, inl, inr, length-append, length-take, false}
 use Rattle.std.proofs.lemmas.Result.{err_from_is_err_and}
 use Rattle.msr_packer.specs.HeldSamples.{Stays, frontier_of}
 use Rattle.msr_packer.specs.declared.held.HeldSamples.{HeldSamples}
-use Rattle.msr_packer.proofs.Holding.{shown_if_any, sound_more, stays_at}
+use Rattle.msr_packer.proofs.Holding.{shown_if_any, sound_more, stays_at, stays_more}
 use Rattle.msr_packer.proofs.InBlocks.{holds_in, packs_held, packs_next, packs_pushed}
 use Rattle.msr_packer.proofs.Streaming.{decided_there, held_there, growing_few, growing_more}
 use Rattle.msr_words.specs.Fit.{records_of}
@@ -77,6 +77,38 @@ returns-in_default-clause-all c = λ _.
     let whole = length-append held.samples.items (take c.min-count.result c.args.samples.now) in
     let some = length-take c.min-count.result c.args.samples.now in
     inl (omega arith)
+
+pub invariant_of-self-in_default : goal.invariant_of-self-in_default
+invariant_of-self-in_default c =
+    let held = c.forget.new.held in
+    let t = c.forget.ensures.streaming in
+    let more = take c.min-count.result c.args.samples.now in
+    let items = c.in_ok-extend_from_slice.ensures.items in
+    let new : HeldSamples = record {
+      form = held.form;
+      samples = c.extend_from_slice.new.self;
+      offset = held.offset;
+      current = held.current;
+      from = held.from;
+      to = held.to;
+      sizes = held.sizes;
+    } in
+    let growing = rw (c.as_slice-seen.ensures.value, c.frontier_of-frontier.ensures) at c.in_default.ensures.open refl
+    in
+    let behind = growing_few (records_of held.form) new.samples.items
+    (frontier_of held.current) c.decide.new.self growing in
+    let near = c.forget.ensures.near in
+    let number = c.forget.ensures.number in
+    let allowed = rw (← c.self.view_is) at c.requires in
+    let all = ap length items in
+    let whole = length-append held.samples.items more in
+    let some = length-take c.min-count.result c.args.samples.now in
+    record {
+      sound = sound_more held new more t.sound refl refl refl refl items (omega arith);
+      stays = rw items (stays_more held.samples.items more held.current t.stays);
+      is_growing = growing;
+      few = omega arith;
+    }
 
 pub of-next-requires-clause-step : goal.of-next-requires-clause-step
 of-next-requires-clause-step c =
@@ -208,3 +240,7 @@ returns-clause-shown c = λ records before runs separators s.
     shown_if_any (before ++ taken) _ _ c.go_on-piece.result
     (g.given.shows (before ++ taken) runs separators
     (holds_in records (before ++ taken) runs separators mid m.of_form m.holds)) g.none
+
+pub returns-clause-all : goal.returns-clause-all
+returns-clause-all c = λ none.
+    inr (rw (← c.self.view_is) (c.forget.ensures.first (c.go_on-piece.ensures.first none)))

@@ -1,0 +1,108 @@
+//! How far a Steim-2 record reaches, with the words of its groups.
+
+ghost use Rattle.std.specs.Prelude.{◌≡◌, ◌<◌, ◌≤◌, IsTrue, length, map, take};
+ghost use Rattle.msr_kinds.specs.declared.kinds.Kind.TheVariants.{Steim2 as SecondSteim};
+ghost use Rattle.msr_kinds.specs.Lengths.{bytes_of};
+ghost use Rattle.msr_kinds.specs.RecordLength.{words_of};
+ghost use Rattle.msr_words.specs.Bounds.{AreNarrowThrough, IsEnd};
+ghost use Rattle.msr_words.specs.Groups.{AreGroupSizes, AreGroupSizesIfKnown};
+ghost use Rattle.msr_words.specs.Laws.{IsNarrow};
+ghost use Rattle.msr_words.specs.Segment.{difference_at, run_points};
+ghost use Rattle.msr_filling.specs.GroupWords.{AreGroupWords};
+
+use crate::filling::steim2_word;
+use msr_kinds::{Kind, Length};
+use msr_words::{
+    Fitting, Steim2Reach, Window, difference, is_narrow, steim2_greedy_reach, steim2_reach,
+};
+
+/// Gives what Steim-2 reaches; `shared` says that each of its groups has two differences or more: such are narrow.
+fn reach_to(samples: &[i32], end: usize, groups: usize, shared: bool) -> Steim2Reach
+    ensures end { result.end ≡ end }
+    ensures number { result.groups ≡ groups }
+    ensures groups { IsTrue result.narrow → IsTrue shared }
+    ensures behind { IsTrue result.narrow → end < length samples.now → IsNarrow (difference_at samples.now end) }
+{
+    Steim2Reach {
+        end,
+        groups,
+        narrow: shared && (end >= samples.len() || is_narrow(difference(samples, end))),
+    }
+}
+
+/// As many of the longest groups as there are words, of no more samples than a record has. The size and the word of
+/// each are told.
+fn walk(
+    samples: &[i32],
+    record_length: Length,
+    start: usize,
+    sizes: &mut [u8],
+    words: &mut [u32],
+) -> Steim2Reach
+    requires within { start ≤ length samples.now }
+    requires room_of_sizes { words_of (bytes_of record_length) ≤ length sizes.old }
+    requires room_of_words { words_of (bytes_of record_length) ≤ length words.old }
+    ensures end { IsEnd SecondSteim (bytes_of record_length) samples.now start result.end }
+    ensures narrow { IsTrue result.narrow → AreNarrowThrough samples.now start result.end }
+    ensures room_of_sizes { result.groups ≤ length sizes.new }
+    ensures room_of_words { result.groups ≤ length words.new }
+    ensures sizes { AreGroupSizes
+        (map (λ p. p.1) (run_points samples.now start result.end)) (take result.groups sizes.new) }
+    ensures words { AreGroupWords (map (λ p. p.1) (run_points samples.now start result.end))
+        (take result.groups sizes.new) (take result.groups words.new) }
+{
+    steim2_greedy_reach();
+    let latest = start + Kind::Steim2.most(record_length).min(samples.len() - start);
+    let seen = &samples[..latest];
+    let number = record_length.data_words() as usize;
+    let mut window = Window::new();
+    let mut at = start;
+    let mut shared = true;
+    for group in 0..number {
+        let next = steim2_word(None, seen, &mut window, at);
+        if next.size < 2 {
+            if next.size == 0 {
+                return reach_to(samples, at, group, shared);
+            }
+            shared = false;
+        }
+        sizes[group] = next.size as u8;
+        words[group] = next.word;
+        at += next.size;
+    }
+    reach_to(samples, at, number, shared)
+}
+
+/// How far Steim-2 reaches from `start` on, as `steim2_reach` finds it. The sizes and the words of the groups of that
+/// run are told, one after another, if there is room for as many of each as a record has data words.
+pub fn steim2_words(
+    samples: &[i32],
+    record_length: Length,
+    start: usize,
+    sizes: &mut [u8],
+    words: &mut [u32],
+) -> Steim2Reach
+    requires { start ≤ length samples.now }
+    ensures end { IsEnd SecondSteim (bytes_of record_length) samples.now start result.end }
+    ensures narrow { IsTrue result.narrow → AreNarrowThrough samples.now start result.end }
+    ensures room_of_sizes { result.groups ≤ length sizes.new }
+    ensures room_of_words { result.groups ≤ length words.new }
+    ensures known { AreGroupSizesIfKnown
+        (map (λ p. p.1) (run_points samples.now start result.end)) (take result.groups sizes.new) }
+    ensures told { words_of (bytes_of record_length) ≤ length sizes.old
+        → words_of (bytes_of record_length) ≤ length words.old
+        → AreGroupSizes (map (λ p. p.1) (run_points samples.now start result.end)) (take result.groups sizes.new) }
+    ensures words { AreGroupWords (map (λ p. p.1) (run_points samples.now start result.end))
+        (take result.groups sizes.new) (take result.groups words.new) }
+{
+    let number = record_length.data_words() as usize;
+    if sizes.len() >= number && words.len() >= number {
+        return walk(samples, record_length, start, sizes, words);
+    }
+    let reach = steim2_reach(samples, record_length, start, &mut []);
+    Steim2Reach {
+        end: reach.end,
+        groups: 0,
+        narrow: reach.narrow,
+    }
+}
