@@ -6,13 +6,13 @@ use Rattle.msr_kinds.specs.declared.kinds.Kind.{Kind}
 use Rattle.msr_kinds.specs.declared.kinds.Kind.TheVariants.{Int16, Int24, Int32, Steim1, Steim2}
 use Rattle.msr_kinds.specs.Kinds.{IsChosen}
 use Rattle.msr_kinds.specs.RecordLength.{words_of}
-use Rattle.msr_words.specs.Bounds.{BeginsWithFour, IsEnd, is_wide}
+use Rattle.msr_words.specs.Bounds.{BeginsWithFour, IsEnd, is_very_wide, is_wide}
 use Rattle.msr_words.specs.Segment.{difference_at, run_points}
 use Rattle.msr_words.specs.Fit.{Records, Fits, FitsIn, IsRun}
 use Rattle.msr_words.specs.Laws.{IsNarrow, look_back_of, most_of}
 use Rattle.msr_words.specs.Lemmas.KindLaws.{back_step_in, prefix_in, size_kind}
 use Rattle.msr_words.proofs.Runs.{back_step_run, length-run_points, prefix_run, run_points_cut, run_points_more, run_points_none}
-use Rattle.msr_words.proofs.Stretches.{no_further, none_with_wide}
+use Rattle.msr_words.proofs.Stretches.{no_further, none_with_halves, none_with_wide}
 use Rattle.msr_words.proofs.Dominance.{steim2_dominates}
 use Rattle.msr_words.proofs.WordRoom.{rest_of_run, wide_of_steim1, wide_of_steim2}
 use Rattle.msr_words.specs.Packing.{NoneHolds}
@@ -48,6 +48,14 @@ module _ (samples : List ℤ) (first second : ℕ) (order : first < second) (wit
         (wide_of_steim1 bytes) (first + 1) (second + 1) (omega arith) more s b (omega arith) run in
         omega arith;
   }
+
+  pub too_many_halves : (bytes : ℕ) → 2 * words_of bytes
+      < count_by is_wide (map (λ p. p.1) (run_points samples (first + 1) (second + 1)))
+      + count_by is_very_wide (map (λ p. p.1) (run_points samples (first + 1) (second + 1))) → (s b : ℕ) → s ≤ first
+      → second < b → IsRun (Fits Steim2 bytes) samples s b → ⊥
+  too_many_halves bytes more s b from past run =
+      let less = none_with_halves bytes samples (first + 1) (second + 1) (omega arith) more s b (omega arith) run in
+      omega arith
 
 module _ (records : Records) (samples : List ℤ) (first second : ℕ) (order : first < second)
     (within : second < length samples) where

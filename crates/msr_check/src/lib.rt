@@ -4,11 +4,11 @@
 mod judge;
 mod reach;
 
-ghost use Rattle.std.specs.Prelude.{◌≡◌, ◌<◌, ◌≤◌, ◌↔◌, length, IsTrue, IsFalse};
+ghost use Rattle.std.specs.Prelude.{◌≡◌, ◌<◌, ◌≤◌, ◌↔◌, ℕ, length, IsTrue, IsFalse};
 ghost use Rattle.msr_kinds.specs.declared.kinds.Kind.TheVariants.{Steim1, Steim2};
 ghost use Rattle.msr_kinds.specs.Forms.{all_kinds};
 ghost use Rattle.msr_kinds.specs.Kinds.{IsChosen};
-ghost use Rattle.msr_words.specs.Fit.{FitsIn, IsRun, records_of};
+ghost use Rattle.msr_words.specs.Fit.{Fits, FitsIn, IsRun, records_of};
 ghost use Rattle.msr_words.specs.Bounds.{IsEnd};
 ghost use Rattle.msr_words.specs.Laws.{look_back_of};
 ghost use Rattle.msr_words.specs.Segment.{run_points};
@@ -21,7 +21,9 @@ ghost use Rattle.msr_words.specs.Packing.{NoneHolds, IsPacking, IsSeparating, Is
 use crate::reach::{Reach, is_of_steim2, known_end, meets_narrow, reach_of};
 pub use judge::Judge;
 use msr_kinds::{Form, Kind, Length};
-use msr_words::{Fitting, Run, are_narrow, begins_with_four, count_wide, run_fits, steim1_reach};
+use msr_words::{
+    Fitting, Run, are_narrow, begins_with_four, count_halves, count_wide, run_fits, steim1_reach,
+};
 
 /// Whether some run of that kind, which the form has, holds both samples. A part after a cut fits such a kind by itself,
 /// so it is enough to try the run from the first to the second.
@@ -121,6 +123,39 @@ fn steim_has_no_room(samples: &[i32], record_length: Length, first: usize, secon
     second - first > most as usize && count_wide(samples, first, second + 1) > most
 }
 
+/// Whether no record of Steim-2 has room for both samples and those between them: their differences take too many halves
+/// of words. The contract promises nothing if the answer is `false`.
+fn steim2_has_no_room(samples: &[i32], record_length: Length, first: usize, second: usize) -> bool
+    requires order { first < second }
+    requires within { second < length samples.now }
+    ensures { IsTrue result → (s b : ℕ) → s ≤ first → second < b
+        → IsRun (Fits Steim2 (bytes_of record_length)) samples.now s b → ⊥ }
+{
+    let words = record_length.data_words();
+    second - first > words as usize
+        && second - first < Kind::Steim2.most(record_length)
+        && count_halves(samples, first, second + 1) > 2 * words
+}
+
+/// Whether some run of Steim-2 holds both samples. If it is known how far Steim-2 reaches, nothing is counted.
+fn steim2_holds_both(
+    samples: &[i32],
+    form: Form,
+    first: usize,
+    second: usize,
+    known: Option<Reach>,
+) -> bool
+    requires known { IsKnown (bytes_of form.length) samples.now known }
+    requires order { first < second }
+    requires within { second < length samples.now }
+    ensures { IsTrue result ↔ HoldsBoth Steim2 (records_of form) samples.now first second }
+{
+    if !is_of_steim2(known) && steim2_has_no_room(samples, form.length, first, second) {
+        return false;
+    }
+    holds_both(Kind::Steim2, samples, form, first, second, known)
+}
+
 /// Whether some run of Steim-2 or Steim-1 holds both samples. If it is known how far Steim-2 reaches, nothing is counted.
 fn steim_holds_both(
     samples: &[i32],
@@ -137,7 +172,7 @@ fn steim_holds_both(
     if !is_of_steim2(known) && steim_has_no_room(samples, form.length, first, second) {
         return false;
     }
-    if holds_both(Kind::Steim2, samples, form, first, second, known) {
+    if steim2_holds_both(samples, form, first, second, known) {
         return true;
     }
     if steim1_is_short(samples, form, first, second, known) {

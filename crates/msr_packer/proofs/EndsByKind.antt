@@ -215,10 +215,11 @@ module _ (records : Records) (samples : List ℤ) (g : ℕ) where
       → IsRun (Fits Int16 records.bytes) samples g e16 → (g < e16 → IsChosen records.kinds Int16) →
       ((c : ℕ) → end ≤ c + 1 → IsRun (FitsIn Steim2 records) samples g c → c ≤ e2)
       → ((c : ℕ) → end ≤ c + 1 → IsRun (FitsIn Steim1 records) samples g c → (c ≤ e1) ⊎ (c ≤ e2)) →
-      ((c : ℕ) → end ≤ c + 1 → IsRun (FitsIn Int16 records) samples g c → (c ≤ e16) ⊎ (c ≤ e2)) → (ends : Ends)
+      (known : ℕ) → (known ≡ e2) ⊎ (known ≡ e1) →
+      ((c : ℕ) → end ≤ c + 1 → IsRun (FitsIn Int16 records) samples g c → (c ≤ e16) ⊎ (c ≤ known)) → (ends : Ends)
       → ends.steim2 ≡ e2 → ends.steim1 ≡ e1 → ends.int16 ≡ e16 → AreEndsAmong longer_kinds records samples g end ends
-  longer_ends end e2 e1 e16 two chosen_two one chosen_one sixteen chosen_sixteen past_two past_one past_sixteen ends
-      is2 is1 is16 =
+  longer_ends end e2 e1 e16 two chosen_two one chosen_one sixteen chosen_sixteen past_two past_one known is_known
+      past_sixteen ends is2 is1 is16 =
       record { fit = fit; chosen = chosen; past = past }
     where
       fit : (kind : Kind) → Among longer_kinds kind
@@ -246,6 +247,16 @@ module _ (records : Records) (samples : List ℤ) (g : ℕ) where
         | inr none ↦ (kind, among, run.2.0, omega arith, omega arith)
       ]
 
+      -- or than Steim-1
+      by_one : (kind : Kind) → Among longer_kinds kind → rank Steim1 ≤ rank kind → (c : ℕ)
+          → IsRun (FitsIn kind records) samples g c → c ≤ e1 → g ≤ end_of ends kind
+          → (other : Kind) × Among longer_kinds other × IsChosen records.kinds other × (rank other ≤ rank kind)
+          × (c ≤ end_of ends other)
+      by_one kind among low c run le from = elim (of_kind Steim1 e1 c chosen_one run.0 le) [
+        | inl has ↦ (Steim1, inl refl, has, low, rw is1 le)
+        | inr none ↦ (kind, among, run.2.0, omega arith, omega arith)
+      ]
+
       past : (kind : Kind) → Among longer_kinds kind → (c : ℕ) → end ≤ c + 1 → IsRun (FitsIn kind records) samples g c
           → (other : Kind) × Among longer_kinds other × IsChosen records.kinds other × (rank other ≤ rank kind)
           × (c ≤ end_of ends other)
@@ -256,7 +267,10 @@ module _ (records : Records) (samples : List ℤ) (g : ℕ) where
       ]
       past Int16 among c near run = elim (past_sixteen c near run) [
         | inl m ↦ (Int16, among, run.2.0, omega arith, rw is16 m)
-        | inr m ↦ by_two Int16 among (omega arith) c run m (let up = sixteen.0 in omega arith)
+        | inr m ↦ elim is_known [
+          | inl second ↦ by_two Int16 among (omega arith) c run (omega arith) (let up = sixteen.0 in omega arith)
+          | inr first ↦ by_one Int16 among (omega arith) c run (omega arith) (let up = sixteen.0 in omega arith)
+        ]
       ]
       past Int24 among c near run = absurd (let r = longer_rank Int24 among in omega arith)
       past Int32 among c near run = absurd (let r = longer_rank Int32 among in omega arith)

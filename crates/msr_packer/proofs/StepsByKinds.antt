@@ -194,6 +194,27 @@ module _ (records : Records) (samples : List ℤ) (g : ℕ) where
     last = λ k among s le run. omega arith;
   }
 
+  -- a step that is longer than any run of one kind more
+  pub outrun : (kind : Kind) (tried : List Kind) (step : StepRun) → IsStepAmong tried records samples g step →
+      ((s b : ℕ) → s ≤ g → IsRun (FitsIn kind records) samples s b → b < step.end)
+      → IsStepAmong (kind ∷ tried) records samples g step
+  outrun kind tried step is short = record {
+    before = is.before;
+    past = is.past;
+    reached = is.reached;
+    still = is.still;
+    furthest = λ k among s b le run. elim among [
+      | inl e ↦ let less = short s b le (subst (λ k. IsRun (FitsIn k records) samples s b) e run) in omega arith
+      | inr old ↦ is.furthest k old s b le run
+    ];
+    last = λ k among s le run. elim among [
+      | inl e ↦
+          let less = short s step.end le (subst (λ k. IsRun (FitsIn k records) samples s step.end) e run) in
+          absurd (omega arith)
+      | inr old ↦ is.last k old s le run
+    ];
+  }
+
   -- the same kinds in another order
   pub reordered : (kinds tried : List Kind) → ((kind : Kind) → Among kinds kind → Among tried kind) → (step : StepRun)
       → IsStepAmong tried records samples g step → IsStepAmong kinds records samples g step

@@ -1,5 +1,6 @@
 -- Steps from a frontier with records of some kinds.
 use Rattle.std.specs.Prelude.{◌≡◌, ℕ, ◌+◌, ◌<◌, ◌≤◌, ◌⊎◌, ℤ, List, [], ◌∷◌, length, map, take}
+use Rattle.msr_words.specs.Bounds.{IsEnd}
 use Rattle.msr_words.specs.Fit.{Records, Fits, FitsIn, IsRun, rank}
 use Rattle.msr_kinds.specs.declared.kinds.Kind.{Kind}
 use Rattle.msr_kinds.specs.declared.kinds.Kind.TheVariants.{Int16, Int24, Int32, Steim1, Steim2}
@@ -8,6 +9,7 @@ use Rattle.msr_words.specs.Groups.{AreGroupSizesIfKnown}
 use Rattle.msr_words.specs.Segment.{run_points}
 use Rattle.msr_filling.specs.GroupWords.{AreGroupWords}
 use Rattle.msr_packer.specs.declared.step.Ends.{Ends}
+use Rattle.msr_packer.specs.declared.step.Steim1Step.{Steim1Step}
 use Rattle.msr_packer.specs.declared.step.StepRun.{StepRun}
 
 -- the kind is one of these
@@ -41,6 +43,11 @@ pub record IsEndIn (kind : Kind) (records : Records) (samples : List ℤ) (g end
   pub fits : IsRun (Fits kind records.bytes) samples g end
   pub chosen : g < end → IsChosen records.kinds kind
   pub furthest : (b : ℕ) → IsRun (FitsIn kind records) samples g b → b ≤ end
+
+-- the step with records of Steim-1 alone, and the greatest end of a run of that kind from the frontier g
+pub record IsSteim1Step (records : Records) (samples : List ℤ) (g : ℕ) (found : Steim1Step) : Type 0 where
+  pub step : IsStepAmong (Steim1 ∷ []) records samples g found.step
+  pub end : IsEnd Steim1 records.bytes samples g found.end
 
 -- of the runs of that kind that start at or before the frontier g, each ends at or before one of these ends
 abbrev pub NonePast : Kind → Records → List ℤ → ℕ → ℕ → ℕ → Type 0

@@ -8,13 +8,13 @@ ghost use Rattle.msr_kinds.specs.Lengths.{bytes_of};
 ghost use Rattle.msr_words.specs.Fit.{Fits, FitsAny, FitsIn, IsRun, records_of};
 ghost use Rattle.msr_words.specs.Packing.{IsStep};
 ghost use Rattle.msr_words.specs.Laws.{look_back_of};
-ghost use Rattle.msr_packer.specs.Steps.{AreEnds, AreEndsAmong, HaveSizes, IsBetter, IsEndIn, IsStepAmong, NonePast, NotLess, longer_kinds};
+ghost use Rattle.msr_packer.specs.Steps.{AreEnds, AreEndsAmong, HaveSizes, IsBetter, IsEndIn, IsSteim1Step, IsStepAmong, NonePast, NotLess, longer_kinds};
 
 use msr_filling::steim2_words;
 use msr_kinds::{Form, Kind, Length};
 use msr_words::{
-    Fitting, Int32, Steim2Reach, Tracker, begins_with_four, count_wide, leading_of_bits,
-    steim1_reach,
+    Fitting, Int32, Steim2Reach, Tracker, begins_with_four, count_halves, count_wide,
+    leading_of_bits, steim1_reach,
 };
 
 /// One record more: it starts at `start`, reaches to `end`, and is of that kind.
@@ -50,6 +50,13 @@ pub(crate) struct Ends {
     pub int24: usize,
     pub int32: usize,
     pub groups: usize,
+}
+
+/// The step with records of Steim-1 alone, and the end of the run of that kind from the frontier itself.
+#[derive(Clone, Copy, Debug, PartialEq, Eq)]
+pub(crate) struct Steim1Step {
+    pub step: StepRun,
+    pub end: usize,
 }
 
 /// A step, with the ends that tell the kind of its run when that is cut.
@@ -200,6 +207,29 @@ fn steim1_step(samples: &[i32], form: Form, frontier: usize, end: usize) -> Step
     here
 }
 
+/// The step from a frontier with records of Steim-1: the one that is known, else it is found.
+fn steim1_unless_known(
+    samples: &[i32],
+    form: Form,
+    frontier: usize,
+    known: Option<Steim1Step>,
+) -> Steim1Step
+    requires within { frontier ≤ length samples.now }
+    requires chosen { IsChosen form.kinds FirstSteim }
+    requires known { IfSome known (IsSteim1Step (records_of form) samples.now frontier) }
+    ensures { IsSteim1Step (records_of form) samples.now frontier result }
+{
+    match known {
+        Some(found) => return found,
+        None => {}
+    }
+    let end = steim1_reach(samples, form.length, frontier);
+    Steim1Step {
+        step: steim1_step(samples, form, frontier, end),
+        end,
+    }
+}
+
 /// The best of `step`, which is the step with the other kinds, and of those with 24-bit and 32-bit integers, given the
 /// ends of the other kinds.
 fn with_wide_integers(
@@ -283,8 +313,53 @@ fn integers_alone(samples: &[i32], form: Form, frontier: usize) -> Option<StepWi
     Some(with_wide_integers(samples, form, frontier, by_int16, ends))
 }
 
-/// The step from a frontier, which is the same whatever `likely` is: the kind that is tried first if it is Int16. Sizes
-/// and words are told if it is Steim2; else they would mostly be those of a run that is written as another kind.
+/// The step from a frontier without a walk of Steim-2, if Steim-1 reaches so far that the differences up to there take
+/// too many halves of words for a record of Steim-2.
+fn steim1_without_steim2(
+    samples: &[i32],
+    form: Form,
+    frontier: usize,
+    by_steim1: Steim1Step,
+) -> Option<StepWithEnds>
+    requires within { frontier ≤ length samples.now }
+    requires chosen { IsChosen form.kinds FirstSteim }
+    requires by_steim1 { IsSteim1Step (records_of form) samples.now frontier by_steim1 }
+    ensures step { IfSome result (λ found. IsStep
+        (FitsAny (records_of form)) samples.now frontier found.step.end found.step.start) }
+    ensures kind { IfSome result (λ found. IsRun
+        (FitsIn found.step.kind (records_of form)) samples.now found.step.start found.step.end) }
+    ensures ends { IfSome result (λ found. AreEnds
+        (records_of form) samples.now frontier found.step.end found.ends) }
+    ensures groups { IfSome result (λ found. found.ends.groups ≡ 0) }
+{
+    let most = 2 * form.length.data_words();
+    if by_steim1.end - frontier <= most as usize / 2 + 2 {
+        return None;
+    }
+    if count_halves(samples, frontier, by_steim1.end - 1) <= most {
+        return None;
+    }
+    let int16 = integers_end(samples, form, frontier, by_steim1.end, Kind::Int16, 16);
+    let by_int16 = StepRun {
+        start: frontier,
+        end: int16,
+        kind: Kind::Int16,
+    };
+    let ends = Ends {
+        steim2: frontier,
+        steim1: by_steim1.end,
+        int16,
+        int24: frontier,
+        int32: frontier,
+        groups: 0,
+    };
+    let best = by_steim1.step.or(by_int16);
+    Some(with_wide_integers(samples, form, frontier, best, ends))
+}
+
+/// The step from a frontier, which is the same whatever `likely` is: the kind that is tried first if it is Int16 or
+/// Steim1. Sizes and words are told if it is Steim2; else they would mostly be those of a run that is written as
+/// another kind.
 pub(crate) fn next_step(
     samples: &[i32],
     form: Form,
@@ -305,10 +380,18 @@ pub(crate) fn next_step(
             None => {}
         }
     }
-    if likely != Kind::Steim2 {
-        return step_from(samples, form, frontier, &mut [], &mut []);
+    if likely == Kind::Steim1 && form.kinds.contains(Kind::Steim1) {
+        let by_steim1 = steim1_unless_known(samples, form, frontier, None);
+        match steim1_without_steim2(samples, form, frontier, by_steim1) {
+            Some(found) => return found,
+            None => {}
+        }
+        return step_from(samples, form, frontier, Some(by_steim1), &mut [], &mut []);
     }
-    step_from(samples, form, frontier, sizes, words)
+    if likely != Kind::Steim2 {
+        return step_from(samples, form, frontier, None, &mut [], &mut []);
+    }
+    step_from(samples, form, frontier, None, sizes, words)
 }
 
 /// The kind of which a run is taken to be as long as nothing is known of its samples: Steim-2, if the form has it.
@@ -324,15 +407,17 @@ pub(crate) fn tried_first(form: Form) -> Kind
     }
 }
 
-/// The step from a frontier, over all kinds.
+/// The step from a frontier, over all kinds. That of Steim-1 alone may be known.
 pub(crate) fn step_from(
     samples: &[i32],
     form: Form,
     frontier: usize,
+    known: Option<Steim1Step>,
     sizes: &mut [u8],
     words: &mut [u32],
 ) -> StepWithEnds
-    requires { frontier ≤ length samples.now }
+    requires within { frontier ≤ length samples.now }
+    requires known { IfSome known (IsSteim1Step (records_of form) samples.now frontier) }
     ensures step { IsStep (FitsAny (records_of form)) samples.now frontier result.step.end result.step.start }
     ensures kind { IsRun (FitsIn result.step.kind (records_of form)) samples.now result.step.start result.step.end }
     ensures ends { AreEnds (records_of form) samples.now frontier result.step.end result.ends }
@@ -362,7 +447,7 @@ pub(crate) fn step_from(
     if steim1_is_short(samples, form, frontier, reach, best.end) {
         return with_wide_integers(samples, form, frontier, best, ends);
     }
-    ends.steim1 = steim1_reach(samples, form.length, frontier);
-    let by_steim1 = steim1_step(samples, form, frontier, ends.steim1);
-    with_wide_integers(samples, form, frontier, best.or(by_steim1), ends)
+    let by_steim1 = steim1_unless_known(samples, form, frontier, known);
+    ends.steim1 = by_steim1.end;
+    with_wide_integers(samples, form, frontier, best.or(by_steim1.step), ends)
 }

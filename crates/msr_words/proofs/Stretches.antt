@@ -1,5 +1,5 @@
 -- How wide the differences of a stretch are, and one difference more at its end.
-use Rattle.std.proofs.Common.{◌≡◌, ℕ, zero, suc, ◌+◌, ◌-◌, ◌*◌, ◌<◌, ◌≤◌, min, ℤ, pos, ◌-ℤ◌, List, [], ◌∷◌, ◌++◌, length, map, get_or, arith, refl, sym, ap, ◌∙◌, subst, inl, inr}
+use Rattle.std.proofs.Common.{◌≡◌, ℕ, zero, suc, ◌+◌, ◌-◌, ◌*◌, ◌<◌, ◌≤◌, min, ℤ, pos, ◌-ℤ◌, Bool, List, [], ◌∷◌, ◌++◌, length, map, get_or, arith, refl, sym, ap, ◌∙◌, subst, inl, inr}
 use Rattle.std.specs.Prelude.{slice_index_or, cond, count_by}
 use Rattle.std.proofs.lemmas.Bool.{cases_lt}
 use Rattle.std.proofs.lemmas.List.{map-append}
@@ -8,13 +8,14 @@ use Rattle.std.proofs.lemmas.List.Sums.{sum_by-append, sum_by_push}
 use Rattle.msr_kinds.specs.declared.kinds.Kind.{Kind}
 use Rattle.msr_kinds.specs.declared.kinds.Kind.TheVariants.{Steim1, Steim2}
 use Rattle.msr_kinds.specs.RecordLength.{words_of}
-use Rattle.msr_words.specs.Bounds.{AreNarrow, AreNarrowThrough, IsEnd, is_wide}
+use Rattle.msr_words.specs.Bounds.{AreNarrow, AreNarrowThrough, IsEnd, is_very_wide, is_wide}
 use Rattle.msr_words.specs.Fit.{Fits, IsRun}
 use Rattle.msr_words.specs.Laws.{IsNarrow}
 use Rattle.msr_words.specs.Segment.{difference_at, run_points}
 use Rattle.msr_words.specs.Lemmas.KindLaws.{prefix_kind}
 use Rattle.msr_words.specs.Window.{IsSize}
 use Rattle.msr_words.proofs.Dominance.{narrow_yes, steim2_dominates}
+use Rattle.msr_words.proofs.WordRoom.{halves_of_steim2}
 use Rattle.msr_words.proofs.Runs.{prefix_run, run_points_cut, run_points_more, run_points_none}
 
 -- ---- one difference
@@ -30,19 +31,48 @@ narrow_of_size d size is less = narrow_yes d size is (inl less) (omega arith)
 
 -- ---- wide ones, counted
 
+-- one sample more at the end of a stretch
+count_more : (test : ℤ → Bool) (samples : List ℤ) (a i : ℕ) → a ≤ i → i < length samples →
+    count_by test (map (λ p. p.1) (run_points samples a (i + 1)))
+    ≡ count_by test (map (λ p. p.1) (run_points samples a i)) + cond (test (difference_at samples i)) 1 0
+count_more test samples a i le less =
+    let p : ℤ × ℤ = (slice_index_or samples i (pos 0), difference_at samples i) in
+    let parts : map (λ (q : ℤ × ℤ). q.1) (run_points samples a (i + 1)) ≡ map (λ q. q.1) (run_points samples a i)
+    ++ p.1 ∷ [] =
+    ap (map (λ (q : ℤ × ℤ). q.1)) (run_points_more samples a i le less)
+    ∙ map-append (λ (q : ℤ × ℤ). q.1) (run_points samples a i) (p ∷ []) in
+    ap (count_by test) parts ∙ sum_by_push (λ d. cond (test d) 1 0) (map (λ q. q.1) (run_points samples a i)) p.1
+
+-- a stretch in two parts
+count_cut : (test : ℤ → Bool) (samples : List ℤ) (s g e : ℕ) → s ≤ g → g ≤ e →
+    count_by test (map (λ p. p.1) (run_points samples s e))
+    ≡ count_by test (map (λ p. p.1) (run_points samples s g)) + count_by test (map (λ p. p.1) (run_points samples g e))
+count_cut test samples s g e le order =
+    let parts : map (λ p. p.1) (run_points samples s e) ≡ map (λ p. p.1) (run_points samples s g)
+    ++ map (λ p. p.1) (run_points samples g e) =
+    ap (map (λ (p : ℤ × ℤ). p.1)) (sym (run_points_cut samples s g e le order))
+    ∙ map-append (λ (p : ℤ × ℤ). p.1) (run_points samples s g) (run_points samples g e) in
+    ap (count_by test) parts ∙ sum_by-append (λ d. cond (test d) 1 0)
+    (map (λ p. p.1) (run_points samples s g)) (map (λ p. p.1) (run_points samples g e))
+
 pub no_wide : (samples : List ℤ) (a : ℕ) → 0 ≡ count_by is_wide (map (λ p. p.1) (run_points samples a a))
 no_wide samples a = rw run_points_none refl
 
 pub wide_more : (samples : List ℤ) (a i : ℕ) → a ≤ i → i < length samples →
     count_by is_wide (map (λ p. p.1) (run_points samples a (i + 1)))
     ≡ count_by is_wide (map (λ p. p.1) (run_points samples a i)) + cond (is_wide (difference_at samples i)) 1 0
-wide_more samples a i le less =
-    let p : ℤ × ℤ = (slice_index_or samples i (pos 0), difference_at samples i) in
-    let parts : map (λ (q : ℤ × ℤ). q.1) (run_points samples a (i + 1)) ≡ map (λ q. q.1) (run_points samples a i)
-    ++ p.1 ∷ [] =
-    ap (map (λ (q : ℤ × ℤ). q.1)) (run_points_more samples a i le less)
-    ∙ map-append (λ (q : ℤ × ℤ). q.1) (run_points samples a i) (p ∷ []) in
-    ap (count_by is_wide) parts ∙ sum_by_push (λ d. cond (is_wide d) 1 0) (map (λ q. q.1) (run_points samples a i)) p.1
+wide_more = count_more is_wide
+
+pub no_halves : (samples : List ℤ) (a : ℕ) →
+    0 ≡ count_by is_wide (map (λ p. p.1) (run_points samples a a))
+    + count_by is_very_wide (map (λ p. p.1) (run_points samples a a))
+no_halves samples a = rw run_points_none refl
+
+pub very_wide_more : (samples : List ℤ) (a i : ℕ) → a ≤ i → i < length samples →
+    count_by is_very_wide (map (λ p. p.1) (run_points samples a (i + 1)))
+    ≡ count_by is_very_wide (map (λ p. p.1) (run_points samples a i))
+    + cond (is_very_wide (difference_at samples i)) 1 0
+very_wide_more = count_more is_very_wide
 
 -- a kind whose records hold no more than two a word has none that holds all of a stretch with more
 pub none_with_wide : (bytes : ℕ) (samples : List ℤ) (kind : Kind)
@@ -54,12 +84,22 @@ none_with_wide bytes samples kind two g e order more s b le run = elim (cases_lt
   | inr not ↦
       let shorter = prefix_run (Fits kind bytes) (prefix_kind kind bytes) samples s e b (omega arith) not run in
       let all = two (run_points samples s e) shorter.2 in
-      let parts : map (λ p. p.1) (run_points samples s e) ≡ map (λ p. p.1) (run_points samples s g)
-      ++ map (λ p. p.1) (run_points samples g e) =
-      ap (map (λ (p : ℤ × ℤ). p.1)) (sym (run_points_cut samples s g e le order))
-      ∙ map-append (λ (p : ℤ × ℤ). p.1) (run_points samples s g) (run_points samples g e) in
-      let sum = ap (count_by is_wide) parts ∙ sum_by-append (λ d. cond (is_wide d) 1 0)
-      (map (λ p. p.1) (run_points samples s g)) (map (λ p. p.1) (run_points samples g e)) in
+      let sum = count_cut is_wide samples s g e le order in
+      absurd (omega arith)
+]
+
+-- no record of Steim-2 holds all of a stretch whose differences take more halves than its words have
+pub none_with_halves : (bytes : ℕ) (samples : List ℤ) (g e : ℕ) → g ≤ e → 2 * words_of bytes
+    < count_by is_wide (map (λ p. p.1) (run_points samples g e))
+    + count_by is_very_wide (map (λ p. p.1) (run_points samples g e)) → (s b : ℕ)
+    → s ≤ g → IsRun (Fits Steim2 bytes) samples s b → b < e
+none_with_halves bytes samples g e order more s b le run = elim (cases_lt b e) [
+  | inl less ↦ less
+  | inr not ↦
+      let shorter = prefix_run (Fits Steim2 bytes) (prefix_kind Steim2 bytes) samples s e b (omega arith) not run in
+      let all = halves_of_steim2 bytes (run_points samples s e) shorter.2 in
+      let wide = count_cut is_wide samples s g e le order in
+      let very_wide = count_cut is_very_wide samples s g e le order in
       absurd (omega arith)
 ]
 

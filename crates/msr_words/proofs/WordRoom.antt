@@ -8,7 +8,7 @@ use Rattle.std.proofs.lemmas.List.Sums.{sum_by-append}
 use Rattle.msr_kinds.specs.declared.storage.Version.{Version}
 use Rattle.msr_kinds.specs.declared.storage.Version.TheVariants.{One, Two}
 use Rattle.msr_steim.specs.Word.{AreGroups, FitsBits, IsGroup}
-use Rattle.msr_words.specs.Bounds.{BeginsWithFour, EndLaw, LookBackLaw, WideLaw, is_wide}
+use Rattle.msr_words.specs.Bounds.{BeginsWithFour, EndLaw, HalvesLaw, LookBackLaw, WideLaw, is_very_wide, is_wide}
 use Rattle.msr_words.specs.Division.{CanDivide}
 use Rattle.msr_words.specs.Fit.{Fits}
 use Rattle.msr_words.specs.Groups.{IsOneBelow}
@@ -55,6 +55,17 @@ none_wide [] all = refl
 none_wide (d ∷ ds) all = sum_by-append wide (d ∷ []) ds
     ∙ (let p = wide_none d all.0 in let q = none_wide ds all.1 in omega arith)
 
+-- three or more that share a Steim-2 word are of 10 bits each
+three_of_10 : (a b c : ℤ) (ds : List ℤ) → IsGroup Two (a ∷ b ∷ c ∷ ds)
+    → AllByRecursion (FitsBits 10) (a ∷ b ∷ c ∷ ds)
+three_of_10 a b c [] is = is
+three_of_10 a b c (d ∷ []) is = all_more 8 10 (a ∷ b ∷ c ∷ d ∷ []) (lit≤ tt) is
+three_of_10 a b c (d ∷ e ∷ []) is = all_more 6 10 (a ∷ b ∷ c ∷ d ∷ e ∷ []) (lit≤ tt) is
+three_of_10 a b c (d ∷ e ∷ f ∷ []) is = all_more 5 10 (a ∷ b ∷ c ∷ d ∷ e ∷ f ∷ []) (lit≤ tt) is
+three_of_10 a b c (d ∷ e ∷ f ∷ g ∷ []) is = all_more 4 10 (a ∷ b ∷ c ∷ d ∷ e ∷ f ∷ g ∷ []) (lit≤ tt) is
+three_of_10 a b c (d ∷ e ∷ f ∷ g ∷ h ∷ more) is =
+    let few = (a_group_has_few Two true (a ∷ b ∷ c ∷ d ∷ e ∷ f ∷ g ∷ h ∷ more) is).1 in absurd (omega arith)
+
 wide_group : (version : Version) (group : List ℤ) → IsGroup version group → sum_by wide group ≤ 2
 wide_group version [] is = omega arith
 wide_group version (a ∷ []) is = let p = wide_any a in omega arith
@@ -65,18 +76,7 @@ wide_group One (a ∷ b ∷ c ∷ d ∷ []) is = let none =
     none_wide (a ∷ b ∷ c ∷ d ∷ []) (all_more 8 10 (a ∷ b ∷ c ∷ d ∷ []) (lit≤ tt) is) in omega arith
 wide_group One (a ∷ b ∷ c ∷ d ∷ e ∷ more) is = let few = one_has_few (a ∷ b ∷ c ∷ d ∷ e ∷ more) is in
     absurd (omega arith)
-wide_group Two (a ∷ b ∷ c ∷ []) is = let none = none_wide (a ∷ b ∷ c ∷ []) is in omega arith
-wide_group Two (a ∷ b ∷ c ∷ d ∷ []) is = let none =
-    none_wide (a ∷ b ∷ c ∷ d ∷ []) (all_more 8 10 (a ∷ b ∷ c ∷ d ∷ []) (lit≤ tt) is) in omega arith
-wide_group Two (a ∷ b ∷ c ∷ d ∷ e ∷ []) is = let none =
-    none_wide (a ∷ b ∷ c ∷ d ∷ e ∷ []) (all_more 6 10 (a ∷ b ∷ c ∷ d ∷ e ∷ []) (lit≤ tt) is) in omega arith
-wide_group Two (a ∷ b ∷ c ∷ d ∷ e ∷ f ∷ []) is = let none =
-    none_wide (a ∷ b ∷ c ∷ d ∷ e ∷ f ∷ []) (all_more 5 10 (a ∷ b ∷ c ∷ d ∷ e ∷ f ∷ []) (lit≤ tt) is) in omega arith
-wide_group Two (a ∷ b ∷ c ∷ d ∷ e ∷ f ∷ g ∷ []) is = let none =
-    none_wide (a ∷ b ∷ c ∷ d ∷ e ∷ f ∷ g ∷ []) (all_more 4 10 (a ∷ b ∷ c ∷ d ∷ e ∷ f ∷ g ∷ []) (lit≤ tt) is) in
-    omega arith
-wide_group Two (a ∷ b ∷ c ∷ d ∷ e ∷ f ∷ g ∷ h ∷ more) is = let few =
-    (a_group_has_few Two true (a ∷ b ∷ c ∷ d ∷ e ∷ f ∷ g ∷ h ∷ more) is).1 in absurd (omega arith)
+wide_group Two (a ∷ b ∷ c ∷ ds) is = let none = none_wide (a ∷ b ∷ c ∷ ds) (three_of_10 a b c ds is) in omega arith
 
 pub wide_law : WideLaw
 unfolding wide
@@ -84,6 +84,70 @@ wide_law version words ds can =
     let all = sum_of_groups version wide 2 (wide_group version) can.groups can.are_groups in
     let same : sum_by wide ds ≤ 2 * length can.groups =
     subst (λ l. sum_by wide l ≤ 2 * length can.groups) can.join all in
+    let few = can.few in
+    omega arith
+
+-- ---- halves of a Steim-2 word
+
+very_wide : ℤ → ℕ
+very_wide d = cond (is_very_wide d) 1 0
+
+very_wide_any : (d : ℤ) → very_wide d ≤ 1
+unfolding very_wide
+very_wide_any (pos n) = grind (arith, nat_tests)
+very_wide_any (negsuc n) = grind (arith, nat_tests)
+
+very_wide_none : (d : ℤ) → FitsBits 15 d → very_wide d ≡ 0
+unfolding very_wide
+very_wide_none (pos n) fits = grind (arith, nat_tests)
+very_wide_none (negsuc n) fits = grind (arith, nat_tests)
+
+none_very_wide : (ds : List ℤ) → AllByRecursion (FitsBits 15) ds → sum_by very_wide ds ≡ 0
+none_very_wide [] all = refl
+none_very_wide (d ∷ ds) all = sum_by-append very_wide (d ∷ []) ds
+    ∙ (let p = very_wide_none d all.0 in let q = none_very_wide ds all.1 in omega arith)
+
+halves : ℤ → ℕ
+halves d = wide d + very_wide d
+
+halves_are : (ds : List ℤ) → sum_by halves ds ≡ sum_by wide ds + sum_by very_wide ds
+unfolding halves
+halves_are [] = refl
+halves_are (d ∷ ds) =
+    let all = sum_by-append halves (d ∷ []) ds in
+    let some = sum_by-append wide (d ∷ []) ds in
+    let more = sum_by-append very_wide (d ∷ []) ds in
+    let rest = halves_are ds in
+    omega arith
+
+-- one alone, two of 15 bits, or more of 10
+halves_group : (group : List ℤ) → IsGroup Two group → sum_by halves group ≤ 2
+halves_group [] is = omega arith
+halves_group (a ∷ []) is =
+    let few = wide_group Two (a ∷ []) is in
+    let here = wide_any a in
+    let more = very_wide_any a in
+    let are = halves_are (a ∷ []) in
+    omega arith
+halves_group (a ∷ b ∷ []) is =
+    let few = wide_group Two (a ∷ b ∷ []) is in
+    let none = none_very_wide (a ∷ b ∷ []) is in
+    let are = halves_are (a ∷ b ∷ []) in
+    omega arith
+halves_group (a ∷ b ∷ c ∷ ds) is =
+    let fits = three_of_10 a b c ds is in
+    let none = none_wide (a ∷ b ∷ c ∷ ds) fits in
+    let more = none_very_wide (a ∷ b ∷ c ∷ ds) (all_more 10 15 (a ∷ b ∷ c ∷ ds) (lit≤ tt) fits) in
+    let are = halves_are (a ∷ b ∷ c ∷ ds) in
+    omega arith
+
+pub halves_law : HalvesLaw
+unfolding wide very_wide
+halves_law words ds can =
+    let all = sum_of_groups Two halves 2 halves_group can.groups can.are_groups in
+    let same : sum_by halves ds ≤ 2 * length can.groups =
+    subst (λ l. sum_by halves l ≤ 2 * length can.groups) can.join all in
+    let are : sum_by halves ds ≡ count_by is_wide ds + count_by is_very_wide ds = halves_are ds in
     let few = can.few in
     omega arith
 
@@ -145,6 +209,27 @@ module _ (size a : ℕ) (a_is : IsOneBelow size 512 a) where
   wide_is (negsuc n) size_is = let p = size_is 10 in let am = a_is.most in let ab = a_is.below in
       grind (arith, nat_tests)
 
+module _ (size a : ℕ) (a_is : IsOneBelow size 16384 a) where
+  very_wide_is : (d : ℤ) → ((width : ℕ) → (FitsBits width d ↔ size < 2 ^ (width - 1)))
+      → 1 - a ≡ cond (is_very_wide d) 1 0
+  very_wide_is (pos n) size_is = let p = size_is 15 in let am = a_is.most in let ab = a_is.below in
+      grind (arith, nat_tests)
+  very_wide_is (negsuc n) size_is = let p = size_is 15 in let am = a_is.most in let ab = a_is.below in
+      grind (arith, nat_tests)
+
+module _ (size a b : ℕ) (a_is : IsOneBelow size 512 a) (b_is : IsOneBelow size 16384 b) where
+  pub halves_is : (d : ℤ) → ((width : ℕ) → (FitsBits width d ↔ size < 2 ^ (width - 1)))
+      → 2 - a - b ≡ cond (is_wide d) 1 0 + cond (is_very_wide d) 1 0
+  halves_is d size_is =
+      let one = wide_is size a a_is d size_is in
+      let two = very_wide_is size b b_is d size_is in
+      let am = a_is.most in
+      let bm = b_is.most in
+      omega arith
+
+pub very_wide_one_at_most : (d : ℤ) → cond (is_very_wide d) 1 0 ≤ 1
+very_wide_one_at_most d = grind (arith, nat_tests)
+
 pub wide_one_at_most : (d : ℤ) → cond (is_wide d) 1 0 ≤ 1
 wide_one_at_most d = grind (arith, nat_tests)
 
@@ -183,6 +268,10 @@ four_begin samples a b at le less order within four =
 pub wide_of_steim2 : (bytes : ℕ) (run : List (ℤ × ℤ)) → Fits Steim2 bytes run
     → count_by is_wide (map (λ p. p.1) run) ≤ 2 * words_of bytes
 wide_of_steim2 bytes run fits = wide_law Two (words_of bytes) (map (λ p. p.1) run) fits.1
+
+pub halves_of_steim2 : (bytes : ℕ) (run : List (ℤ × ℤ)) → Fits Steim2 bytes run
+    → count_by is_wide (map (λ p. p.1) run) + count_by is_very_wide (map (λ p. p.1) run) ≤ 2 * words_of bytes
+halves_of_steim2 bytes run fits = halves_law (words_of bytes) (map (λ p. p.1) run) fits.1
 
 pub wide_of_steim1 : (bytes : ℕ) (run : List (ℤ × ℤ)) → Fits Steim1 bytes run
     → count_by is_wide (map (λ p. p.1) run) ≤ 2 * words_of bytes

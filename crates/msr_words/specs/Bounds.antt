@@ -2,7 +2,7 @@
 use Rattle.std.specs.Prelude.{◌≡◌, ℕ, zero, suc, ◌+◌, ◌-◌, ◌*◌, ◌^◌, ◌≤◌, ◌<◌, ◌↔◌, min, ℤ, pos, negsuc, Bool, not, nat_lt, List, ◌∷◌, length, map, take, drop, count_by, get_or, slice_index_or, All}
 use Rattle.std.specs.List.{AllByRecursion}
 use Rattle.msr_kinds.specs.declared.storage.Version.{Version}
-use Rattle.msr_kinds.specs.declared.storage.Version.TheVariants.{One}
+use Rattle.msr_kinds.specs.declared.storage.Version.TheVariants.{One, Two}
 use Rattle.msr_steim.specs.Word.{FitsBits}
 use Rattle.msr_kinds.specs.declared.kinds.Kind.{Kind}
 use Rattle.msr_kinds.specs.declared.kinds.Kind.TheVariants.{Steim2}
@@ -22,9 +22,18 @@ is_of_bits width (negsuc n) = nat_lt n (2 ^ (width - 1))
 abbrev pub is_wide : ℤ → Bool
 is_wide d = not (is_of_bits 10 d)
 
+-- whether a difference is of more than 15 bits
+abbrev pub is_very_wide : ℤ → Bool
+is_very_wide d = not (is_of_bits 15 d)
+
 -- no word holds more than two differences of more than 10 bits
 abbrev pub WideLaw : Type 0
 WideLaw = (version : Version) (words : ℕ) (ds : List ℤ) → CanDivide version words ds → count_by is_wide ds ≤ 2 * words
+
+-- a Steim-2 word has room for two differences of more than 10 bits, or for one of more than 15
+abbrev pub HalvesLaw : Type 0
+HalvesLaw = (words : ℕ) (ds : List ℤ) → CanDivide Two words ds
+    → count_by is_wide ds + count_by is_very_wide ds ≤ 2 * words
 
 -- the first four differences share one Steim-1 word
 pub record BeginsWithFour (ds : List ℤ) : Type 0 where

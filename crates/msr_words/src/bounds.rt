@@ -1,11 +1,16 @@
 //! What the differences of a run tell of the records that hold it.
 
-ghost use Rattle.msr_words.specs.Bounds.{EndLaw, GreedyLaw, LookBackLaw, WideLaw};
+ghost use Rattle.msr_words.specs.Bounds.{EndLaw, GreedyLaw, HalvesLaw, LookBackLaw, WideLaw};
 ghost use Rattle.msr_words.specs.Steim1Reach.{Steim1LastLaw, Steim1StopLaw, Steim1WordLaw};
 
 /// A Steim record, of either version, holds no more than two differences of more than 10 bits a word.
 pub fn two_wide_in_a_word()
     ensures { WideLaw }
+{}
+
+/// A word of Steim-2 has room for two differences of more than 10 bits, or for one of more than 15.
+pub fn two_halves_in_a_word()
+    ensures { HalvesLaw }
 {}
 
 /// The first difference of a Steim-1 record can be left out if it does not share a word with three others of 8 bits.

@@ -18,7 +18,7 @@ mod window;
 pub use any_kind::AnyKind;
 pub use bounds::{
     fits_up_to_its_end, steim1_look_back, steim1_word_by_word, steim2_greedy_reach,
-    two_wide_in_a_word,
+    two_halves_in_a_word, two_wide_in_a_word,
 };
 pub use codecs::{Codec, Int16, Int24, Int32, Integers, Steim1, Steim2, Tracker};
 pub use counts::{is_narrow, magnitude};
@@ -34,5 +34,5 @@ pub use msr_kinds::{Form, Kind, Kinds, Length};
 pub use msr_steim::fits_bits;
 pub use steim1::{begins_with_four, steim1_reach};
 pub use steim2::{Steim2Reach, steim2_reach};
-pub use widths::{are_narrow, count_wide};
+pub use widths::{are_narrow, count_halves, count_wide};
 pub use window::{FourSizes, Window};

@@ -65,5 +65,6 @@ with_wide_integers-requires c =
           (λ on. absurd (omega arith)) is.fits (λ _. chosen)
           (λ c near run. let less = none2 g c (omega arith) (run.0, run.1, run.2.1) in absurd (omega arith))
           (λ c near run. let less = none1 g c (omega arith) (run.0, run.1, run.2.1) in absurd (omega arith))
+          g (inl refl)
           (λ c near run. inl (is.furthest c (run.0, run.1, run.2.1))) _ refl refl refl;
     }

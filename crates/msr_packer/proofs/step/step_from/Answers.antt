@@ -51,6 +51,7 @@ with_wide_integers-requires-clause-ends c =
       | inl m ↦ inr m
       | inr m ↦ absurd (omega arith)
     ])
+    c.steim2_end-reach.result.end (inl refl)
     (λ e near run. c.integers_end-int16.ensures.past g e (omega arith) run) _ refl refl refl
 
 pub with_wide_integers-requires-2-clause-step : goal.with_wide_integers-requires-2-clause-step
@@ -69,19 +70,22 @@ with_wide_integers-requires-2-clause-step c =
     e2 refl one c.integers_end-int16.ensures.fits c.integers_end-int16.ensures.chosen (inl refl)
     (run_or_none form samples g Steim2 e2 c.steim2_end-reach.ensures.end) c.integers_end-int16.ensures.past
     c.or-best.ensures.one c.or-best.ensures.first c.or-best.ensures.second in
-    one_more form samples g Steim1 (Int16 ∷ Steim2 ∷ []) c.or-best.result c.steim1_step-by_steim1.result c.or.result
-    two c.steim1_step-by_steim1.ensures c.or.ensures.one c.or.ensures.first c.or.ensures.second
+    one_more form samples g Steim1 (Int16 ∷ Steim2 ∷ []) c.or-best.result c.steim1_unless_known-by_steim1.result.step
+    c.or.result two c.steim1_unless_known-by_steim1.ensures.step c.or.ensures.one c.or.ensures.first
+    c.or.ensures.second
 
 pub with_wide_integers-requires-2-clause-ends : goal.with_wide_integers-requires-2-clause-ends
 with_wide_integers-requires-2-clause-ends c =
     let two = c.steim2_end-reach.ensures.end in
     let chosen = c.steim1_is_short.ensures.chosen c.if-steim1_is_short.false in
+    let one = c.steim1_unless_known-by_steim1.ensures in
     longer_ends (records_of c.args.form) c.args.samples.now c.args.frontier c.or.result.end
-    c.steim2_end-reach.result.end c.steim1_reach.result c.integers_end-int16.result
-    two.fits two.chosen c.steim1_reach.ensures.fits (λ _. chosen)
+    c.steim2_end-reach.result.end c.steim1_unless_known-by_steim1.result.end c.integers_end-int16.result
+    two.fits two.chosen one.end.fits (λ _. chosen)
     c.integers_end-int16.ensures.fits c.integers_end-int16.ensures.chosen
     (λ e near run. two.furthest e run)
-    (λ e near run. inl (c.steim1_reach.ensures.furthest e (run.0, run.1, run.2.1)))
+    (λ e near run. inl (one.end.furthest e (run.0, run.1, run.2.1)))
+    c.steim2_end-reach.result.end (inl refl)
     (λ e near run. c.integers_end-int16.ensures.past c.args.frontier e (omega arith) run) _ refl refl refl
 
 pub returns-then-steim1_is_short-clause-sizes : goal.returns-then-steim1_is_short-clause-sizes
