@@ -21,7 +21,7 @@ struct Word {
 
 /// Gives the fields of `size` differences of the run, from `at` on, side by side, in the way of `fields_seen`.
 #[inline(always)]
-fn fields_at(run: &[i32], at: usize, size: usize, width: u32) -> u32
+pub(crate) fn fields_at(run: &[i32], at: usize, size: usize, width: u32) -> u32
     requires positive { 0 < width }
     requires within { size * width ≤ 32 }
     requires later { 0 < at }

@@ -1,6 +1,6 @@
 //! The Steim-1 words of a run, written in place.
 
-ghost use Rattle.std.specs.Prelude.{◌≡◌, ◌<◌, ◌≤◌, ◌+◌, ◌-◌, ◌*◌, ◌/◌, ◌%◌, ℤ, List, IfOk, IfSome, IsNone, Some, length, drop, take};
+ghost use Rattle.std.specs.Prelude.{◌≡◌, ◌<◌, ◌≤◌, ◌+◌, ◌-◌, ◌-ℤ◌, ◌*◌, ◌/◌, ◌%◌, ℤ, List, Option, IfOk, IfSome, IsNone, Some, length, drop, take};
 ghost use Rattle.std.specs.List.{AllByRecursion};
 ghost use Rattle.msr_kinds.specs.declared.storage.Version.TheVariants.{One};
 ghost use Rattle.msr_steim.specs.Word.{FitsBits, IsGroup, group_code, group_width, group_word, padding_of};
@@ -10,10 +10,11 @@ ghost use Rattle.msr_filling.specs.Filled.{IsFilledArea};
 ghost use Rattle.msr_words.specs.FirstGroup.{AreSizes, IsCanonicalFirst, IsSizeAt};
 ghost use Rattle.msr_filling.specs.NextWord.{IsNextWord};
 ghost use Rattle.msr_words.specs.Segment.{differences};
-ghost use Rattle.msr_words.specs.Window.{IsWindow, Shows};
+ghost use Rattle.msr_words.specs.Window.{IsSize, IsWindow, Shows};
 
 use crate::filling::{NextWord, fields_from, fields_seen};
 use crate::frames::{Sizing, fill_frames};
+use crate::groups_filling::fields_at;
 use msr_words::{Window, difference_after, magnitude, sizes_of};
 use std::alloc::{AllocError, Global};
 
@@ -194,6 +195,124 @@ fn word_outside_ahead(before: Option<i32>, run: &[i32], at: usize) -> Option<Nex
     Some(word_outside(before, run, at, size))
 }
 
+/// The size of the difference of a sample from the one before it, as a window has it.
+#[inline(always)]
+fn size_after(before: i32, sample: i32) -> u32
+    ensures { IsSize (sample -ℤ before) result }
+{
+    let difference = sample as i64 - before as i64;
+    if sample < before {
+        (-(difference + 1)) as u32
+    } else {
+        difference as u32
+    }
+}
+
+/// The size of the difference `ahead` places after the one at `at`, which is not the run's first.
+#[inline(always)]
+fn size_inside(run: &[i32], at: usize, ahead: usize) -> u32
+    requires later { 0 < at }
+    requires room { at + ahead < length run.now }
+    ensures { (before : Option ℤ) → IsSizeAt (drop at (differences before run.now)) ahead result }
+{
+    size_after(run[at + ahead - 1], run[at + ahead])
+}
+
+/// As `Window::first_steim1_group`, from the samples of these five differences, none of which is the run's first.
+#[inline(always)]
+fn first_group_inside(run: &[i32], at: usize) -> Option<usize>
+    requires later { 0 < at }
+    requires room { at + 5 ≤ length run.now }
+    ensures first { (before : Option ℤ) → AllByRecursion (FitsBits 32) (differences before run.now)
+        → IfSome result (IsCanonicalFirst (drop at (differences before run.now))) }
+    ensures few { IfSome result (λ size. (1 ≤ size) × (size ≤ 4)) }
+    ensures none { (before : Option ℤ) → IsNone result
+        → BeginsWithFour (drop 1 (drop at (differences before run.now))) }
+{
+    let one = size_inside(run, at, 0);
+    let two = size_inside(run, at, 1);
+    if one | two >= 32_768 {
+        return Some(1);
+    }
+    if two >= 128 {
+        return Some(2);
+    }
+    let four = two | size_inside(run, at, 2) | size_inside(run, at, 3);
+    if four >= 128 {
+        return Some(2);
+    }
+    if one < 128 {
+        return Some(4);
+    }
+    if size_inside(run, at, 4) < 128 {
+        None
+    } else {
+        Some(2)
+    }
+}
+
+/// The word of this group, of this form, of the differences from `at` on.
+#[inline(always)]
+fn formed_inside(run: &[i32], at: usize, size: usize, form: Form) -> NextWord
+    requires later { 0 < at }
+    requires full { 1 ≤ size }
+    requires room { at + size ≤ length run.now }
+    requires width { group_width One size ≡ Some form.width }
+    requires positive { 0 < form.width }
+    requires code { form.code ≡ group_code One size }
+    requires small { form.code < 4 }
+    requires left { form.left ≡ padding_of One size * form.width }
+    requires within { size * form.width + form.left ≤ 32 }
+    ensures size { result.size ≡ size }
+    ensures code { result.code ≡ group_code One size }
+    ensures small { result.code < 4 }
+    ensures word { (before : Option ℤ) → IsGroup One (take size (drop at (differences before run.now)))
+        → result.word ≡ group_word One (take size (drop at (differences before run.now))) }
+{
+    let fields = fields_at(run, at, size, form.width);
+    NextWord {
+        size,
+        code: form.code,
+        word: fields << form.left,
+    }
+}
+
+/// The word of this group of the differences from `at` on, none of which is the run's first.
+#[inline(always)]
+fn word_inside(run: &[i32], at: usize, size: usize) -> NextWord
+    requires later { 0 < at }
+    requires full { 1 ≤ size }
+    requires most { size ≤ 4 }
+    requires room { at + size ≤ length run.now }
+    ensures size { result.size ≡ size }
+    ensures code { result.code ≡ group_code One size }
+    ensures small { result.code < 4 }
+    ensures word { (before : Option ℤ) → IsGroup One (take size (drop at (differences before run.now)))
+        → result.word ≡ group_word One (take size (drop at (differences before run.now))) }
+{
+    match size {
+        1 => formed_inside(run, at, 1, form_of(1)),
+        2 => formed_inside(run, at, 2, form_of(2)),
+        3 => formed_inside(run, at, 3, form_of(3)),
+        _ => formed_inside(run, at, 4, form_of(4)),
+    }
+}
+
+/// As `word_outside_ahead`, straight from the samples of five differences, none of which is the run's first: so most
+/// words of a run that is too short for a window are found. It is kept out of the loop over words.
+#[inline(never)]
+fn word_inside_ahead(run: &[i32], at: usize) -> Option<NextWord>
+    requires later { 0 < at }
+    requires room { at + 5 ≤ length run.now }
+    ensures next { (before : Option ℤ) → AllByRecursion (FitsBits 32) (differences before run.now)
+        → IfSome result (IsNextWord One (drop at (differences before run.now))) }
+    ensures none { (before : Option ℤ) → IsNone result
+        → BeginsWithFour (drop 1 (drop at (differences before run.now))) }
+{
+    let size = first_group_inside(run, at)?;
+    Some(word_inside(run, at, size))
+}
+
 /// The word of the group that begins with that difference; `None` if the next differences do not tell its size.
 #[inline(always)]
 pub(crate) fn steim1_word_ahead(
@@ -212,6 +331,9 @@ pub(crate) fn steim1_word_ahead(
     if let Some(place) = window.place_of(run, at) {
         let size = window.first_steim1_group(place)?;
         return Some(word_seen(window, place, size));
+    }
+    if at > 0 && run.len() - at >= 5 {
+        return word_inside_ahead(run, at);
     }
     word_outside_ahead(before, run, at)
 }

@@ -1,0 +1,29 @@
+-- The differences of the group fit its width, and its fields are moved up.
+use Rattle.std.proofs.Common.{arith, ◌≤◌, ◌*◌, drop, length, take}
+use Rattle.std.proofs.lemmas.List.{length-drop, length-take-le}
+use Rattle.std.proofs.Math.Nat.{mul-le-mul_right}
+use Rattle.msr_kinds.specs.declared.storage.Version.TheVariants.{One}
+use Rattle.msr_words.specs.Segment.{differences}
+use Rattle.msr_words.proofs.Plain.{length-differences}
+use Rattle.msr_filling.proofs.FillFields.{group_bits, shifted_word_is}
+use Rattle.msr_filling.proofs.steim1_filling.formed_inside.Goals as goal
+
+pub overflow_shl-result : goal.overflow_shl-result
+overflow_shl-result c =
+    let some : 1 * c.args.form.width ≤ c.args.size * c.args.form.width =
+    mul-le-mul_right c.args.form.width c.requires.full in
+    omega (arith, c.requires.within, c.requires.positive)
+
+pub returns-clause-word : goal.returns-clause-word
+returns-clause-word c before is =
+    let ds = drop c.args.at (differences before c.args.run.now) in
+    let whole = length-differences before c.args.run.now in
+    let left = length-drop c.args.at (differences before c.args.run.now) in
+    let within : c.args.size ≤ length (drop c.args.at (differences before c.args.run.now)) =
+    omega (arith, c.requires.room) in
+    let ys = take c.args.size ds in
+    let long = length-take-le c.args.size ds within in
+    let same = c.fields_at-fields.ensures.same before
+    (group_bits One ys c.args.size c.args.form.width long c.requires.width is) in
+    shifted_word_is ys c.args.size c.args.form.width c.args.form.left c.fields_at-fields.result long
+    c.requires.width c.requires.left same c.requires.positive is c.requires.within
