@@ -7,7 +7,7 @@ use Rattle.msr_words.specs.Fit.{Records}
 use Rattle.msr_words.specs.Groups.{AreGroupSizesIfKnown}
 use Rattle.msr_words.specs.Segment.{differences, points, run_points}
 use Rattle.msr_words.proofs.Runs.{run_from, run_from_start, run_points_stay}
-use Rattle.msr_packer.specs.HeldSamples.{InsideIfAny, IsSound, KnowsSizes, Shows, ShowsRun, before_place, before_shown, frontier_of, shown_by, sizes_shown, start_of, words_shown}
+use Rattle.msr_packer.specs.HeldSamples.{InsideIfAny, IsSound, KnowsSizes, Shows, ShowsRun, before_place, before_shown, frontier_of, shown_by, sizes_shown, start_of}
 use Rattle.msr_packer.specs.Steps.{HaveSizes}
 use Rattle.msr_packer.specs.declared.held.HeldSamples.{HeldSamples}
 use Rattle.msr_packer.specs.declared.held.Piece.{Piece}
@@ -15,14 +15,20 @@ use Rattle.msr_packer.specs.declared.held.RunToCut.{RunToCut}
 use Rattle.msr_words.proofs.LastSamples.{run_points_window}
 use Rattle.msr_filling.specs.GroupWords.{AreGroupWords}
 
+-- no groups have no words
+pub none_written : (ds : List ℤ) (count : ℕ) (sizes words : List ℕ) → count ≡ 0
+    → AreGroupWords ds (take count sizes) (take count words)
+none_written ds count sizes words is =
+    subst (λ n. AreGroupWords ds (take n sizes) (take n words)) (sym is)
+    (record { number = refl; each = λ k inside. absurd (omega arith) })
+
 pub none_sized : (samples : List ℤ) (a b count : ℕ) (sizes words : List ℕ) → count ≡ 0
     → HaveSizes samples a b count sizes words
 none_sized samples a b count sizes words is = subst (λ n. HaveSizes samples a b n sizes words) (sym is)
     (record {
       room = omega arith;
-      words_room = omega arith;
       are = record { known = λ some. absurd (some refl) };
-      written = record { number = refl; each = λ k inside. absurd (omega arith) };
+      written = λ room. none_written (map (λ p. p.1) (run_points samples a b)) 0 sizes words refl;
     })
 
 -- of the same samples in a longer list
@@ -31,10 +37,9 @@ pub sized_in : (samples others : List ℤ) (a b c d count : ℕ) (sizes words : 
     → HaveSizes others c d count sizes words
 sized_in samples others a b c d count sizes words same is = record {
   room = is.room;
-  words_room = is.words_room;
   are = subst (λ run. AreGroupSizesIfKnown (map (λ (p : ℤ × ℤ). p.1) run) (take count sizes)) (sym same) is.are;
-  written = subst (λ run. AreGroupWords (map (λ (p : ℤ × ℤ). p.1) run) (take count sizes) (take count words))
-      (sym same) is.written;
+  written = λ room. subst (λ run. AreGroupWords (map (λ (p : ℤ × ℤ). p.1) run) (take count sizes) (take count words))
+      (sym same) (is.written room);
 }
 
 -- if more samples follow
@@ -101,9 +106,12 @@ shows_sizes held samples (Some piece) sound knows shows = record {
 
 -- and the words of these groups
 pub shows_words : (held : HeldSamples) → IsSound held → KnowsSizes held
-    → AreGroupWords (differences (before_shown held) (shown_by held)) (sizes_shown held) (words_shown held)
-shows_words held sound knows =
+    → held.sizes.shown.count ≤ length held.sizes.shown.words.items
+    → AreGroupWords (differences (before_shown held) (shown_by held)) (sizes_shown held)
+    (take held.sizes.shown.count held.sizes.shown.words.items)
+shows_words held sound knows room =
     let order = sound.order in
     let within = sound.within in
-    subst (λ run. AreGroupWords (map (λ (p : ℤ × ℤ). p.1) run) (sizes_shown held) (words_shown held))
-    (sym (points_of_run held.samples.items held.from held.to (omega arith))) knows.shown.written
+    subst (λ run. AreGroupWords (map (λ (p : ℤ × ℤ). p.1) run) (sizes_shown held)
+    (take held.sizes.shown.count held.sizes.shown.words.items))
+    (sym (points_of_run held.samples.items held.from held.to (omega arith))) (knows.shown.written room)

@@ -154,9 +154,6 @@ pub record KnowsSizes (held : HeldSamples) : Type 0 where
 abbrev pub sizes_shown : HeldSamples → List ℕ
 sizes_shown held = take held.sizes.shown.count held.sizes.shown.places.items
 
-abbrev pub words_shown : HeldSamples → List ℕ
-words_shown held = take held.sizes.shown.count held.sizes.shown.words.items
-
 -- What giving a piece does: the piece, if there is one, was given and is shown, and the samples that are held are the
 -- same.
 pub record GivesPiece (old new : HeldSamples) (piece : Option Piece) : Type 0 where

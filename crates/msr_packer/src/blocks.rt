@@ -6,7 +6,7 @@ ghost use Rattle.msr_words.specs.declared.kinds.Run.{Run};
 ghost use Rattle.msr_words.specs.Laws.{most_any};
 ghost use Rattle.msr_words.specs.Packing.{IsCanonical};
 ghost use Rattle.msr_words.specs.Segment.{differences};
-ghost use Rattle.msr_filling.specs.GroupWords.{AreGroupWords};
+ghost use Rattle.msr_filling.specs.GroupWords.{AreGroupWordsIfKnown};
 ghost use Rattle.msr_packer.specs.Blocks.{BlocksBeginAll, BlocksEnd, BlocksLeaveFew, HoldsFew, LastBlocksBegin, Packs, PacksLast, left_of, pushed};
 ghost use Rattle.msr_packer.specs.HeldSamples.{Shows, pieces_of, runs_of, separators_of};
 
@@ -134,10 +134,10 @@ impl BlockPacker {
         self.held.group_sizes()
     }
 
-    /// The words of these groups, one after another, as they stand in a big-endian record: as many as `group_sizes`
-    /// has.
+    /// The words of these groups, one after another, as they stand in a big-endian record: as many as `group_sizes` has, or
+    /// none if they are not known.
     pub fn group_words(&self) -> &[u32]
-        ensures { AreGroupWords (differences self.now.before self.now.shown) self.now.groups result.now }
+        ensures { AreGroupWordsIfKnown (differences self.now.before self.now.shown) self.now.groups result.now }
     {
         self.held.group_words()
     }

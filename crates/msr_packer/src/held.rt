@@ -5,7 +5,9 @@ ghost use Rattle.msr_words.specs.declared.kinds.Run.{Run};
 ghost use Rattle.msr_words.specs.Fit.{FitsAny, FitsIn, IsRun, records_of};
 ghost use Rattle.msr_words.specs.Laws.{most_any};
 ghost use Rattle.msr_words.specs.Packing.{IsCanonical, IsStep};
-ghost use Rattle.msr_packer.specs.HeldSamples.{GivesPiece, HasPlaces, HoldsRest, IsNext, IsSound, KnowsNext, KnowsSizes, ShowsRun, Stays, before_shown, frontier_of, piece_of, pieces_of, runs_of, separators_of, shown_by, sizes_shown, start_of, words_shown};
+ghost use Rattle.msr_words.specs.Segment.{differences};
+ghost use Rattle.msr_filling.specs.GroupWords.{AreGroupWordsIfKnown};
+ghost use Rattle.msr_packer.specs.HeldSamples.{GivesPiece, HasPlaces, HoldsRest, IsNext, IsSound, KnowsNext, KnowsSizes, ShowsRun, Stays, before_shown, frontier_of, piece_of, pieces_of, runs_of, separators_of, shown_by, sizes_shown, start_of};
 ghost use Rattle.msr_packer.specs.Steps.{AreEnds, HaveSizes};
 
 use crate::kind_of;
@@ -384,7 +386,8 @@ impl HeldSamples {
         }
     }
 
-    /// Takes places for the sizes and words of the groups of a record, if that was not done.
+    /// Takes places for the sizes of the groups of a record, and after a step of Steim-2 for their words, if that was not
+    /// done: a segment of one record, or of records of another kind, takes none for words.
     pub(crate) fn take_places(&mut self) -> Result<(), AllocError>
         requires { IsSound self.old }
         ensures sound { IsSound self.new }
@@ -394,8 +397,12 @@ impl HeldSamples {
         ensures current { self.new.current ≡ self.old.current }
         ensures sizes { KnowsSizes self.old → KnowsSizes self.new }
     {
-        self.sizes
-            .take_places(self.form.length.data_words() as usize)
+        let places = self.form.length.data_words() as usize;
+        let with_words = match self.current {
+            Some(current) => current.whole == Kind::Steim2,
+            None => false,
+        };
+        self.sizes.take_places(places, with_words)
     }
 
     /// The sizes of the groups of the piece that is shown, if they are known.
@@ -406,12 +413,18 @@ impl HeldSamples {
         &self.sizes.shown.places.as_slice()[..self.sizes.shown.count]
     }
 
-    /// The words of these groups, as many as their sizes.
+    /// The words of these groups, as many as their sizes, if they are known.
     pub(crate) fn group_words(&self) -> &[u32]
-        requires { KnowsSizes self.now }
-        ensures { result.now ≡ words_shown self.now }
+        requires sound { IsSound self.now }
+        requires knows { KnowsSizes self.now }
+        ensures { AreGroupWordsIfKnown (differences (before_shown self.now) (shown_by self.now)) (sizes_shown self.now)
+            result.now }
     {
-        &self.sizes.shown.words.as_slice()[..self.sizes.shown.count]
+        let shown = &self.sizes.shown;
+        if shown.words.len() < shown.count {
+            return &[];
+        }
+        &shown.words.as_slice()[..shown.count]
     }
 
     /// The samples that are shown.

@@ -6,7 +6,8 @@ ghost use Rattle.msr_packer.specs.Steps.{HaveSizes};
 use std::alloc::{AllocError, Global};
 use std::mem;
 
-/// Places for the sizes of the groups of a run, and for their words. Of each the first `count` are told: all, or none.
+/// Places for the sizes of the groups of a run, of which the first `count` are told: all, or none. If there are as many for
+/// words, these are told too.
 #[derive(Drop)]
 pub(crate) struct GroupSizes {
     pub places: Vec<u8>,
@@ -26,18 +27,21 @@ impl GroupSizes {
         }
     }
 
-    /// Takes so many places of each, if there are fewer. Then none is told.
-    fn take_places(&mut self, places: usize) -> Result<(), AllocError>
+    /// Takes so many places, and if `with_words` says so as many for words, if there are fewer. Then none is told.
+    fn take_places(&mut self, places: usize, with_words: bool) -> Result<(), AllocError>
         ensures { (samples : List ℤ) (a b : ℕ)
             → HaveSizes samples a b self.old.count self.old.places.items self.old.words.items
             → HaveSizes samples a b self.new.count self.new.places.items self.new.words.items }
     {
-        if self.places.len() >= places && self.words.len() >= places {
-            return Ok(());
+        if self.places.len() < places {
+            self.count = 0;
+            self.places.resize(places, 0)?;
         }
-        self.count = 0;
-        self.places.resize(places, 0)?;
-        self.words.resize(places, 0)
+        if with_words && self.words.len() < places {
+            self.count = 0;
+            self.words.resize(places, 0)?;
+        }
+        Ok(())
     }
 }
 
@@ -61,8 +65,8 @@ impl StepSizes {
         }
     }
 
-    /// Takes so many places for each, if that was not done.
-    pub(crate) fn take_places(&mut self, places: usize) -> Result<(), AllocError>
+    /// Takes so many places for each, and for words if `with_words` says so, if that was not done.
+    pub(crate) fn take_places(&mut self, places: usize, with_words: bool) -> Result<(), AllocError>
         ensures next { (samples : List ℤ) (a b : ℕ)
             → HaveSizes samples a b self.old.next.count self.old.next.places.items self.old.next.words.items
             → HaveSizes samples a b self.new.next.count self.new.next.places.items self.new.next.words.items }
@@ -70,8 +74,8 @@ impl StepSizes {
             → HaveSizes samples a b self.old.shown.count self.old.shown.places.items self.old.shown.words.items
             → HaveSizes samples a b self.new.shown.count self.new.shown.places.items self.new.shown.words.items }
     {
-        self.next.take_places(places)?;
-        self.shown.take_places(places)
+        self.next.take_places(places, with_words)?;
+        self.shown.take_places(places, with_words)
     }
 
     /// Goes on to a step that told the sizes and words of so many groups. Those of the step before it are shown, if its

@@ -14,7 +14,7 @@ use msr_filling::steim2_words;
 use msr_kinds::{Form, Kind, Length};
 use msr_words::{
     Fitting, Int32, Steim2Reach, Tracker, begins_with_four, count_halves, count_wide,
-    leading_of_bits, steim1_reach,
+    leading_of_bits, steim1_reach, steim2_reach,
 };
 
 /// One record more: it starts at `start`, reaches to `end`, and is of that kind.
@@ -66,6 +66,26 @@ pub(crate) struct StepWithEnds {
     pub ends: Ends,
 }
 
+/// How far Steim-2 reaches from the frontier on. The sizes of its groups are told, and their words, where there is room.
+#[inline(always)]
+fn told_reach(
+    samples: &[i32],
+    form: Form,
+    frontier: usize,
+    sizes: &mut [u8],
+    words: &mut [u32],
+) -> Steim2Reach
+    requires { frontier ≤ length samples.now }
+    ensures end { IsEnd SecondSteim (bytes_of form.length) samples.now frontier result.end }
+    ensures narrow { IsTrue result.narrow → AreNarrowThrough samples.now frontier result.end }
+    ensures sizes { HaveSizes samples.now frontier result.end result.groups sizes.new words.new }
+{
+    if words.is_empty() {
+        return steim2_reach(samples, form.length, frontier, sizes);
+    }
+    steim2_words(samples, form.length, frontier, sizes, words)
+}
+
 /// The greatest end of a run of Steim-2 from the frontier on; the frontier, if the form has no such records.
 #[inline(always)]
 fn steim2_end(
@@ -82,7 +102,7 @@ fn steim2_end(
     ensures sizes { HaveSizes samples.now frontier result.end result.groups sizes.new words.new }
 {
     if form.kinds.contains(Kind::Steim2) {
-        return steim2_words(samples, form.length, frontier, sizes, words);
+        return told_reach(samples, form, frontier, sizes, words);
     }
     Steim2Reach {
         end: frontier,

@@ -1,2 +1,1 @@
-pub mod KnownWords
 pub mod Written

@@ -7,8 +7,7 @@ ghost use Rattle.msr_kinds.specs.Lengths.{bytes_of};
 ghost use Rattle.msr_words.specs.Groups.{AreGroupSizesIfKnown};
 ghost use Rattle.msr_words.specs.Segment.{differences, points};
 ghost use Rattle.msr_rows.specs.Correction.{is_pending};
-ghost use Rattle.msr_filling.specs.GroupWords.{AreGroupWords};
-ghost use Rattle.msr_record.specs.KnownWords.{AreGroupWordsIfKnown};
+ghost use Rattle.msr_filling.specs.GroupWords.{AreGroupWordsIfKnown};
 ghost use Rattle.msr_record.specs.Written.{sequence_digits, header_for, AppendsRecord};
 
 use crate::written_area::fill_area;
@@ -136,7 +135,7 @@ fn fill_record(
     Ok(())
 }
 
-/// As `encode_run`. The words are those of the run's groups, or none if they are not known.
+/// What `encode_run` and `encode_words` do.
 fn append_run(
     alloc: Global,
     run: &WrittenRun<'_>,
@@ -191,8 +190,7 @@ pub fn encode_run(
     append_run(alloc, run, &[], record_length, out)
 }
 
-/// As `encode_run`, if the words of the groups are known too, of which `run.group_sizes` has the sizes: as many, or
-/// none of both.
+/// As `encode_run`, with the words of the groups of which `run.group_sizes` has the sizes, or none if they are not known.
 pub fn encode_words(
     alloc: Global,
     run: &WrittenRun<'_>,
@@ -207,7 +205,8 @@ pub fn encode_words(
     requires some { 1 ≤ length run.now.samples.now }
     requires fits { Fits run.now.kind (bytes_of record_length) (points run.now.before run.now.samples.now) }
     requires sizes { AreGroupSizesIfKnown (differences run.now.before run.now.samples.now) run.now.group_sizes.now }
-    requires words { AreGroupWords (differences run.now.before run.now.samples.now) run.now.group_sizes.now words.now }
+    requires words { AreGroupWordsIfKnown (differences run.now.before run.now.samples.now) run.now.group_sizes.now
+        words.now }
     ensures appended { OnOk result
         (AppendsRecord out.old.items out.new.items run.now.key.now run.now.start run.now.sequence run.now.before
         run.now.samples.now run.now.kind (bytes_of record_length)) }

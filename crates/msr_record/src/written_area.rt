@@ -11,7 +11,7 @@ ghost use Rattle.msr_kinds.specs.RecordLength.{words_of};
 ghost use Rattle.msr_kinds.specs.Lengths.{bytes_of};
 ghost use Rattle.msr_words.specs.Segment.{differences, points};
 ghost use Rattle.msr_rows.specs.Area.{Carries, ReverseAgrees};
-ghost use Rattle.msr_record.specs.KnownWords.{AreGroupWordsIfKnown};
+ghost use Rattle.msr_filling.specs.GroupWords.{AreGroupWordsIfKnown};
 ghost use Rattle.msr_record.specs.Written.{AreFrames, IsWrittenArea, frame_count};
 
 use crate::written_run::WrittenRun;

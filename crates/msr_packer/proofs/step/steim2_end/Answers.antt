@@ -9,8 +9,8 @@ use Rattle.msr_packer.proofs.step.steim2_end.Goals as goal
 pub returns-then-contains-clause-end : goal.returns-then-contains-clause-end
 returns-then-contains-clause-end c =
     let chosen : IsChosen c.args.form.kinds Steim2 = cc (c.contains.ensures, c.if-contains.true) in
-    end_if_chosen (records_of c.args.form) c.args.samples.now c.args.frontier Steim2 c.steim2_words.result.end chosen
-    c.steim2_words.ensures.end
+    end_if_chosen (records_of c.args.form) c.args.samples.now c.args.frontier Steim2 c.told_reach.result.end chosen
+    c.told_reach.ensures.end
 
 pub returns-then-contains-clause-chosen : goal.returns-then-contains-clause-chosen
 returns-then-contains-clause-chosen c t = cc (c.contains.ensures, c.if-contains.true)
@@ -20,15 +20,6 @@ returns-clause-end c =
     let least = c.args.form.length.least in
     end_if_not (records_of c.args.form) c.args.samples.now c.args.frontier Steim2 (omega arith)
     (λ has. let is = c.contains.ensures in let not = c.if-contains.false in cc) c.requires
-
-pub returns-then-contains-clause-sizes : goal.returns-then-contains-clause-sizes
-returns-then-contains-clause-sizes c =
-    record {
-      room = c.steim2_words.ensures.room_of_sizes;
-      words_room = c.steim2_words.ensures.room_of_words;
-      are = c.steim2_words.ensures.known;
-      written = c.steim2_words.ensures.words;
-    }
 
 pub returns-clause-sizes : goal.returns-clause-sizes
 returns-clause-sizes c =

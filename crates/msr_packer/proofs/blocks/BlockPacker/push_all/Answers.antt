@@ -92,3 +92,21 @@ invariant_of-self-2 c =
         shown = rw items (more room.from room.to _ _ _ s.order s.within knows.shown);
       };
     }
+
+pub invariant_of-self-in_err-extend_from_slice : goal.invariant_of-self-in_err-extend_from_slice
+invariant_of-self-in_err-extend_from_slice c =
+    let s = c.take_places.ensures.sound in
+    let knows = c.take_places.ensures.sizes (c.make_room.ensures.sizes c.self.invariant.sizes) in
+    let items = c.in_err-extend_from_slice.ensures.items in
+    record {
+      sound = record {
+        number = rw items s.number;
+        inside = rw items s.inside;
+        order = s.order;
+        within = rw items s.within;
+      };
+      sizes = record {
+        next = record { next = rw items knows.next.next };
+        shown = rw items knows.shown;
+      };
+    }
