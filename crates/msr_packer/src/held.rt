@@ -47,7 +47,7 @@ pub(crate) struct RunToCut {
     pub end: usize,
     pub whole: Kind,
     pub short: Kind,
-    /// How many groups the whole run has, if it is of Steim-2 and their sizes and words were told, else 0.
+    /// How many groups the whole run has, if it is of Steim-2 and their sizes were told, else 0.
     pub groups: usize,
 }
 
@@ -99,8 +99,7 @@ pub(crate) fn piece_of(offset: u64, current: Option<RunToCut>, next: usize) -> O
     })
 }
 
-/// How many groups the run of a step has, if it is the one of Steim-2 from the frontier and their sizes and words were
-/// told.
+/// How many groups the run of a step has, if it is the one of Steim-2 from the frontier and their sizes were told.
 fn groups_of(frontier: usize, found: StepWithEnds) -> usize
     ensures { (samples : List ℤ) (sizes words : List ℕ)
         → HaveSizes samples frontier found.ends.steim2 found.ends.groups sizes words
@@ -144,7 +143,7 @@ impl RunToCut {
         }
     }
 
-    /// The next step. If it is of Steim-2, it tells the sizes and words of its groups, if there is room for them.
+    /// The next step. If it is of Steim-2, it tells the sizes of its groups and their words, each if there is room.
     pub(crate) fn next(
         samples: &[i32],
         form: Form,
@@ -387,7 +386,7 @@ impl HeldSamples {
     }
 
     /// Takes places for the sizes of the groups of a record, and after a step of Steim-2 for their words, if that was not
-    /// done: a segment of one record, or of records of another kind, takes none for words.
+    /// done: a short segment, or one of records of another kind, takes none for words.
     pub(crate) fn take_places(&mut self) -> Result<(), AllocError>
         requires { IsSound self.old }
         ensures sound { IsSound self.new }

@@ -27,7 +27,8 @@ impl GroupSizes {
         }
     }
 
-    /// Takes so many places, and if `with_words` says so as many for words, if there are fewer. Then none is told.
+    /// Takes so many places, if there are fewer, and if `with_words` says so as many for words, while no sizes are told:
+    /// these are not forgotten.
     fn take_places(&mut self, places: usize, with_words: bool) -> Result<(), AllocError>
         ensures { (samples : List ℤ) (a b : ℕ)
             → HaveSizes samples a b self.old.count self.old.places.items self.old.words.items
@@ -37,8 +38,7 @@ impl GroupSizes {
             self.count = 0;
             self.places.resize(places, 0)?;
         }
-        if with_words && self.words.len() < places {
-            self.count = 0;
+        if with_words && self.count == 0 && self.words.len() < places {
             self.words.resize(places, 0)?;
         }
         Ok(())
@@ -78,8 +78,8 @@ impl StepSizes {
         self.shown.take_places(places, with_words)
     }
 
-    /// Goes on to a step that told the sizes and words of so many groups. Those of the step before it are shown, if its
-    /// run is `whole`; one that is cut has other groups.
+    /// Goes on to a step that told the sizes of so many groups. Those of the step before it are shown, if its run is
+    /// `whole`; one that is cut has other groups.
     pub(crate) fn go_on(&mut self, groups: usize, whole: bool)
         ensures next_places { self.new.next.places ≡ self.old.shown.places }
         ensures next_words { self.new.next.words ≡ self.old.shown.words }

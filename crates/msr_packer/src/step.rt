@@ -41,7 +41,7 @@ impl StepRun {
 }
 
 /// Ends of runs from a frontier, by their kind. One that is not needed is the frontier itself. The run of Steim-2 has so
-/// many `groups`, if their sizes and words were told, else 0.
+/// many `groups`, if their sizes were told, else 0.
 #[derive(Clone, Copy, Debug, PartialEq, Eq)]
 pub(crate) struct Ends {
     pub steim2: usize,
@@ -377,6 +377,13 @@ fn steim1_without_steim2(
     Some(with_wide_integers(samples, form, frontier, best, ends))
 }
 
+/// Whether the next differences are so small that a record of Steim-2 is likely, and a walk of Steim-1 would be for nothing.
+fn begins_small(samples: &[i32], frontier: usize) -> bool
+    requires { frontier ≤ length samples.now }
+{
+    frontier < samples.len() && begins_with_four(samples, frontier)
+}
+
 /// The step from a frontier, which is the same whatever `likely` is: the kind that is tried first if it is Int16 or
 /// Steim1. Sizes and words are told if it is Steim2; else they would mostly be those of a run that is written as
 /// another kind.
@@ -400,7 +407,10 @@ pub(crate) fn next_step(
             None => {}
         }
     }
-    if likely == Kind::Steim1 && form.kinds.contains(Kind::Steim1) {
+    if likely == Kind::Steim1
+        && form.kinds.contains(Kind::Steim1)
+        && !begins_small(samples, frontier)
+    {
         let by_steim1 = steim1_unless_known(samples, form, frontier, None);
         match steim1_without_steim2(samples, form, frontier, by_steim1) {
             Some(found) => return found,
