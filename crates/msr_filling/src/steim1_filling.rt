@@ -1,6 +1,6 @@
 //! The Steim-1 words of a run, written in place.
 
-ghost use Rattle.std.specs.Prelude.{◌≡◌, ◌<◌, ◌≤◌, ◌+◌, ◌-◌, ◌-ℤ◌, ◌*◌, ◌/◌, ◌%◌, ℤ, List, Option, IfOk, IfSome, IsNone, Some, length, drop, take};
+ghost use Rattle.std.specs.Prelude.{◌≡◌, ◌<◌, ◌≤◌, ◌+◌, ◌-◌, ◌*◌, ◌/◌, ◌%◌, ℤ, List, Option, IfOk, IfSome, IsNone, Some, length, drop, take};
 ghost use Rattle.std.specs.List.{AllByRecursion};
 ghost use Rattle.msr_kinds.specs.declared.storage.Version.TheVariants.{One};
 ghost use Rattle.msr_steim.specs.Word.{FitsBits, IsGroup, group_code, group_width, group_word, padding_of};
@@ -10,12 +10,12 @@ ghost use Rattle.msr_filling.specs.Filled.{IsFilledArea};
 ghost use Rattle.msr_words.specs.FirstGroup.{AreSizes, IsCanonicalFirst, IsSizeAt};
 ghost use Rattle.msr_filling.specs.NextWord.{IsNextWord};
 ghost use Rattle.msr_words.specs.Segment.{differences};
-ghost use Rattle.msr_words.specs.Window.{IsSize, IsWindow, Shows};
+ghost use Rattle.msr_words.specs.Window.{IsWindow, Shows};
 
 use crate::filling::{NextWord, fields_from, fields_seen};
 use crate::frames::{Sizing, fill_frames};
 use crate::groups_filling::fields_at;
-use msr_words::{Window, difference_after, magnitude, sizes_of};
+use msr_words::{Window, difference_after, magnitude, size_after, sizes_of};
 use std::alloc::{AllocError, Global};
 
 /// How a group of a given number of differences is written: the code of its word, of how many bits
@@ -193,19 +193,6 @@ fn word_outside_ahead(before: Option<i32>, run: &[i32], at: usize) -> Option<Nex
 {
     let size = first_group_outside(before, run, at)?;
     Some(word_outside(before, run, at, size))
-}
-
-/// The size of the difference of a sample from the one before it, as a window has it.
-#[inline(always)]
-fn size_after(before: i32, sample: i32) -> u32
-    ensures { IsSize (sample -ℤ before) result }
-{
-    let difference = sample as i64 - before as i64;
-    if sample < before {
-        (-(difference + 1)) as u32
-    } else {
-        difference as u32
-    }
 }
 
 /// The size of the difference `ahead` places after the one at `at`, which is not the run's first.

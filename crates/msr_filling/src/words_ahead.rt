@@ -1,34 +1,17 @@
 //! How far a Steim-2 record reaches, with the words of its groups.
 
-ghost use Rattle.std.specs.Prelude.{◌≡◌, ◌<◌, ◌≤◌, IsTrue, length, map, take};
+ghost use Rattle.std.specs.Prelude.{◌≤◌, IsTrue, length, map, take};
 ghost use Rattle.msr_kinds.specs.declared.kinds.Kind.TheVariants.{Steim2 as SecondSteim};
 ghost use Rattle.msr_kinds.specs.Lengths.{bytes_of};
 ghost use Rattle.msr_kinds.specs.RecordLength.{words_of};
 ghost use Rattle.msr_words.specs.Bounds.{AreNarrowThrough, IsEnd};
 ghost use Rattle.msr_words.specs.Groups.{AreGroupSizes, AreGroupSizesIfKnown};
-ghost use Rattle.msr_words.specs.Laws.{IsNarrow};
-ghost use Rattle.msr_words.specs.Segment.{difference_at, run_points};
+ghost use Rattle.msr_words.specs.Segment.{run_points};
 ghost use Rattle.msr_filling.specs.GroupWords.{AreGroupWords};
 
 use crate::filling::steim2_word;
 use msr_kinds::{Kind, Length};
-use msr_words::{
-    Fitting, Steim2Reach, Window, difference, is_narrow, steim2_greedy_reach, steim2_reach,
-};
-
-/// Gives what Steim-2 reaches; `shared` says that each of its groups has two differences or more: such are narrow.
-fn reach_to(samples: &[i32], end: usize, groups: usize, shared: bool) -> Steim2Reach
-    ensures end { result.end ≡ end }
-    ensures number { result.groups ≡ groups }
-    ensures groups { IsTrue result.narrow → IsTrue shared }
-    ensures behind { IsTrue result.narrow → end < length samples.now → IsNarrow (difference_at samples.now end) }
-{
-    Steim2Reach {
-        end,
-        groups,
-        narrow: shared && (end >= samples.len() || is_narrow(difference(samples, end))),
-    }
-}
+use msr_words::{Fitting, Steim2Reach, Window, reach_to, steim2_greedy_reach, steim2_reach};
 
 /// As many of the longest groups as there are words, of no more samples than a record has. The size and the word of
 /// each are told.

@@ -135,8 +135,32 @@ fn fill_record(
     Ok(())
 }
 
-/// What `encode_run` and `encode_words` do.
-fn append_run(
+/// Appends one record of that length with the samples of the run, which fit it: the row of the new
+/// bytes, whatever follows them, is the one that is asked for. The layout is that of SEED 2.4, with
+/// big-endian numbers, blockettes 1000 and 1001 and the data from byte 64 on.
+pub fn encode_run(
+    alloc: Global,
+    run: &WrittenRun<'_>,
+    record_length: Length,
+    out: &mut Vec<u8>,
+) -> Result<(), AllocError>
+    requires quality { IsTrue (is_quality run.now.key.now.quality) }
+    requires normal { is_pending run.now.key.now.activity run.now.key.now.correction ≡ false }
+    requires start { IsInstant run.now.start }
+    requires sequence { (1 ≤ run.now.sequence) × (run.now.sequence ≤ 999999) }
+    requires some { 1 ≤ length run.now.samples.now }
+    requires fits { Fits run.now.kind (bytes_of record_length) (points run.now.before run.now.samples.now) }
+    requires sizes { AreGroupSizesIfKnown (differences run.now.before run.now.samples.now) run.now.group_sizes.now }
+    ensures appended { OnOk result
+        (AppendsRecord out.old.items out.new.items run.now.key.now run.now.start run.now.sequence run.now.before
+        run.now.samples.now run.now.kind (bytes_of record_length)) }
+    ensures unchanged { OnErr result (out.new.items ≡ out.old.items) }
+{
+    encode_words(alloc, run, &[], record_length, out)
+}
+
+/// As `encode_run`, with the words of the groups of which `run.group_sizes` has the sizes, or none if they are not known.
+pub fn encode_words(
     alloc: Global,
     run: &WrittenRun<'_>,
     words: &[u32],
@@ -164,55 +188,6 @@ fn append_run(
         out.truncate(end);
     }
     filled
-}
-
-/// Appends one record of that length with the samples of the run, which fit it: the row of the new
-/// bytes, whatever follows them, is the one that is asked for. The layout is that of SEED 2.4, with
-/// big-endian numbers, blockettes 1000 and 1001 and the data from byte 64 on.
-pub fn encode_run(
-    alloc: Global,
-    run: &WrittenRun<'_>,
-    record_length: Length,
-    out: &mut Vec<u8>,
-) -> Result<(), AllocError>
-    requires quality { IsTrue (is_quality run.now.key.now.quality) }
-    requires normal { is_pending run.now.key.now.activity run.now.key.now.correction ≡ false }
-    requires start { IsInstant run.now.start }
-    requires sequence { (1 ≤ run.now.sequence) × (run.now.sequence ≤ 999999) }
-    requires some { 1 ≤ length run.now.samples.now }
-    requires fits { Fits run.now.kind (bytes_of record_length) (points run.now.before run.now.samples.now) }
-    requires sizes { AreGroupSizesIfKnown (differences run.now.before run.now.samples.now) run.now.group_sizes.now }
-    ensures appended { OnOk result
-        (AppendsRecord out.old.items out.new.items run.now.key.now run.now.start run.now.sequence run.now.before
-        run.now.samples.now run.now.kind (bytes_of record_length)) }
-    ensures unchanged { OnErr result (out.new.items ≡ out.old.items) }
-{
-    append_run(alloc, run, &[], record_length, out)
-}
-
-/// As `encode_run`, with the words of the groups of which `run.group_sizes` has the sizes, or none if they are not known.
-pub fn encode_words(
-    alloc: Global,
-    run: &WrittenRun<'_>,
-    words: &[u32],
-    record_length: Length,
-    out: &mut Vec<u8>,
-) -> Result<(), AllocError>
-    requires quality { IsTrue (is_quality run.now.key.now.quality) }
-    requires normal { is_pending run.now.key.now.activity run.now.key.now.correction ≡ false }
-    requires start { IsInstant run.now.start }
-    requires sequence { (1 ≤ run.now.sequence) × (run.now.sequence ≤ 999999) }
-    requires some { 1 ≤ length run.now.samples.now }
-    requires fits { Fits run.now.kind (bytes_of record_length) (points run.now.before run.now.samples.now) }
-    requires sizes { AreGroupSizesIfKnown (differences run.now.before run.now.samples.now) run.now.group_sizes.now }
-    requires words { AreGroupWordsIfKnown (differences run.now.before run.now.samples.now) run.now.group_sizes.now
-        words.now }
-    ensures appended { OnOk result
-        (AppendsRecord out.old.items out.new.items run.now.key.now run.now.start run.now.sequence run.now.before
-        run.now.samples.now run.now.kind (bytes_of record_length)) }
-    ensures unchanged { OnErr result (out.new.items ≡ out.old.items) }
-{
-    append_run(alloc, run, words, record_length, out)
 }
 
 /// As `encode_run`, if the sizes of groups are not known. `start` is the instant of the first sample in microseconds

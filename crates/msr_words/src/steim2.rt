@@ -26,12 +26,15 @@ pub struct Steim2Reach {
     pub narrow: bool,
 }
 
-/// Gives what Steim-2 reaches; `shared` says that each of its groups has two differences or more: such are narrow.
-fn reach_to(samples: &[i32], end: usize, groups: usize, shared: bool) -> Steim2Reach
+/// Gives what a walk of Steim-2 came to; `shared` says that each of its groups has two differences or more: such are
+/// narrow.
+pub fn reach_to(samples: &[i32], end: usize, groups: usize, shared: bool) -> Steim2Reach
     ensures end { result.end ≡ end }
     ensures number { result.groups ≡ groups }
     ensures groups { IsTrue result.narrow → IsTrue shared }
     ensures behind { IsTrue result.narrow → end < length samples.now → IsNarrow (difference_at samples.now end) }
+    ensures all { IsTrue shared → (end < length samples.now → IsNarrow (difference_at samples.now end))
+        → IsTrue result.narrow }
 {
     Steim2Reach {
         end,

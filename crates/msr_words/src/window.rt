@@ -47,7 +47,7 @@ impl Model for Window {
 /// The size of the difference of a sample from the one before it. The test compares numbers of 32 bits, of which a
 /// vector register holds more than of 64.
 #[inline(always)]
-pub(crate) fn size_after(before: i32, sample: i32) -> u32
+pub fn size_after(before: i32, sample: i32) -> u32
     ensures { IsSize (sample -ℤ before) result }
 {
     let difference = sample as i64 - before as i64;

@@ -5,7 +5,7 @@ use Rattle.std.proofs.lemmas.Result.{on_ok_weaker}
 use Rattle.std.proofs.lemmas.List.{take_all, take_at, length-replicate}
 use Rattle.msr_kinds.specs.Lengths.{bytes_of}
 use Rattle.msr_record.proofs.WritingLemmas.{appended_behind, new_part}
-use Rattle.msr_record.proofs.writing.append_run.Goals as goal
+use Rattle.msr_record.proofs.writing.encode_words.Goals as goal
 
 pub returns-else-is_err-clause-appended : goal.returns-else-is_err-clause-appended
 returns-else-is_err-clause-appended c =
