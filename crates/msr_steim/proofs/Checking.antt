@@ -62,6 +62,22 @@ pub record ArePassed (version : Version) (order : Order) (area : List ℕ) (numb
   pub last_is : 0 < length samples → last ≡ get_or samples (length samples - 1) (pos 0)
   pub begins : length samples ≡ 0 → BeginsAfter version order area last
 
+pub none_passed : (version : Version) (order : Order) (area : List ℕ) (count : ℕ) (last : ℤ) → 1 ≤ count
+    → BeginsAfter version order area last → ArePassed version order area 0 count count last
+none_passed version order area count last some begins = record {
+  samples = [];
+  read = record {
+    groups = [];
+    held = record { within = omega arith; each = λ n less. absurd (omega (arith, less)) };
+    number_is = refl;
+    few = omega (arith, some);
+    sums = refl;
+  };
+  left_is = omega arith;
+  last_is = λ more. absurd (omega (arith, more));
+  begins = λ none. begins;
+}
+
 -- a word that was looked at
 pub record IsLookedAt (version : Version) (order : Order) (area : List ℕ) (number code word : ℕ) (at next : Place)
     (old new : List ℤ) : Type 0 where

@@ -9,6 +9,8 @@ use Rattle.std.proofs.lemmas.Bool.{cases_lt, lt-ltb, le-ltb}
 use Rattle.std.proofs.lemmas.Int.{to_z_pos}
 use Rattle.std.proofs.lemmas.List.{length-map}
 use Rattle.std.proofs.lemmas.Nat.{pow_pos, pow-add, shr_high, mod-pow-add}
+use mir.Syntax.{Width}
+use mir.Val.{bits, hbits}
 use Rattle.msr_steim.specs.Word.{AreFields, FitsBits, twos_complement, joined_fields, numbers_in, signed_of}
 use Rattle.msr_steim.proofs.Fields.{power_is_half, pow_pow}
 use Rattle.msr_steim.proofs.OneList.{number_after}
@@ -42,36 +44,21 @@ shifted_up word left bits =
         scaled : (r b k : ℕ) → r < b → 0 < k → r * k < b * k
         scaled r b k small some = grind arith
 
--- the field with `below` fields below it is shifted up to the highest bits; `rest` stands below it
-field_up : (word below width : ℕ) → (below + 1) * width ≤ 32
-    → (rest : ℕ) × (rest < 2 ^ (32 - width)) × (word * 2 ^ (32 - (below + 1) * width) % 2 ^ 32
-    ≡ (word / 2 ^ (below * width) % 2 ^ width) * 2 ^ (32 - width) + rest)
-field_up word below width within =
-    let left = 32 - (below + 1) * width in
-    let low = below * width in
-    let places : (below + 1) * width ≡ width + low = omega arith in
-    let whole : width + low + left ≡ 32 = omega (arith, within) in
-    let rest_places : low + left ≡ 32 - width = omega (arith, within) in
+-- a field with `low` bits below it is shifted up by `left`; `rest` stands below it
+pub lifted : (word low width left : ℕ)
+    → (rest : ℕ) × (rest < 2 ^ (low + left)) × (word * 2 ^ left % 2 ^ (width + low + left)
+    ≡ (word / 2 ^ low % 2 ^ width) * 2 ^ (low + left) + rest)
+lifted word low width left =
     let up : (word * 2 ^ left) % 2 ^ (width + low + left) ≡ (word % 2 ^ (width + low)) * 2 ^ left =
     shifted_up word left (width + low) in
     let apart : word % 2 ^ (width + low) ≡ (word / 2 ^ low % 2 ^ width) * 2 ^ low + word % 2 ^ low =
     mod-pow-add word width low in
     let both : 2 ^ (low + left) ≡ 2 ^ low * 2 ^ left = pow-add 2 low left in
-    let some : 0 < 2 ^ low = pow_pos low in
-    let some_left : 0 < 2 ^ left = pow_pos left in
-    let small : word % 2 ^ low < 2 ^ low = mod-lt word some in
-    let few = scaled (word % 2 ^ low) (2 ^ low) (2 ^ left) small some_left in
-    let few_so : word % 2 ^ low * 2 ^ left < 2 ^ (32 - width) =
-    subst (λ n. word % 2 ^ low * 2 ^ left < 2 ^ n) rest_places (rw both few) in
+    let small : word % 2 ^ low < 2 ^ low = mod-lt word (pow_pos low) in
+    let few = scaled (word % 2 ^ low) (2 ^ low) (2 ^ left) small (pow_pos left) in
     let sum = regroup (word / 2 ^ low % 2 ^ width) (2 ^ low) (word % 2 ^ low) (2 ^ left) (word % 2 ^ (width + low))
     (2 ^ (low + left)) apart both in
-    let up_so : (word * 2 ^ left) % 2 ^ 32 ≡ (word % 2 ^ (width + low)) * 2 ^ left =
-    subst (λ n. (word * 2 ^ left) % 2 ^ n ≡ (word % 2 ^ (width + low)) * 2 ^ left) whole up in (
-      word % 2 ^ low * 2 ^ left,
-      few_so,
-      up_so ∙ sum
-          ∙ ap (λ n. (word / 2 ^ low % 2 ^ width) * 2 ^ n + word % 2 ^ low * 2 ^ left) rest_places,
-    )
+    (word % 2 ^ low * 2 ^ left, subst (λ n. word % 2 ^ low * 2 ^ left < n) (sym both) few, up ∙ sum)
   where
     scaled : (r b k : ℕ) → r < b → 0 < k → r * k < b * k
     scaled r b k small some = grind arith
@@ -79,44 +66,59 @@ field_up word below width within =
     regroup : (f l r k w lk : ℕ) → w ≡ f * l + r → lk ≡ l * k → w * k ≡ f * lk + r * k
     regroup f l r k w lk e1 e2 = rw (e1, e2) (omega arith)
 
+-- the field with `below` fields below it is shifted up to the highest bits
+field_up : (word below width : ℕ) → (below + 1) * width ≤ 32
+    → (rest : ℕ) × (rest < 2 ^ (32 - width)) × (word * 2 ^ (32 - (below + 1) * width) % 2 ^ 32
+    ≡ (word / 2 ^ (below * width) % 2 ^ width) * 2 ^ (32 - width) + rest)
+field_up word below width within =
+    let left = 32 - (below + 1) * width in
+    let up = lifted word (below * width) width left in
+    let places : (below + 1) * width ≡ width + below * width = omega arith in
+    let whole : width + below * width + left ≡ 32 = omega (arith, within) in
+    let rest_places : below * width + left ≡ 32 - width = omega (arith, within) in (
+      up.0,
+      subst (λ n. up.0 < 2 ^ n) rest_places up.1,
+      rw (rest_places, whole) at up.2,
+    )
+
 -- ---- the sign
 
 -- a field at the highest bit, shifted down again
-shifted_down : (field width rest : ℕ) → 0 < width → width ≤ 32 → field < 2 ^ width → rest < 2 ^ (32 - width)
-    → int_shr (to_z w32 (field * 2 ^ (32 - width) + rest)) (32 - width) ≡ signed_of width field
-shifted_down field width rest positive small within few =
+pub lowered : (w : Width) (field width down rest : ℕ) → 2 ^ bits w ≡ 2 * 2 ^ hbits w → 0 < width
+    → width - 1 + down ≡ hbits w → field < 2 ^ width → rest < 2 ^ down
+    → int_shr (to_z w (field * 2 ^ down + rest)) down ≡ signed_of width field
+lowered w field width down rest double positive places within few =
     let half : 2 ^ width ≡ 2 * 2 ^ (width - 1) = power_is_half width positive in
-    let places : (width - 1) + (32 - width) ≡ 31 = omega arith in
-    let product : 2 ^ (width - 1) * 2 ^ (32 - width) ≡ 2147483648 = sym (pow-add 2 (width - 1) (32 - width))
+    let product : 2 ^ (width - 1) * 2 ^ down ≡ 2 ^ hbits w = sym (pow-add 2 (width - 1) down)
     ∙ ap (λ n. 2 ^ n) places in
     ⊎_elim
     (λ (low : field < 2 ^ (width - 1)).
-    let bound = below_half field rest (2 ^ (width - 1)) (2 ^ (32 - width)) low few product in
-    let e : to_z w32 (field * 2 ^ (32 - width) + rest) ≡ pos (field * 2 ^ (32 - width) + rest) =
-    to_z_pos w32 (field * 2 ^ (32 - width) + rest) bound in
-    ap (λ z. int_shr z (32 - width)) e ∙ ap pos (shr_high field (32 - width) rest few)
+    let bound = below_half field rest (2 ^ (width - 1)) (2 ^ down) (2 ^ hbits w) low few product in
+    let e : to_z w (field * 2 ^ down + rest) ≡ pos (field * 2 ^ down + rest) =
+    to_z_pos w (field * 2 ^ down + rest) bound in
+    ap (λ z. int_shr z down) e ∙ ap pos (shr_high field down rest few)
     ∙ sym (low_signed width field low))
     (λ (high : 2 ^ (width - 1) ≤ field).
-    let k = 2 ^ (32 - width) in
+    let k = 2 ^ down in
     let a = 2 ^ width - 1 - field in
-    let bound = above_half field rest (2 ^ (width - 1)) (2 ^ (32 - width)) (2 ^ width) high few within product half in
+    let bound = above_half field rest (2 ^ (width - 1)) k (2 ^ width) (2 ^ hbits w) (2 ^ bits w) high few within product
+    half double in
     let under : k - 1 - rest < k = omega arith in
-    let e : to_z w32 (field * k + rest) ≡ negsuc (a * k + (k - 1 - rest)) = ap (to_z w32) bound.1
-    ∙ to_z-neg w32 (a * k + (k - 1 - rest)) bound.0 in
-    ap (λ z. int_shr z (32 - width)) e ∙ ap negsuc (shr_high a (32 - width) (k - 1 - rest) under)
+    let e : to_z w (field * k + rest) ≡ negsuc (a * k + (k - 1 - rest)) = ap (to_z w) bound.1
+    ∙ to_z-neg w (a * k + (k - 1 - rest)) bound.0 in
+    ap (λ z. int_shr z down) e ∙ ap negsuc (shr_high a down (k - 1 - rest) under)
     ∙ sym (high_signed width field high))
     (cases_lt field (2 ^ (width - 1)))
   where
-    below_half : (f r h k : ℕ) → f < h → r < k → h * k ≡ 2147483648 → f * k + r < 2147483648
-    below_half f r h k low few product = let e : (f + 1) * k ≤ h * k = grind arith in omega arith
+    below_half : (f r h k m : ℕ) → f < h → r < k → h * k ≡ m → f * k + r < m
+    below_half f r h k m low few product = let e : (f + 1) * k ≤ h * k = grind arith in omega arith
 
-    above_half : (f r h k w : ℕ) → h ≤ f → r < k → f < w → h * k ≡ 2147483648 → w ≡ 2 * h
-        → ((w - 1 - f) * k + (k - 1 - r) < 2147483648) × (f * k + r ≡ 4294967296 - suc ((w - 1 - f) * k + (k - 1 - r)))
-    above_half f r h k w high few within product half =
+    above_half : (f r h k w m n : ℕ) → h ≤ f → r < k → f < w → h * k ≡ m → w ≡ 2 * h → n ≡ 2 * m
+        → ((w - 1 - f) * k + (k - 1 - r) < m) × (f * k + r ≡ n - suc ((w - 1 - f) * k + (k - 1 - r)))
+    above_half f r h k w m n high few within product half double =
         let a = w - 1 - f in
         let total : a + f + 1 ≡ w = omega arith in
-        let all : (a + f + 1) * k ≡ 4294967296 = rw (total, half) (omega (arith, product)) in
-        let spread : (a + f + 1) * k ≡ a * k + f * k + k = omega arith in
+        let all : (a + f + 1) * k ≡ n = rw (total, half) (omega (arith, product, double)) in
         let least : h * k ≤ f * k = grind arith in
         (omega arith, omega arith)
 
@@ -130,7 +132,7 @@ shifted_is word below width positive within =
     let small : width ≤ 32 = omega (arith, within) in
     let few : word / 2 ^ (below * width) % 2 ^ width < 2 ^ width = mod-lt (word / 2 ^ (below * width)) some in
     ap (λ n. int_shr (to_z w32 n) (32 - width)) up.2
-    ∙ shifted_down (word / 2 ^ (below * width) % 2 ^ width) width up.0 positive small few up.1
+    ∙ lowered w32 (word / 2 ^ (below * width) % 2 ^ width) width (32 - width) up.0 refl positive (omega arith) few up.1
 
 -- a code of a frame, as the code shifts it
 pub code_shifted : (codes slot : ℕ) → slot < 16
@@ -169,7 +171,7 @@ unfolding numbers_in
 length-numbers_in word width zero = refl
 length-numbers_in word width (suc below) = ap suc (length-numbers_in word width below)
 
-numbers_fit : (word width count : ℕ) → 0 < width → AllByRecursion (FitsBits width) (numbers_in word width count)
+pub numbers_fit : (word width count : ℕ) → 0 < width → AllByRecursion (FitsBits width) (numbers_in word width count)
 unfolding numbers_in
 numbers_fit word width zero positive = tt
 numbers_fit word width (suc below) positive =

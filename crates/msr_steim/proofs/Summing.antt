@@ -12,6 +12,8 @@ use Rattle.msr_kinds.specs.declared.storage.Version.TheVariants.{Two}
 use Rattle.msr_steim.specs.Area.{sums_after}
 use Rattle.msr_steim.specs.Sums.{IsGroupWritten, IsInnerWritten, IsWritten}
 use Rattle.msr_steim.specs.Word.{AreFields, FitsBits, Holds, layout_of, numbers_in}
+use Rattle.msr_steim.specs.declared.word.WordLayout.{WordLayout}
+use Rattle.msr_steim.proofs.OneList.{bits_of_fields}
 use Rattle.msr_steim.proofs.Decoding.{length-sums_after, sums_after_push}
 use Rattle.msr_steim.proofs.Fields.{half_bound}
 use Rattle.msr_steim.proofs.Shifts.{are_fields}
@@ -169,3 +171,14 @@ pub inner_none_written : (version : Version) (code word : ℕ) (at : Place) (out
     → IsInnerWritten version code word at out out at
 inner_none_written version code word at out layout room =
     record { written = none_written version code word at out layout room; room = room; on = inl refl }
+
+-- and so it is if its layout is known to have fields
+pub laid_out_written : (version : Version) (code word : ℕ) (at : Place) (old new : List ℤ) (next : Place)
+    (layout : Option WordLayout) → layout_of version code (word / 2 ^ 30) ≡ layout
+    → IsSomeAnd layout (λ l. 3 ≤ l.count) → IfSome layout (λ l. IsGroupWritten word l.count l.width at old new next)
+    → IsInnerWritten version code word at old new next
+laid_out_written version code word at old new next None layout_is many written = absurd many
+laid_out_written version code word at old new next (Some layout) layout_is many written =
+    let some : 0 < layout.count = omega (arith, many) in
+    inner_group_written version code word at old new layout.count layout.width (Some next) layout_is some
+    (bits_of_fields version code (word / 2 ^ 30) layout layout_is some) written

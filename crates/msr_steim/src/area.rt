@@ -6,7 +6,7 @@ ghost use Rattle.msr_kinds.specs.declared.storage.Version.{Version};
 ghost use Rattle.msr_steim.specs.Area.{CarriesSteim, EndsBefore, IsUndefinedBefore, ReverseAgrees, arranged_word, constant, whole_word};
 
 use crate::borrowed::before_first;
-use crate::sums::{Place, write_inner_word, write_last_word};
+use crate::sums::{Place, write_last_word, write_next_word};
 use byteorder::{BigEndian, ByteOrder, LittleEndian};
 use msr_base::{Order, SampleVec};
 use msr_kinds::Version;
@@ -104,10 +104,47 @@ pub(crate) fn is_last(samples: &[i32], sample: i32) -> bool
     samples.last().copied() == Some(sample)
 }
 
+/// How many of a frame's codes are 1, 2 and 3.
+fn numbers_of_codes(codes: u32) -> (u32, u32, u32)
+    ensures { (result.0 ≤ 32) × (result.1 ≤ 32) × (result.2 ≤ 32) }
+{
+    let low = codes & 0x5555_5555;
+    let high = codes >> 1 & 0x5555_5555;
+    (
+        (low & !high).count_ones(),
+        (high & !low).count_ones(),
+        (low & high).count_ones(),
+    )
+}
+
+/// Whether the sizes of a big-endian area's groups mix, by the codes of two of its frames. It says only how the words are to
+/// be read. One of a code in seven makes a jump by it dearer than to do without.
+pub(crate) fn mixes(version: Version, order: Order, area: &[u8]) -> bool
+    ensures { IsTrue result → order ≡ Order.Big }
+{
+    if order == Order::Little || area.len() < 64 {
+        return false;
+    }
+    let (ones, twos, threes) = numbers_of_codes(whole_word_at(order, area, 0));
+    let (more_ones, more_twos, more_threes) = numbers_of_codes(whole_word_at(
+        order,
+        area,
+        area.len() / 128 * 16,
+    ));
+    let are_ones = ones + more_ones >= 4;
+    let are_twos = twos + more_twos >= 4;
+    let are_threes = threes + more_threes >= 4;
+    match version {
+        Version::One => are_twos && are_threes,
+        // Of code 3 are groups of three sizes.
+        Version::Two => are_threes || are_ones && are_twos,
+    }
+}
+
 /// Reads word after word until `out` is full. Inlined with literals for version and order, each word is
 /// read without a test of them.
 #[inline(always)]
-fn decode_words(
+fn decode_words<const MIXED: bool>(
     version: Version,
     order: Order,
     area: &[u8],
@@ -137,7 +174,7 @@ fn decode_words(
             let number = 16 * frame + slot;
             let code = (codes >> 30) as u8;
             let word = arranged_word_at(version, order, code, area, number);
-            let Some(next) = write_inner_word(version, code, word, at, out) else {
+            let Some(next) = write_next_word::<MIXED>(version, code, word, at, out) else {
                 return match write_last_word(version, code, word, at, out) {
                     Some(_) => Ok(is_last(out, constant_at(order, area, 2))),
                     None => Err(SteimFault::BadCode(number as u32)),
@@ -170,11 +207,27 @@ pub fn decode_steim_into(
         → IsUndefinedBefore version order area.now (length out.old) number }
     ensures never_memory { IsErrOf result SteimFault.Memory → ⊥ }
 {
+    if mixes(version, order, area) {
+        return match version {
+            Version::One => decode_words::<true>(Version::One, Order::Big, area, out),
+            Version::Two => decode_words::<true>(Version::Two, Order::Big, area, out),
+        };
+    }
     match (version, order) {
-        (Version::One, Order::Big) => decode_words(Version::One, Order::Big, area, out),
-        (Version::One, Order::Little) => decode_words(Version::One, Order::Little, area, out),
-        (Version::Two, Order::Big) => decode_words(Version::Two, Order::Big, area, out),
-        (Version::Two, Order::Little) => decode_words(Version::Two, Order::Little, area, out),
+        (Version::One, Order::Big) => decode_words::<false>(Version::One, Order::Big, area, out),
+        (Version::One, Order::Little) => decode_words::<false>(
+            Version::One,
+            Order::Little,
+            area,
+            out,
+        ),
+        (Version::Two, Order::Big) => decode_words::<false>(Version::Two, Order::Big, area, out),
+        (Version::Two, Order::Little) => decode_words::<false>(
+            Version::Two,
+            Order::Little,
+            area,
+            out,
+        ),
     }
 }
 

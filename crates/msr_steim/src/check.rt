@@ -4,16 +4,23 @@ ghost use Rattle.std.specs.Prelude.{◌≤◌, ℕ, IfOk, IsErrOf, length};
 ghost use Rattle.msr_steim.specs.Area.{EndsBefore, IsUndefinedBefore};
 ghost use Rattle.msr_steim.specs.InOrder.{HasSamples};
 
-use crate::area::{SteimFault, arranged_word_at, constant_at, first_slot, is_last, whole_word_at};
+use crate::area::{
+    SteimFault, arranged_word_at, constant_at, first_slot, is_last, mixes, whole_word_at,
+};
 use crate::borrowed::before_first;
-use crate::sums::{Place, write_inner_word};
+use crate::sums::{Place, write_next_word};
 use msr_base::Order;
 use msr_kinds::Version;
 
 /// Reads word after word until it has seen `count` samples; it keeps the samples of one word at a time. Inlined with
 /// literals for version and order, each word is read without a test of them.
 #[inline(always)]
-fn check_words(version: Version, order: Order, area: &[u8], count: u16) -> Result<bool, SteimFault>
+fn check_words<const MIXED: bool>(
+    version: Version,
+    order: Order,
+    area: &[u8],
+    count: u16,
+) -> Result<bool, SteimFault>
     requires some { 1 ≤ count }
     requires small { length area.now ≤ 1048576 }
     ensures samples { IfOk result (HasSamples version order area.now count) }
@@ -39,7 +46,7 @@ fn check_words(version: Version, order: Order, area: &[u8], count: u16) -> Resul
             let code = (codes >> 30) as u8;
             let word = arranged_word_at(version, order, code, area, number);
             let at = Place { place: 0, last };
-            let Some(next) = write_inner_word(version, code, word, at, &mut samples) else {
+            let Some(next) = write_next_word::<MIXED>(version, code, word, at, &mut samples) else {
                 return Err(SteimFault::BadCode(number as u32));
             };
             if next.place >= left {
@@ -69,10 +76,26 @@ pub(crate) fn check_area(
         → IsUndefinedBefore version order area.now count number }
     ensures never_memory { IsErrOf result SteimFault.Memory → ⊥ }
 {
+    if mixes(version, order, area) {
+        return match version {
+            Version::One => check_words::<true>(Version::One, Order::Big, area, count),
+            Version::Two => check_words::<true>(Version::Two, Order::Big, area, count),
+        };
+    }
     match (version, order) {
-        (Version::One, Order::Big) => check_words(Version::One, Order::Big, area, count),
-        (Version::One, Order::Little) => check_words(Version::One, Order::Little, area, count),
-        (Version::Two, Order::Big) => check_words(Version::Two, Order::Big, area, count),
-        (Version::Two, Order::Little) => check_words(Version::Two, Order::Little, area, count),
+        (Version::One, Order::Big) => check_words::<false>(Version::One, Order::Big, area, count),
+        (Version::One, Order::Little) => check_words::<false>(
+            Version::One,
+            Order::Little,
+            area,
+            count,
+        ),
+        (Version::Two, Order::Big) => check_words::<false>(Version::Two, Order::Big, area, count),
+        (Version::Two, Order::Little) => check_words::<false>(
+            Version::Two,
+            Order::Little,
+            area,
+            count,
+        ),
     }
 }

@@ -7,6 +7,7 @@ mod borrowed;
 mod check;
 mod frames;
 mod group;
+mod lanes;
 mod sums;
 mod word;
 

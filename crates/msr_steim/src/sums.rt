@@ -1,10 +1,11 @@
 //! Writes the samples of words into a slice that the caller has.
 
-ghost use Rattle.std.specs.Prelude.{◌≡◌, ◌<◌, ◌≤◌, ◌+◌, ◌-◌, ◌*◌, pos, IfSome, IsNone, length, slice_index_or, take};
+ghost use Rattle.std.specs.Prelude.{◌≡◌, ◌<◌, ◌≤◌, ◌+◌, ◌-◌, ◌*◌, ◌/◌, ◌%◌, ◌^◌, pos, IfSome, IsNone, length, slice_index_or, take};
 ghost use Rattle.msr_steim.specs.Area.{sums_after};
 ghost use Rattle.msr_steim.specs.Sums.{IsGroupWritten, IsInnerWritten, IsWritten, ReachesEnd};
-ghost use Rattle.msr_steim.specs.Word.{IsUndefinedWord, numbers_in};
+ghost use Rattle.msr_steim.specs.Word.{IsUndefinedWord, numbers_in, signed_of};
 
+use crate::lanes::{has_lanes, write_lanes};
 use crate::word::{difference_at, layout_for};
 use msr_kinds::Version;
 
@@ -101,6 +102,94 @@ pub(crate) fn write_inner_word(
             _ => None,
         },
     }
+}
+
+/// The first number of a word of Steim-1 with two fields or one, without a jump by which it is.
+#[inline(always)]
+fn first_of_pair(code: u8, word: u32) -> i32
+    requires code { (2 ≤ code) × (code < 4) }
+    ensures two { code ≡ 2 → result ≡ signed_of 16 (word / 2 ^ (1 * 16) % 2 ^ 16) }
+    ensures one { code ≡ 3 → result ≡ signed_of 32 (word / 2 ^ (0 * 32) % 2 ^ 32) }
+{
+    word.cast_signed() >> (16 * (3 - u32::from(code)))
+}
+
+/// Writes the samples of a word of Steim-1 with two fields or one, without a jump by which it is: the place after that of
+/// a single one is written too.
+#[inline(always)]
+fn write_pair(code: u8, word: u32, at: Place, out: &mut [i32]) -> Place
+    requires code { (2 ≤ code) × (code < 4) }
+    requires room { at.place + 2 < length out.old }
+    requires few { length out.old ≤ 65535 }
+    ensures two { code ≡ 2 → IsGroupWritten word 2 16 at out.old out.new result }
+    ensures one { code ≡ 3 → IsGroupWritten word 1 32 at out.old out.new result }
+{
+    let first = at.last.wrapping_add(first_of_pair(code, word));
+    let second = first.wrapping_add(difference_at(word, 0, 16));
+    out[at.place] = first;
+    out[at.place + 1] = second;
+    Place {
+        place: at.place + 4 - usize::from(code),
+        last: if code == 2 { second } else { first },
+    }
+}
+
+/// Writes the samples of a word of Steim-1 with two fields or one, or of Steim-2 with three or more, without a jump by how
+/// many it has, if places are left after them. Else nothing is written.
+#[inline(always)]
+fn write_without_jump(
+    version: Version,
+    code: u8,
+    word: u32,
+    at: Place,
+    out: &mut [i32],
+) -> Option<Place>
+    requires code { code < 4 }
+    requires room { at.place < length out.old }
+    requires few { length out.old ≤ 65535 }
+    ensures some { IfSome result (IsInnerWritten version code word at out.old out.new) }
+    ensures kept { IsNone result → out.new ≡ out.old }
+{
+    match version {
+        Version::One => {
+            if code < 2 || at.place + 2 >= out.len() {
+                return None;
+            }
+            Some(write_pair(code, word, at, out))
+        }
+        Version::Two => {
+            let key = 4 * usize::from(code) + (word >> 30) as usize;
+            if !has_lanes(key) || at.place + 8 > out.len() {
+                return None;
+            }
+            Some(write_lanes(key, word, at, out))
+        }
+    }
+}
+
+/// As `write_inner_word`. `MIXED` says that the sizes of groups mix, so that a jump by them could not be predicted: then it
+/// is made only where it has to be.
+#[inline(always)]
+pub(crate) fn write_next_word<const MIXED: bool>(
+    version: Version,
+    code: u8,
+    word: u32,
+    at: Place,
+    out: &mut [i32],
+) -> Option<Place>
+    requires code { code < 4 }
+    requires room { at.place < length out.old }
+    requires few { length out.old ≤ 65535 }
+    ensures some { IfSome result (IsInnerWritten version code word at out.old out.new) }
+    ensures none { IsNone result → ReachesEnd version code word at.place (length out.old) }
+    ensures kept { IsNone result → out.new ≡ out.old }
+{
+    if MIXED {
+        if let Some(next) = write_without_jump(version, code, word, at, out) {
+            return Some(next);
+        }
+    }
+    write_inner_word(version, code, word, at, out)
 }
 
 /// Writes the samples of a word, as far as there are places, or gives `None` if it is undefined. The

@@ -7,7 +7,7 @@ use Rattle.msr_steim.proofs.Reading.{IsReached, IsStart, same_word, skip_first, 
 use Rattle.msr_steim.proofs.area.decode_words.Goals as goal
 
 pub loop-slot-init : goal.loop-slot-init
-loop-slot-init c =
+loop-slot-init g c =
     let at = c.loop-frame.at in
     let out = c.loop-frame.out in
     let area = c.args.area.now in
@@ -32,7 +32,7 @@ loop-slot-init c =
     }
 
 pub returns-in-None-clause-bad : goal.returns-in-None-clause-bad
-returns-in-None-clause-bad c =
+returns-in-None-clause-bad g c =
     let order = c.args.order in
     let area = c.args.area.now in
     let frame = c.loop-frame.frame in
@@ -57,7 +57,7 @@ returns-in-None-clause-bad c =
     (same_word number other e) here
 
 pub returns-in-Some-write_last_word-clause-samples : goal.returns-in-Some-write_last_word-clause-samples
-returns-in-Some-write_last_word-clause-samples c =
+returns-in-Some-write_last_word-clause-samples g c =
     let order = c.args.order in
     let area = c.args.area.now in
     let frame = c.loop-frame.frame in
@@ -78,7 +78,7 @@ returns-in-Some-write_last_word-clause-samples c =
     let old = c.loop-slot.out in
     let new = c.write_last_word.new.out in
     let next = c.in-Some-write_last_word.field-0 in
-    let same : c.write_inner_word.new.out ≡ old = c.in_default.ensures.kept refl in
+    let same : c.write_next_word.new.out ≡ old = c.in_default.ensures.kept refl in
     let written : IsWritten c.args.version code word at old new next =
     subst (λ out. IsWritten c.args.version code word at out new next) same c.in-Some-write_last_word.ensures.some in
     let ends : ReachesEnd c.args.version code word at.place (length old) = c.in_default.ensures.none refl in
@@ -87,7 +87,7 @@ returns-in-Some-write_last_word-clause-samples c =
     word_is within size (end_reached c.args.version code word at next old new ends written held.reached.room size)
 
 pub loop-slot-preserved : goal.loop-slot-preserved
-loop-slot-preserved c =
+loop-slot-preserved g c =
     let order = c.args.order in
     let area = c.args.area.now in
     let frame = c.loop-frame.frame in
@@ -106,14 +106,14 @@ loop-slot-preserved c =
     starts_here c.args.version order area number code word at c.loop-slot.out held.reached held.begins within
     code_is word_is in
     let next = c.in-Some.next in
-    let new = c.write_inner_word.new.out in
+    let new = c.write_next_word.new.out in
     let inner = c.in-Some.ensures.some in
-    let unlike : next.place ≢ length new = λ e. omega (arith, e, inner.room, c.write_inner_word.auto.out) in
+    let unlike : next.place ≢ length new = λ e. omega (arith, e, inner.room, c.write_next_word.auto.out) in
     let next_number : number + 1 ≡ 16 * frame + (slot + 1) = omega arith in
     record {
       reached = subst (λ n. IsReached c.args.version order area n next new) next_number
           (step_more c.args.version order area number code word at at next c.loop-slot.out new held.reached begin
-          inner.written code_is word_is within c.write_inner_word.auto.out unlike);
+          inner.written code_is word_is within c.write_next_word.auto.out unlike);
       begins = begins_on c.args.version order area at next inner.on held.begins;
       codes = codes_on c.loop-slot.codes _ slot held.codes;
       some = omega arith;

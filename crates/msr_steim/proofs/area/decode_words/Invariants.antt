@@ -6,7 +6,7 @@ use Rattle.msr_steim.proofs.Reading.{IsReached}
 use Rattle.msr_steim.proofs.area.decode_words.Given as goal
 
 abbrev pub invariant-loop-slot : goal.invariant-loop-slot
-invariant-loop-slot l = record {
+invariant-loop-slot g l = record {
   reached : IsReached l.version l.order l.area (16 * l.frame + l.slot) l.at l.out;
   begins : l.at.place ≡ 0 → BeginsAfter l.version l.order l.area l.at.last;
   codes : l.codes ≡ whole_word l.order l.area (16 * l.frame) * 2 ^ (2 * l.slot) % 4294967296;
@@ -16,7 +16,7 @@ invariant-loop-slot l = record {
 }
 
 abbrev pub invariant-loop-frame : goal.invariant-loop-frame
-invariant-loop-frame l = record {
+invariant-loop-frame g l = record {
   reached : IsReached l.version l.order l.area (16 * l.frame) l.at l.out;
   begins : l.at.place ≡ 0 → BeginsAfter l.version l.order l.area l.at.last;
 }

@@ -4,12 +4,23 @@ use Rattle.std.proofs.lemmas.Int.{to_z-of_z}
 use Rattle.msr_steim.specs.declared.sums.Place.{Place}
 use Rattle.msr_steim.specs.Area.{IsUndefined, IsUndefinedBefore, code_of, constant}
 use Rattle.msr_steim.proofs.Beginning.{code_here, codes_on}
-use Rattle.msr_steim.proofs.Checking.{ArePassed, looked_at, passed_enough, passed_on, undefined_alone}
+use Rattle.msr_steim.proofs.Checking.{ArePassed, looked_at, none_passed, passed_enough, passed_on, undefined_alone}
 use Rattle.msr_steim.proofs.Reading.{same_word, skip_first, slot_bounds, undefined_before, undefined_so}
 use Rattle.msr_steim.proofs.check.check_words.Goals as goal
 
+pub loop-frame-init : goal.loop-frame-init
+loop-frame-init g c =
+    let last = c.before_first-last.result in
+    let fits : SFits w32 last = search rules in
+    let begins = none_passed c.args.version c.args.order c.args.area.now c.args.count last c.requires.some
+    c.before_first-last.ensures in
+    subst (λ left. ArePassed c.args.version c.args.order c.args.area.now 0 c.args.count left
+    (to_z w32 (of_z w32 last))) (sym c.from-left.ensures)
+    (subst (λ z. ArePassed c.args.version c.args.order c.args.area.now 0 c.args.count c.args.count z)
+    (sym (to_z-of_z w32 last fits)) begins)
+
 pub loop-slot-init : goal.loop-slot-init
-loop-slot-init c =
+loop-slot-init g c =
     let area = c.args.area.now in
     let frame = c.loop-frame.frame in
     let from = c.first_slot-from.result in
@@ -33,7 +44,7 @@ loop-slot-init c =
     }
 
 pub returns-in_default-clause-bad : goal.returns-in_default-clause-bad
-returns-in_default-clause-bad c =
+returns-in_default-clause-bad g c =
     let order = c.args.order in
     let area = c.args.area.now in
     let frame = c.loop-frame.frame in
@@ -56,7 +67,7 @@ returns-in_default-clause-bad c =
     λ other e. subst (λ n. IsUndefinedBefore c.args.version order area c.args.count n) (same_word number other e) here
 
 pub returns-then-next-left-clause-samples : goal.returns-then-next-left-clause-samples
-returns-then-next-left-clause-samples c =
+returns-then-next-left-clause-samples g c =
     let version = c.args.version in
     let order = c.args.order in
     let area = c.args.area.now in
@@ -68,10 +79,10 @@ returns-then-next-left-clause-samples c =
     let at : Place = record { place = 0; last = to_z w32 c.loop-slot.last-bits } in
     let next = c.in-Some.next in
     let old = c.loop-slot.samples in
-    let new = c.write_inner_word.new.out in
+    let new = c.write_next_word.new.out in
     let fits : SFits w32 c.constant_at.result = search rules in
     let looked = looked_at version order area frame slot codes word at next old new c.in-Some.ensures.some refl
-    c.write_inner_word.auto.out held.some c.loop-slot-test.true held.late c.loop-frame-test.true held.codes
+    c.write_next_word.auto.out held.some c.loop-slot-test.true held.late c.loop-frame-test.true held.codes
     c.arranged_word_at-word.ensures in
     passed_enough version order area (16 * frame + slot) c.args.count c.loop-slot.left
     (codes / 1073741824) word at next old new held.passed looked
@@ -81,7 +92,7 @@ returns-then-next-left-clause-samples c =
     (to_z-of_z w32 c.constant_at.result fits ∙ c.constant_at.ensures) c.is_last.ensures)
 
 pub loop-slot-preserved : goal.loop-slot-preserved
-loop-slot-preserved c =
+loop-slot-preserved g c =
     let version = c.args.version in
     let order = c.args.order in
     let area = c.args.area.now in
@@ -93,11 +104,11 @@ loop-slot-preserved c =
     let at : Place = record { place = 0; last = to_z w32 c.loop-slot.last-bits } in
     let next = c.in-Some.next in
     let old = c.loop-slot.samples in
-    let new = c.write_inner_word.new.out in
+    let new = c.write_next_word.new.out in
     let left = c.loop-slot.left - next.place in
     let fits : SFits w32 next.last = search rules in
     let looked = looked_at version order area frame slot codes word at next old new c.in-Some.ensures.some refl
-    c.write_inner_word.auto.out held.some c.loop-slot-test.true held.late c.loop-frame-test.true held.codes
+    c.write_next_word.auto.out held.some c.loop-slot-test.true held.late c.loop-frame-test.true held.codes
     c.arranged_word_at-word.ensures in
     let on : ArePassed version order area (16 * frame + slot + 1) c.args.count left next.last =
     passed_on version order area (16 * frame + slot) c.args.count c.loop-slot.left

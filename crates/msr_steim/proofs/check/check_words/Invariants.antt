@@ -5,7 +5,7 @@ use Rattle.msr_steim.proofs.Checking.{ArePassed}
 use Rattle.msr_steim.proofs.check.check_words.Given as goal
 
 abbrev pub invariant-loop-slot : goal.invariant-loop-slot
-invariant-loop-slot l = record {
+invariant-loop-slot g l = record {
   passed : ArePassed l.version l.order l.area (16 * l.frame + l.slot) l.count l.left l.last;
   codes : l.codes ≡ whole_word l.order l.area (16 * l.frame) * 2 ^ (2 * l.slot) % 4294967296;
   some : 1 ≤ l.slot;
@@ -14,4 +14,4 @@ invariant-loop-slot l = record {
 }
 
 abbrev pub invariant-loop-frame : goal.invariant-loop-frame
-invariant-loop-frame l = ArePassed l.version l.order l.area (16 * l.frame) l.count l.left l.last
+invariant-loop-frame g l = ArePassed l.version l.order l.area (16 * l.frame) l.count l.left l.last
