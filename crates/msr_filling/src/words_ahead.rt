@@ -11,7 +11,7 @@ ghost use Rattle.msr_filling.specs.GroupWords.{AreGroupWords};
 
 use crate::filling::steim2_word;
 use msr_kinds::{Kind, Length};
-use msr_words::{Fitting, Steim2Reach, Window, reach_to, steim2_greedy_reach, steim2_reach};
+use msr_words::{Fitting, Steim2Reach, Window, steim2_greedy_reach, steim2_reach};
 
 /// As many of the longest groups as there are words, of no more samples than a record has. The size and the word of
 /// each are told.
@@ -45,7 +45,7 @@ fn walk(
         let next = steim2_word(None, seen, &mut window, at);
         if next.size < 2 {
             if next.size == 0 {
-                return reach_to(samples, at, group, shared);
+                return Steim2Reach::of_walk(samples, at, group, shared);
             }
             shared = false;
         }
@@ -53,7 +53,7 @@ fn walk(
         words[group] = next.word;
         at += next.size;
     }
-    reach_to(samples, at, number, shared)
+    Steim2Reach::of_walk(samples, at, number, shared)
 }
 
 /// How far Steim-2 reaches from `start` on, as `steim2_reach` finds it. The sizes and the words of the groups of that

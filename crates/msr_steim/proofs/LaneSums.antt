@@ -95,7 +95,7 @@ summed ds size fits =
     ∙ map-map (to_z w16) (λ n. n % 65536) (bit_sums 0 (map (of_z w16) ds))
     ∙ sums_of_bits 0 0 (pos 0) ds refl (omega (arith, ints), omega (arith, ints)) (omega (arith, size)) fits
 
--- ---- the numbers of a word, and zeros behind them
+-- ---- the numbers of a word, and zeros after them
 
 abbrev pub FillLanes : ℕ → ℕ → List ℤ → Type 0
 FillLanes word key ds =
@@ -196,7 +196,7 @@ sample_fits v [] (suc i) = record { sfits = lit< tt }
 sample_fits v (d ∷ ds) zero = SFits-int_wrap w32 (v +ℤ d)
 sample_fits v (d ∷ ds) (suc i) = sample_fits (int_wrap w32 (v +ℤ d)) ds i
 
--- zeros behind the numbers change no sum
+-- zeros after the numbers change no sum
 steady : (v : ℤ) (n i : ℕ) → SFits w32 v → i ≤ n → get_or (v ∷ sums_after v (replicate n (pos 0))) i (pos 0) ≡ v
 steady v n zero fits le = refl
 steady v zero (suc i) fits le = absurd (omega (arith, le))

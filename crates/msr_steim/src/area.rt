@@ -105,7 +105,7 @@ pub(crate) fn is_last(samples: &[i32], sample: i32) -> bool
 }
 
 /// How many of a frame's codes are 1, 2 and 3.
-fn numbers_of_codes(codes: u32) -> (u32, u32, u32)
+fn count_codes(codes: u32) -> (u32, u32, u32)
     ensures { (result.0 ≤ 32) × (result.1 ≤ 32) × (result.2 ≤ 32) }
 {
     let low = codes & 0x5555_5555;
@@ -117,32 +117,33 @@ fn numbers_of_codes(codes: u32) -> (u32, u32, u32)
     )
 }
 
-/// Whether the sizes of a big-endian area's groups mix, by the codes of two of its frames. It says only how the words are to
-/// be read. One of a code in seven makes a jump by it dearer than to do without.
+/// Whether a big-endian area is to be read without jumps by the sizes of its groups: a guess, by the codes of its first
+/// frame and of one in the middle, that they mix. No sample depends on it. From one word in seven of another code on, the
+/// jump is dearer; four of the 28 are enough.
 pub(crate) fn mixes(version: Version, order: Order, area: &[u8]) -> bool
     ensures { IsTrue result → order ≡ Order.Big }
 {
     if order == Order::Little || area.len() < 64 {
         return false;
     }
-    let (ones, twos, threes) = numbers_of_codes(whole_word_at(order, area, 0));
-    let (more_ones, more_twos, more_threes) = numbers_of_codes(whole_word_at(
+    let (ones, twos, threes) = count_codes(whole_word_at(order, area, 0));
+    let (more_ones, more_twos, more_threes) = count_codes(whole_word_at(
         order,
         area,
         area.len() / 128 * 16,
     ));
-    let are_ones = ones + more_ones >= 4;
-    let are_twos = twos + more_twos >= 4;
-    let are_threes = threes + more_threes >= 4;
+    let many_ones = ones + more_ones >= 4;
+    let many_twos = twos + more_twos >= 4;
+    let many_threes = threes + more_threes >= 4;
     match version {
-        Version::One => are_twos && are_threes,
-        // Of code 3 are groups of three sizes.
-        Version::Two => are_threes || are_ones && are_twos,
+        Version::One => many_twos && many_threes,
+        // Code 3 has groups of five, six and seven, which all go by lanes; of code 2 only three do.
+        Version::Two => many_threes || many_ones && many_twos,
     }
 }
 
-/// Reads word after word until `out` is full. Inlined with literals for version and order, each word is
-/// read without a test of them.
+/// Reads word after word until `out` is full. `MIXED` is as of `write_next_word`. Inlined with literals for version and
+/// order, each word is read without a test of them.
 #[inline(always)]
 fn decode_words<const MIXED: bool>(
     version: Version,

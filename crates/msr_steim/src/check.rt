@@ -12,8 +12,8 @@ use crate::sums::{Place, write_next_word};
 use msr_base::Order;
 use msr_kinds::Version;
 
-/// Reads word after word until it has seen `count` samples; it keeps the samples of one word at a time. Inlined with
-/// literals for version and order, each word is read without a test of them.
+/// Reads word after word until it has seen `count` samples; it keeps the samples of one word at a time. `MIXED` is as of
+/// `write_next_word`. Inlined with literals for version and order, each word is read without a test of them.
 #[inline(always)]
 fn check_words<const MIXED: bool>(
     version: Version,

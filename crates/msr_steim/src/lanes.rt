@@ -1,7 +1,7 @@
 //! Writes the samples of a word of Steim-2 all at once: each of its fields has a lane of sixteen bits.
 //!
-//! The tables go by the key of a word: four times its code, and its top two bits. The rows of keys with no layout, or
-//! with fewer than three fields, are not read.
+//! The tables go by the key of a word: four times its code, and its top two bits. Of a key with no layout, or with fewer
+//! than three fields, only the count is read, which is 0.
 
 ghost use Rattle.std.specs.Prelude.{◌≡◌, ◌<◌, ◌≤◌, ◌+◌, ◌/◌, ◌%◌, ◌-◌, ◌++◌, length, IfSome, IsSomeAnd, IsTrue, pos, replicate};
 ghost use Rattle.std.specs.List.{AllByRecursion};
@@ -13,7 +13,7 @@ ghost use Rattle.msr_kinds.specs.declared.storage.Version.TheVariants.{Two};
 use crate::sums::Place;
 use std::simd::prelude::*;
 
-// The two bytes of the word, counted from the lowest, in which the field of a lane lies. At 128 a byte is 0.
+// The two bytes of the word, counted from the lowest, in which the field of a lane lies. 128 gives a byte of 0.
 static BYTES: [[u8; 16]; 16] = [
     [128; 16],
     [128; 16],
@@ -43,7 +43,7 @@ static BYTES: [[u8; 16]; 16] = [
     [128; 16],
 ];
 
-// What shifts the field of a lane up to the highest bits, by a product, since a vector has one shift for all lanes.
+// The factor that moves the field of a lane to its highest bits: a shift moves all lanes of a vector alike.
 static FACTORS: [[i16; 8]; 16] = [
     [0; 8],
     [0; 8],
@@ -66,7 +66,7 @@ static FACTORS: [[i16; 8]; 16] = [
 // How far the fields are shifted down again, with their signs.
 static SHIFTS: [i16; 16] = [0, 0, 0, 0, 8, 8, 8, 8, 0, 0, 0, 6, 10, 11, 12, 0];
 
-// How many fields a word has.
+// How many fields a word has, if three or more; else 0.
 static COUNTS: [u8; 16] = [0, 0, 0, 0, 4, 4, 4, 4, 0, 0, 0, 3, 5, 6, 7, 0];
 
 /// Whether a word with this key has three fields or more.
@@ -105,8 +105,8 @@ fn prefix_sums(d: i16x8) -> i16x8
     d + zero.shuffle(d, [0, 1, 2, 3, 8, 9, 10, 11])
 }
 
-/// Writes the samples of a word of Steim-2 with three to seven fields, without a jump by how many it has: as many as
-/// eight places are written.
+/// Writes the samples of a word of Steim-2 with three to seven fields, without a jump by how many it has. It writes eight
+/// places; those after the last field are written again by the words that follow.
 #[inline(always)]
 pub(crate) fn write_lanes(key: usize, word: u32, at: Place, out: &mut [i32]) -> Place
     requires layout { IsSomeAnd (layout_of Two (key / 4) (key % 4)) (λ layout. 3 ≤ layout.count) }

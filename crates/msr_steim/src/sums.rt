@@ -104,7 +104,7 @@ pub(crate) fn write_inner_word(
     }
 }
 
-/// The first number of a word of Steim-1 with two fields or one, without a jump by which it is.
+/// The first number of a word of Steim-1 with two fields or one, without a jump by how many.
 #[inline(always)]
 fn first_of_pair(code: u8, word: u32) -> i32
     requires code { (2 ≤ code) × (code < 4) }
@@ -114,8 +114,8 @@ fn first_of_pair(code: u8, word: u32) -> i32
     word.cast_signed() >> (16 * (3 - u32::from(code)))
 }
 
-/// Writes the samples of a word of Steim-1 with two fields or one, without a jump by which it is: the place after that of
-/// a single one is written too.
+/// Writes the samples of a word of Steim-1 with two fields or one, without a jump by how many: the place after that of a
+/// single one is written too, and again by the word that follows.
 #[inline(always)]
 fn write_pair(code: u8, word: u32, at: Place, out: &mut [i32]) -> Place
     requires code { (2 ≤ code) × (code < 4) }

@@ -33,6 +33,6 @@ pub use kinds::{
 pub use msr_kinds::{Form, Kind, Kinds, Length};
 pub use msr_steim::fits_bits;
 pub use steim1::{begins_with_four, steim1_reach};
-pub use steim2::{Steim2Reach, reach_to, steim2_reach};
+pub use steim2::{Steim2Reach, steim2_reach};
 pub use widths::{are_narrow, count_halves, count_wide};
 pub use window::{FourSizes, Window, size_after};

@@ -26,20 +26,21 @@ pub struct Steim2Reach {
     pub narrow: bool,
 }
 
-/// Gives what a walk of Steim-2 came to; `shared` says that each of its groups has two differences or more: such are
-/// narrow.
-pub fn reach_to(samples: &[i32], end: usize, groups: usize, shared: bool) -> Steim2Reach
-    ensures end { result.end ≡ end }
-    ensures number { result.groups ≡ groups }
-    ensures groups { IsTrue result.narrow → IsTrue shared }
-    ensures behind { IsTrue result.narrow → end < length samples.now → IsNarrow (difference_at samples.now end) }
-    ensures all { IsTrue shared → (end < length samples.now → IsNarrow (difference_at samples.now end))
-        → IsTrue result.narrow }
-{
-    Steim2Reach {
-        end,
-        groups,
-        narrow: shared && (end >= samples.len() || is_narrow(difference(samples, end))),
+impl Steim2Reach {
+    /// What a walk came to. `shared` says that each of its groups has two differences or more: such are narrow.
+    pub fn of_walk(samples: &[i32], end: usize, groups: usize, shared: bool) -> Steim2Reach
+        ensures end { result.end ≡ end }
+        ensures number { result.groups ≡ groups }
+        ensures groups { IsTrue result.narrow → IsTrue shared }
+        ensures after { IsTrue result.narrow → end < length samples.now → IsNarrow (difference_at samples.now end) }
+        ensures all { IsTrue shared → (end < length samples.now → IsNarrow (difference_at samples.now end))
+            → IsTrue result.narrow }
+    {
+        Steim2Reach {
+            end,
+            groups,
+            narrow: shared && (end >= samples.len() || is_narrow(difference(samples, end))),
+        }
     }
 }
 
@@ -85,14 +86,14 @@ fn walk(
         let size = window.longest_steim2_group(seen, at);
         if size < 2 {
             if size == 0 {
-                return reach_to(samples, at, word, shared);
+                return Steim2Reach::of_walk(samples, at, word, shared);
             }
             shared = false;
         }
         tell(sizes, room, word, size);
         at += size;
     }
-    reach_to(samples, at, words, shared)
+    Steim2Reach::of_walk(samples, at, words, shared)
 }
 
 /// How far Steim-2 reaches from `start` on. The sizes of the groups of that run are told, one after another, if there is

@@ -85,10 +85,10 @@ returns-then-next-eq0 c =
     c.steim2_greedy_reach.ensures
     c.data_words-number.ensures.same latest_is c.loop-group.invariant.walked
     (none_reached (number - c.loop-group.group) xs none)
-    c.reach_to.result.end c.reach_to.result.narrow c.reach_to.ensures.end
-    (λ t. c.loop-group.invariant.small (c.reach_to.ensures.groups t)) c.reach_to.ensures.behind in
+    c.of_walk.result.end c.of_walk.result.narrow c.of_walk.ensures.end
+    (λ t. c.loop-group.invariant.small (c.of_walk.ensures.groups t)) c.of_walk.ensures.after in
     let same = c.data_words-number.ensures.same in
-    let groups = c.reach_to.ensures.number in
+    let groups = c.of_walk.ensures.number in
     let walked = c.loop-group.invariant.walked in
     let long = length-take-le latest c.args.samples.now (omega arith) in
     let within = walked.within in
@@ -97,10 +97,10 @@ returns-then-next-eq0 c =
       narrow = out.narrow;
       room_of_sizes = omega arith;
       room_of_words = omega arith;
-      sizes = rw (c.reach_to.ensures.end, c.reach_to.ensures.number)
+      sizes = rw (c.of_walk.ensures.end, c.of_walk.ensures.number)
           (walked_sizes c.args.samples.now c.args.start c.loop-group.at latest c.loop-group.group c.loop-group.sizes
           walked.from (omega arith) (omega arith) (omega arith) c.loop-group.invariant.told);
-      words = rw (c.reach_to.ensures.end, c.reach_to.ensures.number)
+      words = rw (c.of_walk.ensures.end, c.of_walk.ensures.number)
           (walked_words c.args.samples.now c.args.start c.loop-group.at latest c.loop-group.group c.loop-group.sizes
           c.loop-group.words walked.from (omega arith) (omega arith) (omega arith) (omega arith)
           c.loop-group.invariant.told c.loop-group.invariant.written);
@@ -120,10 +120,10 @@ returns c =
     (number - c.loop-group.group) c.args.samples.now c.args.start latest c.loop-group.at c.requires.within
     c.steim2_greedy_reach.ensures
     c.data_words-number.ensures.same latest_is c.loop-group.invariant.walked stuck
-    c.reach_to-2.result.end c.reach_to-2.result.narrow c.reach_to-2.ensures.end
-    (λ t. c.loop-group.invariant.small (c.reach_to-2.ensures.groups t)) c.reach_to-2.ensures.behind in
+    c.of_walk-2.result.end c.of_walk-2.result.narrow c.of_walk-2.ensures.end
+    (λ t. c.loop-group.invariant.small (c.of_walk-2.ensures.groups t)) c.of_walk-2.ensures.after in
     let same = c.data_words-number.ensures.same in
-    let groups = c.reach_to-2.ensures.number in
+    let groups = c.of_walk-2.ensures.number in
     let walked = c.loop-group.invariant.walked in
     let seen = take (c.args.start + c.min.result) c.args.samples.now in
     let ds = drop c.args.start (differences None (take (c.args.start + c.min.result) c.args.samples.now)) in
@@ -139,10 +139,10 @@ returns c =
       narrow = out.narrow;
       room_of_sizes = omega arith;
       room_of_words = omega arith;
-      sizes = rw (c.reach_to-2.ensures.end, c.reach_to-2.ensures.number)
+      sizes = rw (c.of_walk-2.ensures.end, c.of_walk-2.ensures.number)
           (walked_sizes c.args.samples.now c.args.start c.loop-group.at latest c.data_words-number.result
           c.loop-group.sizes walked.from (omega arith) (omega arith) (omega arith) told);
-      words = rw (c.reach_to-2.ensures.end, c.reach_to-2.ensures.number)
+      words = rw (c.of_walk-2.ensures.end, c.of_walk-2.ensures.number)
           (walked_words c.args.samples.now c.args.start c.loop-group.at latest c.data_words-number.result
           c.loop-group.sizes c.loop-group.words walked.from (omega arith) (omega arith) (omega arith) (omega arith)
           told written);

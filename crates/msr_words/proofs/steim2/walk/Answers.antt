@@ -96,10 +96,10 @@ returns-then-size-eq0 c =
     c.steim2_greedy_reach.ensures
     c.data_words-words.ensures.same latest_is c.loop-word.invariant.walked
     (none_reached (words - c.loop-word.word) xs none)
-    c.reach_to.result.end c.reach_to.result.narrow c.reach_to.ensures.end
-    (λ t. c.loop-word.invariant.small (c.reach_to.ensures.groups t)) c.reach_to.ensures.behind in
+    c.of_walk.result.end c.of_walk.result.narrow c.of_walk.ensures.end
+    (λ t. c.loop-word.invariant.small (c.of_walk.ensures.groups t)) c.of_walk.ensures.after in
     let same = c.data_words-words.ensures.same in
-    let number = c.reach_to.ensures.number in
+    let number = c.of_walk.ensures.number in
     let walked = c.loop-word.invariant.walked in
     let seen = take (c.args.start + c.min.result) c.args.samples.now in
     let long = length-take-le latest c.args.samples.now (omega arith) in
@@ -108,7 +108,7 @@ returns-then-size-eq0 c =
       end = out.end_is;
       narrow = out.narrow;
       few = omega arith;
-      sizes = λ room. rw (c.reach_to.ensures.end, c.reach_to.ensures.number)
+      sizes = λ room. rw (c.of_walk.ensures.end, c.of_walk.ensures.number)
           (walked_sizes c.args.samples.now c.args.start c.loop-word.at latest c.loop-word.word c.loop-word.sizes
           walked.from (omega arith) (omega arith) (omega arith)
           (c.loop-word.invariant.told (omega arith)));
@@ -128,10 +128,10 @@ returns c =
     (words - c.loop-word.word) c.args.samples.now c.args.start latest c.loop-word.at c.requires.within
     c.steim2_greedy_reach.ensures
     c.data_words-words.ensures.same latest_is c.loop-word.invariant.walked stuck
-    c.reach_to-2.result.end c.reach_to-2.result.narrow c.reach_to-2.ensures.end
-    (λ t. c.loop-word.invariant.small (c.reach_to-2.ensures.groups t)) c.reach_to-2.ensures.behind in
+    c.of_walk-2.result.end c.of_walk-2.result.narrow c.of_walk-2.ensures.end
+    (λ t. c.loop-word.invariant.small (c.of_walk-2.ensures.groups t)) c.of_walk-2.ensures.after in
     let same = c.data_words-words.ensures.same in
-    let number = c.reach_to-2.ensures.number in
+    let number = c.of_walk-2.ensures.number in
     let walked = c.loop-word.invariant.walked in
     let seen = take (c.args.start + c.min.result) c.args.samples.now in
     let long = length-take-le latest c.args.samples.now (omega arith) in
@@ -141,7 +141,7 @@ returns c =
       end = out.end_is;
       narrow = out.narrow;
       few = omega arith;
-      sizes = λ room. rw (c.reach_to-2.ensures.end, c.reach_to-2.ensures.number)
+      sizes = λ room. rw (c.of_walk-2.ensures.end, c.of_walk-2.ensures.number)
           (walked_sizes c.args.samples.now c.args.start c.loop-word.at latest c.data_words-words.result c.loop-word.sizes
           walked.from (omega arith) (omega arith) (omega arith)
           (subst (λ n. AreTold (drop c.args.start (differences None seen))
