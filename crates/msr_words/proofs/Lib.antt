@@ -26,4 +26,6 @@ pub mod Steim2Sizes
 pub mod Stretches
 pub mod WordRoom
 pub mod Windows
+pub mod Masks
+pub mod PairWalks
 pub mod LastSamples

@@ -15,4 +15,5 @@ pub mod Steim1Reach
 pub mod Trackers
 pub mod AnyKind
 pub mod Window
+pub mod Pairs
 pub mod Lemmas

@@ -10,6 +10,7 @@ mod existence;
 mod first_group;
 mod integers;
 mod kinds;
+mod pairs;
 mod steim1;
 mod steim2;
 mod widths;

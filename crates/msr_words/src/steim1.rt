@@ -5,11 +5,14 @@ ghost use Rattle.msr_kinds.specs.declared.kinds.Kind.TheVariants.{Steim1 as Firs
 ghost use Rattle.msr_words.specs.Bounds.{BeginsWithFour, IsEnd};
 ghost use Rattle.msr_words.specs.FirstGroup.{IsSizeAt};
 ghost use Rattle.msr_kinds.specs.Lengths.{bytes_of};
+ghost use Rattle.msr_words.specs.Pairs.{HasWalked};
 ghost use Rattle.msr_words.specs.Segment.{run_points};
 ghost use Rattle.msr_words.specs.Steim1Reach.{IsSteim1Word};
+ghost use Rattle.msr_words.specs.Window.{IsWindow};
 
 use crate::bounds::steim1_word_by_word;
 use crate::kinds::difference;
+use crate::pairs::Walk;
 use crate::window::{FourSizes, Window};
 use msr_kinds::Length;
 use msr_steim::fits_bits;
@@ -52,24 +55,64 @@ fn next_word(sizes: FourSizes, spare: bool) -> NextWord
     }
 }
 
-/// The greatest end of a run of Steim-1 from `start` on.
+/// Goes on by `pass_pairs`, if that is asked for.
+#[inline(always)]
+fn pass_if(
+    in_pairs: bool,
+    window: &mut Window,
+    samples: &[i32],
+    walk: Walk,
+    last: usize,
+) -> Walk
+    requires within { walk.at ≤ length samples.now }
+    requires window { IsWindow samples.now walk.at window.old }
+    requires few { walk.words ≤ last }
+    ensures window { IsWindow samples.now result.at window.new }
+    ensures on { (walk.words ≤ result.words) × (result.words ≤ last) }
+    ensures walked { (start : ℕ) → HasWalked samples.now start walk → HasWalked samples.now start result }
+{
+    if in_pairs {
+        window.pass_pairs(samples, walk, last)
+    } else {
+        walk
+    }
+}
+
+/// The greatest end of a run of Steim-1 from `start` on. While words hold two differences or one, it goes from word to
+/// word without a jump by which it is; in a stretch where that failed, it is not tried again.
 pub fn steim1_reach(samples: &[i32], record_length: Length, start: usize) -> usize
     requires { start ≤ length samples.now }
     ensures { IsEnd FirstSteim (bytes_of record_length) samples.now start result }
 {
     steim1_word_by_word();
+    let last = record_length.data_words() as usize - 1;
     let mut window = Window::new();
-    let mut at = start;
-    let mut spare = false;
-    for _word in 1..record_length.data_words() {
-        let next = next_word(window.four_sizes(samples, at), spare);
-        if next.size == 0 {
-            return at;
+    let mut walk = Walk {
+        at: start,
+        words: 0,
+        spare: false,
+    };
+    let mut in_pairs = false;
+    let mut failed = false;
+    while walk.words < last {
+        let on = pass_if(in_pairs, &mut window, samples, walk, last);
+        if on.words > walk.words {
+            walk = on;
+            continue;
         }
-        at += next.size;
-        spare = next.spare;
+        failed |= in_pairs;
+        let next = next_word(window.four_sizes(samples, on.at), on.spare);
+        if next.size == 0 {
+            return on.at;
+        }
+        walk = Walk {
+            at: on.at + next.size,
+            words: on.words + 1,
+            spare: next.spare,
+        };
+        in_pairs = !failed & (next.size < 3);
     }
-    at + next_word(window.four_sizes(samples, at), true).size
+    walk.at + next_word(window.four_sizes(samples, walk.at), true).size
 }
 
 /// Whether the difference of a sample and those of the next three are of 8 bits. The contract promises nothing if the

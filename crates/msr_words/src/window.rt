@@ -8,10 +8,12 @@ ghost use Rattle.msr_steim.specs.Word.{FitsBits};
 ghost use Rattle.msr_words.specs.Bounds.{IsBeforeFour};
 ghost use Rattle.msr_words.specs.FirstGroup.{IsCanonicalFirst, IsSizeAt};
 ghost use Rattle.msr_words.specs.Groups.{IsLongestGroup};
+ghost use Rattle.msr_words.specs.Pairs.{HasWalked};
 ghost use Rattle.msr_words.specs.Segment.{differences};
 ghost use Rattle.msr_words.specs.Window.{IsSize, IsWindow, Shows};
 
 use crate::kinds::longest_group;
+use crate::pairs::{Walk, pairs_of};
 use std::marker::Model;
 
 /// How many differences a window has.
@@ -236,6 +238,35 @@ impl Window {
         ensures longest { IsLongestGroup (drop at (differences None samples.now)) result }
     {
         self.longest_after(None, samples, at)
+    }
+
+    /// Goes on over Steim-1 words of two differences or one, until `last` are passed or the window ends. If some of its
+    /// words may hold more, or none, the walk stays where it is.
+    #[inline(always)]
+    pub(crate) fn pass_pairs(&mut self, samples: &[i32], walk: Walk, last: usize) -> Walk
+        requires within { walk.at ≤ length samples.now }
+        requires window { IsWindow samples.now walk.at self.old }
+        requires few { walk.words ≤ last }
+        ensures window { IsWindow samples.now result.at self.new }
+        ensures on { (walk.words ≤ result.words) × (result.words ≤ last) }
+        ensures walked { (start : ℕ) → HasWalked samples.now start walk → HasWalked samples.now start result }
+    {
+        if self.place_of(samples, walk.at).is_none() {
+            return walk;
+        }
+        let Some(pairs) = pairs_of(&self.sizes) else {
+            return walk;
+        };
+        let mut on = walk;
+        while on.at < self.until && on.words < last {
+            let at = on.at + pairs.size_at(on.at - self.first);
+            on = Walk {
+                at,
+                words: on.words + 1,
+                spare: pairs.is_small_before(at - self.first),
+            };
+        }
+        on
     }
 
     /// The sizes of the differences of this sample of the segment and of the next three.
