@@ -73,6 +73,53 @@ fn formed(window: &Window, place: usize, size: usize, form: Form) -> NextWord
     }
 }
 
+/// One of two numbers, by bits alone, where a compiler would take a jump.
+#[inline(always)]
+fn chosen(first: u32, second: u32, is_second: u32) -> u32
+    requires { is_second < 2 }
+    ensures first { is_second ≡ 0 → result ≡ first }
+    ensures second { is_second ≡ 1 → result ≡ second }
+{
+    first ^ ((first ^ second) & 0u32.wrapping_sub(is_second))
+}
+
+/// The word of a group of this size, of that of one difference and that of two.
+#[inline(always)]
+fn of_two(one: NextWord, two: NextWord, size: usize) -> NextWord
+    requires full { 1 ≤ size }
+    requires most { size ≤ 2 }
+    ensures size { result.size ≡ size }
+    ensures code { result.code ≡ group_code One size }
+    ensures small { result.code < 4 }
+    ensures one { size ≡ 1 → result.word ≡ one.word }
+    ensures two { size ≡ 2 → result.word ≡ two.word }
+{
+    let is_second = (size - 1) as u32;
+    NextWord {
+        size,
+        code: 3 - is_second,
+        word: chosen(one.word, two.word, is_second),
+    }
+}
+
+/// The word of a group of two or one from a place of the window on: both are formed, so that no jump is taken by which
+/// it is.
+#[inline(always)]
+fn pair_seen(window: &Window, place: usize, size: usize) -> NextWord
+    requires room { place + 7 ≤ 64 }
+    requires full { 1 ≤ size }
+    requires most { size ≤ 2 }
+    ensures size { result.size ≡ size }
+    ensures code { result.code ≡ group_code One size }
+    ensures small { result.code < 4 }
+    ensures word { (ds : List ℤ) → Shows window.now ds place → IsGroup One (take size ds)
+        → result.word ≡ group_word One (take size ds) }
+{
+    let one = formed(window, place, 1, form_of(1));
+    let two = formed(window, place, 2, form_of(2));
+    of_two(one, two, size)
+}
+
 /// The word of this group from a place of the window on.
 #[inline(always)]
 fn word_seen(window: &Window, place: usize, size: usize) -> NextWord
@@ -86,10 +133,9 @@ fn word_seen(window: &Window, place: usize, size: usize) -> NextWord
         → result.word ≡ group_word One (take size ds) }
 {
     match size {
-        1 => formed(window, place, 1, form_of(1)),
-        2 => formed(window, place, 2, form_of(2)),
         3 => formed(window, place, 3, form_of(3)),
-        _ => formed(window, place, 4, form_of(4)),
+        4 => formed(window, place, 4, form_of(4)),
+        _ => pair_seen(window, place, size),
     }
 }
 
@@ -218,11 +264,11 @@ fn first_group_inside(run: &[i32], at: usize) -> Option<usize>
 {
     let one = size_inside(run, at, 0);
     let two = size_inside(run, at, 1);
-    if one | two >= 32_768 {
-        return Some(1);
-    }
     if two >= 128 {
-        return Some(2);
+        return Some(1 + usize::from(one | two < 32_768));
+    }
+    if one >= 32_768 {
+        return Some(1);
     }
     let four = two | size_inside(run, at, 2) | size_inside(run, at, 3);
     if four >= 128 {
@@ -264,13 +310,31 @@ fn formed_inside(run: &[i32], at: usize, size: usize, form: Form) -> NextWord
     }
 }
 
+/// The word of a group of two or one of the differences from `at` on, as `pair_seen`.
+#[inline(always)]
+fn pair_inside(run: &[i32], at: usize, size: usize) -> NextWord
+    requires later { 0 < at }
+    requires full { 1 ≤ size }
+    requires most { size ≤ 2 }
+    requires room { at + 2 ≤ length run.now }
+    ensures size { result.size ≡ size }
+    ensures code { result.code ≡ group_code One size }
+    ensures small { result.code < 4 }
+    ensures word { (before : Option ℤ) → IsGroup One (take size (drop at (differences before run.now)))
+        → result.word ≡ group_word One (take size (drop at (differences before run.now))) }
+{
+    let one = formed_inside(run, at, 1, form_of(1));
+    let two = formed_inside(run, at, 2, form_of(2));
+    of_two(one, two, size)
+}
+
 /// The word of this group of the differences from `at` on, none of which is the run's first.
 #[inline(always)]
 fn word_inside(run: &[i32], at: usize, size: usize) -> NextWord
     requires later { 0 < at }
     requires full { 1 ≤ size }
     requires most { size ≤ 4 }
-    requires room { at + size ≤ length run.now }
+    requires room { at + 4 ≤ length run.now }
     ensures size { result.size ≡ size }
     ensures code { result.code ≡ group_code One size }
     ensures small { result.code < 4 }
@@ -278,10 +342,9 @@ fn word_inside(run: &[i32], at: usize, size: usize) -> NextWord
         → result.word ≡ group_word One (take size (drop at (differences before run.now))) }
 {
     match size {
-        1 => formed_inside(run, at, 1, form_of(1)),
-        2 => formed_inside(run, at, 2, form_of(2)),
         3 => formed_inside(run, at, 3, form_of(3)),
-        _ => formed_inside(run, at, 4, form_of(4)),
+        4 => formed_inside(run, at, 4, form_of(4)),
+        _ => pair_inside(run, at, size),
     }
 }
 

@@ -28,4 +28,5 @@ pub mod WordRoom
 pub mod Windows
 pub mod Masks
 pub mod PairWalks
+pub mod TwoOrOne
 pub mod LastSamples

@@ -1,5 +1,5 @@
 -- Bits of masks.
-use Rattle.std.proofs.Common.{◌≡◌, ◌<◌, ◌≤◌, ℕ, ◌+◌, ◌-◌, ◌*◌, ◌/◌, ◌%◌, ◌^◌, ltb, Bool, true, false, cond, map, List, length, get_or, refl, sym, ap, ◌∙◌, arith, subst, bit_and, min, lit<}
+use Rattle.std.proofs.Common.{◌≡◌, ℕ, ◌+◌, ◌/◌, ◌%◌, ◌^◌, ltb, Bool, true, false, cond, map, List, length, get_or, refl, sym, ap, ◌∙◌, arith, bit_and}
 use Rattle.std.specs.Prelude.{◌↔◌, nat_lt, IsTrue}
 use Rattle.std.specs.Int.{bit_at}
 use Rattle.std.proofs.lemmas.Bool.Decides.{nat_tests}
@@ -9,7 +9,6 @@ use Rattle.std.proofs.lemmas.Nat.Bits.{bit_at_and, bit_at-lt, bit_at-zero, bit_a
 use Rattle.std.proofs.lemmas.Simd.{bit_mask_l}
 use lib.Lanes.{mask_l}
 use Rattle.msr_words.specs.Pairs.{AreBelow, ArePairs}
-use Rattle.msr_words.specs.declared.pairs.Pairs.{Pairs}
 
 abbrev one_if : Bool → ℕ
 one_if b = cond b 1 0
@@ -27,8 +26,7 @@ compared sizes limit mask long is = record {
       let e : bit_at mask k ≡ cond (ltb (get_or sizes k 0) limit) 1 0 =
       ap (λ n. bit_at n k) is ∙ bit_mask_l (map p sizes) k
       ∙ ap (λ b. cond b 1 0) (get_or-map p sizes k 0 false (omega (arith, less, long))) in
-      let s = set_if (nat_lt (get_or sizes k 0) limit) in
-      (
+      let s = set_if (nat_lt (get_or sizes k 0) limit) in (
         λ one. let t : IsTrue (nat_lt (get_or sizes k 0) limit) = s.0 (sym e ∙ one) in grind (arith, nat_tests),
         λ small. let t : IsTrue (nat_lt (get_or sizes k 0) limit) = grind (arith, nat_tests) in e ∙ s.1 t,
       );

@@ -1,5 +1,5 @@
 -- A walk over Steim-1 words of two differences or one.
-use Rattle.std.proofs.Common.{◌≡◌, ◌<◌, ◌≤◌, ℕ, suc, ◌+◌, ◌-◌, ℤ, Bool, true, false, List, length, drop, get_or, None, refl, sym, ap, ◌∙◌, subst, arith, bit_or, inl, inr, ⊎_elim}
+use Rattle.std.proofs.Common.{◌≡◌, ◌<◌, ◌≤◌, ℕ, suc, ◌+◌, ◌-◌, ℤ, Bool, true, false, List, drop, get_or, None, refl, sym, ap, subst, arith, bit_or, inl, inr, ⊎_elim}
 use Rattle.std.specs.Prelude.{◌↔◌, nat_lt, IsTrue}
 use Rattle.std.specs.Int.{bit_at}
 use Rattle.std.proofs.lemmas.Bool.{cases_lt}
@@ -13,7 +13,6 @@ use Rattle.msr_words.specs.Steim1Reach.{IsSteim1Reach, IsSteim1Word}
 use Rattle.msr_words.specs.Window.{AreSeen, IsWindow, Stretch}
 use Rattle.msr_words.specs.declared.pairs.Pairs.{Pairs}
 use Rattle.msr_words.specs.declared.pairs.Walk.{Walk}
-use Rattle.msr_words.proofs.Plain.{length-differences}
 use Rattle.msr_words.proofs.Steim1Runs.{behind, left_behind, length-behind}
 use Rattle.msr_words.proofs.Steim1Sizes.{single_next, two_next}
 use Rattle.msr_words.proofs.Steim1Words.{word_law}
@@ -107,7 +106,10 @@ pub pass_on : (samples : List ℤ) (window : Stretch) (pairs : Pairs) (at : ℕ)
     → (IsTrue after ↔ (bit_at pairs.small (walk.at + (1 + bit_at pairs.both (walk.at - window.first)) - window.first - 1) ≡ 1))
     → HasWalked samples start walk
     → HasWalked samples start (record {
-        at = walk.at + (1 + bit_at pairs.both (walk.at - window.first)); words = walk.words + 1; spare = after })
+      at = walk.at + (1 + bit_at pairs.both (walk.at - window.first));
+      words = walk.words + 1;
+      spare = after;
+    })
 pass_on samples window pairs at start walk after is le early are told walked =
     let b = is.before in
     let u = is.until in

@@ -57,13 +57,7 @@ fn next_word(sizes: FourSizes, spare: bool) -> NextWord
 
 /// Goes on by `pass_pairs`, if that is asked for.
 #[inline(always)]
-fn pass_if(
-    in_pairs: bool,
-    window: &mut Window,
-    samples: &[i32],
-    walk: Walk,
-    last: usize,
-) -> Walk
+fn pass_if(in_pairs: bool, window: &mut Window, samples: &[i32], walk: Walk, last: usize) -> Walk
     requires within { walk.at ≤ length samples.now }
     requires window { IsWindow samples.now walk.at window.old }
     requires few { walk.words ≤ last }

@@ -195,11 +195,12 @@ impl Window {
     {
         let one = self.sizes[place];
         let two = self.sizes[place + 1];
-        if one | two >= 32_768 {
-            return Some(1);
-        }
         if two >= 128 {
-            return Some(2);
+            // Two or one, without a jump by which.
+            return Some(1 + usize::from(one | two < 32_768));
+        }
+        if one >= 32_768 {
+            return Some(1);
         }
         let four = two | self.sizes[place + 2] | self.sizes[place + 3];
         if four >= 128 {

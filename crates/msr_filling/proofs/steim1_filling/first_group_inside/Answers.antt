@@ -1,5 +1,8 @@
 -- By the sizes of the five differences.
-use Rattle.std.proofs.Common.{arith, ◌≡◌, ◌-◌, ℕ, ℤ, List, Option, length, drop}
+use Rattle.std.proofs.Common.{arith, ◌≡◌, ◌-◌, ℕ, ℤ, List, Option, length, drop, bit_or}
+use Rattle.std.proofs.lemmas.Nat.{le_or_l}
+use Rattle.msr_words.specs.FirstGroup.{IsCanonicalFirst}
+use Rattle.msr_words.proofs.TwoOrOne.{one_or_two, pair_fits}
 use Rattle.std.proofs.lemmas.List.{length-drop}
 use Rattle.msr_words.specs.Segment.{differences}
 use Rattle.msr_words.proofs.Plain.{length-differences}
@@ -12,20 +15,27 @@ long before run at =
     let l = length-drop at (differences before run) in
     omega arith
 
-pub returns-then-one-two-ge32768-clause-first : goal.returns-then-one-two-ge32768-clause-first
-returns-then-one-two-ge32768-clause-first c before fits =
+pub returns-then-one-ge32768-clause-first : goal.returns-then-one-ge32768-clause-first
+returns-then-one-ge32768-clause-first c before fits =
     let ds = drop c.args.at (differences before c.args.run.now) in
     let l = long before c.args.run.now c.args.at in
+    let m = le_or_l c.size_inside-one.result c.size_inside-two.result in
     one_apart ds c.size_inside-one.result c.size_inside-two.result (c.size_inside-one.ensures before)
     (c.size_inside-two.ensures before) (fits_from c.args.at (differences before c.args.run.now) fits)
-    (omega (arith, c.requires.room)) c.if-one-two-ge32768.true
+    (omega (arith, c.requires.room)) (omega (arith, c.if-one-ge32768.true))
 
 pub returns-then-two-ge128-clause-first : goal.returns-then-two-ge128-clause-first
 returns-then-two-ge128-clause-first c before fits =
     let ds = drop c.args.at (differences before c.args.run.now) in
-    two_large ds c.size_inside-one.result c.size_inside-two.result (c.size_inside-one.ensures before)
-    (c.size_inside-two.ensures before) (fits_from c.args.at (differences before c.args.run.now) fits)
-    c.if-one-two-ge32768.false c.if-two-ge128.true
+    let l = long before c.args.run.now c.args.at in
+    let one = c.size_inside-one.result in
+    let two = c.size_inside-two.result in
+    let all = fits_from c.args.at (differences before c.args.run.now) fits in
+    one_or_two (bit_or one two) c.from.result (IsCanonicalFirst ds) c.from.ensures
+    (λ less. two_large ds one two (c.size_inside-one.ensures before) (c.size_inside-two.ensures before) all less
+    c.if-two-ge128.true)
+    (λ more. one_apart ds one two (c.size_inside-one.ensures before) (c.size_inside-two.ensures before) all
+    (omega (arith, c.requires.room)) more)
 
 pub returns-then-four-ge128-clause-first : goal.returns-then-four-ge128-clause-first
 returns-then-four-ge128-clause-first c before fits =
@@ -34,7 +44,7 @@ returns-then-four-ge128-clause-first c before fits =
     two_few ds c.size_inside-one.result c.size_inside-two.result c.size_inside.result c.size_inside-2.result
     (c.size_inside-one.ensures before) (c.size_inside-two.ensures before) (c.size_inside.ensures before)
     (c.size_inside-2.ensures before) (fits_from c.args.at (differences before c.args.run.now) fits)
-    c.if-one-two-ge32768.false c.if-four-ge128.true (λ e. omega (arith, c.requires.room))
+    (pair_fits _ _ c.if-one-ge32768.false c.if-two-ge128.false) c.if-four-ge128.true (λ e. omega (arith, c.requires.room))
 
 pub returns-then-one-lt128-clause-first : goal.returns-then-one-lt128-clause-first
 returns-then-one-lt128-clause-first c before fits =
@@ -58,5 +68,5 @@ returns-else-size_inside-lt128-clause-first c before fits =
     two_before ds c.size_inside-one.result c.size_inside-two.result c.size_inside.result c.size_inside-2.result
     c.size_inside-3.result (c.size_inside-one.ensures before) (c.size_inside-two.ensures before)
     (c.size_inside.ensures before) (c.size_inside-2.ensures before) (c.size_inside-3.ensures before)
-    (fits_from c.args.at (differences before c.args.run.now) fits) c.if-one-two-ge32768.false
+    (fits_from c.args.at (differences before c.args.run.now) fits) (pair_fits _ _ c.if-one-ge32768.false c.if-two-ge128.false)
     c.if-one-lt128.false c.if-size_inside-lt128.false

@@ -1,6 +1,5 @@
 -- One word more.
-use Rattle.std.proofs.Common.{arith, ◌+◌, ◌-◌, subst, ◌≤◌}
-use Rattle.msr_words.specs.Pairs.{HasWalked}
+use Rattle.std.proofs.Common.{arith}
 use Rattle.msr_words.proofs.PairWalks.{pass_on}
 use Rattle.msr_words.proofs.window.Window.pass_pairs.Goals as goal
 

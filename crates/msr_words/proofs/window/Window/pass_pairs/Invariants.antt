@@ -1,5 +1,5 @@
 -- Each word so far holds as many differences as it can.
-use Rattle.std.proofs.Common.{◌-◌, ◌≡◌, ◌<◌, ◌≤◌, ◌+◌, ℕ}
+use Rattle.std.proofs.Common.{◌-◌, ◌≤◌, ℕ}
 use Rattle.msr_words.specs.Pairs.{HasWalked}
 use Rattle.msr_words.proofs.window.Window.pass_pairs.Given as goal
 
