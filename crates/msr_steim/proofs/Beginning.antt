@@ -2,6 +2,7 @@
 use Rattle.std.proofs.Common.{◌≡◌, ◌<◌, ◌≤◌, ℕ, zero, suc, ◌+◌, ◌*◌, ◌/◌, ◌%◌, ◌^◌, ℤ, pos, ◌+ℤ◌, List, [], ◌∷◌, ◌++◌, length, take, get_or, min, refl, sym, ap, ◌∙◌, subst, arith, w32, Option, Some, None, append_assoc, length-append, ⊎_elim}
 use Rattle.std.specs.Int.{int_wrap}
 use Rattle.std.specs.Prelude.{IfSome, IsSomeAnd, ◌⊎◌}
+use Rattle.std.proofs.Math.Nat.{mul_assoc}
 use Rattle.std.proofs.lemmas.List.{length-take, take_all, take_more}
 use Rattle.std.proofs.lemmas.Nat.{mul-mod_first, pow-add}
 use Rattle.msr_base.specs.declared.order.Order.{Order}
@@ -36,7 +37,7 @@ held_differences version order area number group holds =
     holds_one version code word (numbers_of layout word) group
     (numbers_hold layout word group (has_bits version code (word / 2 ^ 30)) holds) holds
 
-one_group : (version : Version) (order : Order) (area : List ℕ) (number : ℕ) (group : List ℤ)
+pub one_group : (version : Version) (order : Order) (area : List ℕ) (number : ℕ) (group : List ℤ)
     → number < word_count area → WordHolds version order area number group
     → differences_from version order area number ≡ group ++ differences_from version order area (number + 1)
 one_group version order area number group within holds =
@@ -67,7 +68,7 @@ held_in_order version order area groups (suc words) held within =
 
 -- ---- what the first difference is added to
 
-first_part : (first before : ℤ) (group rest all : List ℤ) → all ≡ group ++ rest
+pub first_part : (first before : ℤ) (group rest all : List ℤ) → all ≡ group ++ rest
     → samples_of first all ≡ sums_after before all
     → samples_of first group ≡ sums_after before group
 first_part first before [] rest all same begins = refl
@@ -77,24 +78,30 @@ first_part first before (d ∷ ds) rest all same begins =
     let head : first ≡ int_wrap w32 (before +ℤ d) = ap (λ s. get_or s 0 (pos 0)) so in
     ap (λ x. x ∷ sums_after x ds) head
 
+-- while there is no sample, no difference was read
+pub none_before : (version : Version) (order : Order) (area : List ℕ) (count number : ℕ) (samples : List ℤ)
+    → AreReadBelow version order area count number (constant order area 1) samples → length samples ≡ 0
+    → differences_from version order area 0 ≡ differences_from version order area number
+none_before version order area count number samples read none =
+    let size : length (differences read.groups) ≡ 0 =
+    sym (length-samples_of (constant order area 1) (differences read.groups)) ∙ ap length (sym read.sums) ∙ none in
+    let empty : differences read.groups ≡ [] = no_samples (constant order area 1) (differences read.groups) size in
+    held_in_order version order area read.groups (length read.groups) read.held (omega arith)
+    ∙ ap (λ gs. differences gs ++ differences_from version order area (length read.groups))
+    (take_all (length read.groups) read.groups (omega arith))
+    ∙ ap (λ ds. ds ++ differences_from version order area (length read.groups)) empty
+    ∙ ap (differences_from version order area) read.number_is
+
 pub begins_here : (version : Version) (order : Order) (area : List ℕ) (count number : ℕ) (samples group : List ℤ)
     (last : ℤ)
     → AreReadBelow version order area count number (constant order area 1) samples → length samples ≡ 0
     → BeginsAfter version order area last → number < word_count area → WordHolds version order area number group
     → samples_of (constant order area 1) group ≡ sums_after last group
 begins_here version order area count number samples group last read none begins within here =
-    let rest = differences_from version order area (number + 1) in
-    let size : length (differences read.groups) ≡ 0 =
-    sym (length-samples_of (constant order area 1) (differences read.groups)) ∙ ap length (sym read.sums) ∙ none in
-    let empty : differences read.groups ≡ [] = no_samples (constant order area 1) (differences read.groups) size in
-    let before : differences_from version order area 0 ≡ differences_from version order area number =
-    held_in_order version order area read.groups (length read.groups) read.held (omega arith)
-    ∙ ap (λ gs. differences gs ++ differences_from version order area (length read.groups))
-    (take_all (length read.groups) read.groups (omega arith))
-    ∙ ap (λ ds. ds ++ differences_from version order area (length read.groups)) empty
-    ∙ ap (differences_from version order area) read.number_is in
-    first_part (constant order area 1) last group rest (differences_from version order area 0)
-    (before ∙ one_group version order area number group within here) begins.sums
+    first_part (constant order area 1) last group (differences_from version order area (number + 1))
+    (differences_from version order area 0)
+    (none_before version order area count number samples read none
+    ∙ one_group version order area number group within here) begins.sums
 
 -- the first samples begin after it, the others after the one before
 pub starts_here : (version : Version) (order : Order) (area : List ℕ) (number code word : ℕ) (at : Place) (out : List ℤ)
@@ -158,12 +165,20 @@ code_here order area frame slot codes some small late same =
     code_data order area frame slot word (codes / 1073741824) some small late refl
     (ap (λ n. n / 1073741824) same ∙ code_shifted word slot small)
 
--- shifted by two more
+-- shifted by those of so many words
+pub codes_by : (codes word slot words : ℕ) → codes ≡ word * 2 ^ (2 * slot) % 4294967296
+    → codes * 2 ^ (2 * words) % 4294967296 ≡ word * 2 ^ (2 * (slot + words)) % 4294967296
+codes_by codes word slot words same =
+    let more : 2 * (slot + words) ≡ 2 * slot + 2 * words = omega arith in
+    let power : 2 ^ (2 * (slot + words)) ≡ 2 ^ (2 * slot) * 2 ^ (2 * words) =
+    ap (λ n. 2 ^ n) more ∙ pow-add 2 (2 * slot) (2 * words) in
+    let product : word * 2 ^ (2 * slot) * 2 ^ (2 * words) ≡ word * 2 ^ (2 * (slot + words)) =
+    mul_assoc word (2 ^ (2 * slot)) (2 ^ (2 * words)) ∙ ap (λ n. word * n) (sym power) in
+    ap (λ n. n * 2 ^ (2 * words) % 4294967296) same
+    ∙ mul-mod_first (word * 2 ^ (2 * slot)) (2 ^ (2 * words)) 4294967296
+    ∙ ap (λ n. n % 4294967296) product
+
+-- by that of one
 pub codes_on : (codes word slot : ℕ) → codes ≡ word * 2 ^ (2 * slot) % 4294967296
     → codes * 4 % 4294967296 ≡ word * 2 ^ (2 * (slot + 1)) % 4294967296
-codes_on codes word slot same =
-    let more : 2 * (slot + 1) ≡ 2 * slot + 2 = omega arith in
-    let power : 2 ^ (2 * (slot + 1)) ≡ 2 ^ (2 * slot) * 4 = ap (λ n. 2 ^ n) more ∙ pow-add 2 (2 * slot) 2 in
-    let product : word * 2 ^ (2 * slot) * 4 ≡ word * 2 ^ (2 * (slot + 1)) = rw power (omega arith) in
-    ap (λ n. n * 4 % 4294967296) same ∙ mul-mod_first (word * 2 ^ (2 * slot)) 4 4294967296
-    ∙ ap (λ n. n % 4294967296) product
+codes_on codes word slot same = codes_by codes word slot 1 same

@@ -29,7 +29,7 @@ no_layout word (Some d) bits few reaches =
     let fields : AreFields word (numbers_in word d.width d.count) d = numbers_are_fields word d.width d.count bits in
     absurd (omega (arith, reaches (numbers_in word d.width d.count) fields, fields.count, few))
 
-pub undefined_alone : (version : Version) (code word n : ℕ) → n ≡ 8 → ReachesEnd version code word 0 n
+pub undefined_alone : (version : Version) (code word n : ℕ) → 8 ≤ n → ReachesEnd version code word 0 n
     → IsUndefinedWord version code word
 undefined_alone version code word n size ends =
     no_layout word (layout_of version code (word / 2 ^ 30)) (has_bits version code (word / 2 ^ 30))

@@ -17,11 +17,11 @@ use Rattle.msr_steim.proofs.Shifts.{lifted, lowered, signed_fits}
 -- ---- one lane
 
 -- what the code makes of sixteen bits
-abbrev lane : ℕ → ℕ → ℕ → ℤ
+abbrev pub lane : ℕ → ℕ → ℕ → ℤ
 lane bits factor down = to_z w16 (of_z w16 (shr_z (to_z w16 (bits * factor % 65536)) (2 ^ down)))
 
 -- the number in a field of sixteen bits, `after` bits from the highest
-lane_is : (bits low width after : ℕ) → 0 < width → width + low + after ≡ 16
+pub lane_is : (bits low width after : ℕ) → 0 < width → width + low + after ≡ 16
     → lane bits (2 ^ after) (low + after) ≡ signed_of width (bits / 2 ^ low % 2 ^ width)
 lane_is bits low width after positive whole =
     let up = lifted bits low width after in
@@ -101,12 +101,12 @@ field_is word bits from low width after bits_is positive whole =
     ∙ ap (λ n. signed_of width (n % 2 ^ width)) moved
 
 -- pairs of neighbours as numbers of sixteen bits
-abbrev halves : List ℕ → List ℕ
+abbrev pub halves : List ℕ → List ℕ
 halves [] = []
 halves (a ∷ []) = []
 halves (a ∷ b ∷ rest) = (a + 256 * b) ∷ halves rest
 
-halves_are : (n : ℕ) (bytes : List ℕ) → length bytes ≡ 2 * n → Each1 (λ b. b < 256) bytes
+pub halves_are : (n : ℕ) (bytes : List ℕ) → length bytes ≡ 2 * n → Each1 (λ b. b < 256) bytes
     → digits_l 65536 n (number_l 256 bytes) ≡ halves bytes
 halves_are zero [] size below = refl
 halves_are zero (a ∷ bytes) size below = absurd (omega (arith, size))
@@ -157,7 +157,7 @@ lanes_are word places factors down numbers small size are =
     (placed_below (splat_bytes word) 0 places known.below))
     ∙ are (splat_bytes word) known
 
-cons : {x y : ℤ} {xs ys : List ℤ} → x ≡ y → xs ≡ ys → x ∷ xs ≡ y ∷ ys
+pub cons : {x y : ℤ} {xs ys : List ℤ} → x ≡ y → xs ≡ ys → x ∷ xs ≡ y ∷ ys
 cons {x} {y} {xs} {ys} e f = ap (λ z. z ∷ xs) e ∙ ap (λ zs. y ∷ zs) f
 
 -- the rows of each layout

@@ -102,6 +102,11 @@ FillLanes word key ds =
     IfSome (layout_of Two (key / 4) (key % 4)) (λ layout.
     ds ≡ numbers_in word layout.width layout.count ++ replicate (8 - layout.count) (pos 0))
 
+-- a number of fewer bits has no more than ten
+pub ten_bits : (width : ℕ) → width ≤ 10 → (z : ℤ) → FitsBits width z → FitsBits 10 z
+ten_bits width small (pos n) fits = omega (arith, fits, pow-le-pow_right {n = 2} (lit< tt) {i = width - 1} {j = 9} (omega arith))
+ten_bits width small (negsuc n) fits = omega (arith, fits, pow-le-pow_right {n = 2} (lit< tt) {i = width - 1} {j = 9} (omega arith))
+
 pub small_lanes : (word key : ℕ) (ds : List ℤ) → HasThree key → FillLanes word key ds → AllByRecursion (FitsBits 10) ds
 small_lanes word key ds three =
     by_key (λ k. FillLanes word k ds → AllByRecursion (FitsBits 10) ds) (fill 8 4 (lit≤ tt) (lit< tt))
@@ -109,10 +114,6 @@ small_lanes word key ds three =
     (fill 10 3 (lit≤ tt) (lit< tt)) (fill 6 5 (lit≤ tt) (lit< tt)) (fill 5 6 (lit≤ tt) (lit< tt))
     (fill 4 7 (lit≤ tt) (lit< tt)) key three
   where
-    wider : (width : ℕ) → width ≤ 10 → (z : ℤ) → FitsBits width z → FitsBits 10 z
-    wider width small (pos n) fits = omega (arith, fits, pow-le-pow_right {n = 2} (lit< tt) {i = width - 1} {j = 9} (omega arith))
-    wider width small (negsuc n) fits = omega (arith, fits, pow-le-pow_right {n = 2} (lit< tt) {i = width - 1} {j = 9} (omega arith))
-
     zeros : (n : ℕ) → AllByRecursion (FitsBits 10) (replicate n (pos 0))
     zeros zero = tt
     zeros (suc n) = (lit< tt, zeros n)
@@ -120,7 +121,7 @@ small_lanes word key ds three =
     both : (width : ℕ) → width ≤ 10 → (ns : List ℤ) (n : ℕ) → AllByRecursion (FitsBits width) ns
         → AllByRecursion (FitsBits 10) (ns ++ replicate n (pos 0))
     both width small [] n fits = zeros n
-    both width small (z ∷ ns) n fits = (wider width small z fits.0, both width small ns n fits.1)
+    both width small (z ∷ ns) n fits = (ten_bits width small z fits.0, both width small ns n fits.1)
 
     fill : (width count : ℕ) → width ≤ 10 → 0 < width
         → ds ≡ numbers_in word width count ++ replicate (8 - count) (pos 0) → AllByRecursion (FitsBits 10) ds
@@ -190,7 +191,7 @@ samples_are last ds last_fits size small =
     ∙ each_sample last (pos 0) ds last_fits fits
     ∙ ap (λ z. sums_after z ds) (no_more last last_fits)
 
-sample_fits : (v : ℤ) (ds : List ℤ) (i : ℕ) → SFits w32 (get_or (sums_after v ds) i (pos 0))
+pub sample_fits : (v : ℤ) (ds : List ℤ) (i : ℕ) → SFits w32 (get_or (sums_after v ds) i (pos 0))
 sample_fits v [] zero = record { sfits = lit< tt }
 sample_fits v [] (suc i) = record { sfits = lit< tt }
 sample_fits v (d ∷ ds) zero = SFits-int_wrap w32 (v +ℤ d)

@@ -43,7 +43,7 @@ first_sums first group (d ∷ ds) same some f g =
 
 -- ---- the samples of one more group
 
-sums_after_append : (x : ℤ) (es gs : List ℤ)
+pub sums_after_append : (x : ℤ) (es gs : List ℤ)
     → sums_after x (es ++ gs) ≡ sums_after x es ++ sums_after (get_or (x ∷ sums_after x es) (length es) (pos 0)) gs
 sums_after_append x [] gs = refl
 sums_after_append x (e ∷ es) gs = ap (λ s. int_wrap w32 (x +ℤ e) ∷ s) (sums_after_append (int_wrap w32 (x +ℤ e)) es gs)

@@ -23,6 +23,12 @@ pub record IsGroupWritten (word count width : ℕ) (at : Place) (old new : List 
       (take at.place old ++ sums_after at.last (numbers_in word width count))
   pub last : next.last ≡ slice_index_or new (next.place - 1) (pos 0)
 
+-- the sums of these differences were written from `at` on, and `next` is the place after the last
+pub record AreSumsWritten (differences : List ℤ) (at : Place) (old new : List ℤ) (next : Place) : Type 0 where
+  pub place : next.place ≡ at.place + length differences
+  pub samples : take next.place new ≡ take at.place old ++ sums_after at.last differences
+  pub last : next.last ≡ slice_index_or new (next.place - 1) (pos 0)
+
 -- the samples of a word were written, and a place is left after them; if there are none, nothing has changed
 pub record IsInnerWritten (version : Version) (code word : ℕ) (at : Place) (old new : List ℤ)
     (next : Place) : Type 0 where

@@ -6,6 +6,7 @@ ghost use Rattle.msr_kinds.specs.declared.storage.Version.{Version};
 ghost use Rattle.msr_steim.specs.Area.{CarriesSteim, EndsBefore, IsUndefinedBefore, ReverseAgrees, arranged_word, constant, whole_word};
 
 use crate::borrowed::before_first;
+use crate::fours::write_sixteen;
 use crate::sums::{Place, write_last_word, write_next_word};
 use byteorder::{BigEndian, ByteOrder, LittleEndian};
 use msr_base::{Order, SampleVec};
@@ -117,14 +118,26 @@ fn count_codes(codes: u32) -> (u32, u32, u32)
     )
 }
 
-/// Whether a big-endian area is to be read without jumps by the sizes of its groups: a guess, by the codes of its first
-/// frame and of one in the middle, that they mix. No sample depends on it. From one word in seven of another code on, the
-/// jump is dearer; four of the 28 are enough.
-pub(crate) fn mixes(version: Version, order: Order, area: &[u8]) -> bool
-    ensures { IsTrue result → order ≡ Order.Big }
+/// How the words of an area are read. No sample depends on it.
+#[derive(Clone, Copy, Debug, PartialEq, Eq)]
+pub(crate) enum Reading {
+    /// With a jump by the size of each group.
+    ByJumps,
+    /// Without one: the sizes mix, so that it could not be predicted.
+    ByLanes,
+    /// So too, and four words of code 1 at once.
+    ByFours,
+}
+
+/// How an area is to be read: a guess, by the codes of its first frame and of one in the middle. Little-endian areas are
+/// read by jumps. From one word in seven of another code on, the jump is dearer; four of the 28 are enough. Four words of
+/// code 1 follow one another often enough if half of all have it.
+pub(crate) fn reading_for(version: Version, order: Order, area: &[u8]) -> Reading
+    ensures lanes { result ≡ Reading.ByLanes → order ≡ Order.Big }
+    ensures fours { result ≡ Reading.ByFours → order ≡ Order.Big }
 {
     if order == Order::Little || area.len() < 64 {
-        return false;
+        return Reading::ByJumps;
     }
     let (ones, twos, threes) = count_codes(whole_word_at(order, area, 0));
     let (more_ones, more_twos, more_threes) = count_codes(whole_word_at(
@@ -135,17 +148,24 @@ pub(crate) fn mixes(version: Version, order: Order, area: &[u8]) -> bool
     let many_ones = ones + more_ones >= 4;
     let many_twos = twos + more_twos >= 4;
     let many_threes = threes + more_threes >= 4;
-    match version {
+    let mixed = match version {
         Version::One => many_twos && many_threes,
         // Code 3 has groups of five, six and seven, which all go by lanes; of code 2 only three do.
         Version::Two => many_threes || many_ones && many_twos,
+    };
+    if ones + more_ones >= 14 {
+        Reading::ByFours
+    } else if mixed {
+        Reading::ByLanes
+    } else {
+        Reading::ByJumps
     }
 }
 
-/// Reads word after word until `out` is full. `MIXED` is as of `write_next_word`. Inlined with literals for version and
-/// order, each word is read without a test of them.
+/// Reads word after word until `out` is full. `MIXED` is as of `write_next_word`, and `FOURS` takes four words of code 1 at
+/// once. Inlined with literals for version and order, each word is read without a test of them.
 #[inline(always)]
-fn decode_words<const MIXED: bool>(
+fn decode_words<const MIXED: bool, const FOURS: bool>(
     version: Version,
     order: Order,
     area: &[u8],
@@ -154,6 +174,7 @@ fn decode_words<const MIXED: bool>(
     requires some { 1 ≤ length out.old }
     requires few { length out.old ≤ 65535 }
     requires small { length area.now ≤ 1048576 }
+    requires fours { IsTrue FOURS → order ≡ Order.Big }
     ensures samples { OnOk result (CarriesSteim version order area.now out.new) }
     ensures reverse { IfOk result (λ agrees. IsTrue agrees ↔ ReverseAgrees order area.now out.new) }
     ensures short { IsErrOf result SteimFault.DataShort → EndsBefore version order area.now (length out.old) }
@@ -168,11 +189,17 @@ fn decode_words<const MIXED: bool>(
     let last = before_first(version, order, area);
     let mut at = Place { place: 0, last };
     for frame in 0..frames {
-        let from = first_slot(frame);
-        // The code of the next word stands in the highest bits.
-        let mut codes = whole_word_at(order, area, 16 * frame) << (2 * from);
-        for slot in from..16 {
+        let mut slot = first_slot(frame);
+        // The code of the next word stands in the highest bits, and zeros come after that of the last.
+        let mut codes = whole_word_at(order, area, 16 * frame) << (2 * slot);
+        while slot < 16 {
             let number = 16 * frame + slot;
+            if FOURS && codes >> 24 == 0x55 && at.place + 16 < out.len() {
+                at = write_sixteen(area, 4 * number, at, out);
+                codes <<= 8;
+                slot += 4;
+                continue;
+            }
             let code = (codes >> 30) as u8;
             let word = arranged_word_at(version, order, code, area, number);
             let Some(next) = write_next_word::<MIXED>(version, code, word, at, out) else {
@@ -182,6 +209,7 @@ fn decode_words<const MIXED: bool>(
                 };
             };
             codes <<= 2;
+            slot += 1;
             at = next;
         }
     }
@@ -208,22 +236,50 @@ pub fn decode_steim_into(
         → IsUndefinedBefore version order area.now (length out.old) number }
     ensures never_memory { IsErrOf result SteimFault.Memory → ⊥ }
 {
-    if mixes(version, order, area) {
-        return match version {
-            Version::One => decode_words::<true>(Version::One, Order::Big, area, out),
-            Version::Two => decode_words::<true>(Version::Two, Order::Big, area, out),
-        };
-    }
-    match (version, order) {
-        (Version::One, Order::Big) => decode_words::<false>(Version::One, Order::Big, area, out),
-        (Version::One, Order::Little) => decode_words::<false>(
+    match (reading_for(version, order, area), version, order) {
+        (Reading::ByFours, Version::One, _) => decode_words::<true, true>(
+            Version::One,
+            Order::Big,
+            area,
+            out,
+        ),
+        (Reading::ByFours, Version::Two, _) => decode_words::<true, true>(
+            Version::Two,
+            Order::Big,
+            area,
+            out,
+        ),
+        (Reading::ByLanes, Version::One, _) => decode_words::<true, false>(
+            Version::One,
+            Order::Big,
+            area,
+            out,
+        ),
+        (Reading::ByLanes, Version::Two, _) => decode_words::<true, false>(
+            Version::Two,
+            Order::Big,
+            area,
+            out,
+        ),
+        (Reading::ByJumps, Version::One, Order::Big) => decode_words::<false, false>(
+            Version::One,
+            Order::Big,
+            area,
+            out,
+        ),
+        (Reading::ByJumps, Version::One, Order::Little) => decode_words::<false, false>(
             Version::One,
             Order::Little,
             area,
             out,
         ),
-        (Version::Two, Order::Big) => decode_words::<false>(Version::Two, Order::Big, area, out),
-        (Version::Two, Order::Little) => decode_words::<false>(
+        (Reading::ByJumps, Version::Two, Order::Big) => decode_words::<false, false>(
+            Version::Two,
+            Order::Big,
+            area,
+            out,
+        ),
+        (Reading::ByJumps, Version::Two, Order::Little) => decode_words::<false, false>(
             Version::Two,
             Order::Little,
             area,

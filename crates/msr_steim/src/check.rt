@@ -1,21 +1,24 @@
 //! Tells whether an area carries a given number of samples, without memory for them.
 
-ghost use Rattle.std.specs.Prelude.{◌≤◌, ℕ, IfOk, IsErrOf, length};
+ghost use Rattle.std.specs.Prelude.{◌≡◌, ◌≤◌, ℕ, IfOk, IsTrue, IsErrOf, length};
+ghost use Rattle.msr_base.specs.declared.order.Order.{Order};
 ghost use Rattle.msr_steim.specs.Area.{EndsBefore, IsUndefinedBefore};
 ghost use Rattle.msr_steim.specs.InOrder.{HasSamples};
 
 use crate::area::{
-    SteimFault, arranged_word_at, constant_at, first_slot, is_last, mixes, whole_word_at,
+    Reading, SteimFault, arranged_word_at, constant_at, first_slot, is_last, reading_for,
+    whole_word_at,
 };
 use crate::borrowed::before_first;
+use crate::fours::write_sixteen;
 use crate::sums::{Place, write_next_word};
 use msr_base::Order;
 use msr_kinds::Version;
 
-/// Reads word after word until it has seen `count` samples; it keeps the samples of one word at a time. `MIXED` is as of
-/// `write_next_word`. Inlined with literals for version and order, each word is read without a test of them.
+/// Reads word after word until it has seen `count` samples; it keeps the samples of one word at a time. `MIXED` and
+/// `FOURS` are as of `decode_words`. Inlined with literals for version and order, each word is read without a test of them.
 #[inline(always)]
-fn check_words<const MIXED: bool>(
+fn check_words<const MIXED: bool, const FOURS: bool>(
     version: Version,
     order: Order,
     area: &[u8],
@@ -23,6 +26,7 @@ fn check_words<const MIXED: bool>(
 ) -> Result<bool, SteimFault>
     requires some { 1 ≤ count }
     requires small { length area.now ≤ 1048576 }
+    requires fours { IsTrue FOURS → order ≡ Order.Big }
     ensures samples { IfOk result (HasSamples version order area.now count) }
     ensures short { IsErrOf result SteimFault.DataShort → EndsBefore version order area.now count }
     ensures bad { (number : ℕ) → IsErrOf result (SteimFault.BadCode number)
@@ -35,17 +39,24 @@ fn check_words<const MIXED: bool>(
     }
     let mut last = before_first(version, order, area);
     let mut left = usize::from(count);
-    // A word has at most seven samples, so that a place is left after them.
-    let mut samples = [0; 8];
+    // Four words of code 1 have sixteen samples, other words at most seven, so that a place is left after them.
+    let mut samples = [0; 17];
     for frame in 0..frames {
-        let from = first_slot(frame);
-        // The code of the next word stands in the highest bits.
-        let mut codes = whole_word_at(order, area, 16 * frame) << (2 * from);
-        for slot in from..16 {
+        let mut slot = first_slot(frame);
+        // The code of the next word stands in the highest bits, and zeros come after that of the last.
+        let mut codes = whole_word_at(order, area, 16 * frame) << (2 * slot);
+        while slot < 16 {
             let number = 16 * frame + slot;
+            let at = Place { place: 0, last };
+            if FOURS && codes >> 24 == 0x55 && left > 16 {
+                last = write_sixteen(area, 4 * number, at, &mut samples).last;
+                codes <<= 8;
+                slot += 4;
+                left -= 16;
+                continue;
+            }
             let code = (codes >> 30) as u8;
             let word = arranged_word_at(version, order, code, area, number);
-            let at = Place { place: 0, last };
             let Some(next) = write_next_word::<MIXED>(version, code, word, at, &mut samples) else {
                 return Err(SteimFault::BadCode(number as u32));
             };
@@ -53,6 +64,7 @@ fn check_words<const MIXED: bool>(
                 return Ok(is_last(&samples[..left], constant_at(order, area, 2)));
             }
             codes <<= 2;
+            slot += 1;
             left -= next.place;
             last = next.last;
         }
@@ -76,22 +88,50 @@ pub(crate) fn check_area(
         → IsUndefinedBefore version order area.now count number }
     ensures never_memory { IsErrOf result SteimFault.Memory → ⊥ }
 {
-    if mixes(version, order, area) {
-        return match version {
-            Version::One => check_words::<true>(Version::One, Order::Big, area, count),
-            Version::Two => check_words::<true>(Version::Two, Order::Big, area, count),
-        };
-    }
-    match (version, order) {
-        (Version::One, Order::Big) => check_words::<false>(Version::One, Order::Big, area, count),
-        (Version::One, Order::Little) => check_words::<false>(
+    match (reading_for(version, order, area), version, order) {
+        (Reading::ByFours, Version::One, _) => check_words::<true, true>(
+            Version::One,
+            Order::Big,
+            area,
+            count,
+        ),
+        (Reading::ByFours, Version::Two, _) => check_words::<true, true>(
+            Version::Two,
+            Order::Big,
+            area,
+            count,
+        ),
+        (Reading::ByLanes, Version::One, _) => check_words::<true, false>(
+            Version::One,
+            Order::Big,
+            area,
+            count,
+        ),
+        (Reading::ByLanes, Version::Two, _) => check_words::<true, false>(
+            Version::Two,
+            Order::Big,
+            area,
+            count,
+        ),
+        (Reading::ByJumps, Version::One, Order::Big) => check_words::<false, false>(
+            Version::One,
+            Order::Big,
+            area,
+            count,
+        ),
+        (Reading::ByJumps, Version::One, Order::Little) => check_words::<false, false>(
             Version::One,
             Order::Little,
             area,
             count,
         ),
-        (Version::Two, Order::Big) => check_words::<false>(Version::Two, Order::Big, area, count),
-        (Version::Two, Order::Little) => check_words::<false>(
+        (Reading::ByJumps, Version::Two, Order::Big) => check_words::<false, false>(
+            Version::Two,
+            Order::Big,
+            area,
+            count,
+        ),
+        (Reading::ByJumps, Version::Two, Order::Little) => check_words::<false, false>(
             Version::Two,
             Order::Little,
             area,

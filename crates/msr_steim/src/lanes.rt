@@ -94,7 +94,7 @@ fn lanes_of(key: usize, word: u32) -> i16x8
 
 /// The sum of each lane and all below it. Ten bits are few enough that no sum of eight wraps.
 #[inline(always)]
-fn prefix_sums(d: i16x8) -> i16x8
+pub(crate) fn prefix_sums(d: i16x8) -> i16x8
     requires eight { length d ≡ 8 }
     requires small { AllByRecursion (FitsBits 10) d }
     ensures { result ≡ sums_from (pos 0) d }

@@ -5,6 +5,7 @@
 mod area;
 mod borrowed;
 mod check;
+mod fours;
 mod frames;
 mod group;
 mod lanes;

@@ -1,8 +1,11 @@
 -- One more word was read.
 use Rattle.std.proofs.Common.{◌≡◌, ◌≢◌, ◌<◌, ◌+◌, ◌*◌, ◌/◌, ◌%◌, ◌^◌, length, take, arith, ap, refl, subst, ◌∙◌}
+use Rattle.std.proofs.lemmas.Bool.{ne_eqb}
+use mathlib.Core.Bool.{not}
 use Rattle.msr_steim.specs.Area.{IsUndefined, IsUndefinedBefore, arranged_word, code_of, constant}
 use Rattle.msr_steim.specs.Sums.{IsWritten, ReachesEnd}
-use Rattle.msr_steim.proofs.Beginning.{begins_on, code_here, codes_on, end_reached, starts_here}
+use Rattle.msr_steim.proofs.Beginning.{begins_on, code_here, codes_by, codes_on, end_reached, starts_here}
+use Rattle.msr_steim.proofs.FourWords.{AreOnes, four_place, four_reached, ones_within}
 use Rattle.msr_steim.proofs.Reading.{IsReached, IsStart, same_word, skip_first, slot_bounds, step_enough, step_more, undefined_before, undefined_so}
 use Rattle.msr_steim.proofs.area.decode_words.Goals as goal
 
@@ -12,9 +15,9 @@ loop-slot-init g c =
     let out = c.loop-frame.out in
     let area = c.args.area.now in
     let frame = c.loop-frame.frame in
-    let from = c.first_slot-from.result in
-    let zeroth = c.first_slot-from.ensures.first in
-    let others = c.first_slot-from.ensures.others in
+    let from = c.first_slot-slot.result in
+    let zeroth = c.first_slot-slot.ensures.first in
+    let others = c.first_slot-slot.ensures.others in
     let held = c.loop-frame.invariant in
     let bounds = slot_bounds frame from zeroth others in
     record {
@@ -29,6 +32,60 @@ loop-slot-init g c =
       some = bounds.0;
       late = bounds.1;
       few = bounds.2;
+    }
+
+pub write_sixteen-at-requires-clause-within : goal.write_sixteen-at-requires-clause-within
+write_sixteen-at-requires-clause-within g c =
+    let held = c.loop-slot.invariant in
+    let order = c.args.order in
+    let area = c.args.area.now in
+    (ones_within order area c.loop-frame.frame c.loop-slot.slot c.loop-slot.codes
+    (record {
+      big = c.requires.fours (ap not (ne_eqb g.row.FOURS 0 c.if-this-ne0.true));
+      fits = c.type_inv.area;
+      within = c.loop-frame-test.true;
+      some = held.some;
+      late = held.late;
+      same = held.codes;
+      ones = c.if-codes-eq85.true;
+    })).2
+
+pub loop-slot-preserved-then-at-out : goal.loop-slot-preserved-then-at-out
+loop-slot-preserved-then-at-out g c =
+    let held = c.loop-slot.invariant in
+    let order = c.args.order in
+    let area = c.args.area.now in
+    let frame = c.loop-frame.frame in
+    let slot = c.loop-slot.slot in
+    let codes = c.loop-slot.codes in
+    let at = c.loop-slot.at in
+    let next = c.write_sixteen-at.result in
+    let old = c.loop-slot.out in
+    let new = c.write_sixteen-at.new.out in
+    let are : AreOnes order area frame slot codes = record {
+      big = c.requires.fours (ap not (ne_eqb g.row.FOURS 0 c.if-this-ne0.true));
+      fits = c.type_inv.area;
+      within = c.loop-frame-test.true;
+      some = held.some;
+      late = held.late;
+      same = held.codes;
+      ones = c.if-codes-eq85.true;
+    } in
+    let reached : IsReached c.args.version order area (16 * frame + (slot + 4)) next new =
+    four_reached c.args.version order area frame slot codes at next old new are held.reached held.begins
+    c.write_sixteen-at.ensures c.write_sixteen-at.auto.out c.if-at-out.true in
+    record {
+      reached = reached;
+      begins = λ none. absurd (omega (
+        arith,
+        none,
+        four_place area frame slot at next old new
+            (ones_within order area frame slot codes are).2 c.write_sixteen-at.ensures,
+      ));
+      codes = codes_by codes _ slot 4 held.codes;
+      some = omega arith;
+      late = omega (arith, held.late);
+      few = (ones_within order area frame slot codes are).0;
     }
 
 pub returns-in-None-clause-bad : goal.returns-in-None-clause-bad

@@ -1,10 +1,13 @@
 -- One more word was looked at.
 use Rattle.std.proofs.Common.{◌≡◌, ◌<◌, ◌+◌, ◌-◌, ◌*◌, ◌/◌, ◌%◌, ◌^◌, ◌↔◌, IsTrue, Some, slice_get, length, take, to_z, of_z, w32, SFits, rules, arith, ap, refl, sym, subst, ◌∙◌}
+use Rattle.std.proofs.lemmas.Bool.{ne_eqb}
 use Rattle.std.proofs.lemmas.Int.{to_z-of_z}
+use mathlib.Core.Bool.{not}
 use Rattle.msr_steim.specs.declared.sums.Place.{Place}
 use Rattle.msr_steim.specs.Area.{IsUndefined, IsUndefinedBefore, code_of, constant}
-use Rattle.msr_steim.proofs.Beginning.{code_here, codes_on}
+use Rattle.msr_steim.proofs.Beginning.{code_here, codes_by, codes_on}
 use Rattle.msr_steim.proofs.Checking.{ArePassed, looked_at, none_passed, passed_enough, passed_on, undefined_alone}
+use Rattle.msr_steim.proofs.FourWords.{AreOnes, four_passed, ones_within}
 use Rattle.msr_steim.proofs.Reading.{same_word, skip_first, slot_bounds, undefined_before, undefined_so}
 use Rattle.msr_steim.proofs.check.check_words.Goals as goal
 
@@ -23,9 +26,9 @@ pub loop-slot-init : goal.loop-slot-init
 loop-slot-init g c =
     let area = c.args.area.now in
     let frame = c.loop-frame.frame in
-    let from = c.first_slot-from.result in
-    let zeroth = c.first_slot-from.ensures.first in
-    let others = c.first_slot-from.ensures.others in
+    let from = c.first_slot-slot.result in
+    let zeroth = c.first_slot-slot.ensures.first in
+    let others = c.first_slot-slot.ensures.others in
     let held = c.loop-frame.invariant in
     let bounds = slot_bounds frame from zeroth others in
     record {
@@ -41,6 +44,63 @@ loop-slot-init g c =
       some = bounds.0;
       late = bounds.1;
       few = bounds.2;
+    }
+
+pub write_sixteen-last-requires-clause-within : goal.write_sixteen-last-requires-clause-within
+write_sixteen-last-requires-clause-within g c =
+    let held = c.loop-slot.invariant in
+    let order = c.args.order in
+    let area = c.args.area.now in
+    let frame = c.loop-frame.frame in
+    let slot = c.loop-slot.slot in
+    let codes = c.loop-slot.codes in
+    let are : AreOnes order area frame slot codes = record {
+      big = c.requires.fours (ap not (ne_eqb g.row.FOURS 0 c.if-this-ne0.true));
+      fits = c.type_inv.area;
+      within = c.loop-frame-test.true;
+      some = held.some;
+      late = held.late;
+      same = held.codes;
+      ones = c.if-codes-eq85.true;
+    } in
+    (ones_within order area frame slot codes are).2
+
+pub loop-slot-preserved-then-left-gt16 : goal.loop-slot-preserved-then-left-gt16
+loop-slot-preserved-then-left-gt16 g c =
+    let version = c.args.version in
+    let held = c.loop-slot.invariant in
+    let order = c.args.order in
+    let area = c.args.area.now in
+    let frame = c.loop-frame.frame in
+    let slot = c.loop-slot.slot in
+    let codes = c.loop-slot.codes in
+    let count = c.args.count in
+    let at : Place = record { place = 0; last = to_z w32 c.loop-slot.last-bits } in
+    let next = c.write_sixteen-last.result in
+    let old = c.loop-slot.samples in
+    let new = c.write_sixteen-last.new.out in
+    let left = c.loop-slot.left - 16 in
+    let fits : SFits w32 next.last = search rules in
+    let are : AreOnes order area frame slot codes = record {
+      big = c.requires.fours (ap not (ne_eqb g.row.FOURS 0 c.if-this-ne0.true));
+      fits = c.type_inv.area;
+      within = c.loop-frame-test.true;
+      some = held.some;
+      late = held.late;
+      same = held.codes;
+      ones = c.if-codes-eq85.true;
+    } in
+    let on : ArePassed version order area (16 * frame + (slot + 4)) count left next.last =
+    four_passed version order area frame slot codes count c.loop-slot.left at next old new are held.passed refl
+    c.write_sixteen-last.ensures (omega (arith, c.write_sixteen-last.auto.out, c.if-left-gt16.array_long))
+    c.if-left-gt16.true in
+    record {
+      passed = subst (ArePassed version order area (16 * frame + (slot + 4)) count left)
+          (sym (to_z-of_z w32 next.last fits)) on;
+      codes = codes_by codes _ slot 4 held.codes;
+      some = omega arith;
+      late = omega (arith, held.late);
+      few = (ones_within order area frame slot codes are).0;
     }
 
 pub returns-in_default-clause-bad : goal.returns-in_default-clause-bad
@@ -59,7 +119,7 @@ returns-in_default-clause-bad g c =
     code_here order area frame slot c.loop-slot.codes held.some small held.late held.codes in
     let undefined : IsUndefined c.args.version order area number =
     undefined_so c.args.version order area number code word code_is c.arranged_word_at-word.ensures
-    (undefined_alone c.args.version code word (length c.loop-slot.samples) c.arranged_word_at-word.array_long
+    (undefined_alone c.args.version code word (length c.loop-slot.samples) (omega (arith, c.arranged_word_at-word.array_long))
     (c.in_default.ensures.none refl)) in
     let here : IsUndefinedBefore c.args.version order area c.args.count number =
     undefined_before c.args.version order area c.args.count number
