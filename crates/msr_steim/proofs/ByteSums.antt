@@ -1,7 +1,7 @@
 -- Bytes of an area that are differences, and how their sums are written.
 use Rattle.std.proofs.Common.{◌≡◌, ◌<◌, ◌≤◌, ℕ, suc, ◌+◌, ◌-◌, ◌*◌, ◌/◌, ◌%◌, ◌^◌, ℤ, pos, List, [], ◌∷◌, ◌++◌, length, take, drop, map, refl, sym, ap, ◌∙◌, subst, arith, w8, w16, w32, Fits, to_z, of_z, SFits, get_or, replicate, lit<, lit≤, append_assoc}
 use Rattle.std.specs.List.{AllByRecursion}
-use Rattle.std.proofs.lemmas.Int.{ints, to_z-of_z}
+use Rattle.std.proofs.lemmas.Int.{to_z-of_z}
 use Rattle.std.proofs.lemmas.List.{length-map, map-append, length-take, get_or-append-add, get_or-take, length-append}
 use Rattle.std.proofs.lemmas.Simd.{below_from_Fits, chunk-fits, length-chunk, take_more_put_chunk, get_or-put_chunk_at}
 use Rattle.std.proofs.Math.Seq.{take-add}
@@ -15,7 +15,7 @@ use Rattle.msr_steim.specs.Word.{FitsBits, signed_of}
 use Rattle.msr_steim.specs.declared.sums.Place.{Place}
 use Rattle.msr_steim.proofs.Decoding.{length-sums_after}
 use Rattle.msr_steim.proofs.InLanes.{cons, halves_are, lane_is}
-use Rattle.msr_steim.proofs.LaneSums.{casts_fit, same_bits, sample_fits, samples_are, samples_of_lanes, sums_fit, ten_bits}
+use Rattle.msr_steim.proofs.LaneSums.{same_bits, sample_fits, samples_are, samples_of_lanes, ten_bits}
 use Rattle.msr_steim.proofs.Reading.{sums_after_append}
 use Rattle.msr_steim.proofs.Shifts.{signed_fits}
 
@@ -92,14 +92,6 @@ eight_written at out ds sums next eight small sums_is room fits place last =
           ∙ sym (get_or-put_chunk_at at.place out samples 7 (pos 0) (omega (arith, long)) (omega (arith, long, room)))
           ∙ ap (λ i. get_or (put_chunk at.place out samples) i (pos 0)) end;
     })
-
-pub eight_casts : (ds sums : List ℤ) → length ds ≡ 8 → AllByRecursion (FitsBits 10) ds
-    → sums ≡ sums_from (pos 0) (map (to_z w16) (map (of_z w16) ds))
-    → Each1 (λ a. SFits w32 (to_z w16 a)) (map (of_z w16) sums)
-eight_casts ds sums eight small sums_is =
-    let exact : sums ≡ sums_from (pos 0) ds = sums_is ∙ ap (sums_from (pos 0)) (same_bits ds small) in
-    casts_fit sums (subst (Each1 (SFits w16)) (sym exact) (sums_fit 0 (pos 0) ds
-    (omega (arith, ints), omega (arith, ints)) (omega (arith, eight)) small))
 
 -- ---- the sums of two lists, one after the other
 

@@ -195,10 +195,6 @@ byte_groups area number zero = []
 byte_groups area number (suc words) =
     map (signed_of 8) (take 4 (drop (4 * number) area)) ∷ byte_groups area (number + 1) words
 
-pub length-byte_groups : (area : List ℕ) (number words : ℕ) → length (byte_groups area number words) ≡ words
-length-byte_groups area number zero = refl
-length-byte_groups area number (suc words) = ap suc (length-byte_groups area (number + 1) words)
-
 pub byte_groups_hold : (version : Version) (area : List ℕ) (number words : ℕ)
     → ((k : ℕ) → Fits w8 (get_or area k 0)) → 4 * (number + words) ≤ length area
     → ((k : ℕ) → k < words → code_of Big area (number + k) ≡ 1)

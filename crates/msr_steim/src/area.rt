@@ -125,7 +125,7 @@ pub(crate) enum Reading {
     ByJumps,
     /// Without one: the sizes mix, so that it could not be predicted.
     ByLanes,
-    /// So too, and four words of code 1 at once.
+    /// Without one, and four words of code 1 at once.
     ByFours,
 }
 

@@ -81,7 +81,8 @@ pub(crate) fn write_inner_word(
             2 => write_group(word, 2, 16, at, out),
             _ => write_group(word, 1, 32, at, out),
         },
-        // Each value has an arm of its own: only then LLVM makes one jump by a table of the match, with no test before it.
+        // Each value has an arm of its own: only then LLVM makes one jump by a table of the match. That no other value can
+        // come spares a test before it.
         Version::Two => match 4 * u32::from(code) + (word >> 30) {
             0 => Some(at),
             1 => Some(at),

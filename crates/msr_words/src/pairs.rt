@@ -1,5 +1,5 @@
 //! Steim-1 words of two differences or one, for a window of differences at once: a bit for each says which it is, and
-//! the walk from word to word takes no jump by it, which could not be predicted where both kinds of words mix.
+//! the walk from word to word takes no jump by it, which could not be predicted if both kinds of words mix.
 
 ghost use Rattle.std.specs.Prelude.{◌≡◌, ◌<◌, ◌≤◌, ◌+◌, ◌*◌, ◌-◌, ◌↔◌, IfSome, IsTrue};
 ghost use Rattle.std.specs.Int.{bit_at};
@@ -35,7 +35,7 @@ fn below(sizes: &[u32; 64], limit: u32) -> u64
         .to_bitmask()
 }
 
-/// Which words hold two differences, if no word holds more of these, or none.
+/// Which words hold two differences; `None` if some word may hold more than two, or none.
 #[inline(always)]
 pub(crate) fn pairs_of(sizes: &[u32; 64]) -> Option<Pairs>
     ensures { IfSome result (ArePairs sizes.now) }

@@ -55,7 +55,7 @@ fn next_word(sizes: FourSizes, spare: bool) -> NextWord
     }
 }
 
-/// Goes on by `pass_pairs`, if that is asked for.
+/// Goes on by `pass_pairs`, if that is asked for. It stands apart so that a proof of the walk has no branches to join.
 #[inline(always)]
 fn pass_if(in_pairs: bool, window: &mut Window, samples: &[i32], walk: Walk, last: usize) -> Walk
     requires within { walk.at ≤ length samples.now }
@@ -73,7 +73,7 @@ fn pass_if(in_pairs: bool, window: &mut Window, samples: &[i32], walk: Walk, las
 }
 
 /// The greatest end of a run of Steim-1 from `start` on. While words hold two differences or one, it goes from word to
-/// word without a jump by which it is; in a stretch where that failed, it is not tried again.
+/// word without a jump by which it is; where that fails once, it is not tried again.
 pub fn steim1_reach(samples: &[i32], record_length: Length, start: usize) -> usize
     requires { start ≤ length samples.now }
     ensures { IsEnd FirstSteim (bytes_of record_length) samples.now start result }

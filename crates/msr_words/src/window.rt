@@ -241,8 +241,8 @@ impl Window {
         self.longest_after(None, samples, at)
     }
 
-    /// Goes on over Steim-1 words of two differences or one, until `last` are passed or the window ends. If some of its
-    /// words may hold more, or none, the walk stays where it is.
+    /// Goes on over Steim-1 words of two differences or one, until `last` are passed or the window ends. The walk stays
+    /// where it is if `place_of` has no place for it, or if some word of the window may hold more than two, or none.
     #[inline(always)]
     pub(crate) fn pass_pairs(&mut self, samples: &[i32], walk: Walk, last: usize) -> Walk
         requires within { walk.at ≤ length samples.now }
