@@ -48,7 +48,8 @@ sources() {
 
 # A source that was changed since the file was, by either of its times: a copy can have an old one.
 newer_than() {
-    (cd "$root" && find crates.txt $(folders_below) \( -newer "$1" -o -cnewer "$1" \) -print -quit) || echo "what find cannot tell"
+    (cd "$root" && find crates.txt $(folders_below) \( -newer "$1" -o -cnewer "$1" \) -print -quit) 2>/dev/null ||
+        echo "a source that find cannot tell"
 }
 
 # tell PROGRAM SOURCES   The text that stands beside a program: the sum of its sources, its own, and what built it.
