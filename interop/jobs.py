@@ -1,0 +1,96 @@
+"""Jobs of a test, side by side on all processors, below a folder of their own, which goes with them whatever happens."""
+import concurrent.futures
+import contextlib
+import multiprocessing
+import os
+import signal
+import sys
+import tempfile
+import time
+import traceback
+from collections import Counter, namedtuple
+from concurrent.futures.process import BrokenProcessPool
+
+
+class Result:
+    """What came of jobs: how many comparisons passed and failed, and how many were skipped for which reasons; what to tell of
+    those that failed, and a note."""
+
+    def __init__(self, passed=0, failed=0, skipped=(), told="", note=""):
+        self.passed, self.failed, self.skipped, self.told, self.note = passed, failed, Counter(skipped), told, note
+
+    def __add__(self, other):
+        counts = self.passed + other.passed, self.failed + other.failed, self.skipped + other.skipped
+        return Result(*counts, self.told + other.told, self.note + other.note)
+
+    def __str__(self):
+        return f"{self.passed} passed, {self.failed} failed, {sum(self.skipped.values())} skipped"
+
+
+# What is done, and the part of the test that it is of.
+Job = namedtuple("Job", "part does given")
+
+
+def end_by(number, _):
+    sys.exit(128 + number)
+
+
+def end_children():
+    for child in multiprocessing.active_children():
+        child.terminate()
+    for child in multiprocessing.active_children():
+        child.join()
+
+
+@contextlib.contextmanager
+def own_folder():
+    """A new folder in which all is written; it is removed also after a fault, Ctrl-C, or a signal that ends the test."""
+    for number in (signal.SIGTERM, signal.SIGHUP):
+        signal.signal(number, end_by)
+    folder = tempfile.TemporaryDirectory(prefix="msrepack-test.")
+    try:
+        tempfile.tempdir = os.environ["TMPDIR"] = folder.name
+        yield folder.name
+    finally:
+        end_children()
+        remove(folder)
+
+
+def remove(folder):
+    """Removes a folder, in which a program may still write that lost who started it."""
+    for _ in range(20):
+        with contextlib.suppress(OSError):
+            folder.cleanup()
+        if not os.path.exists(folder.name):
+            return
+        time.sleep(0.1)
+    print(f"{folder.name} could not be removed", file=sys.stderr)
+
+
+def begin():
+    """In each process: Ctrl-C is the matter of the one that started it, which ends the others by a signal."""
+    signal.signal(signal.SIGINT, signal.SIG_IGN)
+    for number in (signal.SIGTERM, signal.SIGHUP):
+        signal.signal(number, signal.SIG_DFL)
+
+
+def result_of(future):
+    try:
+        return future.result()
+    except BrokenProcessPool:
+        return Result(failed=1, told="a process of this test was killed\n")
+    except Exception as why:
+        return Result(failed=1, told="".join(traceback.format_exception(type(why), why, why.__traceback__)))
+
+
+def results(jobs):
+    """The part and the result of each job, as they come."""
+    context, cores = multiprocessing.get_context("fork"), len(os.sched_getaffinity(0))
+    with concurrent.futures.ProcessPoolExecutor(cores, context, begin) as processes:
+        asked = {processes.submit(job.does, *job.given): job.part for job in jobs}
+        try:
+            for future in concurrent.futures.as_completed(asked):
+                yield asked[future], result_of(future)
+        finally:
+            processes.shutdown(wait=False, cancel_futures=True)
+            end_children()
