@@ -36,9 +36,11 @@ def end_by(number, _):
 
 
 def end_children():
+    """Ends the processes of the jobs, with all that these started."""
     for child in multiprocessing.active_children():
-        child.terminate()
-    for child in multiprocessing.active_children():
+        with contextlib.suppress(ProcessLookupError):
+            os.killpg(child.pid, signal.SIGKILL)
+        child.kill()
         child.join()
 
 
@@ -68,8 +70,9 @@ def remove(folder):
 
 
 def begin():
-    """In each process: Ctrl-C is the matter of the one that started it, which ends the others by a signal."""
-    signal.signal(signal.SIGINT, signal.SIG_IGN)
+    """In the process of a job: it has a group of its own, so that Ctrl-C goes to the one that started it alone, and that one
+    can end it with all its programs."""
+    os.setpgid(0, 0)
     for number in (signal.SIGTERM, signal.SIGHUP):
         signal.signal(number, signal.SIG_DFL)
 
