@@ -53,6 +53,15 @@ def is_at(path, other):
     return one == two or one.startswith(f"{two}/") or two.startswith(f"{one}/")
 
 
+def is_help(words):
+    """Whether a run prints help or the version, before which the output is not tried."""
+    try:
+        commands.read_words(words)
+    except commands.Asked:
+        return True
+    return False
+
+
 def outputs_of(words):
     """The files and folders that a run may change."""
     try:
@@ -146,7 +155,7 @@ class Player(transcript.Script):
         given = self.input(told, undo)
         redirecting, writing = told.get("redirecting"), transcript.device(told.get("writing", ""))
         if writing.fails is not None and writing.fails > 0:
-            return self.to_an_end(words, given, self.taken(writing))
+            return self.to_an_end(words, given, self.taken(words, writing))
         if redirecting and writing.fails == 0:
             return self.end(words, given, stdout=undo.enter_context(open(redirecting, "rb")))
         if redirecting:
@@ -184,13 +193,14 @@ class Player(transcript.Script):
         calls = commands.calls_for(content, reading)[: reading.fails]
         return undo.enter_context(broken(b"".join(calls)))
 
-    def taken(self, writing):
-        """How many bytes an output takes that fails at a call, of which the first moves none; with no most of a call, as
-        many as the lines have that the transcript shows before."""
+    def taken(self, words, writing):
+        """How many bytes an output takes that fails at a call: of each call before the most, or else a line, as the
+        transcript shows it. The first call moves none, but for help."""
+        calls = writing.fails if is_help(words) else writing.fails - 1
         if writing.most:
-            return (writing.fails - 1) * writing.most
+            return calls * writing.most
         lines = self.there.content[self.there.place :].splitlines(True)
-        return sum(map(len, lines[: writing.fails - 1]))
+        return sum(map(len, lines[:calls]))
 
     def to_an_end(self, words, given, most):
         """A run whose output is a file that can take so many bytes and no more."""

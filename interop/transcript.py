@@ -537,9 +537,9 @@ def lines_after(lines, number):
 def tell(number, line, wanted, there):
     """A difference, line by line."""
     print(f"line {number}: {line}")
-    wanted, there = [text.decode(errors="backslashreplace").splitlines() for text in (wanted, there)]
+    wanted, there = [text.decode(errors="backslashreplace").split("\n") for text in (wanted, there)]
     differ = [f"    {text}" for text in difflib.ndiff(wanted, there) if text[0] in "-+"]
-    print(model.text(differ[:20]), end="")
+    print(re.sub(r"[\x00-\x09\x0b-\x1f\x7f]", lambda sign: f"\\x{ord(sign[0]):02x}", model.text(differ[:20])), end="")
 
 
 def kind_of(prints, one):
