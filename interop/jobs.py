@@ -1,7 +1,7 @@
 """Jobs of a test, side by side on all processors, below a folder of their own, which goes with them whatever happens."""
-import concurrent.futures
 import contextlib
 import multiprocessing
+import multiprocessing.connection
 import os
 import signal
 import sys
@@ -9,7 +9,6 @@ import tempfile
 import time
 import traceback
 from collections import Counter, namedtuple
-from concurrent.futures.process import BrokenProcessPool
 
 
 class Result:
@@ -69,31 +68,35 @@ def remove(folder):
     print(f"{folder.name} could not be removed", file=sys.stderr)
 
 
-def begin():
-    """In the process of a job: it has a group of its own, so that Ctrl-C goes to the one that started it alone, and that one
+def do(job, answers):
+    """Does a job in a process of its own, and of its own group: so Ctrl-C goes to the one that started it alone, and that one
     can end it with all its programs."""
     os.setpgid(0, 0)
     for number in (signal.SIGTERM, signal.SIGHUP):
         signal.signal(number, signal.SIG_DFL)
-
-
-def result_of(future):
     try:
-        return future.result()
-    except BrokenProcessPool:
-        return Result(failed=1, told="a process of this test was killed\n")
-    except Exception as why:
-        return Result(failed=1, told="".join(traceback.format_exception(type(why), why, why.__traceback__)))
+        answers.send(job.does(*job.given))
+    except Exception:
+        answers.send(Result(failed=1, told=traceback.format_exc()))
 
 
 def results(jobs):
-    """The part and the result of each job, as they come."""
+    """The part and the result of each job, as they come. Semaphores are not needed, and so no shared memory."""
     context, cores = multiprocessing.get_context("fork"), len(os.sched_getaffinity(0))
-    with concurrent.futures.ProcessPoolExecutor(cores, context, begin) as processes:
-        asked = {processes.submit(job.does, *job.given): job.part for job in jobs}
-        try:
-            for future in concurrent.futures.as_completed(asked):
-                yield asked[future], result_of(future)
-        finally:
-            processes.shutdown(wait=False, cancel_futures=True)
-            end_children()
+    waiting, at_work = list(jobs), {}
+    while waiting or at_work:
+        while waiting and len(at_work) < cores:
+            job = waiting.pop(0)
+            answers, other = context.Pipe(duplex=False)
+            process = context.Process(target=do, args=(job, other))
+            process.start()
+            other.close()
+            at_work[answers] = job, process
+        for answers in multiprocessing.connection.wait(at_work):
+            job, process = at_work.pop(answers)
+            try:
+                result = answers.recv()
+            except EOFError:
+                result = Result(failed=1, told=f"a process was killed: {job.part}\n")
+            process.join()
+            yield job.part, result

@@ -1,5 +1,6 @@
 """The parts of ./test, as jobs: each holds the program against something that was made apart from it."""
 import os
+import pty
 import re
 import subprocess
 import sys
@@ -50,10 +51,20 @@ def counted(*words):
     return Result(int(found[1]), int(found[2]), told=told(lines[1:]))
 
 
+def hints(program):
+    """The hints at a terminal, where there can be one."""
+    try:
+        for end in pty.openpty():
+            os.close(end)
+    except OSError:
+        return Result(skipped={"hints at a terminal: this system gives none (/dev/pts)": 1})
+    return counted(*HINTS, program)
+
+
 def jobs(program):
     """All of them, the longest first."""
     yield Job("script of runs", play.script, (program,))
-    yield Job("hints at a terminal", counted, (*HINTS, program))
+    yield Job("hints at a terminal", hints, (program,))
     yield Job("redirections by a shell", counted, (*REDIRECTS, program))
     for number in range(FILES_OF_PAIRS):
         yield Job("pairs of files", pairs, (program, same_segments.pairs_at_random, number))
