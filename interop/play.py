@@ -16,7 +16,7 @@ import resource
 import socket
 import subprocess
 import tempfile
-from collections import Counter, namedtuple
+from collections import namedtuple
 
 import commands
 import transcript
@@ -27,13 +27,14 @@ from jobs import Result
 LONGEST = 60
 # A file that may not grow: it can be written up to this place, which no other file of the script comes to.
 FILE_END = 1 << 30
-# Each word of a step that names a file: it is read, changed, or written whole, which nothing that stood there hinders.
-USES = {"copy": ("read", "written"), "append": ("changed", "read"), "hard": ("read", "changed"), "soft": ("", "changed")}
-USES.update(dict.fromkeys(("make", "record"), ("", "written")), claim=("changed", "changed"))
-USES.update(dict.fromkeys(("samples", "text"), ("written",)))
-USES.update(dict.fromkeys(("cut", "behead", "edit", "set", "many", "folder", "remove"), ("changed",)))
-USES.update(dict.fromkeys(("show", "size", "has", "names", "ends", "hex", "shapes", "rises"), ("read",)))
-USES.update(dict.fromkeys(("same", "prefix"), ("read", "read")))
+# The steps that ask what stands in files, and the files that their words name.
+ASKS = {verb: ("read",) for verb in ("show", "size", "has", "names", "ends", "hex", "shapes", "rises")}
+ASKS.update({verb: ("read", "read") for verb in ("same", "prefix")})
+# Those that make files: a word names one that is read, changed, or written whole, whatever stood there.
+MAKES = {verb: ("changed",) for verb in ("cut", "behead", "edit", "set", "many", "folder", "remove")}
+MAKES.update({verb: ("written",) for verb in ("samples", "text")}, make=("", "written"), record=("", "written"))
+MAKES.update(copy=("read", "written"), append=("changed", "read"), claim=("changed", "changed"))
+MAKES.update(hard=("read", "changed"), soft=("", "changed"))
 # The settings of a run that the system has nothing for, and why.
 DURING = "what another program does, or fails to do, just while msrepack is at work on a day"
 GONE = "names that stand in a folder's list and are gone when they are looked at"
@@ -47,10 +48,14 @@ FOLLOWS = "steps that look at what a skipped one would have changed"
 Ran = namedtuple("Ran", "status printed complaint")
 
 
-def is_at(path, other):
-    """Whether one of the two is the other or stands below it."""
-    one, two = os.path.normpath(path), os.path.normpath(other)
-    return one == two or one.startswith(f"{two}/") or two.startswith(f"{one}/")
+def is_asked(line):
+    """Whether a step looks at what the program does or did; the others only make files."""
+    return "$" in line or line.split(" ")[0] in ASKS
+
+
+def is_in(path, folder):
+    """Whether it is the folder or stands below it."""
+    return f"{os.path.normpath(path)}/".startswith(f"{os.path.normpath(folder)}/")
 
 
 def is_help(words):
@@ -92,7 +97,7 @@ class Player(transcript.Script):
     # Steps after one that was skipped.
 
     def is_unknown(self, path):
-        return any(is_at(path, other) for other in self.unknown)
+        return any(is_in(path, other) or is_in(other, path) for other in self.unknown)
 
     def skip(self, changed, why):
         self.unknown.update(map(os.path.normpath, changed))
@@ -101,8 +106,8 @@ class Player(transcript.Script):
     def step(self, verb, one, other):
         if verb == "clear":
             cleared = f"{one} {other}".split()
-            self.unknown = {path for path in self.unknown if not any(is_at(path, folder) for folder in cleared)}
-        used = list(zip(USES.get(verb, ()), (one, other)))
+            self.unknown = {path for path in self.unknown if not any(is_in(path, folder) for folder in cleared)}
+        used = list(zip(ASKS.get(verb) or MAKES.get(verb, ()), (one, other)))
         changed = [path for use, path in used if use in ("changed", "written")]
         for use, path in used:
             if use == "written":
@@ -236,7 +241,7 @@ class Player(transcript.Script):
 
 
 def play(program, lines, there):
-    """What came of the steps of a script."""
+    """What came of a script. Of the steps that only make files those count that fail."""
     said = io.StringIO()
     with tempfile.TemporaryDirectory() as top:
         files, streams = (os.path.join(top, name) for name in ("files", "streams"))
@@ -245,9 +250,10 @@ def play(program, lines, there):
         player = Player(program, there, streams)
         with transcript.inside(files), contextlib.redirect_stdout(said):
             kinds, left, differ = transcript.compare(player, lines, there)
-    skipped = Counter({why: len(numbers) for why, numbers in left.items()})
-    note = f" ({next(player.counted)} runs of the program)"
-    return Result(sum(map(len, kinds.values())), differ, skipped, said.getvalue(), note)
+    asked = {number for number, line in enumerate(lines, start=1) if is_asked(line)}
+    passed = sum(len(asked.intersection(numbers)) for numbers in kinds.values())
+    skipped = {why: len(asked.intersection(numbers)) for why, numbers in left.items()}
+    return Result(passed, differ, skipped, said.getvalue(), f" ({next(player.counted)} runs of the program)")
 
 
 def script(program):
