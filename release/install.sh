@@ -16,6 +16,12 @@ cd "$(dirname "$0")"
 made=share/msrepack/folders # the folders that were made, for uninstall
 files=$(find bin share -type f)
 
+cannot_write() {
+    echo "install.sh: cannot write $prefix/$1" >&2
+    rm -f "$prefix/$1.part"
+    exit 1
+}
+
 # Makes the folders that are not there, and notes them; if it cannot, none of them stays, as the next try would not note it.
 make_folders() {
     folders=$(find bin share -type d)
@@ -27,13 +33,11 @@ make_folders() {
     for folder in $new; do mkdir "$prefix/$folder"; done
     old=
     if [ -f "$prefix/$made" ]; then old=$(cat "$prefix/$made"); fi
-    printf '%s\n' $old $new >"$prefix/$made.part"
-    mv "$prefix/$made.part" "$prefix/$made"
+    printf '%s\n' $old $new >"$prefix/$made.part" && mv "$prefix/$made.part" "$prefix/$made" || cannot_write "$made"
     trap - EXIT
 }
 
 take_back() {
-    rm -f "$prefix/$made.part"
     for folder in $(printf '%s\n' $new | LC_ALL=C sort -r); do
         [ ! -d "$prefix/$folder" ] || rmdir "$prefix/$folder" || :
     done
@@ -44,11 +48,7 @@ install_all() {
     make_folders
     for file in $files; do
         if [ -x "$file" ]; then mode=755; else mode=644; fi
-        install -m $mode "$file" "$prefix/$file.part" && mv -f "$prefix/$file.part" "$prefix/$file" || {
-            rm -f "$prefix/$file.part"
-            echo "install.sh: cannot write $prefix/$file" >&2
-            exit 1
-        }
+        install -m $mode "$file" "$prefix/$file.part" && mv -f "$prefix/$file.part" "$prefix/$file" || cannot_write "$file"
     done
 }
 
