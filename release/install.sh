@@ -2,8 +2,8 @@
 # install.sh PREFIX               installs msrepack below the folder PREFIX, as /usr/local or ~/.local
 # install.sh --uninstall PREFIX   removes the files of this folder from there, and the folders that were made for them
 #
-# Status 0: done; 1: a file is not what SHA256SUMS says, nothing was installed there, or a file cannot be written, in whose
-# place what stood there stays; 2: bad call.
+# Status 0: done; 1: a file is not what SHA256SUMS says, nothing was installed there, or a file cannot be written, and what
+# had its name stays; 2: bad call.
 set -eu
 usage() { echo "usage: install.sh [--uninstall] PREFIX" >&2; exit 2; }
 what=install
@@ -22,7 +22,7 @@ cannot_write() {
     exit 1
 }
 
-# Makes the folders that are not there, and notes them; if it cannot, none of them stays, as the next try would not note it.
+# Makes the folders that are not there, and notes them. If it cannot, none of them stays: the next try would not note it.
 make_folders() {
     folders=$(find bin share -type d)
     new=
@@ -48,7 +48,8 @@ install_all() {
     make_folders
     for file in $files; do
         if [ -x "$file" ]; then mode=755; else mode=644; fi
-        install -m $mode "$file" "$prefix/$file.part" && mv -f "$prefix/$file.part" "$prefix/$file" || cannot_write "$file"
+        install -m $mode "$file" "$prefix/$file.part" && mv -f "$prefix/$file.part" "$prefix/$file" ||
+            cannot_write "$file"
     done
 }
 
