@@ -1,5 +1,5 @@
-# What the program is built from, and whether a built program is of these sources. Read by tools/program, tools/ship,
-# tools/release and release/install.sh, with the top of the repository in $root.
+# What the program is built from, and whether a built program is of these sources. tools/program, tools/ship and
+# tools/release read this file, with the top of the repository in $root.
 
 out=$root/crates/msr_program/out
 built=$out/msr_program    # where rt leaves it
