@@ -4,7 +4,7 @@
 # install.sh --uninstall PREFIX   removes what was installed there, and the folders that were made for it
 #
 # Status 0: done; 1: a file is not what SHA256SUMS says, there is no program of these sources, nothing was installed
-# there, or a file cannot be written; 2: bad call.
+# there, or a file cannot be written, and what had its name stays; 2: bad call.
 set -eu
 usage() { echo "usage: install.sh [--uninstall] PREFIX" >&2; exit 2; }
 what=install
@@ -14,9 +14,25 @@ case $1 in '' | -*) usage ;; esac
 umask 022
 export LC_ALL=C
 prefix=$(realpath -m -- "$1")
-cd "$(dirname "$(readlink -f "$0")")"
-made=share/msrepack/folders # the folders that were made
-files=share/msrepack/files # the files that were installed, now and before
+here=$(readlink -f "$0")
+cd "${here%/*}"
+note=share/msrepack/installed # the folders that were made and the files, for uninstall
+tree= new=
+
+cannot_write() {
+    echo "install.sh: cannot write $prefix/$1" >&2
+    rm -f "$prefix/$1.part"
+    exit 1
+}
+
+# Removes the folders that were made and are not noted: the next try would not note them.
+finish() {
+    [ -z "$tree" ] || rm -rf "$tree"
+    for folder in $(printf '%s\n' $new | sort -r); do
+        [ ! -d "$prefix/$folder" ] || rmdir "$prefix/$folder" || :
+    done
+}
+trap finish EXIT
 
 # Enters the folder with bin and share.
 enter_tree() {
@@ -25,33 +41,42 @@ enter_tree() {
     else
         program=$(../tools/program --ready)
         tree=$(mktemp -d)
-        trap 'rm -rf "$tree"' EXIT
         ./tree "$program" "$tree"
         cd "$tree"
     fi
+    folders=$(find bin share -type d)
+    files=$(find bin share -type f)
+}
+
+# Makes the folders that are not there, and notes them with all files.
+make_folders() {
+    mkdir -p "$prefix"
+    for folder in $folders; do [ -d "$prefix/$folder" ] || new="$new $folder"; done
+    # Those above others come first.
+    for folder in $new; do mkdir "$prefix/$folder"; done
+    old=
+    if [ -f "$prefix/$note" ]; then old=$(cat "$prefix/$note"); fi
+    all=$(printf '%s\n' $old $new $files | sort -u)
+    echo "$all" >"$prefix/$note.part" && mv -f "$prefix/$note.part" "$prefix/$note" || cannot_write "$note"
+    new=
 }
 
 install_all() {
     enter_tree
-    mkdir -p "$prefix"
-    folders=$(find bin share -type d | sort | while read -r folder; do
-        [ -d "$prefix/$folder" ] || { mkdir "$prefix/$folder" && echo "$folder"; } || exit 1
-    done)
-    [ -z "$folders" ] || echo "$folders" >>"$prefix/$made"
-    find bin share -type f >>"$prefix/$files"
-    sort -u -o "$prefix/$files" "$prefix/$files"
-    find bin share -type f | while read -r file; do
+    make_folders
+    for file in $files; do
         if [ -x "$file" ]; then mode=755; else mode=644; fi
-        install -m $mode "$file" "$prefix/$file" || exit 1
+        install -m $mode "$file" "$prefix/$file.part" && mv -f "$prefix/$file.part" "$prefix/$file" ||
+            cannot_write "$file"
     done
 }
 
 uninstall_all() {
-    [ -f "$prefix/$files" ] || { echo "install.sh: nothing was installed below $prefix" >&2; exit 1; }
-    folders=$(sort -r "$prefix/$made")
-    while read -r file; do rm -f "$prefix/$file" || exit 1; done <"$prefix/$files"
-    rm "$prefix/$made" "$prefix/$files"
-    for folder in $folders; do rmdir --ignore-fail-on-non-empty "$prefix/$folder"; done
+    [ -f "$prefix/$note" ] || { echo "install.sh: nothing was installed below $prefix" >&2; exit 1; }
+    installed=$(sort -r "$prefix/$note")
+    for path in $installed; do [ -d "$prefix/$path" ] || rm -f "$prefix/$path"; done
+    rm "$prefix/$note"
+    for path in $installed; do [ ! -d "$prefix/$path" ] || rmdir --ignore-fail-on-non-empty "$prefix/$path"; done
 }
 
 ${what}_all
