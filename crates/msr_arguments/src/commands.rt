@@ -20,6 +20,7 @@ fn length<'a>(alloc: Global) -> Arg<'a> {
     Arg::new(alloc, "length")
         .long("length")
         .value_name("L")
+        .value_parser(value_parser!(u32))
         .default_value("512")
         .help(texts::LENGTH)
 }
@@ -90,12 +91,18 @@ fn packing<'a>(alloc: Global, command: Command<'a>) -> Result<Command<'a>, Alloc
     reading(alloc, form(alloc, command, length(alloc))?)
 }
 
-/// Adds those of packing days, which may have each a length of its own.
+/// Adds those of packing days. Each may have a length of its own, so that the length may be no number.
 fn packing_days<'a>(alloc: Global, command: Command<'a>) -> Result<Command<'a>, AllocError> {
     let length = length(alloc)
+        .value_parser(value_parser!(String))
         .help(texts::DAY_LENGTH)
         .long_help(texts::LONG_DAY_LENGTH);
     reading(alloc, form(alloc, command, length)?)
+}
+
+/// A command line that has a length alone, which may begin with a hyphen.
+pub(crate) fn length_alone<'a>(alloc: Global) -> Result<Command<'a>, AllocError> {
+    Command::new(alloc, "msrepack").arg(length(alloc).allow_hyphen_values(true))
 }
 
 /// A command without arguments, with its help.
