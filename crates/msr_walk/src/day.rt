@@ -342,7 +342,7 @@ impl Day {
         }
     }
 
-    /// Whether there is a claim: a walk is at work, or was killed and left something.
+    /// Whether there is a claim: a walk is at work, or left something.
     fn is_claimed<R: Files>(&self, rt: &R) -> bool {
         fs::symlink_metadata(rt, self.claim.as_str()).is_ok()
     }
