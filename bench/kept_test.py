@@ -147,7 +147,12 @@ class Writing(unittest.TestCase):
 class Script(unittest.TestCase):
     """The script itself over a program and a valgrind that are lines of a shell."""
 
-    SAYS = 'echo "calm: outputs 2 least 2 same 2 samples 8064, digest 0a"'
+    # It does its work if it is called for one day, with seed 1, and gets no huge pages.
+    DAYS = """\
+#!/bin/sh
+[ "$*" = "calm 1 1" ] && ! grep -q "^THP_enabled:.*1" /proc/self/status || exit 5
+echo "calm: outputs 2 least 2 same 2 samples 8064, digest 0a"
+"""
     ROOMY = "calm 1,509,000,000 1,000,000 1,000,000\n"
 
     def setUp(self):
@@ -161,7 +166,7 @@ class Script(unittest.TestCase):
         self.put("bench/kept.txt", self.ROOMY)
         self.put("crates.txt", "days: waves\nwaves:\n")
         self.put("crates/waves/src/lib.rt", "")
-        self.put("crates/days/out/days", f'#!/bin/sh\n[ "$*" = "calm 1 1" ] && {self.SAYS}\n')
+        self.put("crates/days/out/days", self.DAYS)
         self.count(1509)
 
     def put(self, name, text):
