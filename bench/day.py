@@ -120,15 +120,19 @@ def line(name, command, words, samples, few, folder, runs):
     print("| " + " | ".join(row) + " |", flush=True)
 
 
+def program_of(named):
+    """The program that is named, or that of these sources, shipped or built."""
+    return named or subprocess.run([f"{ROOT}/tools/program"], stdout=subprocess.PIPE, check=True, text=True).stdout.strip()
+
+
 def main():
     words = argparse.ArgumentParser(description=__doc__.splitlines()[0])
     words.add_argument("--samples", type=int, default=86400 * RATE)
     words.add_argument("--runs", type=int, default=3, help="how often each is run; the shortest time counts")
-    words.add_argument("--program", default=f"{ROOT}/crates/msr_program/out/msr_program")
+    words.add_argument("--program")
     words.add_argument("--keep", help="a folder to leave the files in")
     asked = words.parse_args()
-    if not os.access(asked.program, os.X_OK):
-        sys.exit(f"{asked.program} is not built: run ./msrepack --version")
+    asked.program = program_of(asked.program)
     folder = asked.keep or tempfile.mkdtemp(prefix="msrepack-bench-")
     os.makedirs(folder, exist_ok=True)
     try:
