@@ -87,15 +87,16 @@ def perf_counts():
     return said.returncode == 0 and re.search(r"^\d+,", said.stderr, re.M) is not None
 
 
-def by_callgrind(words, folder):
+def by_callgrind(words, folder, **how):
     """The instructions of the user's code that a command runs, by callgrind, which leaves their places in the folder."""
     words = ["valgrind", "--tool=callgrind", f"--callgrind-out-file={folder}/callgrind", *words]
-    return collected(words, r"Collected : (\d+)")
+    return collected(words, r"Collected : (\d+)", **how)
 
 
-def collected(words, pattern):
-    """The count that a command prints on standard error; None if it fails."""
-    said = subprocess.run(words, stdin=subprocess.DEVNULL, stdout=subprocess.DEVNULL, stderr=subprocess.PIPE, text=True)
+def collected(words, pattern, **how):
+    """The count that a command prints on standard error; None if it fails. How it is started is as of subprocess.run."""
+    how = {"stdin": subprocess.DEVNULL, **how, "stdout": subprocess.DEVNULL, "stderr": subprocess.PIPE, "text": True}
+    said = subprocess.run(words, **how)
     found = re.search(pattern, said.stderr, re.M)
     return int(found[1]) if found and said.returncode == 0 else None
 

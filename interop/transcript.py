@@ -317,12 +317,13 @@ class Script:
 
     def settings(self, before):
         """What a run is given, and the file that keeps what it prints."""
-        told = dict(word.split("=", 1) for word in before.split())
+        words = before.split()
+        told = dict(word.split("=", 1) for word in words if word != "terminal")
         devices = [device(told.pop(name, "")) for name in ("reading", "writing")]
         source, into, *redirects = [told.pop(name, None) for name in ("from", "into", "redirected", "redirecting")]
         content = (self.read(source) if source else b"")[: int(told.pop("cut", sys.maxsize))]
         unsaid = {path for path, held in self.loose.items() if held}
-        return Given(content, *devices, *redirects, walks.Odd(**told), unsaid), into
+        return Given(content, *devices, *redirects, walks.Odd(**told), unsaid, "terminal" in words), into
 
     def run(self, before, words):
         """What a run may print; another program may have a file locked meanwhile."""

@@ -243,80 +243,91 @@ fn agree_on_tails(
 /// The kinds of records, and the samples that are packed into them.
 type Row = (Kinds, Made);
 
-/// More than one record of samples each, if a record has so many data words. Most have as many samples as a bound allows.
+/// Somewhat more samples than a record has room for, if it has so many data words. Of most rows it has as many as a bound
+/// allows.
 fn rows(words: usize) -> [(&'static str, Row); 14]
-    requires { words < 2 ^ 31 }
+    requires { words < 2 ^ 40 }
 {
     let (all, fewer) = (Kinds::All, Kinds::WithoutInt24);
+    let (two, three) = (2 * words, 3 * words);
     [
         ("seven a word", (all, Zeros(8 * words))),
-        ("four a word", (all, Teeth(9 * words, 100, 100, 1))),
-        ("two a word", (all, Teeth(5 * words, 8_000, 8_000, 1))),
+        ("four a word", (all, Teeth(5 * words, 100, 100, 1))),
+        ("two a word", (all, Teeth(three, 8_000, 8_000, 1))),
         (
             "two a word of Steim-1",
-            (all, Teeth(5 * words, 20_000, 20_000, 1)),
+            (all, Teeth(three, 20_000, 20_000, 1)),
         ),
-        (
-            "two a word or one",
-            (all, Teeth(4 * words, 8_000, 100_000, 6)),
-        ),
-        ("16-bit integers", (all, Signs(5 * words))),
-        ("24-bit integers", (all, Bounds(4 * words))),
-        ("24 bits as 32", (fewer, Bounds(3 * words))),
-        ("32-bit integers", (all, Extremes(3 * words))),
-        ("noise", (all, Noise(8 * words, 5, 250))),
+        ("two a word or one", (all, Teeth(two, 8_000, 100_000, 6))),
+        ("16-bit integers", (all, Signs(three))),
+        ("24-bit integers", (all, Bounds(two))),
+        ("24 bits as 32", (fewer, Bounds(two))),
+        ("32-bit integers", (all, Extremes(two))),
+        ("noise", (all, Noise(4 * words, 5, 250))),
         (
             "Steim-1 reaches furthest",
-            (all, Turns(5 * words, 9, 40, 40_000, 6)),
+            (all, Turns(three, 9, 40, 40_000, 6)),
         ),
         (
             "Steim-1 from before the frontier",
-            (all, Turns(5 * words, 12, 60, 70_000, 40)),
+            (all, Turns(three, 12, 60, 70_000, 40)),
         ),
-        (
-            "three kinds",
-            (fewer, Turns(5 * words, 42, 1_000, 70_000, 90)),
-        ),
+        ("three kinds", (fewer, Turns(three, 42, 1_000, 70_000, 90))),
         (
             "more than 32 bits",
-            (all, Turns(4 * words, 39, 1_000, 2_147_483_648, 80)),
+            (all, Turns(three, 39, 1_000, 2_147_483_648, 80)),
         ),
     ]
 }
 
-/// Both say the same of each row, at that length of records.
-fn agree_on_rows(alloc: Global, bytes: u32, tails: &[usize]) -> Result<(), Fail> {
-    let length = Length::new(bytes).ok_or("a length")?;
-    for (name, (kinds, made)) in rows(length.data_words() as usize) {
+/// Both say the same of the rows for so many data words, at that length of records.
+fn agree_on_rows(alloc: Global, length: Length, words: usize, tails: &[usize]) -> Result<(), Fail>
+    requires { words < 2 ^ 40 }
+{
+    for (name, (kinds, made)) in rows(words) {
         let form = Form { length, kinds };
         expect(agree_on_tails(alloc, form, made, tails)?, name)?;
     }
     Ok(())
 }
 
-/// After the first run there are about as many samples as a window has places, or as many as a row has.
+/// After the first run there are about as many samples as a window has places, or as many as three records or more.
 #[test]
 fn judged_alike_in_short_records(rt: HostRuntime) -> Result<(), Fail> {
     for bytes in [256, 512, 1024, 2048] {
-        agree_on_rows(rt.alloc(), bytes, &[1, 63, 64, 65, 66, usize::MAX])?;
+        let length = Length::new(bytes).ok_or("a length")?;
+        let words = 3 * length.data_words() as usize;
+        agree_on_rows(rt.alloc(), length, words, &[1, 63, 64, 65, 66, usize::MAX])?;
     }
     Ok(())
 }
 
+/// Both say the same of the rows for one record of that length and somewhat more.
+fn agree_at_length(alloc: Global, bytes: u32, tails: &[usize]) -> Result<(), Fail> {
+    let length = Length::new(bytes).ok_or("a length")?;
+    agree_on_rows(alloc, length, length.data_words() as usize, tails)
+}
+
+/// After the first run there are as many samples as a window has places, or one more; so too below.
 #[test]
 fn judged_alike_in_longer_records(rt: HostRuntime) -> Result<(), Fail> {
     for bytes in [4096, 8192, 16_384] {
-        agree_on_rows(rt.alloc(), bytes, &[65])?;
+        agree_at_length(rt.alloc(), bytes, &[64, 65])?;
     }
     Ok(())
 }
 
 #[test]
 fn judged_alike_in_records_of_32768_bytes(rt: HostRuntime) -> Result<(), Fail> {
-    agree_on_rows(rt.alloc(), 32_768, &[65])
+    agree_at_length(rt.alloc(), 32_768, &[64, 65])
 }
 
 #[test]
 fn judged_alike_in_records_of_65536_bytes(rt: HostRuntime) -> Result<(), Fail> {
-    agree_on_rows(rt.alloc(), 65_536, &[65])
+    agree_at_length(rt.alloc(), 65_536, &[64])
+}
+
+#[test]
+fn judged_alike_in_records_of_65536_bytes_and_a_sample_more(rt: HostRuntime) -> Result<(), Fail> {
+    agree_at_length(rt.alloc(), 65_536, &[65])
 }
