@@ -12,10 +12,12 @@ import functools
 import io
 import itertools
 import os
+import pty
 import resource
 import socket
 import subprocess
 import tempfile
+import tty
 from collections import namedtuple
 
 import commands
@@ -38,11 +40,14 @@ MAKES.update(hard=("read", "changed"), soft=("", "changed"))
 # The settings of a run that the system has nothing for, and why.
 DURING = "what another program does, or fails to do, just while msrepack is at work on a day"
 GONE = "names that stand in a folder's list and are gone when they are looked at"
-SETTINGS_LEFT = {name: DURING for name in ("earlier", "later", "gone", "made", "other", "taken", "when", "linked")}
+SETTINGS_LEFT = {name: DURING for name in ("earlier", "later", "gone", "made", "other", "taken", "when", "linked", "stays")}
+# Those that are made by the system.
+SETTINGS = {"from", "into", "cut", "reading", "writing", "redirected", "redirecting", "folder", "names", "held", "terminal"}
 NAMES_LEFT = {"cut": "a folder whose list fails before its end", "marked": GONE, "day": GONE}
 A_FEW = "an output that takes only some bytes in each call"
 NOBODY_SEES = "what is printed to a device, where nobody sees it"
 CAN_LIST = "a folder that cannot be listed: who runs this may list all"
+NO_TERMINAL = "a standard error that is a terminal: this system gives none (/dev/pts)"
 FOLLOWS = "steps that look at what a skipped one would have changed"
 
 Ran = namedtuple("Ran", "status printed complaint")
@@ -74,6 +79,19 @@ def outputs_of(words):
     except (commands.Ends, commands.Asked):
         return []
     return {"repack": task.names[1:], "feed": task.names, "archive": task.names[1:]}.get(task.command, [])
+
+
+def all_of(terminal):
+    """What came to a terminal, once all that wrote to it have ended."""
+    text = b""
+    while True:
+        try:
+            some = os.read(terminal, 65536)
+        except OSError:
+            some = b""
+        if not some:
+            return text
+        text += some
 
 
 def broken(content):
@@ -123,7 +141,9 @@ class Player(transcript.Script):
             yield from threads.map(lambda one: self.run(*one), asked)
 
     def run(self, before, words):
-        told = dict(word.split("=", 1) for word in before.split())
+        told = dict(word.partition("=")[::2] for word in before.split())
+        if told.keys() - SETTINGS - SETTINGS_LEFT.keys():
+            raise transcript.NoStep
         into = told.pop("into", None)
         changed = [*outputs_of(words), *filter(None, (into, *map(told.get, ("later", "taken", "linked"))))]
         why = self.why_left(told)
@@ -153,6 +173,8 @@ class Player(transcript.Script):
 
     def ran(self, words, told, undo):
         """A run with what its settings make around it, which is taken away again."""
+        if "terminal" in told:
+            return self.at_terminal(words, self.input(told, undo))
         if "folder" in told:
             {"closed": self.close, "latin": self.name_oddly}[told["names"]](told["folder"], undo)
         if "held" in told:
@@ -168,6 +190,19 @@ class Player(transcript.Script):
         if writing.fails == 0:
             return self.end(words, given, preexec_fn=functools.partial(os.close, 1))
         return self.end(words, given, stdout=subprocess.PIPE)
+
+    def at_terminal(self, words, given):
+        """A run whose standard error is a terminal."""
+        try:
+            terminal, other = pty.openpty()
+        except OSError:
+            raise Unsaid(NO_TERMINAL) from None
+        tty.setraw(other)
+        ran = self.end(words, given, stdout=subprocess.PIPE, stderr=other)
+        os.close(other)
+        complaint = all_of(terminal)
+        os.close(terminal)
+        return ran._replace(complaint=complaint)
 
     def close(self, folder, undo):
         """Takes away the permission to list a folder, which not everybody needs."""
@@ -234,7 +269,8 @@ class Player(transcript.Script):
         """A run to its end; one that has none is ended."""
         source = {"input": given} if isinstance(given, bytes) else {"stdin": given}
         try:
-            done = subprocess.run([self.program, *words], stderr=subprocess.PIPE, timeout=LONGEST, check=False, **source, **streams)
+            both = {"stderr": subprocess.PIPE, **source, **streams}
+            done = subprocess.run([self.program, *words], timeout=LONGEST, check=False, **both)
         except subprocess.TimeoutExpired:
             return Ran(-1, b"", b"no end after %d s\n" % LONGEST)
         return Ran(done.returncode, done.stdout or b"", done.stderr)
