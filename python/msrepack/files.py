@@ -113,7 +113,10 @@ def segments(data: Data, *, tolerance: int = 1000, strict: bool = False) -> List
     ended = run(["list", f"--tolerance={tolerance}", *options({"--strict": strict})], [data])
     if ended.status != 0:
         raise ended.error()
-    return list(segments_of(ended.printed))
+    try:
+        return segments_of(ended.printed)
+    except ValueError:
+        raise _unknown(ended) from None
 
 
 def compare(one: Data, other: Data, *, tolerance: int = 1000) -> Union[Same, Difference]:

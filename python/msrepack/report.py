@@ -4,7 +4,7 @@ import functools
 import re
 from dataclasses import dataclass
 from fractions import Fraction
-from typing import Iterator, List, NamedTuple, Optional, Tuple, Union
+from typing import List, NamedTuple, Optional, Tuple, Union
 
 from msrepack.errors import NotAReport
 
@@ -266,9 +266,26 @@ def segment_of(line: str, separators: Optional[Tuple[int, ...]] = None) -> Optio
     return Segment(*head, start, count, written, separators)
 
 
-def segments_of(text: str) -> Iterator[Segment]:
-    """The segments of a list, or of a report whose separators are of no matter."""
-    return filter(None, map(segment_of, text.split("\n")))
+def segments_of(text: str) -> List[Segment]:
+    """The segments of a list, or of a report whose separators are of no matter and take no time; ValueError at a line
+    that is none."""
+    found = []
+    for piece in f"\n{text}".split("\nsegment ")[1:]:
+        line = f"segment {piece.partition(chr(10))[0]}"
+        segment = segment_of(line)
+        if segment is None:
+            raise ValueError(f"no segment: {line}")
+        found.append(segment)
+    return found
+
+
+def segments_of_report(text: str) -> List[Segment]:
+    """The same of a report, if its first and its last line are those of one."""
+    found = segments_of(text)
+    end = END.fullmatch(text.rpartition("\n")[0].rpartition("\n")[2])
+    if not text.startswith("msrepack 1\n") or not end or int(end[1]) != len(found):
+        raise ValueError("no report")
+    return found
 
 
 class _Lines:
