@@ -211,15 +211,14 @@ def availability_pages(
 
 
 def _window(rows: Sequence[Row], first: Optional[datetime.date], last: Optional[datetime.date]) -> Span:
-    if not rows:
-        raise ValueError("no data of such a channel")
-    start, end = days_of(rows)
-    if first:
-        start = midnight(first)
-    if last:
-        end = midnight(last) + DAY
-    if start >= end:
+    """The time that is drawn: all days that are asked for, or that have data."""
+    if first and last and first > last:
         raise ValueError("the time ends before it begins")
+    start, end = days_of(rows) if rows else (0, 0)
+    start = midnight(first) if first else start
+    end = midnight(last) + DAY if last else end
+    if not any(row.within(start, end).stretches for row in rows):
+        raise ValueError("no data of that channel and time")
     return start, end
 
 
