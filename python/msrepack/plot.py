@@ -224,7 +224,7 @@ def _window(rows: Sequence[Row], first: Optional[datetime.date], last: Optional[
 
 def draw_rows(rows: Sequence[Row], window: Span, figure: Optional[Figure]) -> Figure:
     """Draws rows over a time. What is narrower than a pixel gets a tick: a gap above its bar, an overlap below it."""
-    dates, ticker = _matplotlib("dates"), _matplotlib("ticker")
+    dates = _matplotlib("dates")
     figure = figure or _matplotlib("figure").Figure(figsize=(WIDTH, 1.2 + 0.34 * len(rows)), dpi=110, layout="constrained")
     axes = figure.subplots()
     start, end = window
@@ -245,12 +245,16 @@ def draw_rows(rows: Sequence[Row], window: Span, figure: Optional[Figure]) -> Fi
     axes.xaxis_date(tz=datetime.timezone.utc)
     where = dates.AutoDateLocator(tz=datetime.timezone.utc)
     axes.xaxis.set_major_locator(where)
-    axes.xaxis.set_major_formatter(dates.ConciseDateFormatter(where, tz=datetime.timezone.utc))
-    axes.xaxis.set_minor_locator(ticker.NullLocator())
-    days = (dates.num2date(_day(start)), dates.num2date(_day(end - 1)))
-    axes.set_title(f"Data from {days[0]:%Y-%m-%d} to {days[1]:%Y-%m-%d} (UTC)", fontsize=10, loc="left")
-    _legend(axes, any(row.overlaps for row in shown))
+    axes.xaxis.set_major_formatter(dates.ConciseDateFormatter(where, tz=datetime.timezone.utc, show_offset=False))
+    axes.set_title(f"Data {_time_told(start, end)} (UTC)", fontsize=10, loc="left")
+    _legend(axes)
     return figure
+
+
+def _time_told(start: int, end: int) -> str:
+    """The days from the first to the last."""
+    first, last = (datetime.date.fromordinal(FIRST_DAY + micros // DAY) for micros in (start, end - 1))
+    return f"of {first}" if first == last else f"from {first} to {last}"
 
 
 def _day(micros: float) -> float:
@@ -285,18 +289,19 @@ def _label_rows(axes: Any, names: Sequence[str], told: Sequence[str]) -> None:
     axes.tick_params(axis="y", left=False)
 
 
-def _legend(axes: Any, has_overlaps: bool) -> None:
-    patches, line = _matplotlib("patches"), _matplotlib("lines").Line2D
-    marks = [
-        patches.Patch(color=DATA, label="data"),
-        patches.Patch(color=NOTHING, label="none"),
-        line([], [], color=GAP, marker="|", linestyle="", label="short gap"),
-    ]
-    if has_overlaps:
-        marks.append(patches.Patch(color=OVERLAP, label="overlap"))
-    axes.legend(
-        handles=marks, loc="lower right", bbox_to_anchor=(1.0, 1.0), ncol=len(marks), frameon=False, fontsize=8, borderpad=0
-    )
+def _legend(axes: Any) -> None:
+    """What the colours are that were drawn."""
+    patch, line = _matplotlib("patches").Patch, _matplotlib("lines").Line2D
+    marks = {
+        "data": patch(color=DATA, label="data"),
+        "nothing": patch(color=NOTHING, label="none"),
+        "gap ticks": line([], [], color=GAP, marker="|", linestyle="", label="short gap"),
+        "overlaps": patch(color=OVERLAP, label="overlap"),
+    }
+    drawn = {one.get_gid() for one in axes.collections if one.get_paths()}
+    handles = [mark for name, mark in marks.items() if name in drawn]
+    place = {"loc": "lower right", "bbox_to_anchor": (1.0, 1.0), "ncol": len(handles)}
+    axes.legend(handles=handles, **place, frameon=False, fontsize=8, borderpad=0)
 
 
 # Savings.

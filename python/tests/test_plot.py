@@ -101,6 +101,16 @@ class Availability(unittest.TestCase):
         [axes] = plot.availability(given, **days).axes
         self.assertEqual(drawn(axes, "data"), [[(3 * DAY, 4 * DAY)]])
         self.assertEqual(texts(axes), ["100.00 %  0 gaps"])
+        self.assertEqual(axes.get_title(loc="left"), "Data of 2023-01-04 (UTC)")
+
+    def test_the_legend_has_what_is_drawn(self):
+        for given, wanted in (
+            ([segment(0, 9)], ["data", "none"]),
+            ([segment(0, DAY), segment(DAY + 1, DAY)], ["data", "none", "short gap"]),
+            ([segment(0, DAY), segment(DAY - 9, DAY)], ["data", "none", "overlap"]),
+        ):
+            [axes] = plot.availability(given).axes
+            self.assertEqual([text.get_text() for text in axes.get_legend().get_texts()], wanted)
 
     def test_all_and_nothing_are_told_only_if_they_are_so(self):
         for samples, told in ((DAY, "100.00 %  0 gaps"), (DAY - 1, " 99.99 %  0 gaps"), (1, "  0.01 %  0 gaps")):
