@@ -71,8 +71,8 @@ class Failed(Error, OSError):
     cannot open nowhere.mseed / 1
     """
 
-    def __init__(self, line: str, status: int) -> None:
-        super().__init__(line, status)
+    def __init__(self, line: str, status: int = 1) -> None:
+        super().__init__(line)
         self.line, self.status = line, status
 
     def __str__(self) -> str:

@@ -1,5 +1,6 @@
 """The program: where it is, and a run of it. All that is asked and answered goes through pipes."""
 import contextlib
+import fcntl
 import functools
 import importlib.metadata
 import io
@@ -65,17 +66,17 @@ def _of_clone() -> Optional[str]:
 
 @functools.lru_cache(None)
 def _require_new(program: str) -> None:
-    """Other programs have this name too, as an example of libmseed's."""
+    """Other programs have this name too, as an example of libmseed's. A launcher that has to build first says so itself,
+    and goes with us if we are ended."""
+    complaints = None if program == _of_clone() else subprocess.PIPE
+    words = [program, "--version"]
     try:
-        told = subprocess.run(
-            [program, "--version"], stdin=subprocess.DEVNULL, stdout=subprocess.PIPE, stderr=subprocess.PIPE, check=False
-        )
+        told = subprocess.run(words, stdin=subprocess.DEVNULL, stdout=subprocess.PIPE, stderr=complaints, check=False)
     except OSError as why:
         raise NotFound(f"{program} does not run ({why.strerror}): {INSTALL}") from None
     found = VERSION.fullmatch(told.stdout.decode(errors="replace"))
     if not found:
-        last = told.stderr.decode(errors="replace").strip().split("\n")[-1]
-        raise NotFound(f"{program} is not msrepack, or does not run ({last}): {INSTALL}")
+        raise NotFound(f"{program} is not msrepack, or does not run: {INSTALL}")
     if tuple(map(int, found.groups())) < NEEDED:
         needed = ".".join(map(str, NEEDED))
         raise NotFound(f"{program} is {found[0].strip()}, and this package wants {needed} or newer: {INSTALL}")
@@ -130,6 +131,15 @@ class Ended(NamedTuple):
         return error_of(self.complaint, self.status)
 
 
+def _above_streams(number: int) -> int:
+    """The same file under a number that is no standard stream's, which it gets if one of these was closed."""
+    if number > 2:
+        return number
+    other = fcntl.fcntl(number, fcntl.F_DUPFD_CLOEXEC, 3)
+    os.close(number)
+    return other
+
+
 class _Pipes:
     """The pipes of one run, and the ends of them that the program gets."""
 
@@ -140,7 +150,7 @@ class _Pipes:
         self.theirs: List[IO[bytes]] = []
 
     def make(self) -> Tuple[IO[bytes], IO[bytes]]:
-        reading, writing = os.pipe()
+        reading, writing = map(_above_streams, os.pipe())
         opened: Tuple[IO[bytes], IO[bytes]] = (open(reading, "rb", buffering=0), open(writing, "wb", buffering=0))
         for file in opened:
             self.stack.callback(file.close)

@@ -17,7 +17,7 @@ KINDS: Tuple[str, ...] = ("steim2", "steim1", "int16", "int24", "int32")
 WITHOUT_INT24: Tuple[str, ...] = ("steim2", "steim1", "int16", "int32")
 MOST = 2**64 - 1
 
-NUMBER, SIGNED, BYTE = "(0|[1-9][0-9]*)", "(0|-?[1-9][0-9]*)", "[0-9a-f]{2}"
+NUMBER, SIGNED, BYTE = "(0|[1-9][0-9]{0,19})", "(0|-?[1-9][0-9]{0,9})", "[0-9a-f]{2}"
 # A name has all bytes of its codes, with dots between. Letters and digits stand for themselves, a space is `_`, and any
 # other byte `%` and its code.
 WIDTHS = (2, 5, 2, 3)
@@ -32,7 +32,7 @@ TAIL = re.compile(
     r"([0-9]{4},[0-9]{3}),([01][0-9]|2[0-3]):([0-5][0-9]):([0-5][0-9])\.([0-9]{6})"
     f" samples {NUMBER}(?: records {NUMBER})?"
 )
-SEPARATORS = re.compile("separators((?: (?:0|[1-9][0-9]*))*)")
+SEPARATORS = re.compile("separators((?: (?:0|[1-9][0-9]{0,19}))*)")
 LENGTH, TOLERANCE = re.compile(f"length {NUMBER}"), re.compile(f"tolerance {NUMBER}")
 COUNTS = re.compile(f"read {NUMBER} empty {NUMBER} mismatched {NUMBER}")
 END = re.compile(f"end {NUMBER} segments {NUMBER} records")

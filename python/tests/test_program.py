@@ -1,6 +1,7 @@
 """How the program is found and run: which one, programs that are none or too old, a killed one, and what is left behind."""
 import io
 import os
+import pickle
 import shutil
 import signal
 import subprocess
@@ -142,6 +143,22 @@ class Running(Tidy):
         with other_program("exec sleep 0"):
             with self.assertRaises(msrepack.NotAReport):
                 repack(b"\0" * 10_000_000)
+
+    def test_closed_standard_streams(self):
+        """A pipe may then get the number of one; nothing of what is given is lost."""
+        script = "import sys, msrepack; sys.exit(len(msrepack.segments(open(sys.argv[1], 'rb').read())))"
+        words = ["sh", "-c", 'exec "$@" <&- >&- 2>&-', "sh", sys.executable, "-B", "-c", script, example("two-segments.mseed")]
+        ran = subprocess.run(words, cwd=os.path.join(ROOT, "python"), check=False)
+        self.assertEqual(ran.returncode, 2)
+
+    def test_errors_go_to_other_processes(self):
+        """As they do from a pool's."""
+        for error in (
+            msrepack.Refused(512, 5, "OtherBlockette", 500, "one"), Failed("read fault", -9), msrepack.NotAReport(7),
+            msrepack.BadCall("the folders overlap"), NotFound("none"),
+        ):
+            other = pickle.loads(pickle.dumps(error))
+            self.assertEqual((type(other), str(other), vars(other)), (type(error), str(error), vars(error)))
 
     def test_ctrl_c_while_the_program_works(self):
         script = textwrap.dedent("""

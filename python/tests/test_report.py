@@ -86,6 +86,13 @@ class Texts(unittest.TestCase):
                     refused += 1
         self.assertGreater(min(taken, refused), 500)
 
+    def test_numbers_that_are_too_long_to_be_read(self):
+        text = min(TEXTS, key=len)
+        for number in re.finditer(r"\d+", text):
+            with self.assertRaises(NotAReport) as caught:
+                Report.parse(text[: number.start()] + "9" * 5000 + text[number.end() :])
+            self.assertEqual(caught.exception.line, 1 + text.count("\n", 0, number.start()))
+
     def test_cut(self):
         text = min(TEXTS, key=len)
         for end in range(len(text)):
