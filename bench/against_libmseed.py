@@ -277,7 +277,7 @@ def words_of():
     words.add_argument("--runs", type=int, default=7, help="how often each is timed; the shortest counts")
     words.add_argument("--only", default="", help="only inputs with this text in their titles")
     words.add_argument("--picture", help="the SVG file to write")
-    words.add_argument("--program", default=f"{day.ROOT}/crates/msr_program/out/msr_program")
+    words.add_argument("--program")
     return words.parse_args()
 
 
@@ -304,8 +304,7 @@ def measure(asked, folder):
 
 def main():
     asked = words_of()
-    if not os.access(asked.program, os.X_OK):
-        sys.exit(f"{asked.program} is not built: run ./msrepack --version")
+    asked.program = day.program_of(asked.program)
     for tool in ("cc", "valgrind"):
         if not shutil.which(tool):
             sys.exit(f"{tool} is not here: {NEEDED}")

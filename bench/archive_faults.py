@@ -8,8 +8,8 @@ that of the undisturbed run, or tells that this very entry is refused, by a text
 alone it may be repacked, and if it is checked it may be told as not shown; the totals and the status are those of the
 lines; a day that is told as done or left alone has its records and its report whole, a refused one has neither, unless
 it could not be claimed: then nothing of it was touched; records that have their name have their report; the stamp of an
-input stands beside nothing that was not made from that input; and no other file is touched. Unless removing failed, one
-more walk, undisturbed, then leaves what the undisturbed one does.
+input stands beside nothing that was not made from that input; what stands beside a day's files stands there with its
+claim; and no other file is touched. One more walk, undisturbed, then leaves what the undisturbed one does.
 """
 import collections
 import os
@@ -142,8 +142,7 @@ class Tree:
 
     def hold(self, what, walked, failed):
         wrong = wrong_with(self, walked, failed)
-        is_mended = walked.files == self.calm.files or "removing" in failed.kinds
-        if not wrong and not is_mended and self.walk().files != self.calm.files:
+        if not wrong and walked.files != self.calm.files and self.walk().files != self.calm.files:
             wrong = "the next walk does not leave what the undisturbed one does"
         self.bench.hold(f"{self.title}, {what}", wrong)
 
@@ -232,7 +231,10 @@ def wrong_with(tree, walked, failed):
 
 def left_wrong_with(path, left, killed, stays, kinds):
     """What is wrong with what stands beside a day's files: of a killed walk it may stay whole or in part, if it may at all;
-    of this one only what could not be removed, and a claim of which the system did not tell whose it is."""
+    of this one only what could not be removed, and a claim of which the system did not tell whose it is. By the claim the
+    next walk finds the rest."""
+    if left and claim_of(path) not in left:
+        return f"something beside it is left without its claim: {sorted(left)}"
     if KILLED in kinds or "removing" in kinds:
         return None
     left = {name: text for name, text in left.items() if not (stays and killed.get(name) == text)}

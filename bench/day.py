@@ -87,15 +87,16 @@ def perf_counts():
     return said.returncode == 0 and re.search(r"^\d+,", said.stderr, re.M) is not None
 
 
-def by_callgrind(words, folder):
+def by_callgrind(words, folder, **how):
     """The instructions of the user's code that a command runs, by callgrind, which leaves their places in the folder."""
     words = ["valgrind", "--tool=callgrind", f"--callgrind-out-file={folder}/callgrind", *words]
-    return collected(words, r"Collected : (\d+)")
+    return collected(words, r"Collected : (\d+)", **how)
 
 
-def collected(words, pattern):
-    """The count that a command prints on standard error; None if it fails."""
-    said = subprocess.run(words, stdin=subprocess.DEVNULL, stdout=subprocess.DEVNULL, stderr=subprocess.PIPE, text=True)
+def collected(words, pattern, **how):
+    """The count that a command prints on standard error; None if it fails. How it is started is as of subprocess.run."""
+    how = {"stdin": subprocess.DEVNULL, **how, "stdout": subprocess.DEVNULL, "stderr": subprocess.PIPE, "text": True}
+    said = subprocess.run(words, **how)
     found = re.search(pattern, said.stderr, re.M)
     return int(found[1]) if found and said.returncode == 0 else None
 
@@ -119,15 +120,19 @@ def line(name, command, words, samples, few, folder, runs):
     print("| " + " | ".join(row) + " |", flush=True)
 
 
+def program_of(named):
+    """The program that is named, or that of these sources, shipped or built."""
+    return named or subprocess.run([f"{ROOT}/tools/program"], stdout=subprocess.PIPE, check=True, text=True).stdout.strip()
+
+
 def main():
     words = argparse.ArgumentParser(description=__doc__.splitlines()[0])
     words.add_argument("--samples", type=int, default=86400 * RATE)
     words.add_argument("--runs", type=int, default=3, help="how often each is run; the shortest time counts")
-    words.add_argument("--program", default=f"{ROOT}/crates/msr_program/out/msr_program")
+    words.add_argument("--program")
     words.add_argument("--keep", help="a folder to leave the files in")
     asked = words.parse_args()
-    if not os.access(asked.program, os.X_OK):
-        sys.exit(f"{asked.program} is not built: run ./msrepack --version")
+    asked.program = program_of(asked.program)
     folder = asked.keep or tempfile.mkdtemp(prefix="msrepack-bench-")
     os.makedirs(folder, exist_ok=True)
     try:

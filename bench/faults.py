@@ -349,15 +349,13 @@ def inputs(folder):
 def main():
     words = argparse.ArgumentParser(description=__doc__.splitlines()[0])
     words.add_argument("--only", default="", help="only cases with this text in their titles")
-    words.add_argument("--program", default=f"{day.ROOT}/crates/msr_program/out/msr_program")
+    words.add_argument("--program")
     asked = words.parse_args()
-    if not os.access(asked.program, os.X_OK):
-        sys.exit(f"{asked.program} is not built: run ./msrepack --version")
     if not shutil.which("strace"):
         sys.exit("strace is not here: apt-get install strace")
     signal.signal(signal.SIGTERM, lambda *_: sys.exit(1))
     with tempfile.TemporaryDirectory(prefix="msrepack-faults-") as folder:
-        bench = Bench(os.path.realpath(asked.program), folder)
+        bench = Bench(os.path.realpath(day.program_of(asked.program)), folder)
         for case in [*(it for title, name in inputs(folder) for it in cases_of(bench, title, name)), HELP]:
             if asked.only in case.title:
                 hold_case(bench, case)

@@ -128,10 +128,11 @@ def counted(words, folder):
 
 def main():
     words = argparse.ArgumentParser(description=__doc__.splitlines()[0])
-    words.add_argument("--program", default=f"{day.ROOT}/crates/msr_program/out/msr_program")
+    words.add_argument("--program")
     words.add_argument("--functions", type=int, default=0, help="how many functions are printed below each input")
     words.add_argument("--list", action="store_true", help="count `list` in place of `repack`")
     asked = words.parse_args()
+    asked.program = day.program_of(asked.program)
     print("| input | records | instructions a sample |\n|---|---|---|")
     with tempfile.TemporaryDirectory(prefix="msrepack-bench-") as folder:
         for title, make, write in INPUTS:

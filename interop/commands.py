@@ -26,11 +26,12 @@ COMMANDS = {
 }
 VALUED = ("--length", "--tolerance", "--below")
 LENGTHS = [2**exponent for exponent in range(8, 17)]
+HINT_OF_LENGTHS = b"hint: msrepack writes records of %d, %d, %d, %d, %d, %d, %d, %d or %d bytes\n" % tuple(LENGTHS)
 
 Task = namedtuple("Task", "command names length kinds tolerance strict below resume check only_smaller bytes")
 Device = namedtuple("Device", "most fails")
 # What a run is given beside its words.
-Given = namedtuple("Given", "content reading writing redirected redirecting odd unsaid")
+Given = namedtuple("Given", "content reading writing redirected redirecting odd unsaid is_terminal")
 # The status, what is printed (or any first part of it, of at least so many bytes), the complaint; what stands in files
 # then, and if printing fails; whether each line is printed by itself.
 FIELDS = "status printed complaint loose files failed lines least"
@@ -40,10 +41,12 @@ Loose = namedtuple("Loose", "whole least", defaults=(0,))
 
 
 class Ends(Exception):
-    """A run that ends before its task begins: with that status and these words, or the parser's (None)."""
+    """A run that ends before its task begins: with that status and these words, or the parser's (None); and what a person
+    is told besides."""
 
-    def __init__(self, status, complaint):
+    def __init__(self, status, complaint, hint=b""):
         self.outcome = Outcome(status, b"", complaint)
+        self.at_terminal = Outcome(status, b"", complaint and complaint + hint)
 
 
 class Asked(Exception):
@@ -62,13 +65,14 @@ def told(text):
 
 
 def value_of(option, text):
-    """The value of an option; a wrong tolerance is the parser's matter, but not which lengths there are."""
+    """The value of an option; a wrong tolerance is the parser's matter, but of a length only that it is a number."""
     if option == "--below":
         return text.removesuffix("/")
     if (option, text) == ("--length", "same"):
         return text
-    number = int(text) if re.fullmatch("[0-9]+", text) else -1
-    if option == "--tolerance" and not 1 <= number <= 1_000_000:
+    number = int(text) if re.fullmatch("-?[0-9]+", text) else -1
+    least, most = (1, 1_000_000) if option == "--tolerance" else (0, 2**32 - 1)
+    if not least <= number <= most:
         raise Ends(2, None)
     return number
 
@@ -121,9 +125,10 @@ def read_words(words):
     if not fewest <= len(names) <= most:
         raise Ends(2, None)
     length, below = chosen.get("--length", 512), chosen["--below"]
-    if length not in LENGTHS and (command, length) != ("archive", "same"):
-        *most, last = LENGTHS
-        raise Ends(2, told(f"not a record length: {', '.join(map(str, most))} or {last} bytes"))
+    if length == "same" and command != "archive":
+        raise Ends(2, None)
+    if length not in [*LENGTHS, "same"]:
+        raise Ends(2, told("not a record length"), HINT_OF_LENGTHS)
     if command == "repack" and len(names) == 2 and names[0] == names[1]:
         raise Ends(2, told("the output is the input"))
     if command == "compare" and names == ["-", "-"]:
@@ -339,11 +344,13 @@ def run(words, given):
     which is made even so."""
     try:
         task = read_words(words)
+        if given.is_terminal:
+            raise Unsaid("what a person is told")
         if given.writing.fails == 0 and task.command != "feed":
             return [Outcome(1, b"", told("write fault"))]
         outcomes = list(DOES[task.command](task, given))
     except Ends as end:
-        return [end.outcome]
+        return [end.at_terminal if given.is_terminal else end.outcome]
     except Asked:
         outcomes = [Outcome(0, None, b"")]
     return [one for outcome in outcomes for one in printing(outcome, given.writing)]

@@ -357,9 +357,14 @@ def compare(job):
     return number, differ, answer.fault
 
 
+def program_of(named):
+    """The program that is named, or that of these sources, shipped or built."""
+    return named or subprocess.run([f"{ROOT}/tools/program"], stdout=subprocess.PIPE, check=True, text=True).stdout.strip()
+
+
 def main():
     options = argparse.ArgumentParser(description=__doc__)
-    options.add_argument("--program", default=os.path.join(ROOT, "crates/msr_program/out/msr_program"))
+    options.add_argument("--program")
     options.add_argument("--first", type=int, default=0, help="the number of the first file")
     options.add_argument("--count", type=int, default=3000, help="how many files")
     options.add_argument("--keep", metavar="FILE", help="writes the first file there, and compares nothing")
@@ -370,7 +375,8 @@ def main():
             file.write(made.content)
         print(f"length {made.size} tolerance {made.tolerance} strict {made.strict} kinds {made.kinds}")
         return 0
-    jobs = [(asked.program, number) for number in range(asked.first, asked.first + asked.count)]
+    program = program_of(asked.program)
+    jobs = [(program, number) for number in range(asked.first, asked.first + asked.count)]
     wrong, faults = 0, collections.Counter()
     with multiprocessing.Pool() as pool:
         for number, differ, fault in pool.imap_unordered(compare, jobs, chunksize=4):

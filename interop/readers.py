@@ -21,6 +21,7 @@ import sys
 import tempfile
 
 sys.dont_write_bytecode = True
+import compare
 import inputs
 
 HERE = os.path.dirname(os.path.realpath(__file__))
@@ -411,14 +412,12 @@ def versions(bench):
 def main():
     words = argparse.ArgumentParser(description=__doc__.splitlines()[0])
     words.add_argument("--install", action="store_true", help="fetch what is missing with apt-get")
-    words.add_argument("--program", default=f"{ROOT}/crates/msr_program/out/msr_program")
+    words.add_argument("--program")
     words.add_argument("--only", default="", help="only inputs with this text in their titles, and nothing that is refused")
     asked = words.parse_args()
-    if not os.access(asked.program, os.X_OK):
-        sys.exit(f"{asked.program} is not built: run ./msrepack --version")
     ensure_packages(asked.install)
     with tempfile.TemporaryDirectory(prefix="msrepack-interop-") as folder:
-        bench = Bench(os.path.realpath(asked.program), folder)
+        bench = Bench(os.path.realpath(compare.program_of(asked.program)), folder)
         print(versions(bench))
         pairs = [rows_of(bench, it) for it in inputs.INPUTS if asked.only in it.title]
         for title, rows in zip(CHOICES, zip(*pairs)):

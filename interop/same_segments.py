@@ -344,12 +344,12 @@ def compare_all(job):
 
 def main():
     options = argparse.ArgumentParser(description=__doc__, formatter_class=argparse.RawDescriptionHelpFormatter)
-    options.add_argument("program", nargs="?", default=os.path.join(ROOT, "crates/msr_program/out/msr_program"))
+    options.add_argument("program", nargs="?")
     options.add_argument("--first", type=int, default=0, help="the number of the first file made at random")
     options.add_argument("--count", type=int, default=200, help="how many files made at random")
     options.add_argument("--model", action="store_true", help="runs no program")
     asked = options.parse_args()
-    path = None if asked.model else asked.program
+    path = None if asked.model else compare.program_of(asked.program)
     jobs = [(path, by_hand, ()), *((path, pairs_of, (name,)) for name in files())]
     jobs += [(path, pairs_at_random, (number,)) for number in range(asked.first, asked.first + asked.count)]
     counts, failed = collections.Counter(), 0

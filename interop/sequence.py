@@ -11,7 +11,9 @@ import sys
 import tempfile
 import threading
 
-ROOT = os.path.dirname(os.path.dirname(os.path.realpath(__file__)))
+sys.dont_write_bytecode = True
+import compare
+
 RECORDS, SIZE = 1_000_002, 256
 SAMPLES_OF_OURS = (SIZE - 64) // 4
 SAMPLES_OF_THEIRS = (4096 - 64) // 4
@@ -37,10 +39,10 @@ def give(pipe):
 
 def main():
     options = argparse.ArgumentParser(description=__doc__)
-    options.add_argument("--program", default=os.path.join(ROOT, "crates/msr_program/out/msr_program"))
+    options.add_argument("--program")
     asked = options.parse_args()
     with tempfile.TemporaryDirectory() as folder:
-        words = [asked.program, "feed", "--length", str(SIZE), os.path.join(folder, "report")]
+        words = [compare.program_of(asked.program), "feed", "--length", str(SIZE), os.path.join(folder, "report")]
         program = subprocess.Popen(words, stdin=subprocess.PIPE, stdout=subprocess.PIPE)
         giving = threading.Thread(target=give, args=[program.stdin])
         giving.start()

@@ -44,7 +44,7 @@ import walks
 from commands import Device, Given, Loose, Unsaid
 
 ROOT = os.path.dirname(os.path.dirname(os.path.realpath(__file__)))
-CRATE = os.path.join(ROOT, "crates/msr_transcripts")
+SCRIPT, TRANSCRIPT = (os.path.join(ROOT, "crates/msr_transcripts", name) for name in ("stdin", "stdout"))
 NO_STEP = b"no such step, or a file that cannot be used\n"
 START = model.instant(2020, 1, 0, 0, 0, 0)
 
@@ -55,6 +55,17 @@ Print = collections.namedtuple("Print", "whole rest loose files own least", defa
 
 class NoStep(Exception):
     """A line that is no step, or whose files cannot be used."""
+
+
+@contextlib.contextmanager
+def inside(folder):
+    """In that folder, and then in the one before."""
+    before = os.getcwd()
+    os.chdir(folder)
+    try:
+        yield
+    finally:
+        os.chdir(before)
 
 
 # The records and the inputs, from the layout of docs/PROFILE.md.
@@ -306,12 +317,13 @@ class Script:
 
     def settings(self, before):
         """What a run is given, and the file that keeps what it prints."""
-        told = dict(word.split("=", 1) for word in before.split())
+        words = before.split()
+        told = dict(word.split("=", 1) for word in words if word != "terminal")
         devices = [device(told.pop(name, "")) for name in ("reading", "writing")]
         source, into, *redirects = [told.pop(name, None) for name in ("from", "into", "redirected", "redirecting")]
         content = (self.read(source) if source else b"")[: int(told.pop("cut", sys.maxsize))]
         unsaid = {path for path, held in self.loose.items() if held}
-        return Given(content, *devices, *redirects, walks.Odd(**told), unsaid), into
+        return Given(content, *devices, *redirects, walks.Odd(**told), unsaid, "terminal" in words), into
 
     def run(self, before, words):
         """What a run may print; another program may have a file locked meanwhile."""
@@ -323,13 +335,17 @@ class Script:
                 fcntl.flock(files.enter_context(open(path, "ab")), fcntl.LOCK_EX | fcntl.LOCK_NB)
             return [printed(outcome, words, into) for outcome in commands.run(words, given)]
 
+    def runs(self, asked):
+        """What each of some runs may print, of which none hangs on another."""
+        return (self.run(*one) for one in asked)
+
     def each(self, first, last, text):
         """What a run prints with each number, like neighbours once; what stands in files after the last one."""
         if first > last:
             raise NoStep
         alike, files = [], {}
-        for number in range(first, last + 1):
-            one, *others = self.run(*halves(text.replace("{number}", str(number))))
+        numbered = [halves(text.replace("{number}", str(number))) for number in range(first, last + 1)]
+        for number, (one, *others) in enumerate(self.runs(numbered), start=first):
             if others or one.own or one.loose:
                 raise Unsaid("a repeated run whose text is not said")
             text_of = ended(one.whole) + one.rest
@@ -505,12 +521,16 @@ class Transcript:
         return next((one for one in prints if matches(one, text)), None), text
 
 
+def is_step(line):
+    return bool(line) and not line.startswith("#")
+
+
 def lines_after(lines, number):
     """The lines from there on, to the first that is a step."""
     following = []
     for line in lines[number:]:
         following.append(line.encode())
-        if line and not line.startswith("#"):
+        if is_step(line):
             break
     return following
 
@@ -518,9 +538,9 @@ def lines_after(lines, number):
 def tell(number, line, wanted, there):
     """A difference, line by line."""
     print(f"line {number}: {line}")
-    wanted, there = [text.decode(errors="backslashreplace").splitlines() for text in (wanted, there)]
+    wanted, there = [text.decode(errors="backslashreplace").split("\n") for text in (wanted, there)]
     differ = [f"    {text}" for text in difflib.ndiff(wanted, there) if text[0] in "-+"]
-    print(model.text(differ[:20]), end="")
+    print(re.sub(r"[\x00-\x09\x0b-\x1f\x7f]", lambda sign: f"\\x{ord(sign[0]):02x}", model.text(differ[:20])), end="")
 
 
 def kind_of(prints, one):
@@ -547,9 +567,10 @@ def work_out(lines):
             script.write(path, content)
 
 
-def compare(lines, transcript):
-    """How many steps there are of each kind, by line; differences are printed."""
-    script, kinds, differ = Script(), collections.defaultdict(list), 0
+def compare(script, lines, transcript):
+    """The lines of the steps that were compared, by kind, and of those that were not, by reason; how many differ, each of
+    which is printed."""
+    kinds, left, differ = collections.defaultdict(list), collections.defaultdict(list), 0
     for number, line in enumerate(lines, start=1):
         head = transcript.take_line(line.encode())
         if head != line.encode():
@@ -560,36 +581,42 @@ def compare(lines, transcript):
             prints = script.line(line)
         except Unsaid as why:
             transcript.take([], following)
-            kinds[f"not determined: {why}"].append(number)
+            left[str(why)].append(number)
             continue
         one, text = transcript.take(prints, following)
         if one is None:
             differ += 1
             one = prints[0]
             tell(number, line, (b"(the product's own words)\n" if one.own else ended(one.whole)) + one.rest, text)
-        elif line and not line.startswith("#"):
+        elif is_step(line):
             kinds[kind_of(prints, one)].append(number)
         for path, content in one.files.items():
             script.write(path, content)
-    return kinds, differ
+    return kinds, left, differ
+
+
+def read_both(script=SCRIPT, transcript=TRANSCRIPT):
+    """The lines of a script, and its transcript."""
+    with open(script, encoding="utf-8") as file:
+        lines = file.read().splitlines()
+    with open(transcript, "rb") as file:
+        return lines, Transcript(file.read())
 
 
 def main():
     options = argparse.ArgumentParser(description=__doc__, formatter_class=argparse.RawDescriptionHelpFormatter)
-    options.add_argument("--script", default=os.path.join(CRATE, "stdin"))
-    options.add_argument("--transcript", default=os.path.join(CRATE, "stdout"))
+    options.add_argument("--script", default=SCRIPT)
+    options.add_argument("--transcript", default=TRANSCRIPT)
     options.add_argument("--print", action="store_true", help="prints what is worked out, and compares nothing")
     asked = options.parse_args()
-    with open(asked.script, encoding="utf-8") as file:
-        lines = file.read().splitlines()
-    with open(asked.transcript, "rb") as file:
-        transcript = Transcript(file.read())
-    steps = sum(bool(line) and not line.startswith("#") for line in lines)
-    with tempfile.TemporaryDirectory() as folder, contextlib.chdir(folder):
+    lines, transcript = read_both(asked.script, asked.transcript)
+    steps = sum(map(is_step, lines))
+    with tempfile.TemporaryDirectory() as folder, inside(folder):
         if asked.print:
             work_out(lines)
             return 0
-        kinds, differ = compare(lines, transcript)
+        kinds, left, differ = compare(Script(), lines, transcript)
+    kinds.update({f"not determined: {why}": numbers_of for why, numbers_of in left.items()})
     for kind, numbers_of in kinds.items():
         print(f"{kind}: {len(numbers_of)} steps" + ("" if kind == "exact" else f", lines {numbers_of}"))
     print(f"{steps} steps, {differ} differ")

@@ -17,8 +17,8 @@ DAY_PATH = re.compile(
     r"/\2\.\3\.([A-Za-z0-9]{0,8})\.\4\.\5\.\1\.(\d{3})",
     re.ASCII,
 )
-# What is odd in the folders that a run sees, by the words of its setting: see SETTINGS in transcript.py.
-ODD = "folder names earlier later made other gone taken when linked"
+# What is odd in the folders that a run sees, by the words of its setting, which the page of msr_transcripts explains.
+ODD = "folder names earlier later made other gone taken when linked stays"
 Odd = namedtuple("Odd", ODD, defaults=(None,) * len(ODD.split()))
 # The names that a folder has by the word of the setting `names`, where it has any.
 NAMES = {
@@ -51,14 +51,6 @@ def is_like(pattern, path):
         return path == pattern
     head, tail = pattern.split("*")
     return path.startswith(head) and path[len(head) :].endswith(tail)
-
-
-def remove(*paths):
-    for path in paths:
-        try:
-            os.remove(path)
-        except OSError:
-            pass
 
 
 def read_to_end(file):
@@ -229,9 +221,9 @@ class Walk:
         try:
             return self.do(source, places, claim)
         finally:
-            remove(*self.parts(places, claim.number))
-            if self.has(claim):
-                remove(claim.path)
+            is_clean = self.remove(*self.parts(places, claim.number))
+            if is_clean and self.has(claim):
+                self.remove(claim.path)
             os.close(claim.file)
 
     def do(self, source, places, claim):
@@ -244,8 +236,16 @@ class Walk:
             return ("done", *self.repack(source, places, claim))
         except NotDone:
             if self.has(claim):
-                remove(*places[:3])
+                self.remove(*places[:3])
             raise
+
+    def remove(self, *paths):
+        """Removes these files, as far as that can be done; whether none of them is there any more."""
+        for path in paths:
+            if not is_like(self.odd.stays, path):
+                with contextlib.suppress(OSError):
+                    os.remove(path)
+        return not any(map(os.path.lexists, paths))
 
     def is_in_archive(self, source, places):
         """Whether what is made of a day would stand in the archive, or in the folder of the day, which the archive may
@@ -313,7 +313,9 @@ class Walk:
         finally:
             number = os.fstat(file).st_ino
             os.close(file)
-        remove(*self.parts(places, number), places.claim)
+        if not self.remove(*self.parts(places, number)):
+            raise OSError
+        os.remove(places.claim)
 
     # What is done.
 
@@ -371,14 +373,15 @@ class Walk:
         self.name(places, parts)
         if self.task.resume:
             self.write(parts[2], stamp.encode())
-            os.rename(parts[2], places.stamp)
+            with contextlib.suppress(OSError):
+                self.rename(parts[2], places.stamp)
         return counts
 
     def write(self, path, content):
         """Makes a file with its folder, in the place of one that stands there; nothing is written to that one."""
         try:
             os.makedirs(os.path.dirname(path), exist_ok=True)
-            remove(path)
+            self.remove(path)
             file = self.make(path)
         except OSError:
             raise NotDone("cannot open") from None

@@ -17,6 +17,7 @@ import sys
 import tempfile
 
 sys.dont_write_bytecode = True
+import compare
 import inputs
 import model
 import readers
@@ -88,13 +89,11 @@ def print_table(bench):
 def main():
     words = argparse.ArgumentParser(description=__doc__.splitlines()[0])
     words.add_argument("--install", action="store_true", help="fetch what is missing with apt-get")
-    words.add_argument("--program", default=f"{readers.ROOT}/crates/msr_program/out/msr_program")
+    words.add_argument("--program")
     asked = words.parse_args()
-    if not os.access(asked.program, os.X_OK):
-        sys.exit(f"{asked.program} is not built: run ./msrepack --version")
     readers.ensure_packages(asked.install)
     with tempfile.TemporaryDirectory(prefix="msrepack-interop-") as folder:
-        bench = readers.Bench(os.path.realpath(asked.program), folder)
+        bench = readers.Bench(os.path.realpath(compare.program_of(asked.program)), folder)
         print(readers.versions(bench))
         print_table(bench)
 

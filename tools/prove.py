@@ -1,10 +1,10 @@
 #!/usr/bin/env python3
 """Proves a program and the crates below it, and builds it.
 
-usage: prove.py PROGRAM LOG
+usage: prove.py PROGRAM LOG CRATE..
 
-Crates of which none stands on another are proved side by side, as many as processors and memory allow. Standard error
-tells each crate that is done. What `rt` prints goes to LOG.
+CRATE.. are the program and the crates below it. Those of which none stands on another are proved side by side, as many
+as processors and memory allow. Standard error tells each that is done. What `rt` prints goes to LOG.
 """
 
 import os
@@ -14,23 +14,6 @@ import sys
 ROOT = os.path.dirname(os.path.dirname(os.path.abspath(__file__)))
 # What a check takes at the most.
 MEMORY_OF_A_CHECK = 3 << 30
-
-
-def crates_below(program):
-    """The crates of the repository that the program stands on, and itself."""
-    named = {}
-    with open(f"{ROOT}/crates.txt", encoding="utf-8") as lines:
-        for line in lines:
-            name, _, libraries = line.split("#")[0].partition(":")
-            if name.strip():
-                named[name.split()[0]] = libraries.split()
-    wanted, ahead = set(), [program]
-    while ahead:
-        name = ahead.pop()
-        if name not in wanted:
-            wanted.add(name)
-            ahead += [it for it in named[name] if it in named]
-    return wanted
 
 
 def side_by_side():
@@ -65,8 +48,8 @@ def run(words, folder, log, take):
     return command.returncode == 0
 
 
-def main(program, log):
-    folder, told = f"{ROOT}/crates/{program}", Told(crates_below(program))
+def main(program, log, *crates):
+    folder, told = f"{ROOT}/crates/{program}", Told(crates)
     with open(log, "w", encoding="utf-8") as out:
         if not run(["rt", "all", "check", "--jobs", str(side_by_side())], folder, out, told.take):
             sys.exit(f"msrepack: not proved: {' '.join(told.failed)}: {log} says why")

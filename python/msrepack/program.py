@@ -56,22 +56,29 @@ def _of_wheel() -> Optional[str]:
     return next(programs, None) if os.path.join(HERE, "__init__.py") in files else None
 
 
+@functools.lru_cache(None)
 def _of_clone() -> Optional[str]:
-    """The launcher of the clone of which this package is a folder: it runs what is shipped or built there."""
+    """The program of the clone of which this package is a folder, shipped or built: none is built here, since that takes
+    long."""
     clone = os.path.dirname(os.path.dirname(HERE))
-    launcher = os.path.join(clone, "msrepack")
-    is_clone = os.path.isfile(os.path.join(clone, "crates.txt")) and os.access(launcher, os.X_OK)
-    return launcher if is_clone else None
+    asked = os.path.join(clone, "tools", "program")
+    if not os.path.isfile(os.path.join(clone, "crates.txt")) or not os.access(asked, os.X_OK):
+        return None
+    told = subprocess.run(
+        [asked, "--ready"], stdin=subprocess.DEVNULL, stdout=subprocess.PIPE, stderr=subprocess.PIPE, check=False
+    )
+    if told.returncode != 0:
+        raise NotFound(complaint_of(told.returncode, os.fsdecode(told.stderr)))
+    return os.fsdecode(told.stdout).rstrip("\n")
 
 
 @functools.lru_cache(None)
 def _require_new(program: str) -> None:
-    """Other programs have this name too, as an example of libmseed's. A launcher that has to build first says so itself,
-    and goes with us if we are ended."""
-    complaints = None if program == _of_clone() else subprocess.PIPE
-    words = [program, "--version"]
+    """Other programs have this name too, as an example of libmseed's."""
     try:
-        told = subprocess.run(words, stdin=subprocess.DEVNULL, stdout=subprocess.PIPE, stderr=complaints, check=False)
+        told = subprocess.run(
+            [program, "--version"], stdin=subprocess.DEVNULL, stdout=subprocess.PIPE, stderr=subprocess.PIPE, check=False
+        )
     except OSError as why:
         raise NotFound(f"{program} does not run ({why.strerror}): {INSTALL}") from None
     found = VERSION.fullmatch(told.stdout.decode(errors="replace"))
@@ -243,7 +250,7 @@ def _text(content: io.BytesIO) -> str:
 
 
 def complaint_of(status: int, complained: str) -> str:
-    """The program's line, which is the last one: a launcher may tell something before it."""
+    """The program's line, which is the last one of its own."""
     if status < 0:
         return f"the program was ended by {signal.Signals(-status).name}"
     lines = complained.strip().split("\n")
@@ -256,7 +263,7 @@ def started(
     words: Sequence[str], printing: int, complaining: int, passed: Sequence[IO[bytes]]
 ) -> Iterator["subprocess.Popen[bytes]"]:
     """A process that is gone once this ends, however it does. It has a session of its own: a Ctrl-C is ours alone to
-    answer, and a launcher ends with all that it started."""
+    answer."""
     process = subprocess.Popen(
         words,
         stdin=subprocess.DEVNULL,

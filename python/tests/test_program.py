@@ -73,10 +73,22 @@ class Finding(Tidy):
         self.assertEqual(self.copied("site"), path)
 
     def test_that_of_the_clone(self):
-        path, other = self.program("clone/msrepack"), self.program("path/msrepack")
-        self.path("clone/crates.txt", b"")
+        path, other = self.program("clone/out/msrepack"), self.program("path/msrepack")
+        self.clone(f"[ $1 = --ready ] && echo {path}")
         os.environ["PATH"] = os.path.dirname(other) + os.pathsep + os.environ["PATH"]
         self.assertEqual(self.copied("clone", "python"), path)
+
+    def test_a_clone_that_has_none(self):
+        """Nothing is built."""
+        self.clone("echo 'msrepack: no program is built' >&2; exit 1")
+        with self.assertRaises(subprocess.CalledProcessError) as caught:
+            self.copied("clone", "python")
+        self.assertIn("msrepack.errors.NotFound: no program is built\n", caught.exception.stderr)
+
+    def clone(self, script):
+        """What a clone has beside the package, as far as it is looked at."""
+        self.path("clone/crates.txt", b"")
+        os.chmod(self.path("clone/tools/program", f"#!/bin/sh\n{script}\n".encode()), 0o755)
 
     def test_the_one_on_the_path(self):
         path = self.program("path/msrepack")

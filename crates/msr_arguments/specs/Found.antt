@@ -15,7 +15,7 @@ use Rattle.msr_arguments.specs.declared.task.Archiving.{Archiving}
 use Rattle.msr_arguments.specs.declared.task.Checking.{Checking}
 use Rattle.msr_arguments.specs.declared.task.Folders.{Folders}
 use Rattle.msr_arguments.specs.declared.task.NoTask.{NoTask}
-use Rattle.msr_arguments.specs.declared.task.NoTask.TheVariants.{Ending, Memory}
+use Rattle.msr_arguments.specs.declared.task.NoTask.TheVariants.{Ending, NotALength, Memory}
 use Rattle.msr_arguments.specs.declared.task.Task.{Task}
 use Rattle.msr_arguments.specs.declared.task.Task.TheVariants.{Repack, List as Listing, Check, Compare, Archive, Verify, Feed}
 use Rattle.msr_arguments.specs.declared.task.Verifying.{Verifying}
@@ -145,9 +145,16 @@ command_of (Feed asked) = codes "feed"
 abbrev pub IsShown : ErrorKind → Type 0
 IsShown kind = (kind ≡ DisplayHelp) ⊎ (kind ≡ DisplayVersion)
 
+-- what clap found in place of a task ends with this status, unless memory is refused
+abbrev pub EndsWith : ErrorKind → (status : ℕ) → NoTask → Type 0
+EndsWith kind status (Ending ending) = (kind ≢ OutOfMemory) × (ending.status ≡ status)
+EndsWith kind status NotALength = ⊥
+EndsWith kind status Memory = ⊤
+
 -- what clap found in place of a task ends with status 0 for help and the version, and else with 2, unless memory is
 -- refused
 abbrev pub EndsFor : ErrorKind → NoTask → Type 0
 EndsFor kind (Ending ending) =
     (kind ≢ OutOfMemory) × (((ending.status ≡ 0) × IsShown kind) ⊎ ((ending.status ≡ 2) × ¬ (IsShown kind)))
+EndsFor kind NotALength = ⊥
 EndsFor kind Memory = ⊤

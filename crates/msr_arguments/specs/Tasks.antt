@@ -7,7 +7,7 @@ use Rattle.msr_arguments.specs.declared.task.Folders.{Folders}
 use Rattle.msr_arguments.specs.declared.task.Task.{Task}
 use Rattle.msr_arguments.specs.declared.task.Task.TheVariants.{Repack, List as Listing, Check, Compare, Archive, Verify, Feed}
 use Rattle.msr_arguments.specs.declared.task.NoTask.{NoTask}
-use Rattle.msr_arguments.specs.declared.task.NoTask.TheVariants.{Ending, Memory}
+use Rattle.msr_arguments.specs.declared.task.NoTask.TheVariants.{Ending, NotALength, Memory}
 
 -- 1 to 1,000,000 microseconds
 pub record IsTolerance (tolerance : ℕ) : Type 0 where
@@ -79,14 +79,17 @@ IsDefault (Feed asked) = ⊥
 -- a bad command line: the text to end with, and status 2, unless memory is refused
 abbrev pub IsWrong : (text : List ℕ) → NoTask → Type 0
 IsWrong text (Ending ending) = (string_bytes ending.text ≡ text) × (ending.status ≡ 2)
+IsWrong text NotALength = ⊥
 IsWrong text Memory = ⊤
 
 -- a bad command line, whatever its text
 abbrev pub IsBadLine : NoTask → Type 0
 IsBadLine (Ending ending) = ending.status ≡ 2
+IsBadLine NotALength = ⊤
 IsBadLine Memory = ⊤
 
 -- no task, with status 0 for help and the version and 2 for a bad command line
 abbrev pub HasStatus : NoTask → Type 0
 HasStatus (Ending ending) = (ending.status ≡ 0) ⊎ (ending.status ≡ 2)
+HasStatus NotALength = ⊤
 HasStatus Memory = ⊤

@@ -3,25 +3,35 @@
 //! What several commands take is added in loops and by functions of few steps: each step at a
 //! `Command` that may fail costs the check of its function seconds.
 use crate::texts;
+use clap::builder::ValueParser;
 use clap::{Arg, ArgAction, Command, value_parser};
 use std::alloc::{AllocError, Global};
 
+/// An option with a value, which this parser reads.
+fn valued<'a>(
+    alloc: Global,
+    name: &'a str,
+    value_name: &'a str,
+    parser: ValueParser<'a>,
+    default: &'a str,
+) -> Arg<'a> {
+    Arg::new(alloc, name)
+        .long(name)
+        .value_name(value_name)
+        .value_parser(parser)
+        .default_value(default)
+}
+
 fn tolerance<'a>(alloc: Global) -> Arg<'a> {
-    Arg::new(alloc, "tolerance")
-        .long("tolerance")
-        .value_name("T")
-        .value_parser(value_parser!(u32).range(1..=1_000_000))
-        .default_value("1000")
+    let parser = value_parser!(u32).range(1..=1_000_000);
+    valued(alloc, "tolerance", "T", parser, "1000")
         .help(texts::TOLERANCE)
         .long_help(texts::LONG_TOLERANCE)
 }
 
-fn length<'a>(alloc: Global) -> Arg<'a> {
-    Arg::new(alloc, "length")
-        .long("length")
-        .value_name("L")
-        .default_value("512")
-        .help(texts::LENGTH)
+/// The length of records, which this parser reads.
+fn length<'a>(alloc: Global, parser: ValueParser<'a>) -> Arg<'a> {
+    valued(alloc, "length", "L", parser, "512").help(texts::LENGTH)
 }
 
 fn below<'a>(alloc: Global) -> Arg<'a> {
@@ -87,15 +97,21 @@ fn form<'a>(
 
 /// Adds the options of packing: those of reading, and before them the form.
 fn packing<'a>(alloc: Global, command: Command<'a>) -> Result<Command<'a>, AllocError> {
-    reading(alloc, form(alloc, command, length(alloc))?)
+    let length = length(alloc, value_parser!(u32));
+    reading(alloc, form(alloc, command, length)?)
 }
 
-/// Adds those of packing days, which may have each a length of its own.
+/// Adds those of packing days. Each may have a length of its own, so that the length may be no number.
 fn packing_days<'a>(alloc: Global, command: Command<'a>) -> Result<Command<'a>, AllocError> {
-    let length = length(alloc)
+    let length = length(alloc, value_parser!(String))
         .help(texts::DAY_LENGTH)
         .long_help(texts::LONG_DAY_LENGTH);
     reading(alloc, form(alloc, command, length)?)
+}
+
+/// A command line that has a length alone, which may begin with a hyphen.
+pub(crate) fn length_alone<'a>(alloc: Global) -> Result<Command<'a>, AllocError> {
+    Command::new(alloc, "msrepack").arg(length(alloc, value_parser!(u32)).allow_hyphen_values(true))
 }
 
 /// A command without arguments, with its help.

@@ -98,6 +98,8 @@ pub struct Ending {
 #[derive(Debug, Drop)]
 pub enum NoTask {
     Ending(Ending),
+    /// No record has the length.
+    NotALength,
     Memory,
 }
 

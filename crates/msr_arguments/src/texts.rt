@@ -382,10 +382,6 @@ pub(crate) const IN: &str = "The file to read, or - for standard input";
 /// The output of `repack`.
 pub(crate) const OUT: &str = "The file to write the records to. Without it they are not kept";
 
-/// The length is not that of a record.
-pub(crate) const NOT_A_LENGTH: &str = "msrepack: not a record length: \
-256, 512, 1024, 2048, 4096, 8192, 16384, 32768 or 65536 bytes\n";
-
 /// The output and the input have one name.
 pub(crate) const SAME_FILE: &str = "msrepack: the output is the input\n";
 

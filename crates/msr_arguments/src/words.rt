@@ -1,11 +1,13 @@
 //! What the words of a command line ask for.
-ghost use Rattle.std.specs.Prelude.{◌≡◌, ◌≢◌, ◌<◌, ◌↔◌, ℕ, length, codes, false, Some, IfOk, IfErr, IfSome, IsSome, IsOk, IsOkAnd, IsTrue, Any, map, option_map};
+ghost use Rattle.std.specs.Prelude.{◌≡◌, ◌≢◌, ◌<◌, ◌↔◌, ℕ, length, codes, false, Some, IfOk, IfErr, IfSome, IsSome, IsOk, IsOkAnd, IsTrue, Ok, Err, Any, map, option_map};
+ghost use Rattle.msr_kinds.specs.Lengths.{bytes_of};
 ghost use Rattle.msr_kinds.specs.RecordLength.{IsRecordLength};
 ghost use Rattle.clap.specs.Words.{first_value, found_of, kind_of, one_text, subcommand_name_of};
-ghost use Rattle.msr_arguments.specs.Found.{AsksArchive, AsksBelow, AsksCheck, AsksDays, AsksFlags, AsksFolders, AsksOptions, AsksTask, AsksVerify, EndsFor, HoldsOptions, IsFlagOf, IsKindsOf, IsLengthOf, IsNumberOf, command_of, without_slash};
+ghost use Rattle.msr_arguments.specs.Found.{AsksArchive, AsksBelow, AsksCheck, AsksDays, AsksFlags, AsksFolders, AsksOptions, AsksTask, AsksVerify, EndsFor, EndsWith, HoldsOptions, IsFlagOf, IsKindsOf, IsLengthOf, IsNumberOf, command_of, without_slash};
 ghost use Rattle.msr_arguments.specs.Tasks.{AreApart, AreBothStandard, AreOptions, HasStatus, HasTolerance, IsBadLine, IsBelow, IsDefault, IsTolerance, IsWrong, KeepsInput, Overlap, StandApart};
+ghost use Rattle.msr_arguments.specs.declared.task.NoTask.TheVariants.{NotALength};
 
-use crate::commands::command;
+use crate::commands::{command, length_alone};
 use crate::task::{
     Archiving, Checking, Comparing, Ending, Feeding, Folders, Listing, NoTask, Repacking, Task,
     Verifying,
@@ -61,33 +63,34 @@ fn ending_of(alloc: Global, error: &clap::Error) -> NoTask
     ensures ends { EndsFor (kind_of error.now) result }
     ensures status { HasStatus result }
 {
+    ending_with(alloc, error, if error.use_stderr() { 2 } else { 0 })
+}
+
+/// The text of what clap found, with this status.
+fn ending_with(alloc: Global, error: &clap::Error, status: u8) -> NoTask
+    ensures { EndsWith (kind_of error.now) status result }
+{
     if error.kind() == ErrorKind::OutOfMemory {
         return NoTask::Memory;
     }
     match error.to_string(alloc) {
-        Ok(text) => NoTask::Ending(Ending {
-            text,
-            status: if error.use_stderr() { 2 } else { 0 },
-        }),
+        Ok(text) => NoTask::Ending(Ending { text, status }),
         Err(AllocError) => NoTask::Memory,
     }
 }
 
-/// These options, exactly if the length is one of a record and the tolerance is in its range.
+/// These options, exactly if the tolerance is in its range.
 fn options_of(
     alloc: Global,
-    bytes: u32,
+    length: Length,
     tolerance: u32,
     strict: bool,
     kinds: Kinds,
 ) -> Result<Options, NoTask>
-    ensures ok { IsOk result ↔ (IsRecordLength bytes × IsTolerance tolerance) }
-    ensures asked { IfOk result (AreOptions bytes tolerance strict kinds) }
+    ensures ok { IsOk result ↔ IsTolerance tolerance }
+    ensures asked { IfOk result (AreOptions (bytes_of length) tolerance strict kinds) }
     ensures status { IfErr result IsBadLine }
 {
-    let Some(length) = Length::new(bytes) else {
-        return Err(wrong(alloc, texts::NOT_A_LENGTH));
-    };
     match Options::new(length, tolerance) {
         Some(options) => Ok(options.strict(strict).kinds(kinds)),
         None => Err(wrong(alloc, texts::NO_COMMAND)),
@@ -100,15 +103,43 @@ fn number_in(found: &ArgMatches<'_>, name: &str) -> Option<u32>
     found.get_one::<u32>(name)
 }
 
-/// The bytes of a length, 512 without a text; `None` if the text is no number.
-fn bytes_of(length: Option<&str>) -> Option<u32>
-    ensures asked { IfSome result (IsLengthOf (option_map (λ text. text.now) length.entry)) }
-    ensures given { (bytes : ℕ) → IsLengthOf (option_map (λ text. text.now) length.entry) bytes → result ≡ Some bytes }
+/// What clap says of a length that is no number. It takes `-0` for 0, which is no record length.
+fn no_number(alloc: Global, text: &str) -> Result<NoTask, AllocError>
+    ensures { IfOk result IsBadLine }
 {
-    match length {
-        Some(text) => text.parse().ok(),
-        None => Some(LENGTH),
+    let words = ["msrepack", "--length", text];
+    match length_alone(alloc)?.try_get_matches_from(words.as_slice()) {
+        Ok(_) => Ok(NoTask::NotALength),
+        Err(error) => Ok(ending_with(alloc, &error, 2)),
     }
+}
+
+/// The number of bytes that a length's text is, 512 without a text.
+fn number_of(alloc: Global, length: Option<&str>) -> Result<u32, NoTask>
+    ensures asked { IfOk result (IsLengthOf (option_map (λ text. text.now) length.entry)) }
+    ensures given { (bytes : ℕ) → IsLengthOf (option_map (λ text. text.now) length.entry) bytes → result ≡ Ok bytes }
+    ensures status { IfErr result IsBadLine }
+{
+    let Some(text) = length else {
+        return Ok(LENGTH);
+    };
+    match text.parse() {
+        Ok(bytes) => Ok(bytes),
+        Err(_) => Err(no_number(alloc, text)?),
+    }
+}
+
+/// The length of that text, 512 bytes without one.
+fn length_of(alloc: Global, length: Option<&str>) -> Result<Length, NoTask>
+    ensures asked { IfOk result (λ found. IsLengthOf (option_map (λ text. text.now) length.entry) (bytes_of found)) }
+    ensures given { (bytes : ℕ) → IsLengthOf (option_map (λ text. text.now) length.entry) bytes →
+        IsRecordLength bytes → IsOk result }
+    ensures other { (bytes : ℕ) → IsLengthOf (option_map (λ text. text.now) length.entry) bytes →
+        ¬ (IsRecordLength bytes) → result ≡ Err NotALength }
+    ensures status { IfErr result IsBadLine }
+{
+    let bytes = number_of(alloc, length)?;
+    Length::new(bytes).ok_or(NoTask::NotALength)
 }
 
 /// Whether the length is that of each day's first record.
@@ -147,17 +178,17 @@ fn options_in(
 ) -> Result<Options, NoTask>
     ensures asked { IfOk result (AsksOptions (found_of found.now) (option_map (λ text. text.now) length.entry)) }
     ensures given { HoldsOptions (found_of found.now) (option_map (λ text. text.now) length.entry) → IsOk result }
+    ensures other { (bytes : ℕ) → IsLengthOf (option_map (λ text. text.now) length.entry) bytes →
+        ¬ (IsRecordLength bytes) → result ≡ Err NotALength }
     ensures tolerance { IfOk result (λ options. IsTolerance options.tolerance) }
     ensures status { IfErr result IsBadLine }
 {
+    let length = length_of(alloc, length)?;
     let Some(tolerance) = number_in(found, "tolerance") else {
         return Err(wrong(alloc, texts::NO_COMMAND));
     };
-    let Some(bytes) = bytes_of(length) else {
-        return Err(wrong(alloc, texts::NOT_A_LENGTH));
-    };
     let strict = flag_in(found, "strict");
-    options_of(alloc, bytes, tolerance, strict, kinds_in(found))
+    options_of(alloc, length, tolerance, strict, kinds_in(found))
 }
 
 /// A file to be repacked, exactly if the output is not the input.

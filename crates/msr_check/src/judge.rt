@@ -1,8 +1,8 @@
 //! Judging the runs of a segment one after another, with few of its samples at hand.
 
-ghost use Rattle.std.specs.Prelude.{◌≡◌, ◌↔◌, ◌-◌, ◌+◌, ◌<◌, ◌≤◌, ◌^◌, ℕ, ℤ, List, [], ◌∷◌, ◌++◌, drop, length, slice_index, IsTrue, MatchOption, MatchResult};
+ghost use Rattle.std.specs.Prelude.{◌≡◌, ◌↔◌, ◌-◌, ◌+◌, ◌<◌, ◌≤◌, ◌^◌, ℕ, ℤ, List, [], ◌∷◌, ◌++◌, drop, length, slice_index, IsTrue, MatchOption, OnErr, OnOk};
 ghost use Rattle.msr_words.specs.Fit.{Records, records_of};
-ghost use Rattle.msr_words.specs.Packing.{IsPacking, IsSeparating};
+ghost use Rattle.msr_words.specs.Packing.{IsLeast};
 ghost use Rattle.msr_words.specs.declared.kinds.Run.{Run as WordRun};
 ghost use Rattle.msr_check.specs.Judged.{AreShown, Ends, Follows, IsFollowed, IsSoundLast, Judges, becomes_last, next_run, number_after};
 
@@ -184,7 +184,7 @@ impl Judge {
         )
     }
 
-    /// Takes the next run, of these samples. If memory is refused, it was not taken.
+    /// Takes the next run, of these samples. If memory is refused, it was not taken, and the judge is as it was.
     pub fn push(
         &mut self,
         samples: &[i32],
@@ -192,16 +192,18 @@ impl Judge {
         form: Form,
         separators: &[u64],
     ) -> Result<(), AllocError>
-        ensures { (before : List ℤ) (runs : List WordRun) → Judges (records_of form) before runs separators.now self.old
-            → MatchResult result
-            (λ _. Judges (records_of form) (before ++ samples.now) (runs ++ next_run before samples.now kind ∷ [])
-            separators.now self.new)
-            (λ _. Judges (records_of form) before runs separators.now self.new) }
+        ensures taken { OnOk result ((before : List ℤ) (runs : List WordRun)
+            → Judges (records_of form) before runs separators.now self.old
+            → Judges (records_of form) (before ++ samples.now) (runs ++ next_run before samples.now kind ∷ [])
+            separators.now self.new) }
+        ensures unchanged { OnErr result (self.new ≡ self.old) }
     {
         if !self.holds {
             return Ok(());
         }
         let end = self.held.len();
+        // Two runs are the most that is held; a vector that doubles would take the room of four.
+        self.held.reserve_exact(samples.len())?;
         self.held.extend_from_slice(samples)?;
         match self.next(end, kind, form, separators) {
             Some(next) => {
@@ -220,8 +222,12 @@ impl Judge {
     /// Whether the runs are a packing, the separators are separating, both are as many, and there are that many samples:
     /// then the packing is least.
     pub fn shows_least(&self, form: Form, separators: &[u64], number: u64) -> bool
-        ensures { (samples : List ℤ) (runs : List WordRun) → Judges (records_of form) samples runs separators.now self.now
+        ensures exact { (samples : List ℤ) (runs : List WordRun)
+            → Judges (records_of form) samples runs separators.now self.now
             → IsTrue result ↔ AreShown (records_of form) samples runs separators.now number }
+        ensures least { (samples : List ℤ) (runs : List WordRun)
+            → Judges (records_of form) samples runs separators.now self.now
+            → IsTrue result → IsLeast (records_of form) samples runs }
     {
         self.ends(form, separators, number)
     }

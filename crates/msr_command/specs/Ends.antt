@@ -25,7 +25,7 @@ use Rattle.msr_command.specs.declared.comparing.Names.{Names}
 use Rattle.msr_command.specs.Comparing.{IsAnswered, IsUncompared, StopsComparison, names_of}
 use Rattle.msr_command.specs.Turns.{AreTurns}
 use Rattle.msr_arguments.specs.declared.task.NoTask.{NoTask}
-use Rattle.msr_arguments.specs.declared.task.NoTask.TheVariants.{Ending, Memory}
+use Rattle.msr_arguments.specs.declared.task.NoTask.TheVariants.{Ending, NotALength, Memory}
 use Rattle.msr_arguments.specs.declared.task.Task.{Task}
 use Rattle.msr_arguments.specs.declared.task.Task.TheVariants.{Repack, List as Listing, Check, Compare, Archive, Verify, Feed}
 use Rattle.msr_arguments.specs.Tasks.{HasStatus, IsDefault}
@@ -329,6 +329,7 @@ abbrev pub EndsText : NoTask → (out0 out : Device) → (status : ℕ) → Type
 EndsText (Ending ending) out0 out status =
     ((status ≡ ending.status) × (status ≡ 0 → Takes out0 out (string_bytes ending.text)) × (status ≢ 0 → out ≡ out0)) ⊎
     ((status ≡ 1) × (ending.status ≡ 0) × HasFailed out0 out)
+EndsText NotALength out0 out status = (status ≡ 2) × (out ≡ out0)
 EndsText Memory out0 out status = (status ≡ 1) × (out ≡ out0)
 
 -- The words ask for no task.

@@ -1,9 +1,9 @@
 -- What a person is told when a task has ended.
-use Rattle.std.specs.Prelude.{if◌then◌else◌, ◌≡◌, ◌≢◌, ℕ, List, codes, IfSome, IsSomeAnd, Option, None, Some, Result, Ok, Err}
+use Rattle.std.specs.Prelude.{if◌then◌else◌, ◌≡◌, ◌≢◌, ℕ, Bool, false, true, List, codes, IfSome, IsSomeAnd, Option, None, Some, Result, Ok, Err}
 use Rattle.std.specs.Io.KnownBytes.{Appends}
 use Rattle.msr_hints.specs.Hints.{IsOfBytes, line_of}
 use Rattle.msr_hints.specs.declared.hint.Hint.{Hint}
-use Rattle.msr_hints.specs.declared.hint.Hint.TheVariants.{Folder, System, Turns}
+use Rattle.msr_hints.specs.declared.hint.Hint.TheVariants.{Folder, Lengths, System, Turns}
 use Rattle.msr_arguments.specs.declared.task.Task.{Task}
 use Rattle.msr_arguments.specs.declared.task.Task.TheVariants.{Repack, List as Listing, Check, Compare, Archive, Verify, Feed}
 use Rattle.msr_input.specs.declared.fault.ReadFault.{ReadFault}
@@ -85,6 +85,13 @@ HintsEnd read (Err why) hint = HintsFault read why hint
 abbrev pub AddsLine : Option Hint → (old new : Option (List ℕ)) → Type 0
 AddsLine None old new = new ≡ old
 AddsLine (Some hint) old new = IfSome (line_of hint) (Appends old new)
+
+-- A writer has got the line of a length that no record has, and at a terminal the lengths that there are.
+pub record TellsLengths (is_terminal : Bool) (old new : Option (List ℕ)) : Type 0 where
+  pub between : Option (List ℕ)
+  pub line : Appends old between (codes "msrepack: not a record length\n")
+  pub script : is_terminal ≡ false → new ≡ between
+  pub person : is_terminal ≡ true → AddsLine (Some Lengths) between new
 
 -- What a writer holds when a person was told of how a task ended.
 pub record TellsPerson (read : FilesRead) (ended : Result Done TaskFault) (old new : Option (List ℕ)) : Type 0 where

@@ -3,7 +3,6 @@
 
 mod comparing;
 mod done;
-mod errors;
 mod files;
 mod hints;
 mod program;
@@ -11,6 +10,6 @@ mod task_fault;
 mod tasks;
 mod turns;
 
-pub use errors::Errors;
 pub use msr_arguments::NOT_UTF8;
+pub use msr_hints::Errors;
 pub use program::{complain, run};

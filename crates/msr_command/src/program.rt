@@ -3,17 +3,16 @@ ghost use Rattle.std.specs.Io.KnownBytes.{Appends};
 ghost use Rattle.std.specs.Prelude.{◌≡◌, ◌⊎◌, ◌++◌, OnOk, codes, false, length, true};
 ghost use Rattle.msr_devices.specs.Device.{CanCountCall};
 ghost use Rattle.msr_command.specs.Ends.{EndsTask, EndsText, EndsWithoutTask, status_of, status_of_task_fault};
-ghost use Rattle.msr_command.specs.Hints.{TellsPerson};
+ghost use Rattle.msr_command.specs.Hints.{TellsLengths, TellsPerson};
 ghost use Rattle.msr_arguments.specs.declared.task.NoTask.TheVariants.{Ending as WithText};
 
 use crate::done::Done;
-use crate::errors::Errors;
 use crate::hints::{FilesRead, hint_of};
 use crate::task_fault::TaskFault;
 use crate::tasks::do_task;
 use msr_arguments::{Ending, NoTask, read_words};
 use msr_devices::{Sink, Source, write_all};
-use msr_hints::write_hint;
+use msr_hints::{Errors, Hint, write_hint};
 use msr_walk::LockFile;
 use std::alloc::Global;
 use std::io;
@@ -53,7 +52,7 @@ fn tell<E: Write>(errors: &mut E, ended: &Result<Done, TaskFault<'_>>) -> u8
     }
 }
 
-/// Prints a hint after that, if there is one and a person reads it.
+/// Prints a hint after that, if there is one and a person reads it. No file is looked at for a script.
 fn tell_person<R: Files, E: Write>(
     rt: &R,
     errors: &mut Errors<E>,
@@ -68,9 +67,17 @@ fn tell_person<R: Files, E: Write>(
         return Ok(());
     }
     match hint_of(rt, read, ended) {
-        Some(hint) => write_hint(&mut errors.to, hint),
+        Some(hint) => write_hint(errors, hint),
         None => Ok(()),
     }
+}
+
+/// Prints the line of a length that no record has, and for a person which lengths there are.
+fn tell_lengths<E: Write>(errors: &mut Errors<E>) -> io::Result<()>
+    ensures { OnOk result (TellsLengths errors.old.is_terminal (E.contents errors.old.to) (E.contents errors.new.to)) }
+{
+    write_complaint(&mut errors.to, "not a record length")?;
+    write_hint(errors, Hint::Lengths)
 }
 
 /// Prints the text to end with: help and the version as output, a fault of the command line as an error.
@@ -113,6 +120,10 @@ where
             status
         }
         Err(NoTask::Ending(ending)) => end(output, &mut errors.to, &ending),
+        Err(NoTask::NotALength) => {
+            tell_lengths(errors).ok();
+            2
+        }
         Err(NoTask::Memory) => complain(&mut errors.to, 1, "out of memory"),
     }
 }

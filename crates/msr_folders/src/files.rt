@@ -22,8 +22,16 @@ impl FileId {
 }
 
 /// Whether such an error tells that nothing stands under a name.
-pub fn tells_none(kind: ErrorKind) -> bool {
+fn tells_none(kind: ErrorKind) -> bool {
     matches!(kind, ErrorKind::NotFound | ErrorKind::NotADirectory)
+}
+
+/// Whether the system tells that nothing stands under a name, not even a link that leads nowhere.
+pub fn is_gone<R: Files>(rt: &R, path: &str) -> bool {
+    match fs::symlink_metadata(rt, path) {
+        Ok(_) => false,
+        Err(error) => tells_none(error.kind()),
+    }
 }
 
 /// What a look at a name tells, links followed.

@@ -8,7 +8,7 @@ mod listing;
 mod paths;
 mod places;
 
-pub use files::{FileId, Look, may_be_one, open_regular, tells_none};
+pub use files::{FileId, Look, is_gone, may_be_one, open_regular};
 pub use kind::{FileKind, kind_of};
 pub use listing::{ListFault, names_in};
 pub use paths::{ended, entry_path, folder_of, join, shown_path};

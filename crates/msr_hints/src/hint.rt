@@ -1,8 +1,9 @@
 //! What is certain beside a fault, or beside a repack.
 ghost use Rattle.std.specs.Io.KnownBytes.{Appends};
-ghost use Rattle.std.specs.Prelude.{OnOk, IfSome};
+ghost use Rattle.std.specs.Prelude.{◌≡◌, OnOk, IfSome, false, true};
 ghost use Rattle.msr_hints.specs.Hints.{line_of};
 
+use crate::errors::Errors;
 use std::io::Write;
 use std::{fmt, io};
 
@@ -17,6 +18,8 @@ pub enum Hint {
     Folder,
     /// Channels seem to alternate.
     Turns,
+    /// The lengths of written records.
+    Lengths,
     /// Why a file cannot be opened, in the system's words.
     System(io::Error),
 }
@@ -32,14 +35,22 @@ impl fmt::Display for Hint {
             Hint::MiniSeed3 => f.write_str("this is miniSEED 3, which msrepack does not read"),
             Hint::Folder => f.write_str("a folder: msrepack archive reads archives"),
             Hint::Turns => f.write_str("channels which alternate are not joined"),
+            Hint::Lengths => f.write_str(
+                "msrepack writes records of 256, 512, 1024, 2048, 4096, 8192, 16384, 32768 or 65536 bytes",
+            ),
             Hint::System(error) => write!(f, "{error}"),
         }
     }
 }
 
-/// Writes the line of a hint.
-pub fn write_hint<E: Write>(errors: &mut E, hint: Hint) -> io::Result<()>
-    ensures { OnOk result (IfSome (line_of hint) (Appends (E.contents errors.old) (E.contents errors.new))) }
+/// Writes the line of a hint, if a person reads it.
+pub fn write_hint<E: Write>(errors: &mut Errors<E>, hint: Hint) -> io::Result<()>
+    ensures script { errors.old.is_terminal ≡ false → errors.new ≡ errors.old }
+    ensures person { OnOk result (errors.old.is_terminal ≡ true →
+        IfSome (line_of hint) (Appends (E.contents errors.old.to) (E.contents errors.new.to))) }
 {
-    writeln!(errors, "hint: {hint}")
+    if !errors.is_terminal {
+        return Ok(());
+    }
+    writeln!(errors.to, "hint: {hint}")
 }

@@ -4,13 +4,13 @@ use Rattle.msr_words.specs.Fit.{Records, records_of}
 use Rattle.msr_words.specs.declared.kinds.Run.{Run}
 use Rattle.msr_words.specs.Laws.{most_any}
 use Rattle.msr_words.specs.Packing.{IsCanonical}
-use Rattle.msr_packer.specs.HeldSamples.{BeginsAll, IsWindow, LeavesFew, Stays, before_shown, frontier_of, shown_by, sizes_shown, IsSound, KnowsSizes}
+use Rattle.msr_packer.specs.HeldSamples.{BeginsAll, IsWindow, LeavesFew, Stays, before_shown, frontier_of, shown_by, sizes_shown, words_shown, IsSound, KnowsSizes}
 use Rattle.msr_packer.specs.declared.held.RunToCut.{RunToCut}
 use Rattle.msr_packer.specs.declared.held.HeldSamples.{HeldSamples}
 
 -- What a packer of blocks shows: its records, the samples that it holds and how many stand before them,
--- the step whose piece comes next, the samples of the piece that was given last with the one before them and the sizes
--- of its groups, if these are known, and whether all pieces were given.
+-- the step whose piece comes next, the samples of the piece that was given last with the one before them, the sizes and
+-- the words of its groups, each if they are known, and whether all pieces were given.
 pub record Holding : Type 0 where
   pub records : Records
   pub held : List ℤ
@@ -19,6 +19,7 @@ pub record Holding : Type 0 where
   pub shown : List ℤ
   pub before : Option ℤ
   pub groups : List ℕ
+  pub words : List ℕ
   pub ended : Bool
 
 abbrev pub holding_of : HeldSamples → Bool → Holding
@@ -30,6 +31,7 @@ holding_of held ended = record {
   shown = shown_by held;
   before = before_shown held;
   groups = sizes_shown held;
+  words = words_shown held;
   ended = ended;
 }
 

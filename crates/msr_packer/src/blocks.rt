@@ -137,7 +137,8 @@ impl BlockPacker {
     /// The words of these groups, one after another, as they stand in a big-endian record: as many as `group_sizes` has, or
     /// none if they are not known.
     pub fn group_words(&self) -> &[u32]
-        ensures { AreGroupWordsIfKnown (differences self.now.before self.now.shown) self.now.groups result.now }
+        ensures shown { result.now ≡ self.now.words }
+        ensures words { AreGroupWordsIfKnown (differences self.now.before self.now.shown) self.now.groups result.now }
     {
         self.held.group_words()
     }

@@ -7,7 +7,7 @@ ghost use Rattle.msr_words.specs.Laws.{most_any};
 ghost use Rattle.msr_words.specs.Packing.{IsCanonical, IsStep};
 ghost use Rattle.msr_words.specs.Segment.{differences};
 ghost use Rattle.msr_filling.specs.GroupWords.{AreGroupWordsIfKnown};
-ghost use Rattle.msr_packer.specs.HeldSamples.{GivesPiece, HasPlaces, HoldsRest, IsNext, IsSound, KnowsNext, KnowsSizes, ShowsRun, Stays, before_shown, frontier_of, piece_of, pieces_of, runs_of, separators_of, shown_by, sizes_shown, start_of};
+ghost use Rattle.msr_packer.specs.HeldSamples.{GivesPiece, HasPlaces, HoldsRest, IsNext, IsSound, KnowsNext, KnowsSizes, ShowsRun, Stays, before_shown, frontier_of, piece_of, pieces_of, runs_of, separators_of, shown_by, sizes_shown, start_of, words_shown};
 ghost use Rattle.msr_packer.specs.Steps.{AreEnds, HaveSizes};
 
 use crate::kind_of;
@@ -416,8 +416,9 @@ impl HeldSamples {
     pub(crate) fn group_words(&self) -> &[u32]
         requires sound { IsSound self.now }
         requires knows { KnowsSizes self.now }
-        ensures { AreGroupWordsIfKnown (differences (before_shown self.now) (shown_by self.now)) (sizes_shown self.now)
-            result.now }
+        ensures shown { result.now ≡ words_shown self.now }
+        ensures words { AreGroupWordsIfKnown (differences (before_shown self.now) (shown_by self.now))
+            (sizes_shown self.now) result.now }
     {
         let shown = &self.sizes.shown;
         if shown.words.len() < shown.count {

@@ -6,6 +6,8 @@ mod certificates;
 #[cfg(test)]
 mod fitting;
 #[cfg(test)]
+mod judging;
+#[cfg(test)]
 mod made;
 #[cfg(test)]
 mod packings;

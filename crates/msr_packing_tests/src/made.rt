@@ -1,6 +1,6 @@
 //! Samples of one segment, made in few words.
 
-use Made::{Bounds, Extremes, Noise, Signs, Swings, Turns, Zeros};
+use Made::{Bounds, Extremes, Noise, Signs, Swings, Teeth, Turns, Zeros};
 use msr_fixtures::next_of;
 use std::alloc::{AllocError, Global};
 
@@ -17,6 +17,9 @@ pub enum Made {
     Bounds(usize),
     /// They are the two samples that lie furthest apart, in turn.
     Extremes(usize),
+    /// They are 1000000000 at even places, and more at odd ones by two numbers in turn; the last number says how many
+    /// samples each of these lasts.
+    Teeth(usize, i32, i32, usize),
     /// They are noise by a seed, of the given height.
     Noise(usize, u64, u32),
     /// They are noise by a seed, of two heights in turn; the last number says how many samples each
@@ -35,7 +38,7 @@ impl Made {
         match self {
             Zeros(count) | Signs(count) | Swings(count, _) | Bounds(count) | Extremes(count) =>
                 count,
-            Noise(count, _, _) | Turns(count, _, _, _, _) => count,
+            Noise(count, _, _) | Turns(count, _, _, _, _) | Teeth(count, _, _, _) => count,
         }
     }
 
@@ -63,6 +66,11 @@ impl Made {
             }
             Bounds(_) => { if even { 8_388_607 } else { -8_388_608 } }
             Extremes(_) => { if even { -2_147_483_648 } else { 2_147_483_647 } }
+            Teeth(_, low, high, stretch) => {
+                let high_now = place / stretch.max(1) % 2 == 1;
+                let more = if high_now { high } else { low };
+                1_000_000_000i32.wrapping_add(if even { 0 } else { more })
+            }
             Noise(_, _, height) => of_height(number, height),
             Turns(_, _, calm, loud, stretch) => {
                 let loud_now = place / stretch.max(1) % 2 == 1;

@@ -15,8 +15,9 @@ const TAKEN: &[u8] = b"another's";
 /// last name is cut short, reading fails there. A file gets the later name only if the earlier one is there and the one
 /// that is to be gone is not. Once a file whose name matches `made` is there, the other one is opened in its place. When
 /// a new file is made whose name matches `when`, the file `taken` is replaced, as another program would. When a claim is
-/// made, the file `linked` gets the name beside that of the records, too. Standard input is redirected from the file
-/// `redirected`, and standard output to the file `redirecting`, if these are names.
+/// made, the file `linked` gets the name beside that of the records, too. A file whose name matches `stays` cannot be
+/// removed. Standard input is redirected from the file `redirected`, and standard output to the file `redirecting`, if
+/// these are names.
 #[derive(Clone, Copy)]
 pub struct OddFiles<'a> {
     rt: &'a HostRuntime,
@@ -30,6 +31,7 @@ pub struct OddFiles<'a> {
     taken: &'a str,
     when: &'a str,
     linked: &'a str,
+    stays: &'a str,
     redirected: &'a str,
     redirecting: &'a str,
 }
@@ -49,6 +51,7 @@ impl<'a> OddFiles<'a> {
             taken: "",
             when: "",
             linked: "",
+            stays: "",
             redirected: "",
             redirecting: "",
         }
@@ -67,6 +70,7 @@ impl<'a> OddFiles<'a> {
             "taken" => self.taken = value,
             "when" => self.when = value,
             "linked" => self.linked = value,
+            "stays" => self.stays = value,
             "redirected" => self.redirected = value,
             "redirecting" => self.redirecting = value,
             _ => return Err(no_step()),
@@ -204,6 +208,9 @@ impl<'a> Files for OddFiles<'a> {
     }
 
     fn remove_file(&self, path: &str) -> io::Result<()> {
+        if matches(self.stays, path) {
+            return Err(ErrorKind::PermissionDenied.into());
+        }
         self.rt.remove_file(path)
     }
 

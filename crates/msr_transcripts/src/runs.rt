@@ -64,7 +64,7 @@ fn run_with(rt: &HostRuntime, settings: &Settings<'_>, words: &[&str]) -> io::Re
     let mut sink = TestSink::new(Vec::new(rt.alloc()), settings.writing);
     let mut errors = Errors {
         to: Vec::new(rt.alloc()),
-        is_terminal: false,
+        is_terminal: settings.is_terminal,
     };
     let status = run(
         &settings.odd,

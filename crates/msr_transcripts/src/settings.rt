@@ -14,7 +14,7 @@ const PLAIN: Behavior = Behavior {
 
 /// What a run is given beside its words: the name of the file that is its standard input and how many of its bytes come
 /// at most, of the one that keeps what it prints, and of one that another program has locked, if there are such; how its
-/// streams behave, and what is odd in the files that it sees.
+/// streams behave, whether standard error is a terminal, and what is odd in the files that it sees.
 #[derive(Clone, Copy)]
 pub struct Settings<'a> {
     pub from: &'a str,
@@ -23,6 +23,7 @@ pub struct Settings<'a> {
     pub held: &'a str,
     pub reading: Behavior,
     pub writing: Behavior,
+    pub is_terminal: bool,
     pub odd: OddFiles<'a>,
 }
 
@@ -55,11 +56,12 @@ impl<'a> Settings<'a> {
             held: "",
             reading: PLAIN,
             writing: PLAIN,
+            is_terminal: false,
             odd: OddFiles::new(rt),
         }
     }
 
-    /// The settings with one more, written `NAME=VALUE`.
+    /// The settings with one more, written `NAME=VALUE`, or `terminal`.
     pub fn with(mut self, setting: &'a str) -> io::Result<Settings<'a>> {
         let (name, value) = setting.split_once('=').unwrap_or((setting, ""));
         match name {
@@ -69,6 +71,7 @@ impl<'a> Settings<'a> {
             "held" => self.held = value,
             "reading" => self.reading = behavior(value)?,
             "writing" => self.writing = behavior(value)?,
+            "terminal" => self.is_terminal = true,
             _ => self.odd = self.odd.with(name, value)?,
         }
         Ok(self)

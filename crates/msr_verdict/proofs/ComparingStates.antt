@@ -1,6 +1,6 @@
 -- What is known of the comparing so far, and how a record more changes it.
 use Rattle.std.proofs.Common.{◌≡◌, ◌↔◌, ℤ, inl, inr, ℕ, zero, suc, true, false, List, [], ◌∷◌, ◌++◌, length, refl, sym, ap, subst, ◌∙◌, arith, append_assoc, length-append, Option, Some, None, All}
-use Rattle.std.specs.Prelude.{slice_get, option_map, IsSome, MatchOption}
+use Rattle.std.specs.Prelude.{slice_get, is_some, Bool, IsSome, MatchOption, ⊤}
 use Rattle.std.specs.Option.{option_to_list}
 use Rattle.std.proofs.lemmas.Bool.{both_ways, cases_Bool}
 use Rattle.std.proofs.lemmas.List.{append-nil}
@@ -8,12 +8,11 @@ use Rattle.msr_kinds.specs.declared.forms.Form.{Form}
 use Rattle.msr_kinds.specs.Lengths.{bytes_of}
 use Rattle.msr_words.specs.Fit.{Records, records_of}
 use Rattle.msr_words.specs.declared.kinds.Run.{Run}
-use Rattle.msr_check.specs.Judged.{Judges}
+use Rattle.msr_check.specs.Judged.{Judged, Judges}
 use Rattle.msr_rows.specs.declared.row.Row.{Row}
 use Rattle.msr_rows.specs.declared.row.Record.{Record}
 use Rattle.msr_segments.specs.declared.follow.Step.{Step}
 use Rattle.msr_segments.specs.declared.follow.Step.TheVariants.{Begins, Joins}
-use Rattle.msr_segments.specs.declared.joiner.Segment.{Segment}
 use Rattle.msr_segments.specs.Spans.{Following}
 use Rattle.msr_segments.specs.Segments.{Part, rows_of, segment_of}
 use Rattle.msr_report.specs.declared.report.SegmentLine.{SegmentLine}
@@ -23,13 +22,31 @@ use Rattle.msr_input.specs.declared.row_reader.NextRecord.{NextRecord}
 use Rattle.msr_input.specs.declared.row_reader.NextRow.{NextRow}
 use Rattle.msr_input.proofs.Records.{rows_snoc}
 use Rattle.msr_verdict.specs.Packed.{IsFull, AreShownBy, runs_of_part, runs_of_rows}
-use Rattle.msr_verdict.specs.Compared.{Compared, HasFullRow, IsShownAt, ComparesSegment, ComparesEnded, EndsBy, AddsRow, TakesRow, opened, separators_at}
-use Rattle.msr_verdict.specs.declared.comparing.Opening.{Opening}
+use Rattle.msr_verdict.specs.Compared.{Compared, HasFullRow, IsLineAt, IsShownAt, ComparesSegment, ComparesEnded, EndsBy, AddsRow, TakesRow, separators_at}
 use Rattle.msr_verdict.proofs.Lines.{shown_snoc, shown_next, get_after, after_get}
-use Rattle.msr_verdict.proofs.Runs.{opened_part, opening_of, runs_grown, same_segment, samples_grown, samples_of}
+use Rattle.msr_verdict.proofs.Runs.{runs_grown, samples_grown, samples_of}
 use Rattle.msr_verdict.proofs.Parts.{HasParts, open_rows, part_with, parts_after, last_before, parts_with, last_with, parts_none, parts_more}
 
--- All records so far are full, the ended parts are shown by the first lines, and the runs of the open one were judged.
+-- the line at that place is of the open part, if one is open
+abbrev pub HasLine : List SegmentLine → ℕ → Option Part → Type 0
+HasLine lines place None = ⊤
+HasLine lines place (Some part) = IsLineAt lines place part.0.key part.0.start
+
+-- the first of these parts begins as that part does
+pub record BeginsAs (part : Part) (rest : List Part) : Type 0 where
+  pub first : Part
+  pub others : List Part
+  pub rest_is : rest ≡ first ∷ others
+  pub key : first.0.key ≡ part.0.key
+  pub start : first.0.start ≡ part.0.start
+
+-- the open part, if one is open, may be the first of these with some rows more
+abbrev pub GoesOn : Option Part → List Part → Type 0
+GoesOn None rest = ⊤
+GoesOn (Some part) rest = BeginsAs part rest
+
+-- All records so far are full, the ended parts are shown by the first lines, the next line is of the open part, and the
+-- runs of that were judged.
 pub record Agreeing (form : Form) (lines : List SegmentLine) (records : List Record) (parts : List Part)
     (last : Option Part) (c : Compared) : Type 0 where
   pub full : All (IsFull (bytes_of form.length)) records
@@ -38,25 +55,26 @@ pub record Agreeing (form : Form) (lines : List SegmentLine) (records : List Rec
   pub whole : lines ≡ done ++ left
   pub place : c.place ≡ length done
   pub shown : AreShownBy form parts done
-  pub current : c.current ≡ option_map opening_of last
+  pub is_open : c.is_open ≡ is_some last
+  pub has_line : HasLine lines c.place last
   pub judged : Judges (records_of form) (samples_of (open_rows last)) (runs_of_rows 0 (open_rows last))
       (separators_at lines c.place) c.judged
 
 -- Whatever follows, the records and parts so far are not shown by these lines.
-pub record Disagreeing (form : Form) (lines : List SegmentLine) (records : List Record)
-    (parts : List Part) : Type 0 where
+pub record Disagreeing (form : Form) (lines : List SegmentLine) (records : List Record) (parts : List Part)
+    (last : Option Part) : Type 0 where
   pub none : (more : List Record) (rest : List Part) → All (IsFull (bytes_of form.length)) (records ++ more)
-      → AreShownBy form (parts ++ rest) lines → ⊥
+      → GoesOn last rest → AreShownBy form (parts ++ rest) lines → ⊥
 
 pub record IsCompared (form : Form) (lines : List SegmentLine) (records : List Record) (parts : List Part)
     (last : Option Part) (c : Compared) : Type 0 where
   pub agrees : c.agrees ≡ true → Agreeing form lines records parts last c
-  pub differs : c.agrees ≡ false → Disagreeing form lines records parts
+  pub differs : c.agrees ≡ false → Disagreeing form lines records parts last
 
 -- before the first record
 pub record IsNew (c : Compared) : Type 0 where
   pub place : c.place ≡ 0
-  pub current : c.current ≡ None
+  pub is_open : c.is_open ≡ false
   pub judged : (records : Records) (separators : List ℕ) → Judges records [] [] separators c.judged
   pub agrees : c.agrees ≡ true
 
@@ -70,7 +88,8 @@ compared_none form lines c is = record {
     whole = refl;
     place = is.place;
     shown = tt;
-    current = is.current;
+    is_open = is.is_open;
+    has_line = tt;
     judged = is.judged (records_of form) (separators_at lines c.place);
   };
   differs = λ f. absurd (both_ways c.agrees f is.agrees);
@@ -79,7 +98,7 @@ compared_none form lines c is = record {
 -- the open segment agrees with its line
 segment_agrees : (form : Form) (lines : List SegmentLine) (records : List Record) (parts : List Part) (part : Part)
     (old new : Compared) → Agreeing form lines records parts (Some part) old
-    → ComparesSegment form lines old (opening_of part) new
+    → ComparesSegment form lines old new
     → IsShownAt form lines old.place (segment_of part) (runs_of_part part) → new.agrees ≡ true
     → Agreeing form lines records (parts ++ part ∷ []) None new
 segment_agrees form lines records parts part old new a k at t =
@@ -95,46 +114,60 @@ segment_agrees form lines records parts part old new a k at t =
           ∙ sym (append_assoc a.done (at.line ∷ []) later.0);
       place = omega (arith, k.place t, a.place, length-append a.done (at.line ∷ []));
       shown = shown_snoc form parts a.done part at.line a.shown at.shown;
-      current = k.current;
+      is_open = k.closed;
+      has_line = tt;
       judged = k.judged (separators_at lines new.place);
+    }
+
+-- after the ended parts, a part is shown by the line at the place reached
+next_shown : (form : Form) (lines : List SegmentLine) (records : List Record) (parts rest : List Part)
+    (last : Option Part) (part : Part) (c : Compared) → Agreeing form lines records parts last c
+    → AreShownBy form (parts ++ part ∷ rest) lines
+    → IsShownAt form lines c.place (segment_of part) (runs_of_part part)
+next_shown form lines records parts rest last part c a are =
+    let are' : AreShownBy form (parts ++ part ∷ rest) (a.done ++ a.left) =
+    subst (λ (l : List SegmentLine). AreShownBy form (parts ++ part ∷ rest) l) a.whole are in
+    let next = shown_next form parts rest a.done a.left part a.shown are' in
+    let whole : lines ≡ a.done ++ next.0 ∷ next.1 = a.whole ∙ ap (λ (l : List SegmentLine). a.done ++ l) next.2 in
+    record {
+      line = next.0;
+      at_place = ap (λ (l : List SegmentLine). slice_get l c.place) whole
+          ∙ ap (λ (n : ℕ). slice_get (a.done ++ next.0 ∷ next.1) n) a.place ∙ get_after a.done next.1 next.0;
+      shown = next.3;
     }
 
 -- or else the parts so far are not shown
 segment_differs : (form : Form) (lines : List SegmentLine) (records : List Record) (parts : List Part) (part : Part)
     (old new : Compared) → Agreeing form lines records parts (Some part) old
     → (new.agrees ≡ true) ↔ IsShownAt form lines old.place (segment_of part) (runs_of_part part) → new.agrees ≡ false
-    → Disagreeing form lines records (parts ++ part ∷ [])
+    → Disagreeing form lines records (parts ++ part ∷ []) None
 segment_differs form lines records parts part old new a exact f = record {
-  none = λ more rest all are.
-      let are' : AreShownBy form (parts ++ part ∷ rest) (a.done ++ a.left) =
-      subst (λ (l : List SegmentLine). AreShownBy form (parts ++ part ∷ rest) l) a.whole
-      (subst (λ (ps : List Part). AreShownBy form ps lines) (append_assoc parts (part ∷ []) rest) are) in
-      let next = shown_next form parts rest a.done a.left part a.shown are' in
-      let whole : lines ≡ a.done ++ next.0 ∷ next.1 = a.whole ∙ ap (λ (l : List SegmentLine). a.done ++ l) next.2 in
-      let at : IsShownAt form lines old.place (segment_of part) (runs_of_part part) = record {
-        line = next.0;
-        at_place = ap (λ (l : List SegmentLine). slice_get l old.place) whole
-            ∙ ap (λ (n : ℕ). slice_get (a.done ++ next.0 ∷ next.1) n) a.place ∙ get_after a.done next.1 next.0;
-        shown = next.3;
-      } in
-      both_ways new.agrees f (exact.1 at);
+  none = λ more rest all goes are.
+      let are' : AreShownBy form (parts ++ part ∷ rest) lines =
+      subst (λ (ps : List Part). AreShownBy form ps lines) (append_assoc parts (part ∷ []) rest) are in
+      both_ways new.agrees f (exact.1 (next_shown form lines records parts rest (Some part) part old a are'));
 }
 
-still_differs : (form : Form) (lines : List SegmentLine) (records : List Record) (parts more : List Part)
-    → Disagreeing form lines records parts → Disagreeing form lines records (parts ++ more)
-still_differs form lines records parts more d = record {
-  none = λ others rest all are. d.none others (more ++ rest) all
-      (subst (λ (ps : List Part). AreShownBy form ps lines) (append_assoc parts more rest) are);
+goes_on : (last : Option Part) (rest : List Part) → GoesOn last (option_to_list last ++ rest)
+goes_on None rest = tt
+goes_on (Some part) rest = record { first = part; others = rest; rest_is = refl; key = refl; start = refl }
+
+still_differs : (form : Form) (lines : List SegmentLine) (records : List Record) (parts : List Part)
+    (last : Option Part) → Disagreeing form lines records parts last
+    → Disagreeing form lines records (parts ++ option_to_list last) None
+still_differs form lines records parts last d = record {
+  none = λ others rest all goes are. d.none others (option_to_list last ++ rest) all (goes_on last rest)
+      (subst (λ (ps : List Part). AreShownBy form ps lines) (append_assoc parts (option_to_list last) rest) are);
 }
 
 segment_compared : (form : Form) (lines : List SegmentLine) (records : List Record) (parts : List Part) (part : Part)
     (old new : Compared) → Agreeing form lines records parts (Some part) old → old.agrees ≡ true
-    → ComparesSegment form lines old (opening_of part) new
+    → ComparesSegment form lines old new
     → IsCompared form lines records (parts ++ part ∷ []) None new
+unfolding segment_of
 segment_compared form lines records parts part old new a was k =
     let exact : (new.agrees ≡ true) ↔ IsShownAt form lines old.place (segment_of part) (runs_of_part part) =
-    subst (λ (segment : Segment). (new.agrees ≡ true) ↔ IsShownAt form lines old.place segment (runs_of_part part))
-    (same_segment part) (k.agrees was (samples_of (rows_of part)) (runs_of_part part) a.judged) in
+    k.agrees was (segment_of part) (runs_of_part part) a.has_line a.judged in
     record {
       agrees = λ t. segment_agrees form lines records parts part old new a k (exact.0 t) t;
       differs = λ f. segment_differs form lines records parts part old new a exact f;
@@ -143,7 +176,7 @@ segment_compared form lines records parts part old new a was k =
 -- the open part, if there is one, ends while all agree
 last_compared : (form : Form) (lines : List SegmentLine) (records : List Record) (parts : List Part)
     (last : Option Part) (old new : Compared) → Agreeing form lines records parts last old → old.agrees ≡ true
-    → IsCompared form lines records parts last old → ComparesEnded form lines old (option_map opening_of last) new
+    → IsCompared form lines records parts last old → ComparesEnded form lines (is_some last) old new
     → IsCompared form lines records (parts ++ option_to_list last) None new
 last_compared form lines records parts None old new a was h k =
     subst (λ (ps : List Part). IsCompared form lines records ps None new) (sym (append-nil parts))
@@ -151,25 +184,25 @@ last_compared form lines records parts None old new a was h k =
 last_compared form lines records parts (Some part) old new a was h k =
     segment_compared form lines records parts part old new a was k
 
-ended_differs : (form : Form) (lines : List SegmentLine) (current : Option Opening) (old new : Compared)
-    → ComparesEnded form lines old current new → old.agrees ≡ false → new.agrees ≡ false
-ended_differs form lines None old new k f = ap (λ (c : Compared). c.agrees) k ∙ f
-ended_differs form lines (Some opening) old new k f = k.differs f
+ended_differs : (form : Form) (lines : List SegmentLine) (is_open : Bool) (old new : Compared)
+    → ComparesEnded form lines is_open old new → old.agrees ≡ false → new.agrees ≡ false
+ended_differs form lines false old new k f = ap (λ (c : Compared). c.agrees) k ∙ f
+ended_differs form lines true old new k f = k.differs f
 
 pub compare_last : (form : Form) (lines : List SegmentLine) (records : List Record) (parts : List Part)
     (last : Option Part) (old new : Compared) → IsCompared form lines records parts last old
-    → ComparesEnded form lines old old.current new
+    → ComparesEnded form lines old.is_open old new
     → IsCompared form lines records (parts ++ option_to_list last) None new
 compare_last form lines records parts last old new h k = elim (cases_Bool old.agrees) [
   | inl was ↦
       let a = h.agrees was in
       last_compared form lines records parts last old new a was h
-      (subst (λ (current : Option Opening). ComparesEnded form lines old current new) a.current k)
+      (subst (λ (is_open : Bool). ComparesEnded form lines is_open old new) a.is_open k)
   | inr was ↦
-      let differs = ended_differs form lines old.current old new k was in
+      let differs = ended_differs form lines old.is_open old new k was in
       record {
         agrees = λ t. absurd (both_ways new.agrees differs t);
-        differs = λ f. still_differs form lines records parts (option_to_list last) (h.differs was);
+        differs = λ f. still_differs form lines records parts last (h.differs was);
       }
 ]
 
@@ -193,39 +226,102 @@ all_within : {X : Type 0} (P : X → Type 0) (xs ys : List X) (x : X) → All P 
 all_within P [] ys x all = all 0 x (omega arith)
 all_within P (y ∷ xs) ys x all = all_within P xs ys x (λ i e g. all (suc i) e (omega arith))
 
+-- the next line is of the open part with a row more
+line_grown : (form : Form) (lines : List SegmentLine) (records : List Record) (parts : List Part) (last : Option Part)
+    (row : Row) (old : Compared) → Agreeing form lines records parts last old
+    → (old.is_open ≡ false → IsLineAt lines old.place row.key row.start)
+    → HasLine lines old.place (Some (part_with last row))
+line_grown form lines records parts None row old a is = is a.is_open
+line_grown form lines records parts (Some part) row old a is = a.has_line
+
+row_agrees : (form : Form) (lines : List SegmentLine) (records : List Record) (parts : List Part) (last : Option Part)
+    (found : Record) (row : Row) (old new : Compared) → IsCompared form lines records parts last old
+    → IsFull (bytes_of form.length) found → AddsRow form lines old row new → new.agrees ≡ true
+    → Agreeing form lines (records ++ found ∷ []) parts (Some (part_with last row)) new
+row_agrees form lines records parts last found row old new h full k t =
+    let t' : k.before.agrees ≡ true = sym k.agrees ∙ t in
+    let was = k.opens.agrees.0 t' in
+    let a = h.agrees was.0 in
+    let place : new.place ≡ old.place = k.place ∙ k.opens.place in
+    let before : Judges (records_of form) (samples_of (open_rows last)) (runs_of_rows 0 (open_rows last))
+    (separators_at lines k.before.place) k.before.judged =
+    subst (λ (n : ℕ). Judges (records_of form) (samples_of (open_rows last)) (runs_of_rows 0 (open_rows last))
+    (separators_at lines n) k.before.judged) (sym k.opens.place)
+    (subst (λ (j : Judged). Judges (records_of form) (samples_of (open_rows last)) (runs_of_rows 0 (open_rows last))
+    (separators_at lines old.place) j) (sym k.opens.judged) a.judged) in
+    let judged = k.judged t' (samples_of (open_rows last)) (runs_of_rows 0 (open_rows last)) before in
+    record {
+      full = all_snoc (IsFull (bytes_of form.length)) records found a.full full;
+      done = a.done;
+      left = a.left;
+      whole = a.whole;
+      place = place ∙ a.place;
+      shown = a.shown;
+      is_open = k.opened ∙ k.opens.opened;
+      has_line = subst (λ (n : ℕ). HasLine lines n (Some (part_with last row))) (sym place)
+          (line_grown form lines records parts last row old a was.1);
+      judged = subst (λ (n : ℕ). Judges (records_of form) (samples_of (rows_of (part_with last row)))
+          (runs_of_rows 0 (rows_of (part_with last row))) (separators_at lines n) new.judged) (sym k.place)
+          (subst (λ (xs : List ℤ). Judges (records_of form) xs (runs_of_rows 0 (rows_of (part_with last row)))
+          (separators_at lines k.before.place) new.judged) (samples_grown last row)
+          (subst (λ (rs : List Run). Judges (records_of form) (samples_of (open_rows last) ++ row.samples) rs
+          (separators_at lines k.before.place) new.judged) (runs_grown last row) judged));
+    }
+
+-- what goes on with a row more goes on without it
+goes_before : (last : Option Part) (row : Row) (rest : List Part) → GoesOn (Some (part_with last row)) rest
+    → GoesOn last rest
+goes_before None row rest goes = tt
+goes_before (Some part) row rest goes =
+    record { first = goes.first; others = goes.others; rest_is = goes.rest_is; key = goes.key; start = goes.start }
+
+-- if a segment that goes on from the row is shown, the line at its place is of it
+line_shown : (form : Form) (lines : List SegmentLine) (records : List Record) (parts rest : List Part)
+    (last : Option Part) (row : Row) (old : Compared) → Agreeing form lines records parts last old
+    → GoesOn (Some (part_with last row)) rest → AreShownBy form (parts ++ rest) lines
+    → old.is_open ≡ false → IsLineAt lines old.place row.key row.start
+unfolding segment_of
+line_shown form lines records parts rest None row old a goes are f =
+    let are' : AreShownBy form (parts ++ goes.first ∷ goes.others) lines =
+    subst (λ (ps : List Part). AreShownBy form (parts ++ ps) lines) goes.rest_is are in
+    let at = next_shown form lines records parts goes.others None goes.first old a are' in
+    record {
+      line = at.line;
+      at_place = at.at_place;
+      key = at.shown.key ∙ goes.key;
+      start = at.shown.start ∙ goes.start;
+      records = at.shown.records ∙ at.shown.as_many;
+    }
+line_shown form lines records parts rest (Some part) row old a goes are f =
+    absurd (both_ways old.is_open f a.is_open)
+
+row_differs : (form : Form) (lines : List SegmentLine) (records : List Record) (parts : List Part) (last : Option Part)
+    (found : Record) (row : Row) (old new : Compared) → IsCompared form lines records parts last old
+    → AddsRow form lines old row new → new.agrees ≡ false
+    → Disagreeing form lines (records ++ found ∷ []) parts (Some (part_with last row))
+row_differs form lines records parts last found row old new h k f = elim (cases_Bool old.agrees) [
+  | inl was ↦ record {
+    none = λ more rest all goes are.
+        let is = line_shown form lines records parts rest last row old (h.agrees was) goes are in
+        both_ways k.before.agrees (sym k.agrees ∙ f) (k.opens.agrees.1 (was, is));
+  }
+  | inr was ↦
+      let d = h.differs was in
+      record {
+        none = λ more rest all goes are. d.none (found ∷ more) rest
+            (subst (λ (rs : List Record). All (IsFull (bytes_of form.length)) rs)
+            (append_assoc records (found ∷ []) more) all) (goes_before last row rest goes) are;
+      }
+]
+
 -- the row of a full record is added
 add_row : (form : Form) (lines : List SegmentLine) (records : List Record) (parts : List Part) (last : Option Part)
     (found : Record) (row : Row) (old new : Compared) → IsCompared form lines records parts last old
     → IsFull (bytes_of form.length) found → AddsRow form lines old row new
     → IsCompared form lines (records ++ found ∷ []) parts (Some (part_with last row)) new
 add_row form lines records parts last found row old new h full k = record {
-  agrees = λ t.
-      let was : old.agrees ≡ true = sym k.agrees ∙ t in
-      let a = h.agrees was in
-      let judged = k.judged was (samples_of (open_rows last)) (runs_of_rows 0 (open_rows last)) a.judged in
-      record {
-        full = all_snoc (IsFull (bytes_of form.length)) records found a.full full;
-        done = a.done;
-        left = a.left;
-        whole = a.whole;
-        place = k.place ∙ a.place;
-        shown = a.shown;
-        current = k.current was ∙ ap (λ (current : Option Opening). Some (opened current row)) a.current
-            ∙ ap (λ (opening : Opening). Some opening) (opened_part last row);
-        judged = subst (λ (n : ℕ). Judges (records_of form) (samples_of (rows_of (part_with last row)))
-            (runs_of_rows 0 (rows_of (part_with last row))) (separators_at lines n) new.judged) (sym k.place)
-            (subst (λ (xs : List ℤ). Judges (records_of form) xs (runs_of_rows 0 (rows_of (part_with last row)))
-            (separators_at lines old.place) new.judged) (samples_grown last row)
-            (subst (λ (rs : List Run). Judges (records_of form) (samples_of (open_rows last) ++ row.samples) rs
-            (separators_at lines old.place) new.judged) (runs_grown last row) judged));
-      };
-  differs = λ f.
-      let d = h.differs (sym k.agrees ∙ f) in
-      record {
-        none = λ more rest all are. d.none (found ∷ more) rest
-            (subst (λ (rs : List Record). All (IsFull (bytes_of form.length)) rs)
-            (append_assoc records (found ∷ []) more) all) are;
-      };
+  agrees = row_agrees form lines records parts last found row old new h full k;
+  differs = row_differs form lines records parts last found row old new h k;
 }
 
 -- a record that is not full agrees with no report
@@ -235,7 +331,7 @@ add_none : (form : Form) (lines : List SegmentLine) (records : List Record) (par
 add_none form lines records parts last found new other f = record {
   agrees = λ t. absurd (both_ways new.agrees f t);
   differs = λ _. record {
-    none = λ more rest all are. other (all_within (IsFull (bytes_of form.length)) records more found all);
+    none = λ more rest all goes are. other (all_within (IsFull (bytes_of form.length)) records more found all);
   };
 }
 

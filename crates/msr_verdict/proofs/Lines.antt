@@ -2,6 +2,7 @@
 use Rattle.std.proofs.Common.{◌≡◌, ◌↔◌, ℕ, suc, Bool, ℤ, sym, ◌∙◌, List, [], ◌∷◌, ◌++◌, length, refl, ap, subst, Some}
 use Rattle.std.specs.Prelude.{IsTrue, slice_get}
 use Rattle.msr_rows.proofs.OneAnswer.{some_same}
+use Rattle.msr_rows.specs.declared.row.Key.{Key}
 use Rattle.msr_kinds.specs.declared.forms.Form.{Form}
 use Rattle.msr_words.specs.Fit.{records_of}
 use Rattle.msr_words.specs.declared.kinds.Run.{Run}
@@ -10,14 +11,7 @@ use Rattle.msr_segments.specs.Segments.{Part}
 use Rattle.msr_segments.specs.declared.joiner.Segment.{Segment}
 use Rattle.msr_report.specs.declared.report.SegmentLine.{SegmentLine}
 use Rattle.msr_verdict.specs.Packed.{IsShownAs, IsShownBy, AreShownBy}
-use Rattle.msr_verdict.specs.Compared.{IsShownAt, opened_segment}
-use Rattle.msr_verdict.specs.declared.comparing.Opening.{Opening}
-
--- the line is of a segment that begins so, and has as many records as separators
-pub record IsLineOf (opening : Opening) (line : SegmentLine) : Type 0 where
-  pub key : line.key ≡ opening.key
-  pub start : line.start ≡ opening.start
-  pub records : line.records ≡ length line.separators.items
+use Rattle.msr_verdict.specs.Compared.{IsLineAt, IsShownAt}
 
 pub line_at : (form : Form) (place : ℕ) (lines : List SegmentLine) (segment : Segment) (runs : List Run)
     (line : SegmentLine) → slice_get lines place ≡ Some line → IsShownAt form lines place segment runs
@@ -26,46 +20,55 @@ line_at form place lines segment runs line e at =
     subst (λ (l : SegmentLine). IsShownAs form segment runs l)
     (some_same (slice_get lines place) at.line line at.at_place e) at.shown
 
--- such a line shows the segment where its separators do
-pub shown_at : (form : Form) (place : ℕ) (lines : List SegmentLine) (opening : Opening) (samples : List ℤ) (runs : List Run)
-    (line : SegmentLine) (test : Bool) → slice_get lines place ≡ Some line → IsLineOf opening line
-    → IsTrue test ↔ AreShown (records_of form) samples runs line.separators.items line.samples
-    → IsTrue test ↔ IsShownAt form lines place (opened_segment opening samples) runs
-shown_at form place lines opening samples runs line test e is exact = (
+-- the line at a place is of a segment that begins so exactly when the test of its fields says so
+pub tests_line : (lines : List SegmentLine) (place : ℕ) (name : Key) (instant : ℤ) (line : SegmentLine) (test : Bool)
+    → slice_get lines place ≡ Some line → IsTrue test ↔ ((line.key ≡ name) × (line.start ≡ instant)
+    × (line.records ≡ length line.separators.items))
+    → IsTrue test ↔ IsLineAt lines place name instant
+tests_line lines place name instant line test e exact = (
   λ t.
       let all = exact.0 t in
-      record {
-        line = line;
-        at_place = e;
-        shown = record {
-          key = is.key;
-          start = is.start;
-          samples = sym all.number_is;
-          records = is.records ∙ sym all.as_many;
-          packing = all.packing;
-          separating = all.separating;
-          as_many = all.as_many;
-        };
-      },
-  λ at. (let shown = line_at form place lines (opened_segment opening samples) runs line e at in
-      exact.1 (record {
-        packing = shown.packing;
-        separating = shown.separating;
-        as_many = shown.as_many;
-        number_is = sym shown.samples;
-      })),
+      record { line = line; at_place = e; key = all.0; start = all.1; records = all.2 },
+  λ at. (let same = some_same (slice_get lines place) at.line line at.at_place e in
+      exact.1 (
+        sym (ap (λ (l : SegmentLine). l.key) same) ∙ at.key,
+        sym (ap (λ (l : SegmentLine). l.start) same) ∙ at.start,
+        subst (λ (l : SegmentLine). l.records ≡ length l.separators.items) same at.records,
+      )),
 )
 
--- each line but the segment's shows nothing
-pub other_line : (form : Form) (place : ℕ) (lines : List SegmentLine) (opening : Opening) (samples : List ℤ)
-    (runs : List Run) (line : SegmentLine) (test : Bool) → slice_get lines place ≡ Some line
-    → (IsLineOf opening line → ⊥) → (IsTrue test → ⊥)
-    → IsTrue test ↔ IsShownAt form lines place (opened_segment opening samples) runs
-other_line form place lines opening samples runs line test e other wrong = (
-  λ t. absurd (wrong t),
-  λ at. absurd (let shown = line_at form place lines (opened_segment opening samples) runs line e at in
-      other (record { key = shown.key; start = shown.start; records = shown.records ∙ shown.as_many })),
-)
+-- the line that is of the segment shows it where its separators do
+pub shown_at : (form : Form) (place : ℕ) (lines : List SegmentLine) (segment : Segment) (runs : List Run)
+    (line : SegmentLine) (test : Bool) → slice_get lines place ≡ Some line
+    → IsLineAt lines place segment.key segment.start
+    → IsTrue test ↔ AreShown (records_of form) segment.samples runs line.separators.items line.samples
+    → IsTrue test ↔ IsShownAt form lines place segment runs
+shown_at form place lines segment runs line test e is exact =
+    let same = some_same (slice_get lines place) is.line line is.at_place e in (
+      λ t.
+          let all = exact.0 t in
+          record {
+            line = line;
+            at_place = e;
+            shown = record {
+              key = sym (ap (λ (l : SegmentLine). l.key) same) ∙ is.key;
+              start = sym (ap (λ (l : SegmentLine). l.start) same) ∙ is.start;
+              samples = sym all.number_is;
+              records = subst (λ (l : SegmentLine). l.records ≡ length l.separators.items) same is.records
+                  ∙ sym all.as_many;
+              packing = all.packing;
+              separating = all.separating;
+              as_many = all.as_many;
+            };
+          },
+      λ at. (let shown = line_at form place lines segment runs line e at in
+          exact.1 (record {
+            packing = shown.packing;
+            separating = shown.separating;
+            as_many = shown.as_many;
+            number_is = sym shown.samples;
+          })),
+    )
 
 -- one part more, with its line
 pub shown_snoc : (form : Form) (parts : List Part) (lines : List SegmentLine) (part : Part) (line : SegmentLine)

@@ -1,6 +1,5 @@
 -- The runs that rows are, one row more.
 use Rattle.std.proofs.Common.{◌≡◌, ℕ, suc, ◌+◌, List, [], ◌∷◌, ◌++◌, length, refl, sym, ap, ◌∙◌, arith, length-append, ℤ, Option, Some, None}
-use Rattle.std.specs.Prelude.{option_map}
 use Rattle.std.specs.List.{flat_map}
 use Rattle.std.proofs.lemmas.List.{append-nil}
 use Rattle.std.proofs.lemmas.Grind.{flat_map-append}
@@ -8,8 +7,6 @@ use Rattle.msr_words.specs.declared.kinds.Run.{Run}
 use Rattle.msr_rows.specs.declared.row.Row.{Row}
 use Rattle.msr_segments.specs.Segments.{Part, rows_of, segment_of}
 use Rattle.msr_verdict.specs.Packed.{runs_of_rows}
-use Rattle.msr_verdict.specs.Compared.{opened, opened_segment}
-use Rattle.msr_verdict.specs.declared.comparing.Opening.{Opening}
 use Rattle.msr_check.specs.Judged.{next_run}
 use Rattle.msr_verdict.proofs.Parts.{open_rows, part_with}
 
@@ -40,21 +37,6 @@ runs_snoc at (one ∷ rows) row =
 pub runs_length : (at : ℕ) (rows : List Row) → length (runs_of_rows at rows) ≡ length rows
 runs_length at [] = refl
 runs_length at (one ∷ rows) = ap (λ n. suc n) (runs_length (at + length one.samples) rows)
-
--- where a part begins
-abbrev pub opening_of : Part → Opening
-opening_of part = record { key = (segment_of part).key; start = (segment_of part).start }
-
-pub same_segment : (part : Part) → opened_segment (opening_of part) (samples_of (rows_of part)) ≡ segment_of part
-unfolding segment_of
-same_segment part = refl
-
--- the open part with a row more begins where it did
-pub opened_part : (last : Option Part) (row : Row)
-    → opened (option_map opening_of last) row ≡ opening_of (part_with last row)
-unfolding segment_of
-opened_part None row = refl
-opened_part (Some part) row = refl
 
 grown_rows : (last : Option Part) (row : Row) → rows_of (part_with last row) ≡ open_rows last ++ row ∷ []
 grown_rows None row = refl

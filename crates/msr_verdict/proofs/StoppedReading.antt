@@ -188,7 +188,7 @@ verdict_answers report input records parts c NotShown are d compared exact = rec
             ∙ shown_length (form_by report) parts report.segments.items shown.1 in
             let wrong : ◌≡◌ {A = Verdict} NotShown Least = exact.1 (agrees, place) in
             absurd cc)
-        | inr differs ↦ (compared.differs differs).none [] [] (rw append-nil shown.0) (rw append-nil shown.1)
+        | inr differs ↦ (compared.differs differs).none [] [] (rw append-nil shown.0) tt (rw append-nil shown.1)
       ];
 }
 
@@ -196,7 +196,7 @@ verdict_answers report input records parts c NotShown are d compared exact = rec
 pub done : (report : Report) (start at now : Device) (before reading : RowReading) (old new : Compared)
     (verdict : Verdict) (u : UnderWay report start at before old) → ReadsNone start now reading u.records u.answers
     → row_settings reading ≡ row_settings before
-    → ComparesEnded (form_by report) report.segments.items old old.current new → (verdict ≡ Least)
+    → ComparesEnded (form_by report) report.segments.items old.is_open old new → (verdict ≡ Least)
     ↔ ((new.agrees ≡ true) × (new.place ≡ length report.segments.items)) → IsAnswered report start (Ok verdict)
 done report start at now before reading old new verdict u all still k exact =
     let f = u.follows in

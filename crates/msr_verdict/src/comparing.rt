@@ -1,44 +1,26 @@
 //! Comparing segments with the lines of a report, one after another.
 ghost use Rattle.std.specs.Prelude.{◌≡◌, ◌↔◌, IsTrue};
-ghost use Rattle.msr_verdict.specs.Compared.{opened, separators_at};
+ghost use Rattle.msr_verdict.specs.Compared.{IsLineAt, separators_at};
 ghost use Rattle.msr_verdict.specs.Packed.{form_by};
 
 use crate::verdict::Verdict;
 use msr_check::Judge;
 use msr_input::{NextRow, ReadFault};
 use msr_kinds::Form;
-use msr_report::{Report, SegmentLine};
-use msr_rows::{Key, Row};
+use msr_report::Report;
+use msr_rows::Row;
 use msr_segments::Step;
 use std::alloc::Global;
 use std::marker::Model;
 
-/// Where the open segment begins.
-#[derive(Clone, Copy, Debug)]
-pub(crate) struct Opening {
-    pub key: Key,
-    pub start: i64,
-}
-
-/// Whether the line has the segment's key and start, and as many records as separators.
-fn is_line_of(line: &SegmentLine, opening: &Opening, separators: usize) -> bool
-    ensures { IsTrue result ↔ (line.now.key ≡ opening.now.key) × (line.now.start ≡ opening.now.start)
-        × (line.now.records ≡ separators) }
+/// Whether the line at that place is of a segment that begins with the row, and has as many records as separators.
+fn is_line_of(report: &Report, place: usize, row: &Row) -> bool
+    ensures { IsTrue result ↔ IsLineAt report.now.segments.items place row.now.key row.now.start }
 {
-    line.key == opening.key && line.start == opening.start && line.records == separators as u64
-}
-
-/// Where the open segment begins, when it has that row.
-fn opened(current: Option<Opening>, row: &Row) -> Opening
-    ensures { result ≡ opened current row.now }
-{
-    match current {
-        Some(opening) => opening,
-        None => Opening {
-            key: row.key,
-            start: row.start,
-        },
-    }
+    let Some(line) = report.segments.get(place) else {
+        return false;
+    };
+    line.key == row.key && line.start == row.start && line.records == line.separators.len() as u64
 }
 
 /// The separators of the line at that place, none if there is no line.
@@ -66,7 +48,7 @@ fn form_by(report: &Report) -> Form
 #[derive(Drop)]
 pub(crate) struct Comparing {
     place: usize,
-    current: Option<Opening>,
+    is_open: bool,
     judge: Judge,
     agrees: bool,
 }
@@ -76,60 +58,59 @@ impl Model for Comparing {
 
     ghost Value = { Compared };
 
-    ghost view = { λ c. record { place = c.place; current = c.current; judged = c.judge; agrees = c.agrees } };
+    ghost view = { λ c. record { place = c.place; is_open = c.is_open; judged = c.judge; agrees = c.agrees } };
 }
 
 impl Comparing {
-    ghost use Rattle.std.specs.Prelude.{◌≡◌, ◌↔◌, ℕ, ℤ, List, [], length, true, None, OnOk, IfErr, IsTrue, ◌+◌, ◌<◌, ◌^◌};
+    ghost use Rattle.std.specs.Prelude.{◌≡◌, ◌↔◌, ℕ, List, [], length, true, false, OnOk, IfErr, IsTrue, ◌+◌, ◌<◌, ◌^◌};
     ghost use Rattle.msr_words.specs.Fit.{Records, records_of};
     ghost use Rattle.msr_words.specs.declared.kinds.Run.{Run as WordRun};
     ghost use Rattle.msr_check.specs.Judged.{Judges};
-    ghost use Rattle.msr_verdict.specs.Compared.{AddsRow, ComparesEnded, EndsBy, IsShownAt, TakesRow, opened_segment};
+    ghost use Rattle.msr_segments.specs.declared.joiner.Segment.{Segment};
+    ghost use Rattle.msr_verdict.specs.Compared.{AddsRow, ComparesEnded, EndsBy, IsLineAt, IsShownAt, OpensBy, TakesRow};
 
     /// The state before the first record.
     pub(crate) fn new(alloc: Global) -> Comparing
         ensures place { result.place ≡ 0 }
-        ensures current { result.current ≡ None }
+        ensures is_open { result.is_open ≡ false }
         ensures judged { (records : Records) (separators : List ℕ) → Judges records [] [] separators result.judged }
         ensures agrees { result.agrees ≡ true }
     {
         Comparing {
             place: 0,
-            current: None,
+            is_open: false,
             judge: Judge::new(alloc),
             agrees: true,
         }
     }
 
-    /// Whether the segment that begins so is shown by the line at its place, if no row follows.
-    fn is_shown(&self, report: &Report, opening: &Opening) -> bool
-        ensures shown { (samples : List ℤ) (runs : List WordRun)
-            → Judges (records_of (form_by report.now)) samples runs
+    /// Whether the open segment, of which the line at its place is, is shown by that line, if no row follows.
+    fn is_shown(&self, report: &Report) -> bool
+        ensures shown { (segment : Segment) (runs : List WordRun)
+            → IsLineAt report.now.segments.items self.now.place segment.key segment.start
+            → Judges (records_of (form_by report.now)) segment.samples runs
             (separators_at report.now.segments.items self.now.place) self.now.judged
-            → IsTrue result ↔ IsShownAt (form_by report.now) report.now.segments.items self.now.place
-            (opened_segment opening.now samples) runs }
+            → IsTrue result ↔ IsShownAt (form_by report.now) report.now.segments.items self.now.place segment runs }
         ensures counted { IsTrue result → self.now.place + 1 < 2 ^ 64 }
     {
         let Some(line) = report.segments.get(self.place) else {
             return false;
         };
-        is_line_of(line, opening, line.separators.len())
-            && self
-                .judge
-                .shows_least(form_by(report), line.separators.as_slice(), line.samples)
+        self.judge
+            .shows_least(form_by(report), line.separators.as_slice(), line.samples)
     }
 
     /// Compares the open segment, if there is one, with its line: it has ended.
     pub(crate) fn end(&mut self, report: &Report)
         ensures { ComparesEnded
-            (form_by report.now) report.now.segments.items self.old self.old.current self.new }
+            (form_by report.now) report.now.segments.items self.old.is_open self.old self.new }
     {
-        let Some(opening) = self.current else {
+        if !self.is_open {
             return;
-        };
-        self.agrees = self.is_shown(report, &opening) && self.agrees;
+        }
+        self.agrees = self.agrees && self.is_shown(report);
         self.place = self.place.saturating_add(1);
-        self.current = None;
+        self.is_open = false;
         self.judge.begin();
     }
 
@@ -143,16 +124,28 @@ impl Comparing {
         }
     }
 
+    /// Opens a segment with the row if none is open. If the line at its place is not of that segment, it disagrees before
+    /// a sample is judged.
+    fn open_by(&mut self, report: &Report, row: &Row)
+        ensures { OpensBy report.now.segments.items self.old row.now self.new }
+    {
+        if self.is_open {
+            return;
+        }
+        self.is_open = true;
+        self.agrees = self.agrees && is_line_of(report, self.place, row);
+    }
+
     /// Adds a row to the open segment, or opens one with it.
     fn add(&mut self, report: &Report, row: Row) -> Result<(), ReadFault>
         ensures added { OnOk result (AddsRow
             (form_by report.now) report.now.segments.items self.old row self.new) }
         ensures memory { IfErr result (λ fault. fault ≡ ReadFault.Memory) }
     {
+        self.open_by(report, &row);
         if !self.agrees {
             return Ok(());
         }
-        self.current = Some(opened(self.current, &row));
         let Ok(()) = self.judge.push(
             row.samples.as_slice(),
             row.kind,
@@ -173,7 +166,7 @@ impl Comparing {
     {
         let Some(next) = row else {
             self.agrees = false;
-            self.current = None;
+            self.is_open = false;
             self.judge.begin();
             return Ok(());
         };

@@ -5,19 +5,10 @@ ghost use Rattle.msr_verify.specs.Entries.{IsJudgementOfDay};
 use crate::folders::RepackedArchive;
 use crate::judgement::{Judgement, Refusal, judgement_of};
 use crate::judging::verify_day;
-use msr_folders::{ended, join, may_be_one, open_regular, tells_none};
+use msr_folders::{ended, is_gone, join, may_be_one, open_regular};
 use msr_tool::FromRead;
 use std::alloc::{AllocError, Global};
-use std::fs;
 use std::rt::Files;
-
-/// Whether the system tells that nothing stands under a name, not even a link that leads nowhere.
-pub(crate) fn is_gone<R: Files>(rt: &R, path: &str) -> bool {
-    match fs::symlink_metadata(rt, path) {
-        Ok(_) => false,
-        Err(error) => tells_none(error.kind()),
-    }
-}
 
 /// What the files with these names show. All are opened before one is read, the records twice.
 fn judge_files<R: Files>(

@@ -5,11 +5,11 @@ ghost use Rattle.msr_sds.specs.SdsPath.{ReadsAsDay, SdsPath};
 ghost use Rattle.msr_verify.specs.Entries.{IsJudgementOf};
 ghost use Rattle.msr_verify.specs.Walk.{StopsTelling, Tells, Verifies};
 
-use crate::day::{is_gone, judge_day};
+use crate::day::judge_day;
 use crate::judgement::{Judgement, Refusal};
 use crate::tally::VerifyTally;
 use msr_devices::write_all;
-use msr_folders::{FileKind, ListFault, entry_path, join, kind_of, names_in};
+use msr_folders::{FileKind, ListFault, entry_path, is_gone, join, kind_of, names_in};
 use msr_sds::{FOLDERS, SdsName, levels_below};
 use msr_tool::{Sink, ToolFault};
 use std::alloc::Global;

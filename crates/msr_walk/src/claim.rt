@@ -169,8 +169,8 @@ fn open_claim<R: Files>(rt: &R, path: &str) -> Result<Option<R::File>, ClaimFaul
     }
 }
 
-/// Removes what a walk that was killed left of the day. One that is at work has its claim locked; if the system has no
-/// locks, nothing tells whether it is.
+/// Removes what a walk left of the day that was killed, or could not remove it. One that is at work has its claim locked;
+/// if the system has no locks, nothing tells whether it is.
 fn clear<R: Files>(rt: &R, alloc: Global, day: &Day) -> Result<(), ClaimFault>
 where
     R::File: LockFile,

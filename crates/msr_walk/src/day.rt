@@ -106,14 +106,16 @@ impl DayFiles {
         )
     }
 
-    /// Stamps the day, if its input is as it was; without a stamp the next walk repacks it again.
-    fn put_stamp<R: Files>(&self, rt: &R, alloc: Global, before: &Look, input: &str) {
+    /// Stamps the day, if its input is as it was; without a stamp the next walk repacks it again. Tells whether nothing
+    /// stands beside the stamp's name any more.
+    fn put_stamp<R: Files>(&self, rt: &R, alloc: Global, before: &Look, input: &str) -> bool {
         let Some(stamp) = Stamp::of(&Look::at(rt, input)) else {
-            return;
+            return true;
         };
-        if Stamp::of(before) == Some(stamp) && stamp.put(rt, alloc, &self.stamp).is_err() {
-            self.stamp.sweep(rt);
+        if Stamp::of(before) != Some(stamp) || stamp.put(rt, alloc, &self.stamp).is_ok() {
+            return true;
         }
+        self.stamp.sweep(rt)
     }
 }
 
@@ -149,6 +151,13 @@ struct ClaimedDay<'a, F> {
     input: &'a Look,
     files: DayFiles,
     claim: &'a Claim<F>,
+}
+
+/// What became of a day that this walk has, and whether nothing stands beside the names of its files any more.
+#[derive(Clone, Copy)]
+struct DayEnd {
+    outcome: Outcome,
+    is_swept: bool,
 }
 
 impl Day {
@@ -249,25 +258,35 @@ impl Day {
         Ok(repacked)
     }
 
-    /// Repacks the day, and stamps it if that is asked for and the input did not change meanwhile.
+    /// Repacks the day, and stamps it if that is asked for and the input did not change meanwhile. If it is refused,
+    /// nothing of it is left, unless another walk took it over.
     fn repack<R: Files>(
         &self,
         rt: &R,
         alloc: Global,
         asked: &DayOptions,
         claimed: &ClaimedDay<'_, R::File>,
-    ) -> Result<Repacked, DayFault>
-        ensures { IsRepackedDay asked.now result }
+    ) -> DayEnd
+        ensures { IsDayOutcome asked.now result.outcome }
     {
-        let result = self.write(rt, alloc, asked, claimed);
-        if result.is_err() {
-            claimed.files.sweep(rt);
-        } else if asked.resume {
-            claimed
-                .files
-                .put_stamp(rt, alloc, claimed.input, self.input.as_str());
+        let files = &claimed.files;
+        match self.write(rt, alloc, asked, claimed) {
+            Ok(repacked) => DayEnd {
+                outcome: Outcome::Done(repacked),
+                is_swept: !asked.resume
+                    || files.put_stamp(rt, alloc, claimed.input, self.input.as_str()),
+            },
+            Err(refusal) => {
+                let is_swept = files.sweep(rt);
+                if claimed.claim.is_ours(rt, self.claim()) {
+                    self.remove(rt);
+                }
+                DayEnd {
+                    outcome: refused(refusal),
+                    is_swept,
+                }
+            }
         }
-        result
     }
 
     /// Removes the stamp, the records and then the report of the day, as far as the system lets.
@@ -323,12 +342,12 @@ impl Day {
         }
     }
 
-    /// Whether there is a claim: a walk is at work, or was killed and left something.
+    /// Whether there is a claim: a walk is at work, or left something.
     fn is_claimed<R: Files>(&self, rt: &R) -> bool {
         fs::symlink_metadata(rt, self.claim.as_str()).is_ok()
     }
 
-    /// Does a day that this walk has. If it is refused, nothing of it is left, unless another walk took it over.
+    /// Does a day that this walk has.
     fn do_claimed<R: Files>(
         &self,
         rt: &R,
@@ -336,12 +355,15 @@ impl Day {
         asked: &DayOptions,
         input: &Look,
         claim: &Claim<R::File>,
-    ) -> Result<Outcome, AllocError>
-        ensures { IfOk result (IsDayOutcome asked.now) }
+    ) -> Result<DayEnd, AllocError>
+        ensures { IfOk result (λ end. IsDayOutcome asked.now end.outcome) }
     {
         if asked.resume && self.may_be_stamped(rt) {
             if let Some(repacked) = self.kept(rt, alloc, asked, &self.look(rt)) {
-                return Ok(Outcome::Same(repacked));
+                return Ok(DayEnd {
+                    outcome: Outcome::Same(repacked),
+                    is_swept: true,
+                });
             }
         }
         let claimed = ClaimedDay {
@@ -349,18 +371,11 @@ impl Day {
             files: self.files(alloc, claim.number())?,
             claim,
         };
-        match self.repack(rt, alloc, asked, &claimed) {
-            Ok(repacked) => Ok(Outcome::Done(repacked)),
-            Err(refusal) => {
-                if claim.is_ours(rt, self.claim()) {
-                    self.remove(rt);
-                }
-                Ok(refused(refusal))
-            }
-        }
+        Ok(self.repack(rt, alloc, asked, &claimed))
     }
 
-    /// Claims the day, does it, and lets it go.
+    /// Claims the day, does it, and lets it go; the claim stays beside what could not be removed, since by its number
+    /// the next walk finds that.
     fn claim_and_do<R: Files>(
         &self,
         rt: &R,
@@ -380,9 +395,16 @@ impl Day {
             )),
             Err(ClaimFault::Memory) => return Err(AllocError),
         };
-        let outcome = self.do_claimed(rt, alloc, asked, input, &claim);
-        claim.release(rt, self.claim());
-        outcome
+        let end = self.do_claimed(rt, alloc, asked, input, &claim);
+        let is_swept = match &end {
+            Ok(end) => end.is_swept,
+            // There was no memory for the names, so nothing was written.
+            Err(_) => true,
+        };
+        if is_swept {
+            claim.release(rt, self.claim());
+        }
+        Ok(end?.outcome)
     }
 
     /// Does what is asked of the day: repacks it, or leaves it alone if an earlier walk did it and that is asked for.

@@ -3,7 +3,7 @@ ghost use Rattle.std.specs.Prelude.{◌≡◌, IfErr, IfOk};
 ghost use Rattle.msr_walk.specs.Files.{new_file};
 
 use crate::outcome::DayFault;
-use msr_folders::{Look, ended, folder_of, tells_none};
+use msr_folders::{Look, ended, folder_of, is_gone};
 use msr_tool::ToolFault;
 use std::alloc::{AllocError, Global};
 use std::fs::{OpenFile, OpenOptions};
@@ -139,7 +139,7 @@ impl NewFile {
     pub(crate) fn sweep<R: Files>(&self, rt: &R) -> bool {
         match fs::remove_file(rt, self.part.as_str()) {
             Ok(()) => true,
-            Err(error) => tells_none(error.kind()),
+            Err(_) => is_gone(rt, self.part.as_str()),
         }
     }
 

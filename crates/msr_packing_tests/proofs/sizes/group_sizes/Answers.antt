@@ -1,9 +1,7 @@
 -- One group more.
-use Rattle.std.proofs.Common.{rules, arith, ◌≡◌, ◌<◌, ◌≤◌, ◌+◌, length, drop, take, subst, sym}
-use Rattle.std.proofs.lemmas.List.{length-drop, length-take-le}
+use Rattle.std.proofs.Common.{rules, arith, ◌<◌}
 use Rattle.msr_words.specs.Segment.{differences}
 use Rattle.msr_words.proofs.Plain.{length-differences}
-use Rattle.msr_words.proofs.Steim2Groups.{group_to}
 use Rattle.msr_packing_tests.proofs.SizesSoFar.{all_sizes, sizes_more, sizes_none}
 use Rattle.msr_packing_tests.proofs.sizes.group_sizes.Goals as goal
 

@@ -18,7 +18,7 @@ records-init g c = record {
       c.new-reader.result.following c.new-comparing.result
       (ap (λ (f : Following). f.current) c.new-reader.ensures.following) (record {
         place = c.new-comparing.ensures.place;
-        current = c.new-comparing.ensures.current;
+        is_open = c.new-comparing.ensures.is_open;
         judged = c.new-comparing.ensures.judged;
         agrees = c.new-comparing.ensures.agrees;
       });

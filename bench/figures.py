@@ -1,0 +1,104 @@
+"""The figures of kept.txt: how they are read, held against those of a run, and replaced.
+
+A line that is not empty and does not begin with # is one of
+
+    NAME INSTRUCTIONS FAULTS KIB            what one day of that workload takes
+    NAME rises: REASON                      lets `--write` put higher figures of it, once
+    NAME rose FIGURES to FIGURES: REASON    what that line is afterwards
+"""
+import collections
+import re
+
+Figures = collections.namedtuple("Figures", "instructions faults kib")
+TITLES = Figures("instructions", "page faults", "peak KiB")
+# How many per cent of what is kept a run may take.
+LIMITS = Figures(102, 110, 110)
+
+NUMBER = r"[1-9][0-9]{0,2}(?:,?[0-9]{3})*"
+ROW = re.compile(rf"(\S+) ({NUMBER}) ({NUMBER}) ({NUMBER})")
+RISES = re.compile(r"(\S+) rises: (.+)")
+ROSE = re.compile(rf"\S+ rose (?:{NUMBER} ){{3}}to {NUMBER} {NUMBER} {NUMBER}: .+")
+
+
+class Malformed(Exception):
+    """A line that cannot be read, or that speaks of a workload for the second time."""
+
+
+class Kept:
+    """What a text keeps: by a workload's name, its figures and its unused reason, each with the place of its line."""
+
+    def __init__(self, text):
+        self.lines = text.split("\n")
+        self.rows, self.reasons, self.told = {}, {}, []
+        for place, line in enumerate(self.lines):
+            words = " ".join(line.split())
+            if words and not words.startswith("#"):
+                self._take(place, words)
+
+    def _take(self, place, words):
+        row, rises = ROW.fullmatch(words), RISES.fullmatch(words)
+        if row and row[1] not in self.rows:
+            self.rows[row[1]] = place, Figures(*(int(it.replace(",", "")) for it in row.groups()[1:]))
+        elif rises and rises[1] not in self.reasons:
+            self.reasons[rises[1]] = place, rises[2]
+        elif not ROSE.fullmatch(words):
+            why = "the second such line" if row or rises else "neither figures nor a reason"
+            raise Malformed(f"line {place + 1}: {why}: {words}")
+        if not row:
+            self.told.append(words)
+
+    def without_workload(self, names):
+        """The lines that speak of no workload of these names, or of one without figures."""
+        for name, (place, _) in self.rows.items():
+            if name not in names:
+                yield f"line {place + 1}: {name} is no workload: remove the line"
+        for name, (place, _) in self.reasons.items():
+            if name not in self.rows:
+                yield f"line {place + 1}: {name} has no figures that could rise: remove the line"
+
+    def lacking(self, names):
+        """The workloads of these names that have no figures."""
+        return [f"{name} has no figures: bench/kept --write adds them" for name in names if name not in self.rows]
+
+    def unused(self):
+        """The lines of reason that `--write` has not used."""
+        for name, (place, _) in self.reasons.items():
+            yield f"line {place + 1}: unused reason: run bench/kept --write, or remove it if nothing of {name} rises"
+
+    def beside(self, measured):
+        """The text with the figures of a run that are lower, and with all those of a workload that has a reason."""
+        lines, added = list(self.lines), []
+        for name, now in measured.items():
+            place, old = self.rows.get(name, (None, now))
+            new = Figures(*map(min, old, now))
+            if name in self.reasons and new != now:
+                at, reason = self.reasons[name]
+                new, lines[at] = now, f"{name} rose {text_of(old)} to {text_of(now)}: {reason}"
+            if place is None:
+                added.append(f"{name} {text_of(new)}")
+            elif new != old:
+                lines[place] = f"{name} {text_of(new)}"
+        end = max((place + 1 for place, _ in self.rows.values()), default=len(lines) - 1)
+        return "\n".join(lines[:end] + added + lines[end:])
+
+
+def text_of(figures):
+    return " ".join(f"{it:,}" for it in figures)
+
+
+def beyond(old, now):
+    """Each figure of a run that is beyond its limit, with how many times what is kept it is."""
+    every = zip(TITLES, LIMITS, old, now)
+    return [f"{title} {new / kept:.4f}" for title, limit, kept, new in every if 100 * new > limit * kept]
+
+
+def table(kept, measured):
+    """The table of a run beside what is kept, with the reasons, and how many workloads are beyond a limit."""
+    lines = [f"| workload | {' | '.join(f'{it} | kept' for it in TITLES)} | beyond the limit |", "|---" * 8 + "|"]
+    worse = 0
+    for name, now in measured.items():
+        _, old = kept.rows[name]
+        cells = " | ".join(f"{new:,} | {was:,}" for new, was in zip(now, old))
+        lines.append(f"| {name} | {cells} | {', '.join(beyond(old, now))} |")
+        worse += bool(beyond(old, now))
+    return lines + kept.told, worse
