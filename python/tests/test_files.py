@@ -15,7 +15,7 @@ from msrepack import (
     BadCall, Difference, Failed, NotAReport, Refused, Report, Same, check, compare, repack, segments
 )
 
-FILES = range(24)
+FILES = range(16)
 EPOCH = datetime.datetime(1970, 1, 1, tzinfo=datetime.timezone.utc)
 
 
@@ -85,10 +85,10 @@ class Repack(Given):
         self.assertEqual(repack(memoryview(content)), wanted)
 
     def test_more_than_a_pipe_holds(self):
-        content = read(example("two-segments.mseed")) * 2000
+        content = read(example("two-segments.mseed")) * 400
         for data in (content, io.BytesIO(content)):
             packed = repack(data, length=256)
-            self.assertEqual(packed.report.read, 10_000)
+            self.assertEqual(packed.report.read, 2000)
             self.assertTrue(compare(content, io.BytesIO(packed.records)))
 
     def test_a_path_is_no_option_and_no_standard_input(self):
@@ -132,13 +132,12 @@ class Check(Given):
             if wanted.fault or read_back.fault:
                 continue
             for text in (wanted.report, made_files.of_other_kinds(wanted.report)):
-                report = Report.parse(text)
                 answer = reports.verdict(wanted.records, reports.parsed(text.encode()))
                 verdicts.add(answer)
-                for records in self.ways(f"packed{number}", wanted.records):
-                    self.assertIs(check(records, report), answer)
-                for given in self.ways(f"report{number}", text.encode()):
-                    self.assertIs(check(wanted.records, given), answer)
+                self.assertIs(check(wanted.records, Report.parse(text)), answer)
+            ways = zip(self.ways(f"packed{number}", wanted.records), self.ways(f"report{number}", text.encode()))
+            for records, report in ways:
+                self.assertIs(check(records, report), answer)
         self.assertEqual(verdicts, {True, False})
 
     def test_what_is_refused(self):
@@ -189,7 +188,7 @@ class Segments(Given):
                         self.hold(one, other)
                         self.assertIsNone(one.records or one.separators)
                         count += 1
-        self.assertGreater(count, 50)
+        self.assertGreater(count, 30)
 
     def test_those_of_a_report(self):
         for number in FILES:

@@ -26,7 +26,10 @@ TYPES = {
 
 def modelled(*words):
     """The lines that the model prints for a walk."""
-    given = commands.Given(b"", NOTHING, NOTHING, None, None, walks.Odd(), ())
+    given = commands.Given(
+        content=b"", reading=NOTHING, writing=NOTHING, redirected=None, redirecting=None, odd=walks.Odd(), unsaid=(),
+        is_terminal=False,
+    )
     [outcome] = commands.run([*words], given)
     return outcome.printed.decode().splitlines()
 
