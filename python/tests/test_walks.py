@@ -184,7 +184,7 @@ class AsTheyCome(Walks):
         self.assertEqual((z.path, type(z)), ("z", lines.Refused))
 
     def days(self, count):
-        content = read(example("two-segments.mseed")) * 20
+        content = read(example("two-segments.mseed")) * 4
         for number in range(1, count + 1):
             self.path(os.path.join("root", DAY.format(number)), content)
 
