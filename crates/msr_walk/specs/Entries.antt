@@ -3,7 +3,6 @@ use Rattle.std.specs.Prelude.{◌≡◌, ◌+◌, ℕ, ⊤, Bool, true, false, L
 use Rattle.std.specs.Fmt.{decimal}
 use Rattle.std.specs.List.{count_by, flat_map, sum_by}
 use Rattle.msr_sds.specs.SdsPath.{SdsPath, ReadsAsDay}
-use Rattle.msr_sds.specs.declared.SdsFault.{SdsFault}
 use Rattle.msr_totals.specs.Totals.{Add, saturated, totals_of}
 use Rattle.msr_totals.specs.declared.Total.{Total}
 use Rattle.msr_days.specs.declared.DayOptions.{DayOptions}
