@@ -52,8 +52,12 @@ def _of_wheel() -> Optional[str]:
     except importlib.metadata.PackageNotFoundError:
         return None
     files = [os.path.realpath(str(wheel.locate_file(file))) for file in wheel.files or ()]
-    programs = (file for file in files if os.path.basename(file) == "msrepack" and os.access(file, os.X_OK))
-    return next(programs, None) if os.path.join(HERE, "__init__.py") in files else None
+    if os.path.join(HERE, "__init__.py") not in files:
+        return None
+    # pip --target notes another place than that where it puts the program.
+    files.append(os.path.join(os.path.dirname(HERE), "bin", "msrepack"))
+    programs = (file for file in files if os.path.basename(file) == "msrepack" and os.path.isfile(file))
+    return next((file for file in programs if os.access(file, os.X_OK)), None)
 
 
 @functools.lru_cache(None)

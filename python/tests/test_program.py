@@ -67,10 +67,29 @@ class Finding(Tidy):
     def test_that_of_the_wheel(self):
         path, other = self.program("site/bin/msrepack"), self.program("path/msrepack")
         os.environ["PATH"] = os.path.dirname(other) + os.pathsep + os.environ["PATH"]
-        record = "bin/msrepack,,\nmsrepack/__init__.py,,\nmsrepack-1.0.0.dist-info/RECORD,,\n"
+        self.wheel("bin/msrepack")
+        self.assertEqual(self.copied("site"), path)
+
+    def test_that_of_a_wheel_at_a_place_that_was_named(self):
+        """As `pip install --target` notes it."""
+        path = self.program("site/bin/msrepack")
+        self.wheel("../../bin/msrepack")
+        self.assertEqual(self.copied("site"), path)
+
+    def test_a_wheel_that_is_not_this_package(self):
+        """A clone does not take the program of another installation."""
+        self.program("site/bin/msrepack")
+        self.wheel("bin/msrepack")
+        path = self.program("clone/out/msrepack")
+        self.clone(f"echo {path}")
+        with unittest.mock.patch.dict(os.environ, PYTHONPATH=self.path("site")):
+            self.assertEqual(self.copied("clone", "python"), path)
+
+    def wheel(self, place):
+        """What pip notes of a wheel that it installed."""
+        record = f"{place},,\nmsrepack/__init__.py,,\nmsrepack-1.0.0.dist-info/RECORD,,\n"
         self.path("site/msrepack-1.0.0.dist-info/RECORD", record.encode())
         self.path("site/msrepack-1.0.0.dist-info/METADATA", b"Metadata-Version: 2.1\nName: msrepack\nVersion: 1.0.0\n")
-        self.assertEqual(self.copied("site"), path)
 
     def test_that_of_the_clone(self):
         path, other = self.program("clone/out/msrepack"), self.program("path/msrepack")
