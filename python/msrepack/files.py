@@ -86,7 +86,7 @@ def repack(
 
 
 def check(records: Data, report: Union[Report, Data]) -> bool:
-    """Whether the report shows that the records are the fewest.
+    """Whether the report shows that the records are the fewest. A `str` is a path, so the text of a report is bytes.
 
     >>> import msrepack
     >>> packed = msrepack.repack("examples/one-record.mseed")
