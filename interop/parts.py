@@ -4,6 +4,7 @@ import pty
 import re
 import subprocess
 import sys
+from collections import Counter
 
 import compare
 import pages
@@ -16,6 +17,9 @@ HERE = os.path.dirname(os.path.realpath(__file__))
 FILES, EACH, FILES_OF_PAIRS = 300, 10, 20
 # The scripts that count for themselves.
 HINTS, REDIRECTS = (sys.executable, f"{HERE}/hints"), ("sh", f"{HERE}/redirects")
+# The tests of the Python package, which tell what they skip.
+PACKAGE = f"{os.path.dirname(HERE)}/python/tests"
+SKIPPED = "skipped: "
 
 
 def told(lines):
@@ -61,11 +65,26 @@ def hints(program):
     return counted(*HINTS, program)
 
 
+def package(program, module):
+    """A module of the Python package's tests."""
+    words = [sys.executable, PACKAGE, program, module]
+    done = subprocess.run(words, stdin=subprocess.DEVNULL, stdout=subprocess.PIPE, stderr=subprocess.STDOUT, check=False)
+    *lines, last = done.stdout.decode(errors="replace").splitlines() or [""]
+    found = re.fullmatch(r"(\d+) passed, (\d+) failed, \d+ skipped", last)
+    if not found or (found[2] == "0") != (done.returncode == 0):
+        return Result(failed=1, told=told([*lines, last, f"{module} ended with status {done.returncode}"]))
+    why = Counter(f"the package: {line[len(SKIPPED):]}" for line in lines if line.startswith(SKIPPED))
+    return Result(int(found[1]), int(found[2]), why, told(line for line in lines if not line.startswith(SKIPPED)))
+
+
 def jobs(program):
     """All of them, the longest first."""
     yield Job("script of runs", play.script, (program,))
     yield Job("hints at a terminal", hints, (program,))
     yield Job("redirections by a shell", counted, (*REDIRECTS, program))
+    for name in sorted(os.listdir(PACKAGE)):
+        if name.startswith("test_"):
+            yield Job("the Python package", package, (program, name[: -len(".py")]))
     for number in range(FILES_OF_PAIRS):
         yield Job("pairs of files", pairs, (program, same_segments.pairs_at_random, number))
     for name in same_segments.files():

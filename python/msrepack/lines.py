@@ -1,0 +1,308 @@
+"""The lines that `archive` and `verify` print, a type for each: `str` of one is the line again, to the byte.
+
+A path is as the line has it, below ROOT, with a control character as `%` and its number. Bytes are None unless `archive`
+was asked for them.
+"""
+import re
+from dataclasses import dataclass
+from typing import Callable, ClassVar, Dict, Optional, Tuple, Union
+
+from msrepack.errors import FAULT, refusal
+
+
+def _bytes_told(read: Optional[int], written: Optional[int]) -> str:
+    return "" if read is None else f" bytes {read} {written}"
+
+
+@dataclass(frozen=True)
+class _Named:
+    path: str
+    WORD: ClassVar[str] = ""
+
+    def __str__(self) -> str:
+        return f"{self.WORD} {self.path}"
+
+
+@dataclass(frozen=True)
+class _Counted:
+    path: str
+    read: int
+    written: int
+    bytes_read: Optional[int] = None
+    bytes_written: Optional[int] = None
+    WORD: ClassVar[str] = ""
+
+    def __str__(self) -> str:
+        bytes_told = _bytes_told(self.bytes_read, self.bytes_written)
+        return f"{self.WORD} {self.path} read {self.read} written {self.written}{bytes_told}"
+
+
+class Done(_Counted):
+    """A file was repacked.
+
+    >>> parse("done 2020/XX/TEST/BHN.D/XX.TEST.00.BHN.D.2020.001 read 5 written 3").written
+    3
+    """
+
+    WORD = "done"
+
+
+class Same(_Counted):
+    """An earlier walk did it, and it was left alone.
+
+    >>> parse("same 2020/XX/TEST/BHN.D/XX.TEST.00.BHN.D.2020.001 read 5 written 3 bytes 2560 1536").bytes_written
+    1536
+    """
+
+    WORD = "same"
+
+
+class Larger(_Counted):
+    """The records are not fewer bytes than the file, and were not kept.
+
+    >>> parse("larger 2020/XX/TEST/BHN.D/XX.TEST.00.BHN.D.2020.001 read 1 written 2").read
+    1
+    """
+
+    WORD = "larger"
+
+
+class NotShown(_Named):
+    """The report does not show that the records are the fewest.
+
+    >>> parse("notshown 2020/XX/TEST/BHN.D/XX.TEST.00.BHN.D.2020.001").path
+    '2020/XX/TEST/BHN.D/XX.TEST.00.BHN.D.2020.001'
+    """
+
+    WORD = "notshown"
+
+
+class Differs(_Named):
+    """File and records have not the same segments.
+
+    >>> parse("differs 2020/XX/TEST/BHN.D/XX.TEST.00.BHN.D.2020.001").path
+    '2020/XX/TEST/BHN.D/XX.TEST.00.BHN.D.2020.001'
+    """
+
+    WORD = "differs"
+
+
+class Verified(_Named):
+    """The records have the segments of the file, and the report shows that they are the fewest.
+
+    >>> parse("verified 2020/XX/TEST/BHN.D/XX.TEST.00.BHN.D.2020.001").path
+    '2020/XX/TEST/BHN.D/XX.TEST.00.BHN.D.2020.001'
+    """
+
+    WORD = "verified"
+
+
+class Missing(_Named):
+    """There are no records, or no report.
+
+    >>> parse("missing 2020/XX/TEST/BHN.D/XX.TEST.00.BHN.D.2020.001").path
+    '2020/XX/TEST/BHN.D/XX.TEST.00.BHN.D.2020.001'
+    """
+
+    WORD = "missing"
+
+
+class Orphan(_Named):
+    """There are records, and no file.
+
+    >>> parse("orphan 2020/XX/TEST/BHN.D/XX.TEST.00.BHN.D.2020.001").path
+    '2020/XX/TEST/BHN.D/XX.TEST.00.BHN.D.2020.001'
+    """
+
+    WORD = "orphan"
+
+
+@dataclass(frozen=True)
+class Skipped:
+    """The name is not that of a day of waveform data, and why.
+
+    >>> parse("skipped notes.txt: not an SDS path")
+    Skipped(path='notes.txt', text='not an SDS path')
+    """
+
+    path: str
+    text: str
+
+    def __str__(self) -> str:
+        return f"skipped {self.path}: {self.text}"
+
+
+@dataclass(frozen=True)
+class Refused:
+    """A file or a folder that was refused, and why.
+
+    `of` is `report`, `records` or `file` if `verify` tells of which the text is. `offset`, `number`, `name` and `value`
+    are those of a record that is refused, else None.
+
+    >>> refused = parse("refused 2020/XX/TEST/BHN.D/XX.TEST.00.BHN.D.2020.001: records: offset 512: 15 OtherEncoding 4")
+    >>> refused.of, refused.offset, refused.number, refused.name, refused.value
+    ('records', 512, 15, 'OtherEncoding', 4)
+    """
+
+    path: str
+    text: str
+    of: Optional[str] = None
+
+    @property
+    def offset(self) -> Optional[int]:
+        """Where the record begins."""
+        why = refusal(self.text)
+        return why.offset if why else None
+
+    @property
+    def number(self) -> Optional[int]:
+        """The number of the refusal."""
+        why = refusal(self.text)
+        return why.number if why else None
+
+    @property
+    def name(self) -> Optional[str]:
+        """The name of the refusal."""
+        why = refusal(self.text)
+        return why.name if why else None
+
+    @property
+    def value(self) -> Optional[int]:
+        """The value of the refusal, if it has one."""
+        why = refusal(self.text)
+        return why.value if why else None
+
+    def __str__(self) -> str:
+        return f"refused {self.path}: {f'{self.of}: ' if self.of else ''}{self.text}"
+
+
+@dataclass(frozen=True)
+class Channel:
+    """The sums of a channel, over its files that are done or the same.
+
+    >>> parse("channel XX.TEST.00.BHN files 2 read 9 written 5")
+    Channel(id='XX.TEST.00.BHN', files=2, read=9, written=5, bytes_read=None, bytes_written=None)
+    """
+
+    id: str
+    files: int
+    read: int
+    written: int
+    bytes_read: Optional[int] = None
+    bytes_written: Optional[int] = None
+
+    def __str__(self) -> str:
+        bytes_told = _bytes_told(self.bytes_read, self.bytes_written)
+        return f"channel {self.id} files {self.files} read {self.read} written {self.written}{bytes_told}"
+
+
+@dataclass(frozen=True)
+class ArchiveTotals:
+    """The last line of `archive`; `larger` is None unless only smaller files were asked for.
+
+    >>> parse("files 4 skipped 1 refused 0 larger 2")
+    ArchiveTotals(files=4, skipped=1, refused=0, larger=2, bytes_read=None, bytes_written=None)
+    """
+
+    files: int
+    skipped: int
+    refused: int
+    larger: Optional[int] = None
+    bytes_read: Optional[int] = None
+    bytes_written: Optional[int] = None
+
+    def __str__(self) -> str:
+        larger = "" if self.larger is None else f" larger {self.larger}"
+        bytes_told = _bytes_told(self.bytes_read, self.bytes_written)
+        return f"files {self.files} skipped {self.skipped} refused {self.refused}{larger}{bytes_told}"
+
+
+@dataclass(frozen=True)
+class VerifyTotals:
+    """The last line of `verify`.
+
+    >>> parse("files 4 skipped 1 refused 0 missing 0 notshown 0 differs 2 orphan 0").differs
+    2
+    """
+
+    files: int
+    skipped: int
+    refused: int
+    missing: int
+    notshown: int
+    differs: int
+    orphan: int
+
+    def __str__(self) -> str:
+        return (
+            f"files {self.files} skipped {self.skipped} refused {self.refused} missing {self.missing}"
+            f" notshown {self.notshown} differs {self.differs} orphan {self.orphan}"
+        )
+
+
+ArchiveLine = Union[Done, Same, Larger, NotShown, Differs, Skipped, Refused, Channel, ArchiveTotals]
+VerifyLine = Union[Verified, Missing, NotShown, Differs, Skipped, Refused, Orphan, VerifyTotals]
+Line = Union[ArchiveLine, VerifyLine]
+
+N = "([0-9]+)"
+BYTES = f"(?: bytes {N} {N})?"
+# The texts of a refusal. A path ends before the first text of these, since it can have a colon itself.
+TEXTS = (
+    "cannot open|read fault|write fault|out of memory|another walk is at work|listing|the file itself|line [0-9]+"
+    "|offset [0-9]+: [0-9]+ [A-Za-z0-9]+(?: [0-9]+)?"
+)
+Maker = Callable[..., Line]
+COUNTED: Dict[str, Maker] = {"done": Done, "same": Same, "larger": Larger}
+NAMED: Dict[str, Maker] = {
+    "notshown": NotShown,
+    "differs": Differs,
+    "verified": Verified,
+    "missing": Missing,
+    "orphan": Orphan,
+}
+
+
+def _numbers(*texts: Optional[str]) -> Tuple[Optional[int], ...]:
+    return tuple(None if text is None else int(text) for text in texts)
+
+
+def _refused(path: str, of: Optional[str], text: str) -> Line:
+    return Refused(path, text, of)
+
+
+FORMS: Tuple[Tuple["re.Pattern[str]", Maker], ...] = (
+    (
+        re.compile(f"({'|'.join(COUNTED)}) (.*) read {N} written {N}{BYTES}"),
+        lambda word, path, *counts: COUNTED[word](path, *_numbers(*counts)),
+    ),
+    (re.compile(f"({'|'.join(NAMED)}) (.*)"), lambda word, path: NAMED[word](path)),
+    (re.compile("skipped (.*?): (not an SDS path|not waveform data|bad day)"), Skipped),
+    (re.compile(f"refused (.*?): (?:(report|records|file): )?({TEXTS})"), _refused),
+    (
+        re.compile(rf"channel ([0-9A-Za-z.]+) files {N} read {N} written {N}{BYTES}"),
+        lambda name, *counts: Channel(name, *_numbers(*counts)),  # type: ignore[arg-type]
+    ),
+    (
+        re.compile(f"files {N} skipped {N} refused {N}(?: larger {N})?{BYTES}"),
+        lambda *counts: ArchiveTotals(*_numbers(*counts)),  # type: ignore[arg-type]
+    ),
+    (
+        re.compile(f"files {N} skipped {N} refused {N} missing {N} notshown {N} differs {N} orphan {N}"),
+        lambda *counts: VerifyTotals(*map(int, counts)),
+    ),
+)
+
+
+def parse(line: str) -> Line:
+    """The line of `archive` or `verify` that a text is, without its line feed; ValueError if it is none.
+
+    >>> with open("examples/README.md", encoding="utf-8") as file:
+    ...     parse(file.readline())
+    Traceback (most recent call last):
+    ValueError: no line of archive or verify: # Sample files
+    """
+    for form, make in FORMS:
+        found = form.fullmatch(line)
+        if found:
+            return make(*found.groups())
+    raise ValueError(f"no line of archive or verify: {line.rstrip()}")
