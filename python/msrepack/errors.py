@@ -84,10 +84,10 @@ class BadCall(Error, ValueError):
 
     >>> import msrepack
     >>> try:
-    ...     msrepack.repack("examples/one-record.mseed", length=500)
+    ...     print(*msrepack.archive("examples/sds", "examples/sds/packed", "reports"))
     ... except msrepack.BadCall as why:
     ...     print(why)
-    not a record length: 256, 512, 1024, 2048, 4096, 8192, 16384, 32768 or 65536 bytes
+    the folders overlap
     """
 
 

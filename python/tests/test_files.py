@@ -106,7 +106,7 @@ class Repack(Given):
         self.assertEqual(repack(file), repack(content))
 
     def test_bad_calls(self):
-        with self.assertRaisesRegex(BadCall, "^not a record length: 256, 512, 1024"):
+        with self.assertRaisesRegex(BadCall, "^not a record length"):
             repack(b"", length=300)
         with self.assertRaisesRegex(BadCall, "tolerance"):
             repack(b"", tolerance=0)
