@@ -111,26 +111,37 @@ class Texts(unittest.TestCase):
             self.assertIn(f"XX.{shown}TEST.00.BHZ", str(report))
 
 
-class Speed(unittest.TestCase):
-    def test_many_segments(self):
-        count = 100_000
-        lines = ["msrepack 1", "length 512", "tolerance 1000", f"read {2 * count} empty 0 mismatched 0"]
-        for number in range(count):
-            clock = f"{number // 4167:02}:{number // 60 % 60:02}:{number % 60:02}.{number:06}"
-            lines += [
-                f"segment XX.TEST_.00.BHZ D rate 20 1 flags 00 00 00 correction 0 timing 0"
-                f" start 2020,{1 + number % 366:03},{clock} samples 300 records 2",
-                "separators 0 155",
-            ]
-        text = "\n".join([*lines, f"end {count} segments {2 * count} records\n"])
-        # Other work on the machine makes it slower; one of three has to be fast.
-        seconds = [2.0]
-        while len(seconds) <= 3 and min(seconds) >= 1:
-            began = time.process_time()
-            report = Report.parse(text)
-            seconds.append(time.process_time() - began)
-        self.assertEqual(str(report), text)
-        self.assertLess(min(seconds), 1)
+def text_of_many(count):
+    """A report with so many segments."""
+    lines = ["msrepack 1", "length 512", "tolerance 1000", f"read {2 * count} empty 0 mismatched 0"]
+    for number in range(count):
+        clock = f"{number // 4167:02}:{number // 60 % 60:02}:{number % 60:02}.{number:06}"
+        lines += [
+            f"segment XX.TEST_.00.BHZ D rate 20 1 flags 00 00 00 correction 0 timing 0"
+            f" start 2020,{1 + number % 366:03},{clock} samples 300 records 2",
+            "separators 0 155",
+        ]
+    return "\n".join([*lines, f"end {count} segments {2 * count} records\n"])
+
+
+def seconds_to_parse(text):
+    """The least of three, in processor time: other work on the machine makes it longer."""
+    seconds = []
+    for _ in range(3):
+        began = time.process_time()
+        Report.parse(text)
+        seconds.append(time.process_time() - began)
+    return min(seconds)
+
+
+class ManySegments(unittest.TestCase):
+    def test_inverse(self):
+        text = text_of_many(100_000)
+        self.assertEqual(str(Report.parse(text)), text)
+
+    def test_time_grows_with_their_number(self):
+        """Ten times as many take about ten times as long, whatever the machine; a hundred times would be a fault."""
+        self.assertLess(seconds_to_parse(text_of_many(100_000)), 30 * seconds_to_parse(text_of_many(10_000)))
 
 
 if __name__ == "__main__":
