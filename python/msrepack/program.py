@@ -10,6 +10,8 @@ import select
 import shutil
 import signal
 import subprocess
+import threading
+from types import FrameType
 from typing import IO, BinaryIO, Dict, Iterator, List, Mapping, NamedTuple, Optional, Sequence, Tuple, Union
 
 from msrepack.errors import Error, NotFound, error_of
@@ -263,23 +265,44 @@ def complaint_of(status: int, complained: str) -> str:
 
 
 @contextlib.contextmanager
+def _interrupts_later() -> Iterator[None]:
+    """Holds a Ctrl-C back until the end. Only the main thread gets one."""
+    handler = signal.getsignal(signal.SIGINT)
+    if threading.current_thread() is not threading.main_thread() or not callable(handler):
+        yield
+        return
+    held: List[Tuple[int, Optional[FrameType]]] = []
+    signal.signal(signal.SIGINT, lambda number, frame: held.append((number, frame)))
+    try:
+        yield
+    finally:
+        signal.signal(signal.SIGINT, handler)
+        if held:
+            handler(*held[0])
+
+
+@contextlib.contextmanager
 def started(
     words: Sequence[str], printing: int, complaining: int, passed: Sequence[IO[bytes]]
 ) -> Iterator["subprocess.Popen[bytes]"]:
     """A process that is gone once this ends, however it does. It has a session of its own: a Ctrl-C is ours alone to
     answer."""
-    process = subprocess.Popen(
-        words,
-        stdin=subprocess.DEVNULL,
-        stdout=printing,
-        stderr=complaining,
-        pass_fds=[file.fileno() for file in passed],
-        start_new_session=True,
-    )
+    process = None
     try:
+        # One in the midst of Popen would leave a process that nobody knows.
+        with _interrupts_later():
+            process = subprocess.Popen(
+                words,
+                stdin=subprocess.DEVNULL,
+                stdout=printing,
+                stderr=complaining,
+                pass_fds=[file.fileno() for file in passed],
+                start_new_session=True,
+            )
         yield process
     finally:
-        end(process)
+        if process is not None:
+            end(process)
 
 
 def end(process: "subprocess.Popen[bytes]") -> None:
