@@ -216,6 +216,30 @@ class Running(Tidy):
             with self.assertRaises(ProcessLookupError):
                 os.kill(int(read(mark)), 0)
 
+    def test_ctrl_c_while_the_program_starts(self):
+        """When it is a process already, and `Popen` has not come back."""
+        script = textwrap.dedent("""
+            import os, signal, msrepack
+            msrepack.find_program()
+            read = os.read
+            def interrupted(*words):
+                os.read = read
+                signal.raise_signal(signal.SIGINT)
+                return read(*words)
+            os.read = interrupted
+            try:
+                msrepack.repack(b"")
+            except KeyboardInterrupt:
+                try:
+                    os.waitpid(-1, os.WNOHANG)
+                except ChildProcessError:
+                    print("no child left")
+        """)
+        with other_program("exec sleep 60"):
+            words = [sys.executable, "-B", "-c", script]
+            ran = subprocess.run(words, cwd=os.path.join(ROOT, "python"), stdout=subprocess.PIPE, text=True, check=False)
+        self.assertEqual(ran.stdout, "no child left\n")
+
     def test_records_are_not_held_twice(self):
         script = textwrap.dedent("""
             import resource, sys, msrepack
